@@ -1,0 +1,5 @@
+use Rattle.bm_lang.proofs.Parts.{parts_have_tokens}
+use Rattle.bm_lang.proofs.law.parts_are_tokens.Goals as goal
+
+pub returns : goal.returns
+returns c = parts_have_tokens
