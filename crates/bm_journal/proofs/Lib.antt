@@ -1,0 +1,3 @@
+pub mod CountLemmas
+mod Printing
+mod Sums

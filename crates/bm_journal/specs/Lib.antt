@@ -1,0 +1,12 @@
+pub mod Change
+pub mod Counting
+pub mod Counts
+pub mod EntryText
+pub mod Form
+pub mod JournalText
+pub mod Line
+pub mod Recording
+pub mod TotalNames
+pub mod Totals
+pub mod UnitCount
+pub mod WellFormed

@@ -1,0 +1,5 @@
+mod Causes
+mod ReaderAgain
+mod ReaderLemmas
+mod ReaderTakes
+mod ReaderTokens

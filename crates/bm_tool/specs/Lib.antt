@@ -1,0 +1,5 @@
+pub mod Lone
+pub mod LoneReading
+pub mod Outcome
+pub mod Refusals
+pub mod Words
