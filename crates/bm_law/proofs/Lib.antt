@@ -1,0 +1,13 @@
+pub mod Seen
+pub mod Spans
+pub mod Folds
+pub mod Between
+pub mod Plain
+pub mod Stands
+pub mod Once
+pub mod Waiting
+pub mod Agree
+pub mod Null
+pub mod Lengths
+pub mod Places
+pub mod Writes

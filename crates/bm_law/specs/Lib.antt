@@ -1,0 +1,14 @@
+pub mod State
+pub mod Effect
+pub mod Lists
+pub mod Places
+pub mod Spans
+pub mod Kept
+pub mod Plain
+pub mod Phrases
+pub mod Null
+pub mod Stands
+pub mod Waiting
+pub mod Worked
+pub mod WorkedDeferred
+pub mod Lengths

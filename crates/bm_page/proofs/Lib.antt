@@ -1,0 +1,5 @@
+pub mod Least
+pub mod StockLemmas
+pub mod WalkLemmas
+pub mod FetchLemmas
+pub mod OutLemmas

@@ -1,0 +1,4 @@
+pub mod UnitState
+pub mod Stock
+pub mod Kept
+pub mod Out
