@@ -18,8 +18,11 @@ legal_if : (t : Bool) (x y : Sort) → (t ≡ true → IsLegal x) → (t ≡ fal
 legal_if true x y p q = p refl
 legal_if false x y p q = q refl
 
+below_32 : (n : ℕ) → ltb n (2 ^ 32) ≡ true → n < 2 ^ 32
+below_32 n e = grind (arith, nat_tests)
+
 legal_number : (n : Option ℕ) → IsLegal (number_or_fault n)
-legal_number (Some n) = legal_if (ltb n (2 ^ 32)) (Number n) (Wrong fault.Number) (λ e. tt) (λ e. tt)
+legal_number (Some n) = legal_if (ltb n (2 ^ 32)) (Number n) (Wrong fault.Number) (below_32 n) (λ e. tt)
 legal_number None = tt
 
 legal_word : (bytes : List ℕ) (w : Option Keyword) → keyword_of bytes ≡ w → IsTrue (is_word bytes) → IsLegal (reserved_or_name bytes w)

@@ -4,3 +4,17 @@ pub mod Legal
 pub mod Parts
 pub mod Places
 pub mod Spelled
+pub mod Steps
+pub mod Lookups
+pub mod Pushes
+pub mod Stating
+pub mod Trees
+pub mod Sorts
+pub mod Through
+pub mod Actions
+pub mod Complete
+pub mod Costing
+pub mod Printed
+pub mod Listed
+pub mod Spaced
+pub mod ReadBack

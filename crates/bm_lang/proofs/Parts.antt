@@ -7,7 +7,7 @@ use Rattle.bm_lang.specs.Tokens.{Sort, is_separator, run_length, token_length, b
 use Rattle.bm_lang.specs.Texts.{Part, AreParts, IsTokenText, text_of_parts, sorts, part_sorts, PartsAreTokens}
 use Rattle.bm_lang.proofs.Scanning.{first_piece, run_byte_stays, cut_at, moved, bool_cases}
 
-no_run : (b : ℕ) → is_separator b ≡ true → is_run_byte b ≡ false
+pub no_run : (b : ℕ) → is_separator b ≡ true → is_run_byte b ≡ false
 no_run b h = bool_cases (is_run_byte b) (λ e. let x = run_byte_stays b e in cc) (λ e. e)
 
 starts : (xs : List Part) → AreParts xs → begins_run (text_of_parts xs) ≡ false
@@ -23,25 +23,25 @@ run_through [] [] h e = refl
 run_through [] (c ∷ rest) h e = rw e refl
 run_through (b ∷ bs) rest h e = let p = both (is_run_byte b) (list_all is_run_byte bs) h in rw p.0 (ap suc (run_through bs rest p.1 e))
 
-through : (bs rest : List ℕ) → IsTokenText bs → begins_run rest ≡ false → token_length (bs ++ rest) ≡ length bs
+pub through : (bs rest : List ℕ) → IsTokenText bs → begins_run rest ≡ false → token_length (bs ++ rest) ≡ length bs
 through [] rest h e = absurd h
 through (b ∷ bs) rest (inl h) e = let p = both (is_run_byte b) (list_all is_run_byte bs) h in rw p.0 (ap suc (run_through bs rest p.1 e))
 through (b ∷ bs) rest (inr h) e = rw (h.0, h.2) refl
 
-clear : (bs rest : List ℕ) → IsTokenText bs → StartsWithNoSeparator (bs ++ rest)
+pub clear : (bs rest : List ℕ) → IsTokenText bs → StartsWithNoSeparator (bs ++ rest)
 clear [] rest h = absurd h
 clear (b ∷ bs) rest (inl h) = let p = both (is_run_byte b) (list_all is_run_byte bs) h in run_byte_stays b p.0
 clear (b ∷ bs) rest (inr h) = h.1
 
-has_some : (bs rest : List ℕ) → IsTokenText bs → 0 < length (bs ++ rest)
+pub has_some : (bs rest : List ℕ) → IsTokenText bs → 0 < length (bs ++ rest)
 has_some [] rest h = absurd h
 has_some (b ∷ bs) rest h = omega arith
 
-take_front : (xs ys : List ℕ) → take (length xs) (xs ++ ys) ≡ xs
+pub take_front : (xs ys : List ℕ) → take (length xs) (xs ++ ys) ≡ xs
 take_front [] ys = refl
 take_front (x ∷ xs) ys = ap (λ zs. x ∷ zs) (take_front xs ys)
 
-drop_front : (xs ys : List ℕ) → drop (length xs) (xs ++ ys) ≡ ys
+pub drop_front : (xs ys : List ℕ) → drop (length xs) (xs ++ ys) ≡ ys
 drop_front [] ys = refl
 drop_front (x ∷ xs) ys = drop_front xs ys
 

@@ -3,3 +3,17 @@ pub mod Kinds
 pub mod Tokens
 pub mod Left
 pub mod Texts
+pub mod Names
+pub mod Grammar
+pub mod Machine
+pub mod Spelling
+pub mod Fine
+pub mod Limits
+pub mod Reads
+pub mod Scenarios
+pub mod Known
+pub mod Built
+pub mod Others
+pub mod Costs
+pub mod Printing
+pub mod Shapes

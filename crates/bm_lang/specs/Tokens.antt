@@ -1,6 +1,6 @@
 -- The tokens of a text, with their places. What is a token is this project's own rule: space, tab, line feed and
 -- carriage return separate tokens; a token is `{`, `}` or a longest run of ASCII letters, digits and `_`.
-use Rattle.std.specs.Prelude.{◌≡◌, ℕ, suc, ◌+◌, ◌^◌, Bool, false, ◌==◌, ◌||◌, ◌&&◌, List, [], ◌∷◌, length, nat_lt, if◌then◌else◌, Option, Some, None, IsTrue}
+use Rattle.std.specs.Prelude.{◌≡◌, ℕ, suc, ◌+◌, ◌<◌, ◌^◌, Bool, false, ◌==◌, ◌||◌, ◌&&◌, List, [], ◌∷◌, length, nat_lt, if◌then◌else◌, Option, Some, None, IsTrue}
 use Rattle.std.specs.Char.{is_ascii_digit}
 use Rattle.bm_word.specs.Word.{is_run_byte, is_word}
 use Rattle.bm_word.specs.Number.{number_of}
@@ -137,11 +137,11 @@ behind (Wrong why) more = more
 abbrev pub Begins : List Mark → Mark → List Mark → Type 0
 Begins all x more = all ≡ x ∷ behind x.sort more
 
--- a name's bytes are a word that isn't reserved
+-- a name is a word that isn't reserved, and a number fits 32 bits
 abbrev pub IsLegal : Sort → Type 0
 IsLegal Open = Unit {0}
 IsLegal Close = Unit {0}
-IsLegal (Number n) = Unit {0}
+IsLegal (Number n) = n < 2 ^ 32
 IsLegal (Reserved word) = Unit {0}
 IsLegal (Name bytes) = IsTrue (is_word bytes) × (keyword_of bytes ≡ None)
 IsLegal End = Unit {0}

@@ -2,7 +2,9 @@
 
 ghost use Rattle.std.specs.Prelude.{◌≡◌, Some};
 ghost use Rattle.bm_lang.specs.Kinds.{kind_text};
+ghost use Rattle.bm_lang.specs.declared.fault.LangFault.TheVariants.{NoMemory};
 
+use std::alloc::{AllocError, AllocFailed};
 use std::fmt;
 
 /// Why a text has no reading. Where several apply, it is the first in this order, but that `NotYet` is tried before
@@ -43,6 +45,31 @@ pub struct BadText {
     pub line: u32,
     pub column: u32,
     pub kind: BadKind,
+}
+
+/// Why a text wasn't read.
+#[derive(Clone, Copy, Debug, PartialEq, Eq)]
+pub enum LangFault {
+    /// The text has no reading.
+    Bad(BadText),
+    /// Memory ran out.
+    NoMemory,
+}
+
+impl From<AllocError> for LangFault {
+    ghost from_gives = { λ _ fault. fault ≡ NoMemory };
+
+    fn from(_refused: AllocError) -> LangFault {
+        LangFault::NoMemory
+    }
+}
+
+impl<T: Drop> From<AllocFailed<T>> for LangFault {
+    ghost from_gives = { λ _ fault. fault ≡ NoMemory };
+
+    fn from(_refused: AllocFailed<T>) -> LangFault {
+        LangFault::NoMemory
+    }
 }
 
 impl BadKind {

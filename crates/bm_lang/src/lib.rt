@@ -2,19 +2,48 @@
 //! text's fault.
 #![tactic(auto)]
 
+mod blocks;
+mod bounds;
+mod costs;
+mod expect;
 mod fault;
+#[cfg(test)]
+mod fault_tests;
+mod items;
 mod keyword;
 mod law;
+#[cfg(test)]
+mod limit_tests;
+mod lines;
+mod listing;
+mod maps;
+mod names;
 mod place;
+mod printing;
 mod reader;
+mod reading;
 mod scan;
+mod scenario;
+mod scripts;
+mod statements;
 #[cfg(test)]
 mod tests;
 mod token;
+mod types;
+#[cfg(test)]
+mod worked_tests;
 
-pub use fault::{BadKind, BadText};
+pub use bounds::{Limit, limits};
+pub use fault::{BadKind, BadText, LangFault};
+pub use items::Items;
 pub use keyword::{Keyword, keyword_of};
 pub use law::{keywords_are_spelled, parts_are_tokens, places_are_places_alone, tokens_are_legal};
+pub use listing::print_scenario;
 pub use place::Place;
 pub use reader::Tokens;
+pub use reading::read_scenario;
+pub use scenario::{
+    Action, AtLine, Block, MapDeclaration, MapId, MapKind, Node, RunLine, Scenario, Script,
+    ScriptId, ScriptKind, Statement, TypeDeclaration, TypeId,
+};
 pub use token::{Placed, Token, TokenFault};
