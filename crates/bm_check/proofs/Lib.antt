@@ -1,0 +1,5 @@
+pub mod TableLemmas
+pub mod Growth
+pub mod BlockLemmas
+pub mod Needs
+pub mod LawLemmas

@@ -1,0 +1,58 @@
+-- What the checker's functions answer, beside the judgement.
+use Rattle.std.specs.Prelude.{◌≡◌, ℕ, List, Option, Some, None, Result, Ok, Err, Vec}
+use Rattle.std.specs.declared.alloc.Global.{Global}
+use Rattle.std.specs.Borrow.{Bor}
+use Rattle.bm_check.specs.declared.name_state.NameState.{NameState}
+use Rattle.bm_check.specs.declared.name_state.HeldLock.{HeldLock}
+use Rattle.bm_check.specs.declared.stop.Stop.{Stop}
+use Rattle.bm_check.specs.declared.stop.Stop.TheVariants as stop
+use Rattle.bm_lang.specs.declared.scenario.Scenario.{Scenario}
+use Rattle.bm_lang.specs.declared.scenario.Script.{Script}
+use Rattle.bm_check.specs.declared.checker.CheckFault.{CheckFault}
+use Rattle.bm_check.specs.declared.checker.CheckFault.TheVariants as fault
+use Rattle.bm_check.specs.declared.table.NameTable.{NameTable}
+use Rattle.bm_check.specs.NameStates.{non_null}
+use Rattle.bm_check.specs.Names.{Names, put}
+use Rattle.bm_check.specs.Tables.{names_of}
+use Rattle.bm_check.specs.Statements.{Binding, bound_free, with_binding, doubtful}
+use Rattle.bm_check.specs.Blocks.{Outcome, Broken, Reaches, at}
+use Rattle.bm_check.specs.Scripts.{first_broken_rule, Accepted, AllAccepted, IsRejected}
+
+-- the names and the lock that a judgement reaches, or the line and the rule that it names, or want of memory
+abbrev pub IsJudged : Result HeldLock Stop → Names → Outcome → Type 0
+IsJudged (Ok lock) n o = o ≡ Reaches (at n lock)
+IsJudged (Err (stop.Broken line rule)) n o = o ≡ Broken line rule
+IsJudged (Err stop.NoMemory) n o = Unit {0}
+
+-- a name with its state, as the table of statements has it
+abbrev pub IsBinding : Option (Bor (List ℕ) × NameState) → Option Binding → Type 0
+IsBinding None b = b ≡ None
+IsBinding (Some (name, state)) b = b ≡ Some (record { name = name.now; state = state })
+
+-- the start of an `if`: the rule that it breaks, or the states before it, and that the name isn't null from then on
+abbrev pub IsEntered : Result (Vec NameState Global) Stop → ℕ → NameTable → NameTable → List ℕ → Type 0
+IsEntered (Ok start) line old new x = (doubtful ((names_of old).state x) ≡ None) × (start.items ≡ old.states.items) × (names_of new ≡ put (names_of old) x (non_null ((names_of old).state x)))
+IsEntered (Err (stop.Broken l rule)) line old new x = (doubtful ((names_of old).state x) ≡ Some rule) × (l ≡ line)
+IsEntered (Err stop.NoMemory) line old new x = Unit {0}
+
+-- what a name's binding does to names, or that it isn't free
+abbrev pub IsBound : Result (Unit {0}) Stop → Names → Names → ℕ → Option Binding → Type 0
+IsBound (Ok done) old new line b = (bound_free old b ≡ None) × (new ≡ with_binding old b)
+IsBound (Err (stop.Broken l rule)) old new line b = (bound_free old b ≡ Some rule) × (l ≡ line)
+IsBound (Err stop.NoMemory) old new line b = Unit {0}
+
+-- the first broken rule of a script
+abbrev pub IsScriptJudged : Result (Unit {0}) Stop → Scenario → Script → Type 0
+IsScriptJudged (Ok done) scenario script = Accepted scenario script
+IsScriptJudged (Err (stop.Broken line rule)) scenario script = first_broken_rule scenario script ≡ Some (record { line = line; rule = rule })
+IsScriptJudged (Err stop.NoMemory) scenario script = Unit {0}
+
+-- why a scenario isn't checked
+abbrev pub IsFault : CheckFault → Scenario → Type 0
+IsFault (fault.Rejected script line rule) scenario = IsRejected scenario script.0 line rule
+IsFault fault.NoMemory scenario = Unit {0}
+
+-- the answer on a whole scenario
+abbrev pub IsAnswer : Result (Unit {0}) CheckFault → Scenario → Type 0
+IsAnswer (Ok done) scenario = AllAccepted scenario
+IsAnswer (Err f) scenario = IsFault f scenario

@@ -1,0 +1,10 @@
+pub mod RuleNumbers
+pub mod NameStates
+pub mod Names
+pub mod Tables
+pub mod Statements
+pub mod Blocks
+pub mod Scripts
+pub mod Answers
+pub mod Values
+pub mod Worked

@@ -1,0 +1,22 @@
+//! Laws of accepted scripts.
+
+ghost use Rattle.bm_check.specs.Values.{AcceptedIsSafe, StatesAreRight};
+ghost use Rattle.bm_check.specs.Worked.{WorkedStatements};
+
+/// Along an accepted script, whatever the replies, each statement finds what it needs, and at the end no name owns and
+/// no lock is held. `SafeBlock` says so by recursion on blocks, with what holds at the end as its last argument. So a
+/// machine that runs a script keeps it of what is left to run.
+pub fn accepted_scripts_are_safe()
+    ensures { AcceptedIsSafe }
+{}
+
+/// A statement that the judgement lets pass, begun with values that are what the names' states say, finds what it
+/// needs, whatever the replies, and leaves values that are what the states after it say.
+pub fn states_are_right()
+    ensures { StatesAreRight }
+{}
+
+/// The judgement on a few statements, computed.
+pub fn worked_statements()
+    ensures { WorkedStatements }
+{}
