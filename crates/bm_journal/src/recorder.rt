@@ -1,6 +1,6 @@
 //! Recorders: what takes a processor's entries, one after the other.
 
-ghost use Rattle.std.specs.Prelude.{◌≡◌, ◌∷◌, ◌++◌, ℕ, Bool, false, List, [], Option, Some, None, IsTrue, IfSome, is_none, if◌then◌else◌, refl};
+ghost use Rattle.std.specs.Prelude.{◌≡◌, ◌∷◌, ◌++◌, ℕ, Bool, false, List, [], Option, Some, None, IsTrue, IfSome, IsSome, is_none, if◌then◌else◌, refl};
 ghost use Rattle.bm_journal.specs.declared.entry.Entry.{Entry as EntryValue};
 ghost use Rattle.bm_journal.specs.declared.counts.Counts.{Counts as CountsValue};
 ghost use Rattle.bm_journal.specs.Counts.{counts_after, no_counts};
@@ -29,10 +29,12 @@ pub trait Recorder {
     ghost has_failed: { Self → Bool };
 
     /// Takes an entry. It is counted, and stands at the end of the log, if one is told afterwards. A recorder that
-    /// stores its entries may find no memory for this one; then it has failed, for good.
+    /// stores its entries may find no memory for this one; then it has failed, for good. After an entry whose list of
+    /// units isn't whole no log is told.
     fn put(&mut self, level: Level, entry: Entry)
         ensures counted { counts self.new ≡ counts_after level entry (counts self.old) }
         ensures recorded { Appends (log self.old) level entry (log self.new) }
+        ensures whole { IsSome (log self.new) → IsTrue (is_whole_entry entry) }
         ensures for_good { IsTrue (has_failed self.old) → IsTrue (has_failed self.new) };
 
     /// Whether an entry was lost.

@@ -1,0 +1,65 @@
+use Rattle.std.proofs.Common.{◌≡◌, ◌≢◌, ◌+◌, ◌-◌, ◌<◌, ◌≤◌, ◌++◌, ℕ, Bool, Option, Some, None, List, [], ◌∷◌, length, map, drop, take, true, false, refl, ap, ◌∙◌, sym, subst, arith, inl, inr, append_assoc, lt-ltb}
+use Rattle.std.specs.List.{All}
+use Rattle.bm_journal.specs.declared.entry.Entry.{Entry}
+use Rattle.bm_journal.specs.declared.entry.Entry.TheVariants as entry
+use Rattle.bm_law.specs.declared.mark.Mark.TheVariants as mark
+use Rattle.bm_law.specs.State.{Row, Side, State}
+use Rattle.bm_law.specs.Effect.{effect}
+use Rattle.bm_law.specs.Places.{Free as free_list, Extra as extra_list}
+use Rattle.bm_cache.specs.Tokens.{Token, number_of}
+use Rattle.bm_cache.specs.Tests.{Tests, Reusable, Waits, Same, Either}
+use Rattle.bm_cache.specs.Shown.{shown, waiting, Took}
+use Rattle.bm_cache.specs.Span.{Face, Fine, Span}
+use Rattle.bm_law.specs.Kept.{Ready}
+use Rattle.bm_cache.specs.declared.caches.Caches.{Caches}
+use Rattle.bm_cache.proofs.Asked.{one-first}
+use Rattle.bm_cache.proofs.Stretch.{stretch, fine-step, between-enter, between-leave, between-raise, between-pop, between-push, between-count, between-delayed, between-put, between-put_delayed, between-hand, between-none}
+use Rattle.bm_cache.proofs.Moments.{took-at, span-at, waiting-kept, counted-down, counted-up, popped-side, pushed-side, delayed-side, put-side, put_delayed-side, lost-side, lost_delayed-side, lasts-one, arrives-one, reusable-either, first-reusable, one-token, longer, longer_delayed, first-sits}
+use Rattle.bm_cache.proofs.allocate.take_free.Goals as goal
+
+pub returns-clause-some : goal.returns-clause-some
+returns-clause-some g c h =
+    let n : ((shown (g.H.Host.held c.point.new.self)).rows c.args.class).active ≡ 1 = (c.point.ensures.came.kept.rows c.args.class).active ∙ c.requires.one in
+    let q = c.pop.ensures.some h in
+    let u = q.0 in
+    let t : Took g.R.Recorder.log (g.H.Host.face c.args.host.now).level (entry.Pop c.args.class u.number) [] (g.H.Host.held c.point.new.self) c.pop.new.self = took-at g.R.Recorder.log (g.H.Host.face c.args.host.now).level _ (entry.Pop c.args.class u.number) [] (g.H.Host.held c.point.new.self) _ _ c.level-level.ensures.same c.caches.ensures.held q.3 in
+    let he : ((shown (g.H.Host.held c.point.new.self)).sides (g.H.Host.face c.args.host.now).level).hand ≡ ((shown (g.H.Host.held c.args.host.now)).sides (g.H.Host.face c.args.host.now).level).hand = ap (λ (s : Side Token). s.hand) (c.point.ensures.came.kept.sides (g.H.Host.face c.args.host.now).level (omega arith)) in
+    let f : ((shown (g.H.Host.held c.point.new.self)).rows c.args.class).free ≡ u ∷ q.1 = ap (λ (d : Caches g.row.R.Denot). ((shown d).rows c.args.class).free) (sym c.caches.ensures.held) ∙ q.2 in
+    let i = (c.point.ensures.came.kept.rows c.args.class).inside (omega (arith, c.requires.one)) in
+    let s : (shown c.pop.new.self).sides (g.H.Host.face c.args.host.now).level ≡ record { hand = u ∷ []; mark = mark.Took c.args.class } = ap (λ (z : State Token). z.sides (g.H.Host.face c.args.host.now).level) t.after ∙ popped-side c.args.class (g.H.Host.face c.args.host.now).level u.number (shown (g.H.Host.held c.point.new.self)) u q.1 (he ∙ c.requires.hand) f in
+    let r : Reusable (g.H.Host.tests c.point.new.self) u = first-reusable (g.H.Host.tests c.point.new.self) _ q.1 u f (c.point.ensures.fine.proper.lists c.args.class free_list) in (
+      u,
+      q.1,
+      sym i.free ∙ f,
+      rw (g.met.H.Host.held_back c.point.new.self c.pop.new.self) s,
+      rw (g.met.H.Host.tests_back c.point.new.self c.pop.new.self) r,
+      stretch g.R.Recorder.log (g.H.Host.face c.args.host.now).level c.args.class _ 1 1 (entry.Pop c.args.class u.number) _ _ _ (g.H.Host.held c.args.host.now) (g.H.Host.held c.point.new.self) _ _ _ c.level-level.ensures.same c.caches.ensures.held (g.met.H.Host.held_back c.point.new.self c.pop.new.self) (g.met.H.Host.tests_back c.point.new.self c.pop.new.self) c.point.ensures.came q.3 (between-pop (g.H.Host.face c.args.host.now).level c.args.class (shown (g.H.Host.held c.point.new.self)) u.number n),
+      first-sits c.args.class _ q.1 u f (c.point.ensures.fine.placed.classed.lists c.args.class free_list),
+    )
+
+pub returns-clause-none : goal.returns-clause-none
+returns-clause-none g c h =
+    let q = c.pop.ensures.none h in
+    let t : Took g.R.Recorder.log (g.H.Host.face c.args.host.now).level (entry.PopNone c.args.class) [] (g.H.Host.held c.point.new.self) c.pop.new.self = took-at g.R.Recorder.log (g.H.Host.face c.args.host.now).level _ (entry.PopNone c.args.class) [] (g.H.Host.held c.point.new.self) _ _ c.level-level.ensures.same c.caches.ensures.held q.1 in
+    let se : (shown (g.H.Host.held c.point.new.self)).sides (g.H.Host.face c.args.host.now).level ≡ (shown (g.H.Host.held c.args.host.now)).sides (g.H.Host.face c.args.host.now).level = c.point.ensures.came.kept.sides (g.H.Host.face c.args.host.now).level (omega arith) in
+    let f : ((shown (g.H.Host.held c.point.new.self)).rows c.args.class).free ≡ [] = ap (λ (d : Caches g.row.R.Denot). ((shown d).rows c.args.class).free) (sym c.caches.ensures.held) ∙ q.0 in
+    let i = (c.point.ensures.came.kept.rows c.args.class).inside (omega (arith, c.requires.one)) in
+    let F : State Token → Type 0 = λ s. waiting c.args.class s ≡ 0 in
+    let wt : waiting c.args.class (shown (g.H.Host.held c.point.new.self)) ≡ 0 = waiting-kept ((g.H.Host.face c.args.host.now).level + 1) c.args.class (shown (g.H.Host.held c.args.host.now)) (shown (g.H.Host.held c.point.new.self)) c.point.ensures.came.kept c.requires.fine.ready (let G : ℕ → Type 0 = λ k. Ready (k + 1) (shown (g.H.Host.held c.point.new.self)) in subst G (ap (λ (f : Face). f.level) c.point.ensures.goes.face) c.point.ensures.fine.ready) ∙ c.requires.waits in (
+      sym i.free ∙ f,
+      rw (g.met.H.Host.held_back c.point.new.self c.pop.new.self) (ap (λ (z : State Token). z.sides (g.H.Host.face c.args.host.now).level) t.after ∙ se),
+      rw (g.met.H.Host.held_back c.point.new.self c.pop.new.self) (subst F (sym t.after) wt),
+      stretch g.R.Recorder.log (g.H.Host.face c.args.host.now).level c.args.class _ 1 1 (entry.PopNone c.args.class) _ _ _ (g.H.Host.held c.args.host.now) (g.H.Host.held c.point.new.self) _ _ _ c.level-level.ensures.same c.caches.ensures.held (g.met.H.Host.held_back c.point.new.self c.pop.new.self) (g.met.H.Host.tests_back c.point.new.self c.pop.new.self) c.point.ensures.came q.1 (between-none (g.H.Host.face c.args.host.now).level c.args.class (shown (g.H.Host.held c.point.new.self)) 1),
+    )
+
+pub returns-clause-fine : goal.returns-clause-fine
+returns-clause-fine g c =
+    go c.pop.result refl
+  where
+    go : (b : Bool) → c.pop.result ≡ b → Fine g.R.Recorder.log g.R.Recorder.counts (g.H.Host.tests (g.H.Host.with_held c.point.new.self c.pop.new.self)) (g.H.Host.face (g.H.Host.with_held c.point.new.self c.pop.new.self)).processors ((g.H.Host.face (g.H.Host.with_held c.point.new.self c.pop.new.self)).level + 1) (g.H.Host.held (g.H.Host.with_held c.point.new.self c.pop.new.self))
+    go true h =
+        let q = c.pop.ensures.some h in
+        fine-step g.R.Recorder.log g.R.Recorder.counts (g.H.Host.face c.args.host.now).level _ (entry.Pop c.args.class q.0.number) _ _ (g.H.Host.face c.point.new.self) _ (g.H.Host.held c.point.new.self) _ _ _ c.level-level.ensures.same c.caches.ensures.held (g.met.H.Host.held_back c.point.new.self c.pop.new.self) (g.met.H.Host.tests_back c.point.new.self c.pop.new.self) (g.met.H.Host.face_back c.point.new.self c.pop.new.self) (ap (λ (f : Face). f.level) c.point.ensures.goes.face) (let F : ℕ → Type 0 = λ n. Fine g.R.Recorder.log g.R.Recorder.counts (g.H.Host.tests c.point.new.self) (g.H.Host.face c.point.new.self).processors (n + 1) (g.H.Host.held c.point.new.self) in subst F (ap (λ (f : Face). f.level) c.point.ensures.goes.face) c.point.ensures.fine) q.3 c.pop.ensures.placed tt (reusable-either (g.H.Host.tests c.point.new.self) _ (c.point.ensures.fine.proper.lists c.args.class free_list)) tt
+    go false h =
+        let q = c.pop.ensures.none h in
+        fine-step g.R.Recorder.log g.R.Recorder.counts (g.H.Host.face c.args.host.now).level _ (entry.PopNone c.args.class) _ _ (g.H.Host.face c.point.new.self) _ (g.H.Host.held c.point.new.self) _ _ _ c.level-level.ensures.same c.caches.ensures.held (g.met.H.Host.held_back c.point.new.self c.pop.new.self) (g.met.H.Host.tests_back c.point.new.self c.pop.new.self) (g.met.H.Host.face_back c.point.new.self c.pop.new.self) (ap (λ (f : Face). f.level) c.point.ensures.goes.face) (let F : ℕ → Type 0 = λ n. Fine g.R.Recorder.log g.R.Recorder.counts (g.H.Host.tests c.point.new.self) (g.H.Host.face c.point.new.self).processors (n + 1) (g.H.Host.held c.point.new.self) in subst F (ap (λ (f : Face). f.level) c.point.ensures.goes.face) c.point.ensures.fine) q.1 c.pop.ensures.placed tt tt tt

@@ -1,0 +1,28 @@
+use Rattle.std.proofs.Common.{◌≡◌, ◌≢◌, ◌+◌, ◌-◌, ◌<◌, ◌≤◌, ◌++◌, ℕ, Bool, List, [], ◌∷◌, length, map, drop, take, true, false, refl, ap, ◌∙◌, sym, subst, arith}
+use Rattle.bm_journal.specs.declared.entry.Entry.{Entry}
+use Rattle.bm_journal.specs.declared.entry.Entry.TheVariants as entry
+use Rattle.bm_law.specs.declared.mark.Mark.TheVariants as mark
+use Rattle.bm_law.specs.State.{Row, Side, State, seen}
+use Rattle.bm_law.specs.Effect.{aimed, effect}
+use Rattle.bm_cache.specs.Tokens.{Token, number_of}
+use Rattle.bm_cache.specs.Shown.{shown, waiting, Took}
+use Rattle.bm_cache.specs.Placed.{Placed}
+use Rattle.bm_cache.proofs.Shown.{at-row, at-side, wrote-both, wrote-row, wrote-side, wrote-none, below_eleven, below_four}
+use Rattle.bm_cache.proofs.Placed.{Sound, placed-step}
+use Rattle.bm_cache.proofs.Asked.{Room, rooms, sound, fresh-one, count-positive, count-below, number-first, sits-first, some-length, numbered-first}
+use Rattle.bm_cache.proofs.caches.Caches.raise.Goals as goal
+
+pub returns-clause-step : goal.returns-clause-step
+returns-clause-step g c = record {
+  names = tt;
+  brings = refl;
+  after = wrote-row c.args.self.now _ c.args.class _ (λ r. record r { raised = true }) _ _ c.index-row.ensures.same c.index-row.ensures.in_range c.index_mut.ensures.value c.flag.ensures refl refl refl;
+  records = c.put.ensures.recorded;
+  number = c.saturating_add-self.ensures;
+  processor = refl;
+}
+
+pub returns-clause-placed : goal.returns-clause-placed
+returns-clause-placed g c =
+    placed-step g.R.Recorder.log g.R.Recorder.counts c.args.self.now _ c.args.level (entry.Raise c.args.class) [] c.requires.placed (returns-clause-step g c) c.put.ensures.counted
+    (sound g.R.Recorder.log g.R.Recorder.counts c.args.self.now c.requires.placed c.args.level (entry.Raise c.args.class) (below_four _ _ c.number-level.ensures.same c.number-level.ensures.bound) (below_eleven _ _ c.index-row.ensures.same c.index-row.ensures.in_range) tt tt tt refl)

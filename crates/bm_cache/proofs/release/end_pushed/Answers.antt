@@ -1,0 +1,44 @@
+use Rattle.std.specs.Option.{is_some}
+use Rattle.std.proofs.Common.{not, ◌≡◌, ◌≢◌, ◌+◌, ◌-◌, ◌<◌, ◌≤◌, ◌++◌, ℕ, Bool, Option, Some, None, List, [], ◌∷◌, length, map, drop, take, true, false, refl, ap, ◌∙◌, sym, subst, arith, inl, inr, append_assoc, lt-ltb}
+use Rattle.std.specs.List.{All}
+use Rattle.bm_journal.specs.declared.entry.Entry.{Entry}
+use Rattle.bm_journal.specs.declared.entry.Entry.TheVariants as entry
+use Rattle.bm_law.specs.declared.mark.Mark.TheVariants as mark
+use Rattle.bm_law.specs.State.{Row, Side, State}
+use Rattle.bm_law.specs.Effect.{effect}
+use Rattle.bm_law.specs.Places.{Free as free_list, Extra as extra_list}
+use Rattle.bm_cache.specs.Tokens.{Token, number_of, seal_numbers, given_by}
+use Rattle.bm_cache.specs.Tests.{Tests, Reusable, Waits, Same, Either}
+use Rattle.bm_cache.specs.Shown.{shown, waiting, Took}
+use Rattle.bm_cache.specs.Span.{Face, Came, Fine, Span, Goes}
+use Rattle.bm_law.specs.Kept.{Ready}
+use Rattle.bm_law.proofs.Plain.{plain-overtaken, plain-overtaken_delayed, plain-join, plain-below, plain-above, plain-unless}
+use Rattle.bm_law.specs.Waiting.{is_waiting}
+use Rattle.bm_law.specs.Phrases.{given, overtaken, overtaken_delayed, raise_below, raise_above, raise_unless}
+use Rattle.bm_law.specs.Plain.{all_plain}
+use Rattle.bm_cache.specs.Walk.{Walk}
+use Rattle.bm_cache.specs.declared.caches.Caches.{Caches}
+use Rattle.bm_cache.proofs.Asked.{one-first}
+use Rattle.bm_cache.proofs.Stretch.{stretch, fine-step, span-join, walk-still, walk-join, span-none, overtaken-more, overtaken_delayed-more, lasting-join, lasting-none, lasting-below, between-enter, between-leave, between-raise, between-pop, between-push, between-count, between-delayed, between-put, between-put_delayed, between-hand, between-none}
+use Rattle.bm_cache.proofs.Moments.{took-at, span-at, waiting-kept, counted-down, counted-up, popped-side, pushed-side, delayed-side, put-side, put_delayed-side, lost-side, lost_delayed-side, lasts-one, arrives-one, reusable-either, first-reusable, one-token, longer, longer_delayed, span-from, goes-join, goes-back, came-none, between-note, fine-same, between-given, given-lifts, given-arrives, given-aims, begun, come-side, unless-none, unless-some}
+use Rattle.bm_cache.proofs.release.end_pushed.Goals as goal
+
+pub returns-clause-pushed : goal.returns-clause-pushed
+returns-clause-pushed g c =
+    let l = (g.H.Host.face c.args.host.now).level in
+    let i = c.args.class in
+    let t = c.push_free.ensures.pushed in
+    let k = c.count_added-count.result in
+    let a = c.lower_above.result in
+    let ly : (g.H.Host.face c.push_free.new.host).level ≡ l = ap (λ (f : Face). f.level) c.push_free.ensures.goes.face in
+    let lz : (g.H.Host.face c.count_added-count.new.host).level ≡ l = ap (λ (f : Face). f.level) c.count_added-count.ensures.goes.face ∙ ly in
+    let s2 : Span g.R.Recorder.log l i 1 1 (entry.Count i k ∷ []) (g.H.Host.tests c.push_free.new.host) (g.H.Host.tests c.count_added-count.new.host) (g.H.Host.held c.push_free.new.host) (g.H.Host.held c.count_added-count.new.host) = span-at g.R.Recorder.log l _ i 1 1 _ _ _ (g.H.Host.held c.push_free.new.host) (g.H.Host.held c.count_added-count.new.host) ly c.count_added-count.ensures.span in
+    let s3 : Span g.R.Recorder.log l i 1 0 (entry.Leave i a ∷ raise_above i k) (g.H.Host.tests c.count_added-count.new.host) (g.H.Host.tests c.lower_above.new.host) (g.H.Host.held c.count_added-count.new.host) (g.H.Host.held c.lower_above.new.host) = span-at g.R.Recorder.log l _ i 1 0 _ _ _ (g.H.Host.held c.count_added-count.new.host) (g.H.Host.held c.lower_above.new.host) lz c.lower_above.ensures.span in
+    let s12 = span-join g.R.Recorder.log l i 1 1 1 (entry.Push i t.0.number ∷ []) (entry.Count i k ∷ []) _ _ _ (g.H.Host.held c.args.host.now) (g.H.Host.held c.push_free.new.host) (g.H.Host.held c.count_added-count.new.host) refl t.3 s2 in
+    let all = span-join g.R.Recorder.log l i 1 1 0 (entry.Push i t.0.number ∷ entry.Count i k ∷ []) (entry.Leave i a ∷ raise_above i k) _ _ _ (g.H.Host.held c.args.host.now) (g.H.Host.held c.count_added-count.new.host) (g.H.Host.held c.lower_above.new.host) refl s12 s3 in
+    let e2 : (shown (g.H.Host.held c.count_added-count.new.host)).sides l ≡ record { hand = []; mark = mark.Quiet } = (let F : ℕ → Type 0 = λ n. (shown (g.H.Host.held c.count_added-count.new.host)).sides n ≡ record ((shown (g.H.Host.held c.push_free.new.host)).sides n) { mark = mark.Quiet } in subst F ly c.count_added-count.ensures.side) ∙ ap (λ (s : Side Token). let r : Side Token = record s { mark = mark.Quiet } in r) t.2 in
+    let e3 : (shown (g.H.Host.held c.lower_above.new.host)).sides l ≡ (shown (g.H.Host.held c.count_added-count.new.host)).sides l = (let F : ℕ → Type 0 = λ n. (shown (g.H.Host.held c.lower_above.new.host)).sides n ≡ (shown (g.H.Host.held c.count_added-count.new.host)).sides n in subst F lz c.lower_above.ensures.side) in
+    (t.0, k, a, t.1, e3 ∙ e2, all)
+
+pub returns-clause-goes : goal.returns-clause-goes
+returns-clause-goes g c = goes-join g.met.H.Host.keeps_join c.push_free.ensures.goes (goes-join g.met.H.Host.keeps_join c.count_added-count.ensures.goes c.lower_above.ensures.goes)

@@ -1,0 +1,41 @@
+use Rattle.std.proofs.Common.{◌≡◌, ◌≢◌, ◌+◌, ◌-◌, ◌<◌, ◌≤◌, ◌++◌, ℕ, Bool, Option, Some, None, List, [], ◌∷◌, length, map, drop, take, true, false, refl, ap, ◌∙◌, sym, subst, arith, inl, inr, append_assoc, lt-ltb}
+use Rattle.std.specs.List.{All}
+use Rattle.bm_journal.specs.declared.entry.Entry.{Entry}
+use Rattle.bm_journal.specs.declared.entry.Entry.TheVariants as entry
+use Rattle.bm_law.specs.declared.mark.Mark.TheVariants as mark
+use Rattle.bm_law.specs.State.{Row, Side, State}
+use Rattle.bm_law.specs.Effect.{effect}
+use Rattle.bm_law.specs.Places.{Free as free_list, Extra as extra_list}
+use Rattle.bm_cache.specs.Tokens.{Token, number_of}
+use Rattle.bm_cache.specs.Tests.{Tests, Reusable, Waits, Same, Either}
+use Rattle.bm_cache.specs.Shown.{shown, waiting, Took}
+use Rattle.bm_cache.specs.Span.{Face, Fine, Span}
+use Rattle.bm_cache.proofs.Asked.{one-first}
+use Rattle.bm_cache.proofs.Stretch.{stretch, fine-step, between-enter, between-leave, between-raise, between-pop, between-push, between-count, between-delayed, between-put, between-put_delayed, between-hand, between-none}
+use Rattle.bm_cache.proofs.Moments.{took-at, span-at, waiting-kept, counted-down, counted-up, popped-side, pushed-side, delayed-side, put-side, put_delayed-side, lost-side, lost_delayed-side, lasts-one, arrives-one, reusable-either, first-reusable, one-token, longer, longer_delayed}
+use Rattle.bm_cache.proofs.release_delayed.push_delayed.Goals as goal
+
+pub returns-clause-pushed : goal.returns-clause-pushed
+returns-clause-pushed g c =
+    let n : ((shown (g.H.Host.held c.point.new.self)).rows c.args.class).active ≡ 1 = (c.point.ensures.came.kept.rows c.args.class).active ∙ c.requires.one in
+    let q = c.push_delayed.ensures.pushed in
+    let he : ((shown (g.H.Host.held c.point.new.self)).sides (g.H.Host.face c.args.host.now).level).hand ≡ ((shown (g.H.Host.held c.args.host.now)).sides (g.H.Host.face c.args.host.now).level).hand = ap (λ (s : Side Token). s.hand) (c.point.ensures.came.kept.sides (g.H.Host.face c.args.host.now).level (omega arith)) in
+    let e : ((shown (g.H.Host.held c.point.new.self)).sides (g.H.Host.face c.args.host.now).level).hand ≡ c.requires.hand.0 ∷ [] = he ∙ c.requires.hand.1 in
+    let f : ((shown (g.H.Host.held c.point.new.self)).sides (g.H.Host.face c.args.host.now).level).hand ≡ q.0 ∷ q.1 = rw (← c.level-level.ensures.same, ← c.caches.ensures.held) q.2 in
+    let u : c.requires.hand.0 ≡ q.0 = one-token _ _ _ _ _ e f in
+    let t0 : Took g.R.Recorder.log c.level-level.result (entry.Delayed c.args.class c.requires.hand.0.number) [] c.caches.result.now c.push_delayed.new.self = let F : Token → Type 0 = λ v. Took g.R.Recorder.log c.level-level.result (entry.Delayed c.args.class v.number) [] c.caches.result.now c.push_delayed.new.self in subst F (sym u) q.3 in
+    let t : Took g.R.Recorder.log (g.H.Host.face c.args.host.now).level (entry.Delayed c.args.class c.requires.hand.0.number) [] (g.H.Host.held c.point.new.self) c.push_delayed.new.self = took-at g.R.Recorder.log (g.H.Host.face c.args.host.now).level _ (entry.Delayed c.args.class c.requires.hand.0.number) [] (g.H.Host.held c.point.new.self) _ _ c.level-level.ensures.same c.caches.ensures.held t0 in
+    let s : (shown c.push_delayed.new.self).sides (g.H.Host.face c.args.host.now).level ≡ _ = ap (λ (z : State Token). z.sides (g.H.Host.face c.args.host.now).level) t.after ∙ delayed-side c.args.class (g.H.Host.face c.args.host.now).level c.requires.hand.0.number (shown (g.H.Host.held c.point.new.self)) c.requires.hand.0 e in (
+      c.requires.hand.0,
+      c.requires.hand.1,
+      rw (g.met.H.Host.held_back c.point.new.self c.push_delayed.new.self) s,
+      stretch g.R.Recorder.log (g.H.Host.face c.args.host.now).level c.args.class _ 1 1 (entry.Delayed c.args.class c.requires.hand.0.number) _ _ _ (g.H.Host.held c.args.host.now) (g.H.Host.held c.point.new.self) _ _ _ c.level-level.ensures.same c.caches.ensures.held (g.met.H.Host.held_back c.point.new.self c.push_delayed.new.self) (g.met.H.Host.tests_back c.point.new.self c.push_delayed.new.self) c.point.ensures.came t0 (between-delayed (g.H.Host.face c.args.host.now).level c.args.class (shown (g.H.Host.held c.point.new.self)) c.requires.hand.0.number n),
+    )
+
+pub returns-clause-fine : goal.returns-clause-fine
+returns-clause-fine g c =
+    let q = c.push_delayed.ensures.pushed in
+    let he : ((shown (g.H.Host.held c.point.new.self)).sides (g.H.Host.face c.args.host.now).level).hand ≡ ((shown (g.H.Host.held c.args.host.now)).sides (g.H.Host.face c.args.host.now).level).hand = ap (λ (s : Side Token). s.hand) (c.point.ensures.came.kept.sides (g.H.Host.face c.args.host.now).level (omega arith)) in
+    let e : ((shown (g.H.Host.held c.point.new.self)).sides (g.H.Host.face c.args.host.now).level).hand ≡ c.requires.hand.0 ∷ [] = he ∙ c.requires.hand.1 in
+    let p : Waits (g.H.Host.tests c.point.new.self) c.requires.hand.0 = lasts-one (g.H.Host.tests c.args.host.now) (g.H.Host.tests c.point.new.self) 1 c.requires.hand.0 _ c.requires.hand.1 (c.point.ensures.came.lasting.hands (g.H.Host.face c.args.host.now).level (omega arith)) (c.requires.suits c.requires.hand.0 c.requires.hand.1) in
+    fine-step g.R.Recorder.log g.R.Recorder.counts (g.H.Host.face c.args.host.now).level _ (entry.Delayed c.args.class q.0.number) _ _ (g.H.Host.face c.point.new.self) _ (g.H.Host.held c.point.new.self) _ _ _ c.level-level.ensures.same c.caches.ensures.held (g.met.H.Host.held_back c.point.new.self c.push_delayed.new.self) (g.met.H.Host.tests_back c.point.new.self c.push_delayed.new.self) (g.met.H.Host.face_back c.point.new.self c.push_delayed.new.self) (ap (λ (f : Face). f.level) c.point.ensures.goes.face) (let F : ℕ → Type 0 = λ n. Fine g.R.Recorder.log g.R.Recorder.counts (g.H.Host.tests c.point.new.self) (g.H.Host.face c.point.new.self).processors (n + 1) (g.H.Host.held c.point.new.self) in subst F (ap (λ (f : Face). f.level) c.point.ensures.goes.face) c.point.ensures.fine) q.3 c.push_delayed.ensures.placed tt (arrives-one (Waits (g.H.Host.tests c.point.new.self)) _ c.requires.hand.0 e p) tt

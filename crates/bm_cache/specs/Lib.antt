@@ -1,0 +1,14 @@
+pub mod Tokens
+pub mod Steps
+pub mod Each
+pub mod Numbers
+pub mod Shown
+pub mod Placed
+pub mod Opening
+pub mod Tests
+pub mod Listed
+pub mod Walk
+pub mod Span
+pub mod Allowed
+pub mod Answers
+pub mod Holding

@@ -1,0 +1,38 @@
+//! The caches of one processor.
+
+ghost use Rattle.std.specs.Prelude.{◌≡◌, vec_len};
+
+use crate::cache::Cache;
+use crate::hand::Hand;
+use std::alloc::Global;
+
+/// The caches of one processor, one for each class, and its hands, one for each level, with a recorder of what is done
+/// to them. Contracts see the lists and hands by `shown`.
+pub struct Caches<R> {
+    pub(crate) alloc: Global,
+    pub(crate) processor: u8,
+    pub(crate) rows: Vec<Cache>,
+    pub(crate) sides: Vec<Hand>,
+    pub(crate) step: u64,
+    pub(crate) recorder: R,
+    ghost rows_whole: { vec_len rows ≡ 11 },
+    ghost sides_whole: { vec_len sides ≡ 4 },
+}
+
+/// Ends caches, and each unit that stands in them.
+pub(crate) fn give_up_rows(rows: Vec<Cache>) {
+    let mut rows = rows;
+    while let Some(row) = rows.pop() {
+        row.give_up();
+    }
+    rows.destroy_empty();
+}
+
+/// Ends hands, and each unit in them.
+pub(crate) fn give_up_sides(sides: Vec<Hand>) {
+    let mut sides = sides;
+    while let Some(side) = sides.pop() {
+        side.give_up();
+    }
+    sides.destroy_empty();
+}
