@@ -6,6 +6,7 @@ pub mod Spans
 pub mod Kept
 pub mod Plain
 pub mod Phrases
+pub mod SweepPhrases
 pub mod Null
 pub mod Stands
 pub mod Waiting

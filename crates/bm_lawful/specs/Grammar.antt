@@ -1,0 +1,73 @@
+-- What a processor's log is made of, while no handler runs and no deferred work does. (This project's own.)
+use Rattle.std.specs.Prelude.{◌≡◌, ℕ, zero, suc, ◌+◌, List, [], ◌∷◌, ◌++◌, Some, nat_eq, slice_get}
+use Rattle.std.specs.List.{filter}
+use Rattle.bm_journal.specs.declared.ids.Domain.TheVariants.{Plain}
+use Rattle.bm_journal.specs.declared.units.Units.TheVariants.{Whole}
+use Rattle.bm_journal.specs.declared.entry.Entry.{Entry}
+use Rattle.bm_journal.specs.declared.entry.Entry.TheVariants as entry
+use Rattle.bm_lang.specs.declared.scenario.RunLine.{RunLine}
+use Rattle.bm_lang.specs.declared.scenario.Scenario.{Scenario}
+use Rattle.bm_lang.specs.declared.scenario.Script.{Script}
+use Rattle.bm_law.specs.State.{State, seven_lists}
+use Rattle.bm_law.specs.Lists.{Log, Leaves}
+use Rattle.bm_law.specs.SweepPhrases.{SweepPhrase}
+use Rattle.bm_lawful.specs.Held.{Names, no_names, OwnsNothing}
+use Rattle.bm_lawful.specs.Opened.{opened_classes}
+use Rattle.bm_lawful.specs.Runs.{RunsBlock}
+
+-- entries of ordinary code, which is level 0
+abbrev pub ordinary : List Entry → Log
+ordinary [] = []
+ordinary (e ∷ es) = (0, e) ∷ ordinary es
+
+-- the opening: a cache of each class is filled
+abbrev pub AreFills : List ℕ → List Entry → Type 0
+AreFills [] own = own ≡ []
+AreFills (c ∷ cs) own = (units : List ℕ) × (rest : List Entry) × (own ≡ entry.Fill c (Whole units) ∷ rest) × AreFills cs rest
+
+-- A script in its plain section, whose word is w inside: its block runs from names that hold nothing to names that
+-- own nothing.
+pub record IsScript (s : Scenario) (script : Script) (w : ℕ) (own : List Entry) : Type 0 where
+  pub part : List Entry
+  pub after : Names
+  pub own_is : own ≡ entry.Script script.name ∷ entry.In Plain w ∷ part ++ entry.Out Plain (w + 1) ∷ entry.Done script.name ∷ []
+  pub runs : RunsBlock s.types script.body no_names part after
+  pub owns_nothing : (x : List ℕ) → OwnsNothing (after x)
+
+-- the scripts that these lines run, in order, where the plain section's word was w before
+abbrev pub AreScripts : Scenario → List RunLine → ℕ → List Entry → Type 0
+AreScripts s [] w own = own ≡ []
+AreScripts s (r ∷ rs) w own =
+    (script : Script) × (slice_get s.scripts r.script.0 ≡ Some script) ×
+    ((one two : List Entry) × (own ≡ one ++ two) × IsScript s script (w + 1) one × AreScripts s rs (w + 2) two)
+
+-- the `run` lines of processor p
+abbrev pub lines_of : ℕ → List RunLine → List RunLine
+lines_of p runs = filter (λ r. nat_eq r.processor p) runs
+
+-- a sweep where these units stand in the class's lists, and what follows
+abbrev pub Swept : ℕ → List ℕ → (List Entry → Type 0) → List Entry → Type 0
+Swept c [] Rest own = Rest own
+Swept c (u ∷ us) Rest own = (one two : List Entry) × (own ≡ one ++ two) × SweepPhrase c one × Rest two
+
+-- the end of a processor whose lists are these: a sweep of each class that holds a unit
+abbrev pub AreSweeps : State ℕ → List ℕ → List Entry → Type 0
+AreSweeps s [] own = own ≡ []
+AreSweeps s (c ∷ cs) own = Swept c (seven_lists (s.rows c)) (AreSweeps s cs) own
+
+-- processor 0 begins the closing
+abbrev pub close_of : ℕ → List Entry
+close_of zero = entry.Close ∷ []
+close_of (suc p) = []
+
+-- The log of processor p: the opening, its scripts, and the closing, which sweeps what stands in the lists by then.
+pub record IsLog (s : Scenario) (p : ℕ) (own : List Entry) : Type 0 where
+  pub fills : List Entry
+  pub scripts : List Entry
+  pub sweeps : List Entry
+  pub own_is : own ≡ fills ++ (scripts ++ (entry.Ended ∷ close_of p ++ sweeps))
+  pub are_fills : AreFills (opened_classes s.types) fills
+  pub are_scripts : AreScripts s (lines_of p s.runs) 0 scripts
+  pub before : State ℕ
+  pub before_is : Leaves p (ordinary (fills ++ scripts)) before
+  pub are_sweeps : AreSweeps before (opened_classes s.types) sweeps

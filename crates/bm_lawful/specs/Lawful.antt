@@ -1,0 +1,40 @@
+-- When a journal is lawful for a scenario, as far as scenarios run by now. (This project's own.)
+use Rattle.std.specs.Prelude.{◌≡◌, ℕ, List, [], Some, length, map, slice_get}
+use Rattle.bm_journal.specs.declared.entry.Entry.{Entry}
+use Rattle.bm_journal.specs.declared.journal.Journal.{Journal}
+use Rattle.bm_lang.specs.declared.scenario.Scenario.{Scenario}
+use Rattle.bm_lang.specs.declared.scenario.Script.{Script}
+use Rattle.bm_lang.specs.declared.scenario.MapDeclaration.{MapDeclaration}
+use Rattle.bm_lang.specs.declared.scenario.TypeDeclaration.{TypeDeclaration}
+use Rattle.bm_law.specs.State.{State}
+use Rattle.bm_law.specs.Lists.{Log, Leaves}
+use Rattle.bm_law.specs.Null.{NullLaw}
+use Rattle.bm_law.specs.Worked.{Emptied}
+use Rattle.bm_lawful.specs.Opened.{opened}
+use Rattle.bm_lawful.specs.Grammar.{IsLog, ordinary}
+
+-- The heading names what the scenario declares.
+pub record HeadingOf (s : Scenario) (j : Journal) : Type 0 where
+  pub processors : j.processors ≡ s.processors
+  pub pages : j.pages ≡ s.pages
+  pub types : j.types ≡ map (λ (t : TypeDeclaration). t.name) s.types
+  pub maps : j.maps ≡ map (λ (m : MapDeclaration). m.name) s.maps
+  pub scripts : j.scripts ≡ map (λ (x : Script). x.name) s.scripts
+  pub classes : j.classes ≡ opened s.types
+
+-- A log of processor p: what it is made of, the lists that it leaves, in which nothing stands at its end, and when its
+-- allocations answer null.
+pub record LawfulLog (s : Scenario) (p : ℕ) (log : Log) : Type 0 where
+  pub own : List Entry
+  pub log_is : log ≡ ordinary own
+  pub is_log : IsLog s p own
+  pub last : State ℕ
+  pub lists : Leaves p log last
+  pub emptied : Emptied last
+  pub null : NullLaw p log
+
+pub record Lawful (s : Scenario) (j : Journal) : Type 0 where
+  pub heading : HeadingOf s j
+  pub count : length j.logs ≡ s.processors
+  pub logs : (p : ℕ) (log : Log) → slice_get j.logs p ≡ Some log → LawfulLog s p log
+  pub graphs : j.graphs ≡ []

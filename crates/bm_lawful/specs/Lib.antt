@@ -1,0 +1,6 @@
+pub mod Held
+pub mod Runs
+pub mod Opened
+pub mod Grammar
+pub mod Lawful
+pub mod Worked
