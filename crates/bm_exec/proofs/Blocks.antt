@@ -1,0 +1,44 @@
+-- A block is its list of statements.
+use Rattle.std.proofs.Common.{◌≡◌, ◌+◌, ◌&&◌, List, refl, ap}
+use mathlib.Core.Path.{fun_ext}
+use mathlib.Core.Former.{Count}
+use Rattle.bm_lang.specs.declared.scenario.Block.{Block, Block', Row_of-Statement, end_of-Statement, more_of-Statement, items-the_row-Statement}
+use Rattle.bm_lang.specs.declared.scenario.TypeDeclaration.{TypeDeclaration}
+use Rattle.bm_lang.specs.Limits.{action_cost, block_cost, row_cost}
+use Rattle.bm_lawful.specs.Held.{Names}
+use Rattle.bm_lawful.specs.Runs.{Then, RunsAction, RunsBlock, RunsRow}
+use Rattle.bm_check.specs.Statements.{Setting}
+use Rattle.bm_check.specs.Values.{Store, SafeAction, SafeBlock, SafeRow}
+use Rattle.bm_exec.specs.Stores.{store_of}
+use Rattle.bm_exec.specs.Lists.{block_list, RunsList, SafeList}
+use Rattle.bm_exec.specs.Stack.{Closes}
+use Rattle.bm_exec.specs.Cost.{list_cost}
+use Rattle.bm_exec.specs.Runnable.{can_run_action, can_run_list, can_run_block, can_run_row}
+
+row-runs : (types : List TypeDeclaration) (n : Count) (row : Row_of-Statement n) → RunsRow types row ≡ RunsList types (items-the_row-Statement n row)
+row-runs types _ end_of-Statement = refl
+row-runs types _ (more_of-Statement line action rest) = ap (Then (RunsAction types action)) (row-runs types _ rest)
+
+pub block-runs : (types : List TypeDeclaration) (b : Block) → RunsBlock types b ≡ RunsList types (block_list b)
+block-runs types (Block' shape row end_line) = row-runs types _ row
+
+row-safe : (e : Setting) (s : Store) (Q : Store → Type 0) (n : Count) (row : Row_of-Statement n) → SafeRow e s row Q ≡ SafeList e s (items-the_row-Statement n row) Q
+row-safe e s Q _ end_of-Statement = refl
+row-safe e s Q _ (more_of-Statement line action rest) = ap (SafeAction e s action) (fun_ext (λ r. row-safe e r Q _ rest))
+
+pub block-safe : (e : Setting) (names : Names) (b : Block) (Q : Store → Type 0) → SafeBlock e (store_of names) b Q ≡ SafeList e (store_of names) (block_list b) (Closes Q)
+block-safe e names (Block' shape row end_line) Q = row-safe e (store_of names) (Closes Q) _ row
+
+row-can : (types : List TypeDeclaration) (n : Count) (row : Row_of-Statement n) → can_run_row types row ≡ can_run_list types (items-the_row-Statement n row)
+row-can types _ end_of-Statement = refl
+row-can types _ (more_of-Statement line action rest) = ap (λ b. can_run_action types action && b) (row-can types _ rest)
+
+pub block-can : (types : List TypeDeclaration) (b : Block) → can_run_block types b ≡ can_run_list types (block_list b)
+block-can types (Block' shape row end_line) = row-can types _ row
+
+row-cost : (n : Count) (row : Row_of-Statement n) → row_cost row ≡ list_cost (items-the_row-Statement n row)
+row-cost _ end_of-Statement = refl
+row-cost _ (more_of-Statement line action rest) = ap (λ k. action_cost action + k) (row-cost _ rest)
+
+pub block-cost : (b : Block) → block_cost b ≡ list_cost (block_list b)
+block-cost (Block' shape row end_line) = row-cost _ row

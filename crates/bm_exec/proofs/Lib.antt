@@ -1,0 +1,13 @@
+mod Then
+mod Blocks
+mod Stacks
+mod Tables
+mod Results
+mod Objects
+mod Performing
+mod Going
+mod Lives
+mod Apart
+mod Starting
+mod Creating
+mod Disposing

@@ -1,0 +1,135 @@
+-- Types with their classes, and the objects that names hold.
+use Rattle.std.proofs.Common.{◌≡◌, ℕ, zero, suc, Bool, true, false, List, [], ◌∷◌, map, refl, sym, ap, ◌∙◌, Option, Some, None, slice_get, eqb, eq-eqb, inl, inr, if◌then◌else◌}
+use mathlib.Core.Path.{fun_ext}
+use Rattle.std.specs.Str.{bytes_eq}
+use Rattle.bm_journal.specs.declared.ids.ObjId.{ObjId}
+use Rattle.bm_lang.specs.declared.scenario.TypeDeclaration.{TypeDeclaration}
+use Rattle.bm_lang.specs.declared.scenario.TypeId.{TypeId}
+use Rattle.bm_class.specs.Sizes.{class_of_size}
+use Rattle.bm_lawful.specs.Held.{Held, Nothing, Null, Object, Names, with_name}
+use Rattle.bm_lawful.specs.Opened.{OfClass, object_size}
+use Rattle.bm_lawful.specs.Runs.{answered}
+use Rattle.bm_check.specs.Values as safe
+use Rattle.bm_exec.specs.Runnable.{Classes}
+use Rattle.bm_exec.specs.Stores.{store_of, value_of}
+use Rattle.bm_exec.specs.Living.{Living, Lives, with_life, Holds, Begins, reply_of}
+use Rattle.std.proofs.lemmas.Bool.Decides.{Decides-eqb}
+use Rattle.bm_exec.proofs.Tables.{same_word, word_is_itself, is_or_not}
+
+-- the class of a type
+class-of : (types : List TypeDeclaration) (classes : List ℕ) (t : ℕ) (d : TypeDeclaration) (c : ℕ) → map Some classes ≡ map (λ (x : TypeDeclaration). class_of_size (object_size x)) types → slice_get types t ≡ Some d → slice_get classes t ≡ Some c → class_of_size (object_size d) ≡ Some c
+class-of [] classes t d c e f g = cc
+class-of (x ∷ xs) [] t d c e f g = cc
+class-of (x ∷ xs) (y ∷ ys) zero d c e f g = cc
+class-of (x ∷ xs) (y ∷ ys) (suc t) d c e f g = class-of xs ys t d c (cc) f g
+
+pub class-at : (types : List TypeDeclaration) (classes : List ℕ) (t : ℕ) (d : TypeDeclaration) (c : ℕ) → Classes types classes → slice_get types t ≡ Some d → slice_get classes t ≡ Some c → OfClass types t c d
+class-at types classes t d c e f g = record { found = f; class = class-of types classes t d c e.each f g }
+
+-- a name's value, in the names as the law of accepted scripts has them
+value-if : (b : Bool) (v w : Held) → value_of (if b then v else w) ≡ (if b then value_of v else value_of w)
+value-if true v w = refl
+value-if false v w = refl
+
+pub store-with : (x : List ℕ) (v : Held) (names : Names) → store_of (with_name x v names) ≡ safe.with_value (store_of names) x (value_of v)
+store-with x v names = ap (λ f. let s : safe.Store = record { value = f; lock = (store_of names).lock } in s) (fun_ext (λ y. value-if (bytes_eq x y) v (names y)))
+
+-- what a name holds after it got something
+pub here : (x : List ℕ) (v : Held) (names : Names) (y : List ℕ) → bytes_eq x y ≡ true → with_name x v names y ≡ v
+here x v names y e = rw e refl
+
+pub elsewhere : (x : List ℕ) (v : Held) (names : Names) (y : List ℕ) → bytes_eq x y ≡ false → with_name x v names y ≡ names y
+elsewhere x v names y e = rw e refl
+
+same-object : (t t' : TypeId) (u u' n n' : ℕ) → Object t u n ≡ Object t' u' n' → (t ≡ t') × (u ≡ u') × (n ≡ n')
+same-object t t' u u' n n' e = (cc, cc, cc)
+
+null-is-none : (t : TypeId) (u n : ℕ) → Null ≡ Object t u n → ⊥
+null-is-none t u n e = cc
+
+pub nothing-is-none : (t : TypeId) (u n : ℕ) → Nothing ≡ Object t u n → ⊥
+nothing-is-none t u n e = cc
+
+-- the names after a reply
+holds-null : (types : List TypeDeclaration) (lives lives' : Lives) (names : Names) (x : List ℕ) (v : Held) → ((t : TypeId) (u n : ℕ) → v ≡ Object t u n → ⊥) → lives' ≡ lives → Holds types lives names → Holds types lives' (with_name x v names)
+holds-null types lives lives' names x v none e h = record {
+  living = λ y t u n f. elim (is_or_not (bytes_eq x y)) [
+    | inl same ↦ absurd (none t u n (sym (here x v names y same) ∙ f))
+    | inr other ↦ rw e (h.living y t u n (sym (elsewhere x v names y other) ∙ f))
+  ];
+  once = λ y z t t' u n n' f g. elim (is_or_not (bytes_eq x y)) [
+    | inl same ↦ absurd (none t u n (sym (here x v names y same) ∙ f))
+    | inr other ↦ elim (is_or_not (bytes_eq x z)) [
+      | inl same ↦ absurd (none t' u n' (sym (here x v names z same) ∙ g))
+      | inr other' ↦ h.once y z t t' u n n' (sym (elsewhere x v names y other) ∙ f) (sym (elsewhere x v names z other') ∙ g)
+    ]
+  ];
+}
+
+with-here : (u u' c n n' : ℕ) (lives : Lives) → u ≡ u' → n ≡ n' → with_life u (Some (record { class = c; life = n })) lives u' ≡ Some (record { class = c; life = n' })
+with-here u u' c n n' lives p q = rw (eq-eqb u u' p) (ap (λ k. let l : Living = record { class = c; life = k } in Some l) q)
+
+with-other : (u v : ℕ) (l : Option Living) (lives : Lives) → eqb u v ≡ false → with_life u l lives v ≡ lives v
+with-other u v l lives e = rw e refl
+
+-- a unit under which nothing lived is another than one under which something does
+fresh-other : (u v : ℕ) (lives : Lives) (l : Living) → lives u ≡ None → lives v ≡ Some l → eqb u v ≡ false
+fresh-other u v lives l e f = elim (is_or_not (eqb u v)) [
+  | inl same ↦ (let q : u ≡ v = (Decides-eqb u v).0 same in cc)
+  | inr other ↦ other
+]
+
+clash : (t t' : TypeId) (u u' n n' : ℕ) → Object t u n ≡ Object t' u' n' → eqb u u' ≡ false → ⊥
+clash t t' u u' n n' e f = let q = same-object t t' u u' n n' e in let w : eqb u u' ≡ true = eq-eqb u u' q.1 in cc
+
+-- a name that holds a new object
+holds-new : (types : List TypeDeclaration) (lives lives' : Lives) (names : Names) (x : List ℕ) (t : TypeId) (u n c : ℕ) (d : TypeDeclaration) → OfClass types t.0 c d → lives u ≡ None → lives' ≡ with_life u (Some (record { class = c; life = n })) lives → Holds types lives names → Holds types lives' (with_name x (Object t u n) names)
+holds-new types lives lives' names x t u n c d of fresh e h =
+    let kept = λ (y : List ℕ) (t' : TypeId) (u' n' : ℕ) (f : names y ≡ Object t' u' n'). (let l = h.living y t' u' n' f in fresh-other u u' lives _ fresh l.3) in record {
+      living = λ y t' u' n' f. elim (is_or_not (bytes_eq x y)) [
+        | inl same ↦ (let q = same-object t t' u u' n n' (sym (here x (Object t u n) names y same) ∙ f) in
+            (c, d, rw q.0 at of, rw e (with-here u u' c n n' lives q.1 q.2)))
+        | inr other ↦ (let f' = sym (elsewhere x (Object t u n) names y other) ∙ f in let l = h.living y t' u' n' f' in
+            (l.0, l.1, l.2, rw e (with-other u u' _ lives (kept y t' u' n' f') ∙ l.3)))
+      ];
+      once = λ y z t' t'' u' n' n'' f g. elim (is_or_not (bytes_eq x y)) [
+        | inl same ↦ elim (is_or_not (bytes_eq x z)) [
+          | inl same' ↦ sym (same_word x y same) ∙ same_word x z same'
+          | inr other' ↦ absurd (clash t t' u u' n n' (sym (here x (Object t u n) names y same) ∙ f) (kept z t'' u' n'' (sym (elsewhere x (Object t u n) names z other') ∙ g)))
+        ]
+        | inr other ↦ elim (is_or_not (bytes_eq x z)) [
+          | inl same' ↦ absurd (clash t t'' u u' n n'' (sym (here x (Object t u n) names z same') ∙ g) (kept y t' u' n' (sym (elsewhere x (Object t u n) names y other) ∙ f)))
+          | inr other' ↦ h.once y z t' t'' u' n' n'' (sym (elsewhere x (Object t u n) names y other) ∙ f) (sym (elsewhere x (Object t u n) names z other') ∙ g)
+        ]
+      ];
+    }
+
+-- the names after an object was given up by the name that held it
+pub holds-less : (types : List TypeDeclaration) (lives lives' : Lives) (names : Names) (x : List ℕ) (t : TypeId) (u n : ℕ) → names x ≡ Object t u n → lives' ≡ with_life u None lives → Holds types lives names → Holds types lives' (with_name x Nothing names)
+holds-less types lives lives' names x t u n held e h = record {
+  living = λ y t' u' n' f. elim (is_or_not (bytes_eq x y)) [
+    | inl same ↦ absurd (nothing-is-none t' u' n' (sym (here x Nothing names y same) ∙ f))
+    | inr other ↦ (let f' = sym (elsewhere x Nothing names y other) ∙ f in let l = h.living y t' u' n' f' in
+        (l.0, l.1, l.2, rw e (with-other u u' None lives (apart y t' u' n' other f') ∙ l.3)))
+  ];
+  once = λ y z t' t'' u' n' n'' f g. elim (is_or_not (bytes_eq x y)) [
+    | inl same ↦ absurd (nothing-is-none t' u' n' (sym (here x Nothing names y same) ∙ f))
+    | inr other ↦ elim (is_or_not (bytes_eq x z)) [
+      | inl same' ↦ absurd (nothing-is-none t'' u' n'' (sym (here x Nothing names z same') ∙ g))
+      | inr other' ↦ h.once y z t' t'' u' n' n'' (sym (elsewhere x Nothing names y other) ∙ f) (sym (elsewhere x Nothing names z other') ∙ g)
+    ]
+  ];
+}
+  where
+    apart : (y : List ℕ) (t' : TypeId) (u' n' : ℕ) → bytes_eq x y ≡ false → names y ≡ Object t' u' n' → eqb u u' ≡ false
+    apart y t' u' n' other f = elim (is_or_not (eqb u u')) [
+      | inl same ↦ (let q : u ≡ u' = (Decides-eqb u u').0 same in
+          let r : x ≡ y = h.once x y t t' u n n' held (f ∙ ap (λ k. Object t' k n') (sym q)) in
+          let w : bytes_eq x y ≡ true = rw (sym r) (word_is_itself x) in cc)
+      | inr isnt ↦ isnt
+    ]
+
+-- what a reply leaves
+pub holds-reply : (types : List TypeDeclaration) (lives lives' : Lives) (names : Names) (x : List ℕ) (t : TypeId) (c : ℕ) (d : TypeDeclaration) (reply : Option ObjId) → OfClass types t.0 c d → Begins c lives lives' reply → Holds types lives names → Holds types lives' (with_name x (answered t (reply_of reply)) names)
+holds-reply types lives lives' names x t c d None of e h = holds-null types lives lives' names x Null (λ t u n f. null-is-none t u n f) e h
+holds-reply types lives lives' names x t c d (Some o) of e h = holds-new types lives lives' names x t o.unit o.life c d of e.0 e.1 h

@@ -1,0 +1,192 @@
+-- Statements that were performed.
+use Rattle.std.proofs.Common.{◌≡◌, ◌≤◌, ℕ, suc, zero, ◌+◌, ◌*◌, Bool, true, false, ◌&&◌, List, [], ◌∷◌, ◌++◌, refl, sym, ap, ◌∙◌, Option, Some, None, slice_get, arith, inl, max, not, append-nil}
+use Rattle.std.specs.List.{list_all}
+use Rattle.bm_journal.specs.declared.entry.Entry.{Entry}
+use Rattle.bm_journal.specs.declared.entry.Entry.TheVariants as entry
+use Rattle.bm_journal.specs.declared.ids.ObjId.{ObjId}
+use Rattle.bm_lang.specs.declared.scenario.Action.{Action, New, Drop, If', Repeat, Held-Action-If-2, None', Some'}
+use Rattle.bm_lang.specs.declared.scenario.Block.{Block}
+use Rattle.bm_lang.specs.Limits.{action_cost, else_cost, block_cost}
+use Rattle.bm_lang.specs.declared.scenario.TypeDeclaration.{TypeDeclaration}
+use Rattle.bm_lang.specs.declared.scenario.TypeId.{TypeId}
+use Rattle.bm_law.specs.Lists.{Log}
+use Rattle.bm_lawful.specs.Held.{Nothing, Null, Object, Names, with_name}
+use Rattle.bm_lawful.specs.Opened.{OfClass}
+use Rattle.bm_lawful.specs.Runs.{Run, Done, Then, Times, answered, RunsAction, RunsBlock}
+use Rattle.bm_check.specs.Statements.{Setting}
+use Rattle.bm_check.specs.Values as safe
+use Rattle.bm_exec.specs.declared.frame.Open.{Open}
+use Rattle.bm_exec.specs.Stores.{store_of, value_of}
+use Rattle.bm_exec.specs.Lists.{block_list, RunsList}
+use Rattle.bm_exec.specs.Cost.{open_cost}
+use Rattle.bm_exec.specs.Stack.{RunsOpen, RunsStack, SafeStack}
+use Rattle.bm_exec.specs.Steps.{Pushed}
+use Rattle.bm_exec.proofs.Blocks.{block-runs, block-safe, block-can, block-cost}
+use Rattle.bm_exec.specs.Runnable.{Classes, can_run_action, can_run_else, can_run_block, can_run_list, can_run_stack}
+use Rattle.bm_exec.specs.Living.{Lives, Created, Disposed, Holds, reply_of}
+use Rattle.bm_exec.specs.Running.{Performed}
+use Rattle.bm_exec.proofs.Objects.{class-at, store-with, holds-reply, holds-less}
+use Rattle.bm_law.proofs.Spans.{Records-none}
+use Rattle.bm_lang.specs.declared.scenario.Statement.{Statement}
+use Rattle.bm_exec.proofs.Then.{then-of, then-map}
+
+-- what the reply leaves is safe, whatever it was
+safe-reply : (e : Setting) (os : List Open) (names : Names) (x : List ℕ) (t : TypeId) (values : List ℕ) (reply : Option ObjId) → safe.SafeAction e (store_of names) (New x t values) (λ r. SafeStack e r os) → SafeStack e (store_of (with_name x (answered t (reply_of reply)) names)) os
+safe-reply e os names x t values None s = rw (store-with x Null names) (s.1.1 false)
+safe-reply e os names x t values (Some o) s = rw (store-with x (Object t o.unit o.life) names) (s.1.1 true)
+
+pub new-performed : (types : List TypeDeclaration) (classes : List ℕ) (l : ℕ) (x : List ℕ) (t : TypeId) (values : List ℕ) (names names' : Names) (lives lives' : Lives) (asked asked' : ℕ) (log log' : Option Log) (reply : Option ObjId) (d : TypeDeclaration) (c : ℕ) →
+    Classes types classes → slice_get types t.0 ≡ Some d → slice_get classes t.0 ≡ Some c → Holds types lives names → Created l c d.name values log log' lives lives' reply → names' ≡ with_name x (answered t (reply_of reply)) names → asked' ≡ asked + 1 →
+    (os : List Open) → Performed types l (New x t values) names names' os os lives' asked asked' log log'
+new-performed types classes l x t values names names' lives lives' asked asked' log log' reply d c cs f g h made e n os =
+    let of = class-at types classes t.0 d c cs f g in record {
+      part = entry.New d.name values ∷ made.own;
+      records = made.records;
+      runs = λ after rest z. then-of (RunsAction types (New x t values)) (RunsStack types os) names names' after (entry.New d.name values ∷ made.own) rest
+          (record { class = c; declared = d; of_class = of; own = made.own; reply = reply_of reply; part_is = refl; allocates = made.allocates; after_is = e }) z;
+      safe = λ s y. rw e (safe-reply s os names x t values reply y);
+      holds = rw e (holds-reply types lives lives' names x t c d reply of made.begins h);
+      can = λ a b. b;
+      cost = omega (arith, n);
+      weight = omega arith;
+    }
+
+not-true : (b a : Bool) → (not b && a) ≡ true → b ≡ false
+not-true true a e = cc
+not-true false a e = refl
+
+all-behind : (b a : Bool) → (not b && a) ≡ true → a ≡ true
+all-behind true a e = cc
+all-behind false a e = e
+
+-- no type has a reference count
+plain-at : (types : List TypeDeclaration) (t : ℕ) (d : TypeDeclaration) → list_all (λ (x : TypeDeclaration). not x.counted) types ≡ true → slice_get types t ≡ Some d → d.counted ≡ false
+plain-at [] t d e f = cc
+plain-at (x ∷ xs) zero d e f = let q : x ≡ d = cc in rw q at (not-true x.counted _ e)
+plain-at (x ∷ xs) (suc t) d e f = plain-at xs t d (all-behind x.counted _ e) f
+
+pub drop-performed : (types : List TypeDeclaration) (classes : List ℕ) (l : ℕ) (x : List ℕ) (t : TypeId) (o : ObjId) (names names' : Names) (lives lives' : Lives) (asked asked' : ℕ) (log log' : Option Log) (c : ℕ) (d : TypeDeclaration) →
+    Classes types classes → OfClass types t.0 c d → names x ≡ Object t o.unit o.life → Holds types lives names → Disposed l c o log log' lives lives' → names' ≡ with_name x Nothing names → asked' ≡ asked →
+    (os : List Open) → Performed types l (Drop x) names names' os os lives' asked asked' log log'
+drop-performed types classes l x t o names names' lives lives' asked asked' log log' c d cs of held h gone e n os = record {
+  part = entry.Drop o.unit o.life ∷ entry.Last ∷ gone.own;
+  records = gone.records;
+  runs = λ after rest z. then-of (RunsAction types (Drop x)) (RunsStack types os) names names' after (entry.Drop o.unit o.life ∷ entry.Last ∷ gone.own) rest
+      (record { type = t; unit = o.unit; life = o.life; held = held; class = c; declared = d; of_class = of; plain = plain-at types t.0 d cs.plain of.found; home = gone.home; own = gone.own; part_is = refl; frees = gone.frees; after_is = e }) z;
+  safe = λ s y. rw e (rw (store-with x Nothing names) y.1.3);
+  holds = rw e (holds-less types lives lives' names x t o.unit o.life held gone.ends h);
+  can = λ a b. b;
+  cost = omega (arith, n);
+  weight = omega arith;
+}
+
+-- what a name that owns holds
+pub owned-object : (types : List TypeDeclaration) (lives : Lives) (names : Names) (x : List ℕ) (t : TypeId) (o : ObjId) → names x ≡ Object t o.unit o.life → Holds types lives names → (c : ℕ) × (lives o.unit ≡ Some (record { class = c; life = o.life }))
+owned-object types lives names x t o held h = let l = h.living x t o.unit o.life held in (l.0, l.3)
+
+-- one run of a block and then nothing
+pub undone : (a : Run) (names after : Names) (part : List Entry) → Then a Done names part after → a names part after
+undone a names after part x =
+    let p : part ≡ x.one = x.part_is ∙ (ap (λ z. x.one ++ z) x.second_runs.0 ∙ append-nil x.one) in
+    rw p (rw x.second_runs.1 x.first_runs)
+
+not-begun : (a : Run) (names after : Names) (part : List Entry) → Then Done a names part after → a names part after
+not-begun a names after part x = rw x.part_is (rw x.first_runs.0 (rw x.first_runs.1 at x.second_runs))
+
+-- a block that runs once
+pub block-once : (types : List TypeDeclaration) (o : Open) (body : Block) → o.rest.now ≡ block_list body → o.repeats ≡ 0 → (names after : Names) (part : List Entry) → RunsOpen types o names part after → RunsBlock types body names part after
+block-once types o body r n names after part x =
+    let y : Then (RunsList types (block_list body)) Done names part after = rw n at (rw r at x) in
+    rw (block-runs types body) (undone (RunsList types (block_list body)) names after part y)
+
+block-times : (types : List TypeDeclaration) (o : Open) (k : ℕ) (body : Block) → o.rest.now ≡ [] → o.repeats ≡ k → o.body.now ≡ body → (names after : Names) (part : List Entry) → RunsOpen types o names part after → Times (RunsBlock types body) k names part after
+block-times types o k body r n b names after part x =
+    let y : Then Done (Times (RunsBlock types body) k) names part after = rw b at (rw n at (rw r at x)) in
+    not-begun (Times (RunsBlock types body) k) names after part y
+
+pub once-safe : (e : Setting) (o : Open) (os : List Open) (names : Names) (body : Block) → o.rest.now ≡ block_list body → o.repeats ≡ 0 → safe.SafeBlock e (store_of names) body (λ r. SafeStack e r os) → SafeStack e (store_of names) (o ∷ os)
+once-safe e o os names body r n x = rw r (rw n (rw (block-safe e names body (λ s. SafeStack e s os)) at x))
+
+times-safe : (e : Setting) (o : Open) (os : List Open) (names : Names) (k : ℕ) (body : Block) → o.rest.now ≡ [] → o.repeats ≡ k → o.body.now ≡ body → safe.Times k (λ r. safe.SafeBlock e r body) (store_of names) (λ r. SafeStack e r os) → SafeStack e (store_of names) (o ∷ os)
+times-safe e o os names k body r n b x = rw r (rw n (rw b (refl, x)))
+
+pub both : (a b : Bool) → a ≡ true → b ≡ true → (a && b) ≡ true
+both true b e f = f
+both false b e f = e
+
+left : (a b : Bool) → (a && b) ≡ true → a ≡ true
+left true b e = refl
+left false b e = e
+
+right : (a b : Bool) → (a && b) ≡ true → b ≡ true
+right true b e = e
+right false b e = cc
+
+max-left : (a b : ℕ) → a ≤ max a b
+max-left a b = omega arith
+
+max-right : (a b : ℕ) → b ≤ max a b
+max-right a b = omega arith
+
+-- a statement that opens a block
+push-performed : (types : List TypeDeclaration) (l : ℕ) (a : Action) (names : Names) (before now : List Open) (rest : List Statement) (n : ℕ) (body : Block) (lives : Lives) (asked : ℕ) (log : Option Log) → (o : Pushed before now rest n body) → Holds types lives names →
+    ((after : Names) (p : List Entry) → RunsOpen types o.top names p after → RunsAction types a names p after) →
+    ((e : Setting) → safe.SafeAction e (store_of names) a (λ r. SafeStack e r before) → SafeStack e (store_of names) (o.top ∷ before)) →
+    (can_run_action types a ≡ true → (can_run_list types o.top.rest.now ≡ true) × (can_run_block types o.top.body.now ≡ true)) →
+    suc (open_cost o.top) ≤ action_cost a →
+    Performed types l a names names before now lives asked asked log log
+push-performed types l a names before now rest n body lives asked log o h runs safe can cost = record {
+  part = [];
+  records = Records-none l log;
+  runs = λ after rest z. then-map (RunsOpen types o.top) (RunsAction types a) (RunsStack types before) names after rest (λ m p y. runs m p y) (rw o.now_is at z);
+  safe = λ e y. rw o.now_is (safe e y);
+  holds = h;
+  can = λ x y. rw o.now_is (let c = can x in both (can_run_list types o.top.rest.now) (can_run_block types o.top.body.now && can_run_stack types before) c.0 (both (can_run_block types o.top.body.now) (can_run_stack types before) c.1 y));
+  cost = rw o.now_is (omega (arith, cost));
+  weight = rw o.now_is (omega (arith, cost));
+}
+
+pub once-cost : (types : List TypeDeclaration) (o : Open) (body : Block) → o.rest.now ≡ block_list body → o.repeats ≡ 0 → open_cost o ≡ block_cost body
+once-cost types o body r n = rw r (rw n (omega (arith, block-cost body)))
+
+times-cost : (o : Open) (k : ℕ) (body : Block) → o.rest.now ≡ [] → o.repeats ≡ k → o.body.now ≡ body → open_cost o ≡ k * (1 + block_cost body)
+times-cost o k body r n b = rw r (rw n (rw b (omega arith)))
+
+pub repeat-performed : (types : List TypeDeclaration) (l k : ℕ) (body : Block) (names : Names) (before now : List Open) (lives : Lives) (asked : ℕ) (log : Option Log) → Pushed before now [] k body → Holds types lives names → Performed types l (Repeat k body) names names before now lives asked asked log log
+repeat-performed types l k body names before now lives asked log o h =
+    push-performed types l (Repeat k body) names before now [] k body lives asked log o h
+    (λ after p y. block-times types o.top k body o.rest_is o.repeats_is o.body_is names after p y)
+    (λ e y. times-safe e o.top before names k body o.rest_is o.repeats_is o.body_is y)
+    (λ y. (rw o.rest_is refl, rw o.body_is y))
+    (let c = times-cost o.top k body o.rest_is o.repeats_is o.body_is in omega (arith, c))
+
+pub first-performed : (types : List TypeDeclaration) (l : ℕ) (x : List ℕ) (t : TypeId) (u n : ℕ) (body : Block) (otherwise : Held-Action-If-2) (names : Names) (before now : List Open) (lives : Lives) (asked : ℕ) (log : Option Log) → names x ≡ Object t u n → Pushed before now (block_list body) 0 body → Holds types lives names → Performed types l (If' x body otherwise) names names before now lives asked asked log log
+first-performed types l x t u n body otherwise names before now lives asked log held o h =
+    push-performed types l (If' x body otherwise) names before now (block_list body) 0 body lives asked log o h
+    (λ after p y. rw held (block-once types o.top body o.rest_is o.repeats_is names after p y))
+    (λ e y. once-safe e o.top before names body o.rest_is o.repeats_is (y.1 t (inl (ap value_of held))))
+    (λ y. let c = left (can_run_block types body) (can_run_else types otherwise) y in (rw o.rest_is (sym (block-can types body) ∙ c), rw o.body_is c))
+    (let c = once-cost types o.top body o.rest_is o.repeats_is in omega (arith, c, max-left (block_cost body) (else_cost otherwise)))
+
+pub other-performed : (types : List TypeDeclaration) (l : ℕ) (x : List ℕ) (body other : Block) (otherwise : Held-Action-If-2) (names : Names) (before now : List Open) (lives : Lives) (asked : ℕ) (log : Option Log) → names x ≡ Null → otherwise ≡ Some' other → Pushed before now (block_list other) 0 other → Holds types lives names → Performed types l (If' x body otherwise) names names before now lives asked asked log log
+other-performed types l x body other otherwise names before now lives asked log held q o h =
+    push-performed types l (If' x body otherwise) names before now (block_list other) 0 other lives asked log o h
+    (λ after p y. rw held (rw q (block-once types o.top other o.rest_is o.repeats_is names after p y)))
+    (λ e y. once-safe e o.top before names other o.rest_is o.repeats_is (rw q at (y.0 (ap value_of held))))
+    (λ y. let c = rw q at (right (can_run_block types body) (can_run_else types otherwise) y) in (rw o.rest_is (sym (block-can types other) ∙ c), rw o.body_is c))
+    (let c = once-cost types o.top other o.rest_is o.repeats_is in let d : else_cost otherwise ≡ block_cost other = ap else_cost q in omega (arith, c, d, max-right (block_cost body) (else_cost otherwise)))
+
+skip-runs : (types : List TypeDeclaration) (x : List ℕ) (body : Block) (otherwise : Held-Action-If-2) (names : Names) → names x ≡ Null → otherwise ≡ None' → RunsAction types (If' x body otherwise) names [] names
+skip-runs types x body otherwise names held q = rw held (rw q (refl, refl))
+
+pub skip-performed : (types : List TypeDeclaration) (l : ℕ) (x : List ℕ) (body : Block) (otherwise : Held-Action-If-2) (names : Names) (before : List Open) (lives : Lives) (asked : ℕ) (log : Option Log) → names x ≡ Null → otherwise ≡ None' → Holds types lives names → Performed types l (If' x body otherwise) names names before before lives asked asked log log
+skip-performed types l x body otherwise names before lives asked log held q h = record {
+  part = [];
+  records = Records-none l log;
+  runs = λ after rest z. then-of (RunsAction types (If' x body otherwise)) (RunsStack types before) names names after [] rest (skip-runs types x body otherwise names held q) z;
+  safe = λ e y. rw q at (y.0 (ap value_of held));
+  holds = h;
+  can = λ x y. y;
+  cost = omega arith;
+  weight = omega arith;
+}

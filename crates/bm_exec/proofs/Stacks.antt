@@ -1,0 +1,177 @@
+-- What ends, begins again and is taken off the open blocks of a frame.
+use Rattle.std.proofs.Common.{◌≡◌, ◌≤◌, ℕ, suc, ◌+◌, ◌*◌, Bool, true, false, ◌&&◌, List, [], ◌∷◌, ◌++◌, length, refl, sym, ap, ◌∙◌, append_assoc, arith, reverse, drop, take, slice_index_or, vec_len, Vec, Global, Option, Some, ◌<◌, ◌-◌}
+use Rattle.std.proofs.lemmas.List.{reverse-append}
+use Rattle.std.proofs.Math.Nat.{suc-mul}
+use Rattle.std.specs.Option.{option_to_list}
+use Rattle.bm_journal.specs.declared.entry.Entry.{Entry}
+use Rattle.bm_lang.specs.declared.scenario.Statement.{Statement}
+use Rattle.bm_lang.specs.declared.scenario.TypeDeclaration.{TypeDeclaration}
+use Rattle.bm_lang.specs.Limits.{action_cost, block_cost}
+use Rattle.bm_lawful.specs.Held.{Names}
+use Rattle.bm_lawful.specs.Runs.{Done, Then, Times, RunsAction, RunsBlock}
+use Rattle.bm_check.specs.Statements.{Setting}
+use Rattle.bm_check.specs.Values as safe
+use Rattle.bm_exec.specs.declared.frame.Open.{Open}
+use Rattle.bm_exec.specs.Stores.{store_of}
+use Rattle.bm_exec.specs.Lists.{block_list, RunsList}
+use Rattle.bm_exec.specs.Stack.{RunsStack, SafeStack}
+use Rattle.bm_exec.specs.Cost.{open_cost}
+use Rattle.bm_exec.specs.Runnable.{can_run_action, can_run_list, can_run_block, can_run_stack}
+use Rattle.bm_exec.specs.Steps.{weight, Passed, Taken, Ended}
+use Rattle.bm_exec.proofs.Blocks.{block-runs, block-safe, block-can, block-cost}
+use Rattle.bm_exec.proofs.Then.{done-then, then-front, then-map}
+
+pub passed-none : (os : List Open) → Passed os os
+passed-none os = record { runs = λ types names after part x. x; safe = λ e names x. x; can = λ types x. x; cost = omega arith; weight = omega arith }
+
+and-left : (a b : Bool) → (a && b) ≡ true → a ≡ true
+and-left true b e = refl
+and-left false b e = e
+
+and-right : (a b : Bool) → (a && b) ≡ true → b ≡ true
+and-right true b e = e
+and-right false b e = cc
+
+-- an open block whose statements have ended and that doesn't run again
+ended-runs : (types : List TypeDeclaration) (o : Open) (os : List Open) → o.rest.now ≡ [] → o.repeats ≡ 0 → (names after : Names) (part : List Entry) → RunsStack types os names part after → RunsStack types (o ∷ os) names part after
+ended-runs types o os e n names after part x =
+    rw e (rw n (then-map Done (Then Done Done) (RunsStack types os) names after part (λ m p y. done-then Done names m p y) (done-then (RunsStack types os) names after part x)))
+
+ended-safe : (e : Setting) (o : Open) (os : List Open) → o.rest.now ≡ [] → o.repeats ≡ 0 → (names : Names) → SafeStack e (store_of names) (o ∷ os) → SafeStack e (store_of names) os
+ended-safe e o os r n names x = (rw n at (rw r at x)).1
+
+-- one whose statements have ended and that runs again
+again-runs : (types : List TypeDeclaration) (o p : Open) (os : List Open) (n : ℕ) → o.rest.now ≡ [] → o.repeats ≡ suc n → p.rest.now ≡ block_list o.body.now → p.repeats ≡ n → p.body.now ≡ o.body.now → (names after : Names) (part : List Entry) → RunsStack types (p ∷ os) names part after → RunsStack types (o ∷ os) names part after
+again-runs types o p os n e m r k b names after part x =
+    let B = RunsBlock types o.body.now in
+    let y : Then (Then (RunsList types (block_list o.body.now)) (Times B n)) (RunsStack types os) names part after = rw b at (rw k at (rw r at x)) in
+    let z : Then (Then B (Times B n)) (RunsStack types os) names part after = rw (sym (block-runs types o.body.now)) at y in
+    rw e (rw m (then-map (Then B (Times B n)) (Then Done (Then B (Times B n))) (RunsStack types os) names after part
+    (λ m p w. done-then (Then B (Times B n)) names m p w) z))
+
+again-safe : (e : Setting) (o p : Open) (os : List Open) (n : ℕ) → o.rest.now ≡ [] → o.repeats ≡ suc n → p.rest.now ≡ block_list o.body.now → p.repeats ≡ n → p.body.now ≡ o.body.now → (names : Names) → SafeStack e (store_of names) (o ∷ os) → SafeStack e (store_of names) (p ∷ os)
+again-safe e o p os n r m q k b names x =
+    let B = λ (s : safe.Store). safe.SafeBlock e s o.body.now in
+    let y = (rw m at (rw r at x)).1 in
+    rw q (rw k (rw b (rw (block-safe e names o.body.now (λ s. safe.Times n B s (λ t. SafeStack e t os))) at y)))
+
+-- the costs
+rest-none : (o : Open) → o.rest.now ≡ [] → o.repeats ≡ 0 → open_cost o ≡ 0
+rest-none o e n = rw e (rw n (omega arith))
+
+again-sum : (n b : ℕ) → 0 + suc n * (1 + b) ≡ suc (b + n * (1 + b))
+again-sum n b = omega (arith, suc-mul n (1 + b))
+
+again-cost : (o p : Open) (n : ℕ) → o.rest.now ≡ [] → o.repeats ≡ suc n → p.rest.now ≡ block_list o.body.now → p.repeats ≡ n → p.body.now ≡ o.body.now → open_cost o ≡ suc (open_cost p)
+again-cost o p n e m r k b = rw e (rw m (rw r (rw k (rw b (rw (sym (block-cost o.body.now)) (again-sum n (block_cost o.body.now)))))))
+
+-- what is at the end of the list of open blocks is on top of the stack
+on-top : (items popped : List Open) (o : Open) → items ≡ popped ++ o ∷ [] → reverse items ≡ o ∷ reverse popped
+on-top items popped o e = ap reverse e ∙ reverse-append popped (o ∷ [])
+
+pub top-of : (items popped : List Open) (found : Option Open) (o : Open) → items ≡ popped ++ option_to_list found → found ≡ Some o → reverse items ≡ o ∷ reverse popped
+top-of items popped found o e f = on-top items popped o (rw f at e)
+
+pub passed-then : (a b c : List Open) → Passed a b → Passed b c → Passed a c
+passed-then a b c x y = record {
+  runs = λ types names after part z. x.runs types names after part (y.runs types names after part z);
+  safe = λ e names z. y.safe e names (x.safe e names z);
+  can = λ types z. y.can types (x.can types z);
+  cost = omega (arith, x.cost, y.cost);
+  weight = omega (arith, x.weight, y.weight);
+}
+
+can-rest : (types : List TypeDeclaration) (o : Open) (os : List Open) → can_run_stack types (o ∷ os) ≡ true → can_run_stack types os ≡ true
+can-rest types o os e = and-right (can_run_block types o.body.now) (can_run_stack types os) (and-right (can_run_list types o.rest.now) (can_run_block types o.body.now && can_run_stack types os) e)
+
+can-body : (types : List TypeDeclaration) (o : Open) (os : List Open) → can_run_stack types (o ∷ os) ≡ true → can_run_block types o.body.now ≡ true
+can-body types o os e = and-left (can_run_block types o.body.now) (can_run_stack types os) (and-right (can_run_list types o.rest.now) (can_run_block types o.body.now && can_run_stack types os) e)
+
+both : (a b : Bool) → a ≡ true → b ≡ true → (a && b) ≡ true
+both true b e f = f
+both false b e f = e
+
+no-length : {A : Type 0} (xs : List A) → length xs < 1 → xs ≡ []
+no-length [] lt = refl
+no-length (x ∷ xs) lt = absurd (omega arith)
+
+-- a block that ended is closed
+pub ended-passed : (o : Open) (os : List Open) → length o.rest.now < 1 → o.repeats ≡ 0 → Passed (o ∷ os) os
+ended-passed o os lt n = let e = no-length o.rest.now lt in record {
+  runs = λ types names after part x. ended-runs types o os e n names after part x;
+  safe = λ s names x. ended-safe s o os e n names x;
+  can = λ types x. can-rest types o os x;
+  cost = omega arith;
+  weight = omega arith;
+}
+
+-- .. or begins again
+pub again-passed : (o p : Open) (os : List Open) (n : ℕ) → length o.rest.now < 1 → o.repeats ≡ suc n → p.rest.now ≡ block_list o.body.now → p.repeats ≡ n → p.body.now ≡ o.body.now → Passed (o ∷ os) (p ∷ os)
+again-passed o p os n lt m r k b =
+    let e = no-length o.rest.now lt in
+    let c = again-cost o p n e m r k b in record {
+      runs = λ types names after part x. again-runs types o p os n e m r k b names after part x;
+      safe = λ s names x. again-safe s o p os n e m r k b names x;
+      can = λ types x. rw r (rw b (both (can_run_list types (block_list o.body.now)) (can_run_block types o.body.now && can_run_stack types os) (sym (block-can types o.body.now) ∙ can-body types o os x) (both (can_run_block types o.body.now) (can_run_stack types os) (can-body types o os x) (can-rest types o os x))));
+      cost = omega (arith, c);
+      weight = omega (arith, c);
+    }
+
+pub weight-less : (o : Open) (os : List Open) → weight os < weight (o ∷ os)
+weight-less o os = omega arith
+
+pub weight-again : (o p : Open) (os : List Open) (n : ℕ) → length o.rest.now < 1 → o.repeats ≡ suc n → p.rest.now ≡ block_list o.body.now → p.repeats ≡ n → p.body.now ≡ o.body.now → weight (p ∷ os) < weight (o ∷ os)
+weight-again o p os n lt m r k b = omega (arith, again-cost o p n (no-length o.rest.now lt) m r k b)
+
+-- a statement is taken
+taken-runs : (types : List TypeDeclaration) (o p : Open) (os : List Open) (s : Statement) (ss : List Statement) → o.rest.now ≡ s ∷ ss → p.rest.now ≡ ss → p.repeats ≡ o.repeats → p.body.now ≡ o.body.now → (names middle after : Names) (one two : List Entry) → RunsAction types s.action names one middle → RunsStack types (p ∷ os) middle two after → RunsStack types (o ∷ os) names (one ++ two) after
+taken-runs types o p os s ss e r k b names middle after one two x y =
+    let L = RunsList types ss in
+    let T = Times (RunsBlock types o.body.now) o.repeats in
+    let z : Then (Then L T) (RunsStack types os) middle two after = rw b at (rw k at (rw r at y)) in
+    rw e (record {
+      middle = z.middle;
+      one = one ++ z.one;
+      two = z.two;
+      part_is = ap (λ w. one ++ w) z.part_is ∙ sym (append_assoc one z.one z.two);
+      first_runs = then-front (RunsAction types s.action) L T names middle z.middle one z.one x z.first_runs;
+      second_runs = z.second_runs;
+    })
+
+taken-safe : (e : Setting) (o p : Open) (os : List Open) (s : Statement) (ss : List Statement) → o.rest.now ≡ s ∷ ss → p.rest.now ≡ ss → p.repeats ≡ o.repeats → p.body.now ≡ o.body.now → (names : Names) → SafeStack e (store_of names) (o ∷ os) → safe.SafeAction e (store_of names) s.action (λ r. SafeStack e r (p ∷ os))
+taken-safe e o p os s ss q r k b names x = rw r (rw k (rw b (rw q at x)))
+
+pub taken : (before : List Open) (o p : Open) (os : List Open) (s : Statement) (ss : List Statement) → Passed before (o ∷ os) → o.rest.now ≡ s ∷ ss → p.rest.now ≡ ss → p.repeats ≡ o.repeats → p.body.now ≡ o.body.now → Taken before (p ∷ os) s
+taken before o p os s ss x e r k b =
+    let cost : open_cost o ≡ action_cost s.action + open_cost p = rw e (rw r (rw k (rw b (omega arith)))) in record {
+      runs = λ types names middle after one two y z. x.runs types names after (one ++ two) (taken-runs types o p os s ss e r k b names middle after one two y z);
+      safe = λ q names y. taken-safe q o p os s ss e r k b names (x.safe q names y);
+      can_action = λ types y. let c = rw e at (x.can types y) in and-left (can_run_action types s.action) (can_run_list types ss) (and-left (can_run_list types (s ∷ ss)) (can_run_block types o.body.now && can_run_stack types os) c);
+      can = λ types y. let c = rw e at (x.can types y) in rw r (rw b (both (can_run_list types ss) (can_run_block types o.body.now && can_run_stack types os) (and-right (can_run_action types s.action) (can_run_list types ss) (and-left (can_run_list types (s ∷ ss)) (can_run_block types o.body.now && can_run_stack types os) c)) (and-right (can_run_list types (s ∷ ss)) (can_run_block types o.body.now && can_run_stack types os) c)));
+      cost = omega (arith, x.cost, cost);
+      weight = omega (arith, x.weight, cost);
+    }
+
+-- nothing is left
+pub ended : (before : List Open) → Passed before [] → Ended before
+ended before x = record {
+  runs = λ types names. x.runs types names names [] (refl, refl);
+  safe = λ e names y. x.safe e names y;
+}
+
+-- what is first in a slice that isn't empty
+pub front-is : {A : Type 0} (xs : List A) (x : A) → 1 ≤ length xs → x ≡ slice_index_or xs 0 x → xs ≡ x ∷ drop 1 xs
+front-is [] x le e = absurd (omega arith)
+front-is (y ∷ ys) x le e = ap (λ z. z ∷ ys) (sym e)
+
+pub all-gone : (v : Vec Open Global) → vec_len v ≡ 0 → reverse v.items ≡ []
+all-gone v e = ap reverse (no-length v.items (omega arith))
+
+take-all : {A : Type 0} (xs : List A) → take (length xs) xs ≡ xs
+take-all [] = refl
+take-all (x ∷ xs) = ap (λ z. x ∷ z) (take-all xs)
+
+-- what stands behind the first
+pub behind-is : {A : Type 0} (xs : List A) → take (length xs - 1) (drop 1 xs) ≡ drop 1 xs
+behind-is [] = refl
+behind-is (x ∷ xs) = let e : suc (length xs) - 1 ≡ length xs = omega arith in rw e (take-all xs)

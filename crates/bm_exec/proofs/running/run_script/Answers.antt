@@ -1,0 +1,41 @@
+use Rattle.std.proofs.Common.{arith}
+use Rattle.bm_check.specs.Statements.{setting_of}
+use Rattle.bm_exec.proofs.Results.{not-err}
+use Rattle.bm_exec.proofs.Starting.{start-cost, start-can, start-safe, start-runs, start-holds}
+use Rattle.bm_exec.proofs.running.run_script.Goals as goal
+
+-- src/running.rt:207:5
+pub resume-requires-clause-room : goal.resume-requires-clause-room
+resume-requires-clause-room g c =
+    let o = rw c.new.ensures.items at (not-err c.open_block.result _ c.if-is_err.ensures.value c.open_block.ensures.pushed) in
+    omega (arith, c.requires.room, start-cost c.args.types.now.declared.now _ _ o)
+
+-- src/running.rt:207:5
+pub resume-requires-clause-holds : goal.resume-requires-clause-holds
+resume-requires-clause-holds g c =
+    start-holds _ _ _ c.new-2.ensures
+
+-- src/running.rt:207:5
+pub resume-requires-clause-can : goal.resume-requires-clause-can
+resume-requires-clause-can g c =
+    let o = rw c.new.ensures.items at (not-err c.open_block.result _ c.if-is_err.ensures.value c.open_block.ensures.pushed) in
+    start-can _ _ _ o c.requires.can
+
+-- src/running.rt:207:5
+pub resume-requires-clause-accepted : goal.resume-requires-clause-accepted
+resume-requires-clause-accepted g c =
+    let o = rw c.new.ensures.items at (not-err c.open_block.result _ c.if-is_err.ensures.value c.open_block.ensures.pushed) in
+    (setting_of c.args.scenario.now c.args.script.now.kind, (start-safe _ _ _ _ c.new-2.ensures o (c.accepted_scripts_are_safe.ensures c.args.scenario.now c.args.script.now c.requires.accepted)))
+
+-- src/running.rt:181:1
+pub returns-clause-ended : goal.returns-clause-ended
+returns-clause-ended g c =
+    let o = rw c.new.ensures.items at (not-err c.open_block.result _ c.if-is_err.ensures.value c.open_block.ensures.pushed) in
+    λ e. (let r = c.resume.ensures.ended e in
+    record { part = r.part; after = _; records = r.records; runs = start-runs _ _ _ o _ _ _ (rw c.new-2.ensures at r.runs); owns_nothing = r.owns_nothing })
+
+-- src/running.rt:181:1
+pub returns-clause-asked : goal.returns-clause-asked
+returns-clause-asked g c =
+    let o = rw c.new.ensures.items at (not-err c.open_block.result _ c.if-is_err.ensures.value c.open_block.ensures.pushed) in
+    omega (arith, c.resume.ensures.asked, start-cost c.args.types.now.declared.now _ _ o)

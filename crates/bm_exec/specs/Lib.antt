@@ -1,0 +1,11 @@
+pub mod Seen
+pub mod Stores
+pub mod Lists
+pub mod Stack
+pub mod Cost
+pub mod Runnable
+pub mod Living
+pub mod Steps
+pub mod Running
+pub mod Slots
+pub mod Sound

@@ -1,0 +1,53 @@
+-- The objects that live, by their units.
+use Rattle.std.specs.Prelude.{◌≡◌, ℕ, List, ◌∷◌, Option, Some, None, eqb, if◌then◌else◌}
+use Rattle.bm_journal.specs.declared.entry.Entry.{Entry}
+use Rattle.bm_journal.specs.declared.entry.Entry.TheVariants as entry
+use Rattle.bm_journal.specs.declared.ids.ObjId.{ObjId}
+use Rattle.bm_lang.specs.declared.scenario.TypeDeclaration.{TypeDeclaration}
+use Rattle.bm_lang.specs.declared.scenario.TypeId.{TypeId}
+use Rattle.bm_law.specs.Lists.{Log}
+use Rattle.bm_law.specs.Phrases.{FreePhrase}
+use Rattle.bm_law.specs.Spans.{Records}
+use Rattle.bm_lawful.specs.Held.{Names, Object}
+use Rattle.bm_lawful.specs.Opened.{OfClass}
+use Rattle.bm_lawful.specs.Runs.{Allocates}
+
+-- an object: the class of its unit, and which life of the unit it is
+pub record Living : Type 0 where
+  pub class : ℕ
+  pub life : ℕ
+
+abbrev pub Lives : Type 0
+Lives = ℕ → Option Living
+
+abbrev pub with_life : ℕ → Option Living → Lives → Lives
+with_life u l lives = λ v. if eqb u v then l else lives v
+
+abbrev pub reply_of : Option ObjId → Option (ℕ × ℕ)
+reply_of None = None
+reply_of (Some o) = Some (o.unit, o.life)
+
+-- a reply that gives an object begins its life, and no unit had one; a null reply begins none
+abbrev pub Begins : ℕ → Lives → Lives → Option ObjId → Type 0
+Begins c lives lives' None = lives' ≡ lives
+Begins c lives lives' (Some o) = (lives o.unit ≡ None) × (lives' ≡ with_life o.unit (Some (record { class = c; life = o.life })) lives)
+
+-- A call for an object of class c, of a type with this name: its entries, its reply, and the object that lives now.
+pub record Created (l c : ℕ) (name values : List ℕ) (log log' : Option Log) (lives lives' : Lives) (reply : Option ObjId) : Type 0 where
+  pub own : List Entry
+  pub records : Records l (entry.New name values ∷ own) log log'
+  pub allocates : Allocates c own (reply_of reply)
+  pub begins : Begins c lives lives' reply
+
+-- The one reference to an object is given up: its entries, and that the object lives no more.
+pub record Disposed (l c : ℕ) (o : ObjId) (log log' : Option Log) (lives lives' : Lives) : Type 0 where
+  pub home : ℕ
+  pub own : List Entry
+  pub records : Records l (entry.Drop o.unit o.life ∷ entry.Last ∷ own) log log'
+  pub frees : FreePhrase c o.unit home own
+  pub ends : lives' ≡ with_life o.unit None lives
+
+-- Each name that holds an object holds one that lives, of its type's class, and no two names hold one object.
+pub record Holds (types : List TypeDeclaration) (lives : Lives) (names : Names) : Type 0 where
+  pub living : (x : List ℕ) (t : TypeId) (u n : ℕ) → names x ≡ Object t u n → (c : ℕ) × (d : TypeDeclaration) × OfClass types t.0 c d × (lives u ≡ Some (record { class = c; life = n }))
+  pub once : (x y : List ℕ) (t t' : TypeId) (u n n' : ℕ) → names x ≡ Object t u n → names y ≡ Object t' u n' → x ≡ y

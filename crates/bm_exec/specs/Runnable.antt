@@ -1,0 +1,56 @@
+-- Which scripts run by now: those of `new`, `drop`, `if` and `repeat`.
+use Rattle.std.specs.Prelude.{◌≡◌, ℕ, Bool, true, false, ◌&&◌, not, List, [], ◌∷◌, length, nat_le, is_some, slice_get, map, Some}
+use Rattle.std.specs.List.{list_all}
+use Rattle.bm_class.specs.Sizes.{class_of_size}
+use Rattle.bm_lang.specs.declared.scenario.Action.{Action, New, Drop, Acquire, Get, Exchange, If', Repeat, Section, Lock, Unlock, Yield, PushFront, PushBack, PopFront, PopBack, Add, First, Remove, Held-Action-If-2, None', Some'}
+use Rattle.bm_lang.specs.declared.scenario.Block.{Block, Block', Row_of-Statement, end_of-Statement, more_of-Statement}
+use Rattle.bm_lang.specs.declared.scenario.Statement.{Statement}
+use Rattle.bm_lang.specs.declared.scenario.TypeDeclaration.{TypeDeclaration}
+use Rattle.bm_lawful.specs.Opened.{object_size}
+use Rattle.bm_exec.specs.declared.frame.Open.{Open}
+
+abbrev mutual
+  pub can_run_action : List TypeDeclaration → Action → Bool
+  can_run_action types (New x t values) = is_some (slice_get types t.0) && nat_le (length values) 8
+  can_run_action types (Drop x) = true
+  can_run_action types (If' x body otherwise) = can_run_block types body && can_run_else types otherwise
+  can_run_action types (Repeat n body) = can_run_block types body
+  can_run_action types (Section body) = false
+  can_run_action types (Acquire y x) = false
+  can_run_action types (Get x field) = false
+  can_run_action types (Exchange y slot x) = false
+  can_run_action types (Lock graph) = false
+  can_run_action types Unlock = false
+  can_run_action types Yield = false
+  can_run_action types (PushFront list x) = false
+  can_run_action types (PushBack list x) = false
+  can_run_action types (PopFront x list) = false
+  can_run_action types (PopBack x list) = false
+  can_run_action types (Add tree x) = false
+  can_run_action types (First x tree) = false
+  can_run_action types (Remove y tree x) = false
+
+  pub can_run_else : List TypeDeclaration → Held-Action-If-2 → Bool
+  can_run_else types None' = true
+  can_run_else types (Some' body) = can_run_block types body
+
+  pub can_run_block : List TypeDeclaration → Block → Bool
+  can_run_block types (Block' shape row end_line) = can_run_row types row
+
+  pub can_run_row : List TypeDeclaration → {m : _} → Row_of-Statement m → Bool
+  can_run_row types end_of-Statement = true
+  can_run_row types (more_of-Statement line action rest) = can_run_action types action && can_run_row types rest
+
+-- the same of a list of statements, and of open blocks
+abbrev pub can_run_list : List TypeDeclaration → List Statement → Bool
+can_run_list types [] = true
+can_run_list types (s ∷ ss) = can_run_action types s.action && can_run_list types ss
+
+abbrev pub can_run_stack : List TypeDeclaration → List Open → Bool
+can_run_stack types [] = true
+can_run_stack types (o ∷ os) = can_run_list types o.rest.now && (can_run_block types o.body.now && can_run_stack types os)
+
+-- Each type has a class, which stands at its place in this list, and no reference count.
+pub record Classes (types : List TypeDeclaration) (classes : List ℕ) : Type 0 where
+  pub each : map Some classes ≡ map (λ d. class_of_size (object_size d)) types
+  pub plain : list_all (λ d. not d.counted) types ≡ true

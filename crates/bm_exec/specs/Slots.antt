@@ -1,0 +1,37 @@
+-- The units that live, by their numbers.
+use Rattle.std.specs.Prelude.{◌≡◌, ◌≤◌, ◌<◌, ℕ, ◌^◌, not, ◌&&◌, List, length, Option, Some, None, nat_le, slice_get, is_some}
+use Rattle.bm_cache.specs.Tokens.{Token}
+use Rattle.bm_cache.specs.Tests.{Tests}
+use Rattle.bm_exec.specs.Living.{Living, Lives}
+
+abbrev pub joined : Option (Option Token) → Option Token
+joined None = None
+joined (Some slot) = slot
+
+-- the unit in the slot of its number
+abbrev pub unit_at : List (Option Token) → ℕ → Option Token
+unit_at slots n = joined (slice_get slots n)
+
+-- no unit lives
+abbrev pub AllEmpty : List (Option Token) → Type 0
+AllEmpty slots = (n : ℕ) → unit_at slots n ≡ None
+
+abbrev pub living_of : Option Token → Option Living
+living_of None = None
+living_of (Some u) = Some (record { class = u.class; life = u.life })
+
+abbrev pub lives_of : List (Option Token) → Lives
+lives_of slots = λ n. living_of (unit_at slots n)
+
+-- What is told of a unit: it may be used where it doesn't live, and has had no more lives than objects were asked for.
+abbrev pub tests_of : List (Option Token) → ℕ → Tests
+tests_of slots asked = λ k n life seal. not (is_some (unit_at slots n)) && nat_le life asked
+
+-- There is a slot for each number; the unit in a slot has its number, and has had no more lives than objects were asked
+-- for; its home is one of the processors.
+pub record Kept (processors asked : ℕ) (slots : List (Option Token)) : Type 0 where
+  pub size : length slots ≡ 2 ^ 16
+  pub number : (n : ℕ) (u : Token) → unit_at slots n ≡ Some u → u.number ≡ n
+  pub life : (n : ℕ) (u : Token) → unit_at slots n ≡ Some u → u.life ≤ asked
+  pub home : (n : ℕ) (u : Token) → unit_at slots n ≡ Some u → u.home < processors
+  pub few : asked < 2 ^ 31

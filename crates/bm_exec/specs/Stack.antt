@@ -1,0 +1,30 @@
+-- What a frame has still to run: its open blocks, the innermost last.
+use Rattle.std.specs.Prelude.{◌≡◌, List, [], ◌∷◌}
+use Rattle.bm_lang.specs.declared.scenario.TypeDeclaration.{TypeDeclaration}
+use Rattle.bm_check.specs.declared.name_state.HeldLock.TheVariants.{Nothing as NoLock}
+use Rattle.bm_check.specs.Statements.{Setting}
+use Rattle.bm_check.specs.Values as safe
+use Rattle.bm_lawful.specs.Runs.{Run, Done, Then, Times, RunsBlock}
+use Rattle.bm_exec.specs.declared.frame.Open.{Open}
+use Rattle.bm_exec.specs.Lists.{RunsList, SafeList}
+
+-- the rest of a block's statements, and then the whole block some more times
+abbrev pub RunsOpen : List TypeDeclaration → Open → Run
+RunsOpen types o = Then (RunsList types o.rest.now) (Times (RunsBlock types o.body.now) o.repeats)
+
+-- open blocks, the innermost first
+abbrev pub RunsStack : List TypeDeclaration → List Open → Run
+RunsStack types [] = Done
+RunsStack types (o ∷ os) = Then (RunsOpen types o) (RunsStack types os)
+
+-- a block whose lock is given back in it
+abbrev pub Closes : (safe.Store → Type 0) → safe.Store → Type 0
+Closes Q r = (r.lock ≡ NoLock) × Q (safe.with_lock r NoLock)
+
+abbrev pub SafeOpen : Setting → safe.Store → Open → (safe.Store → Type 0) → Type 0
+SafeOpen e s o Q = SafeList e s o.rest.now (Closes (λ r. safe.Times o.repeats (λ r. safe.SafeBlock e r o.body.now) r Q))
+
+-- at the end nothing is owned
+abbrev pub SafeStack : Setting → safe.Store → List Open → Type 0
+SafeStack e s [] = safe.OwnsNothing s
+SafeStack e s (o ∷ os) = SafeOpen e s o (λ r. SafeStack e r os)

@@ -1,0 +1,55 @@
+-- One statement is taken off the open blocks of a frame.
+use Rattle.std.specs.Prelude.{◌≡◌, ◌≤◌, ℕ, ◌+◌, ◌*◌, ◌++◌, true, List, [], ◌∷◌, length, Option, Some, None}
+use Rattle.std.specs.Borrow.{Bor}
+use Rattle.bm_journal.specs.declared.entry.Entry.{Entry}
+use Rattle.bm_lang.specs.declared.scenario.Block.{Block}
+use Rattle.bm_lang.specs.declared.scenario.Statement.{Statement}
+use Rattle.bm_lang.specs.declared.scenario.TypeDeclaration.{TypeDeclaration}
+use Rattle.bm_lang.specs.Limits.{action_cost}
+use Rattle.bm_lawful.specs.Held.{Names}
+use Rattle.bm_lawful.specs.Runs.{RunsAction}
+use Rattle.bm_check.specs.Statements.{Setting}
+use Rattle.bm_check.specs.Values.{SafeAction, OwnsNothing}
+use Rattle.bm_exec.specs.declared.frame.Open.{Open}
+use Rattle.bm_exec.specs.Stores.{store_of}
+use Rattle.bm_exec.specs.Stack.{RunsStack, SafeStack}
+use Rattle.bm_exec.specs.Cost.{stack_cost}
+use Rattle.bm_exec.specs.Runnable.{can_run_action, can_run_stack}
+
+-- what gets smaller with each statement taken and each block ended
+abbrev pub weight : List Open → ℕ
+weight os = 2 * stack_cost os + length os
+
+-- Blocks ended or began again: what is run from now on is what was to be run.
+pub record Passed (before now : List Open) : Type 0 where
+  pub runs : (types : List TypeDeclaration) (names after : Names) (part : List Entry) → RunsStack types now names part after → RunsStack types before names part after
+  pub safe : (e : Setting) (names : Names) → SafeStack e (store_of names) before → SafeStack e (store_of names) now
+  pub can : (types : List TypeDeclaration) → can_run_stack types before ≡ true → can_run_stack types now ≡ true
+  pub cost : stack_cost now ≤ stack_cost before
+  pub weight : weight now ≤ weight before
+
+-- A statement was taken: it runs first, and the rest runs after it.
+pub record Taken (before now : List Open) (s : Statement) : Type 0 where
+  pub runs : (types : List TypeDeclaration) (names middle after : Names) (one two : List Entry) → RunsAction types s.action names one middle → RunsStack types now middle two after → RunsStack types before names (one ++ two) after
+  pub safe : (e : Setting) (names : Names) → SafeStack e (store_of names) before → SafeAction e (store_of names) s.action (λ r. SafeStack e r now)
+  pub can_action : (types : List TypeDeclaration) → can_run_stack types before ≡ true → can_run_action types s.action ≡ true
+  pub can : (types : List TypeDeclaration) → can_run_stack types before ≡ true → can_run_stack types now ≡ true
+  pub cost : action_cost s.action + stack_cost now ≤ stack_cost before
+  pub weight : 2 * action_cost s.action + weight now ≤ weight before
+
+-- All ended: nothing is left to run.
+pub record Ended (before : List Open) : Type 0 where
+  pub runs : (types : List TypeDeclaration) (names : Names) → RunsStack types before names [] names
+  pub safe : (e : Setting) (names : Names) → SafeStack e (store_of names) before → OwnsNothing (store_of names)
+
+abbrev pub Stepped : List Open → List Open → Option (Bor Statement) → Type 0
+Stepped before now (Some s) = Taken before now s.now
+Stepped before now None = Ended before
+
+-- One more block was opened: it has these statements still to run, and then the whole of it so many times.
+pub record Pushed (before now : List Open) (rest : List Statement) (n : ℕ) (body : Block) : Type 0 where
+  pub top : Open
+  pub now_is : now ≡ top ∷ before
+  pub rest_is : top.rest.now ≡ rest
+  pub repeats_is : top.repeats ≡ n
+  pub body_is : top.body.now ≡ body

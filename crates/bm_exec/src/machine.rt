@@ -1,0 +1,47 @@
+//! Machines: what statements run on.
+
+ghost use Rattle.std.specs.Prelude.{◌≡◌, ◌+◌, ◌<◌, ◌^◌, ℕ, Option, Some};
+ghost use Rattle.bm_law.specs.Lists.{Log};
+ghost use Rattle.bm_exec.specs.Living.{Lives, Created, Disposed};
+
+use bm_class::Class;
+use bm_journal::{ObjId, Values};
+use bm_word::Name;
+
+/// A processor at one level, as the statements of a script use it: it makes objects and gives them up. Machines are this
+/// project's own.
+pub trait Machine {
+    /// The log, where it is told.
+    ghost log: { Self → Option Log };
+
+    /// The level that the script runs at.
+    ghost level: { Self → ℕ };
+
+    /// The objects that live.
+    ghost lives: { Self → Lives };
+
+    /// How many objects were asked for.
+    ghost asked: { Self → ℕ };
+
+    /// What the machine needs and leaves.
+    ghost sound: { Self → Type 0 };
+
+    /// Asks for an object of a class, of a type with this name, with these values of its fields. None exactly where the
+    /// allocation answers null. It takes no memory but the recorder's.
+    fn create(&mut self, class: Class, name: Name, values: Values) -> Option<ObjId>
+        requires sound { sound self.old }
+        requires room { asked self.old + 1 < 2 ^ 31 }
+        ensures created { Created (level self.old) class name values (log self.old) (log self.new) (lives self.old) (lives self.new) result }
+        ensures sound { sound self.new }
+        ensures level { level self.new ≡ level self.old }
+        ensures asked { asked self.new ≡ asked self.old + 1 };
+
+    /// Gives up the one reference to an object that lives.
+    fn dispose(&mut self, object: ObjId)
+        requires sound { sound self.old }
+        requires living { (c : ℕ) × (lives self.old object.unit ≡ Some (record { class = c; life = object.life })) }
+        ensures disposed { (c : ℕ) → lives self.old object.unit ≡ Some (record { class = c; life = object.life }) → Disposed (level self.old) c object (log self.old) (log self.new) (lives self.old) (lives self.new) }
+        ensures sound { sound self.new }
+        ensures level { level self.new ≡ level self.old }
+        ensures asked { asked self.new ≡ asked self.old };
+}
