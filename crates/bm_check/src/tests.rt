@@ -3,6 +3,7 @@
 use crate::accepted::Checked;
 use crate::checker::{CheckFault, check};
 use bm_lang::{Scenario, ScriptId, limits, read_scenario};
+use bm_word::read_number;
 use std::alloc::Global;
 use std::process::Abort;
 use std::test::Fail;
@@ -30,15 +31,6 @@ const ALL: Head = Head {
     before: b"scenario { processors 1 pages 1 deferred off\ntype item { a } type part counted { v } type job list { a b } type task counted list { a } type node tree { k }\nslot s item slot p part list q job list r task tree t node\nscript main ",
     after: b" {\n",
 };
-
-const PLAIN: &[u8] = b"plain";
-
-const HANDLER: &[u8] = b"handler";
-
-const SLEEPABLE: &[u8] = b"sleepable";
-
-// A script's kind and body, the line and the number of its first broken rule; 0 and 0 where it is accepted.
-type Case<'a> = (&'a [u8], &'a [u8], u32, u8);
 
 fn text_of(alloc: Global, head: &Head, kind: &[u8], body: &[u8]) -> Result<Vec<u8>, Fail> {
     let mut text = Vec::new(alloc);
@@ -79,412 +71,235 @@ fn answer(alloc: Global, text: &[u8]) -> Result<(usize, u32, u8), Fail> {
     }
 }
 
-fn expect(rt: &impl Abort, alloc: Global, head: &Head, cases: &[Case<'_>]) -> Result<(), Fail> {
-    for (kind, body, line, rule) in cases {
-        let text = text_of(alloc, head, kind, body)?;
-        let found = answer(alloc, text.as_slice())?;
-        assert!(rt; found == (0, *line, *rule), "{found:?} in {body:?}");
+// The text before a byte, and the text behind it.
+fn cut(text: &[u8], at: u8) -> (&[u8], &[u8]) {
+    for (place, byte) in text.iter().enumerate() {
+        if *byte == at {
+            return (&text[..place], &text[place + 1..]);
+        }
     }
+    (text, b"".as_slice())
+}
+
+// One case of a table. In the body a slash stands for a line feed.
+fn expect_case(rt: &impl Abort, alloc: Global, head: &Head, case: &[u8]) -> Result<(), Fail> {
+    let (kind, rest) = cut(case, b' ');
+    let (line, rest) = cut(rest, b' ');
+    let (rule, rest) = cut(rest, b' ');
+    let mut body = Vec::new(alloc);
+    for byte in rest {
+        body.push(if *byte == b'/' { b'\n' } else { *byte })?;
+    }
+    let text = text_of(alloc, head, kind, body.as_slice())?;
+    let (script, found_line, found_rule) = answer(alloc, text.as_slice())?;
+    let wanted = (0usize, read_number(line), read_number(rule));
+    let found = (
+        script,
+        Some(u64::from(found_line)),
+        Some(u64::from(found_rule)),
+    );
+    assert!(rt; found == wanted, "{found:?} in {case:?}");
+    Ok(())
+}
+
+// A table has one case on each line: a script's kind, the line and the number of its first broken rule, 0 and 0 where it
+// is accepted, and its body. A line that begins with # says what the next ones are about.
+fn expect(
+    rt: &impl Abort,
+    alloc: Global,
+    head: &Head,
+    table: &[u8],
+    cases: u32,
+) -> Result<(), Fail> {
+    let mut left = table;
+    let mut seen = 0u32;
+    for _ in 0..1000 {
+        if left.is_empty() {
+            break;
+        }
+        let (case, rest) = cut(left, b'\n');
+        left = rest;
+        if !case.starts_with(b"#") {
+            expect_case(rt, alloc, head, case)?;
+            seen = seen.saturating_add(1);
+        }
+    }
+    assert_eq!(rt; seen, cases);
     Ok(())
 }
 
 // One script for each rule.
+const EACH_RULE_IS_BROKEN: &[u8] = b"\
+plain 5 1 drop x
+plain 6 2 new x job 1/drop x
+plain 7 3 new x job 1/if x { lock q push_back q x unlock/drop x }
+plain 6 4 new x job 1
+plain 7 5 new x job 1/if x {/}
+plain 7 6 repeat 2 {/new x job 1/}
+plain 5 7 push_back q x
+plain 6 8 lock q/lock q
+plain 6 9 lock q/new x job 1
+plain 6 10 lock q
+handler 5 11 lock q
+plain 6 12 xchg x s null/if x { acquire y x drop y drop x }
+";
+
 #[test]
 fn each_rule_is_broken(rt: HostRuntime) -> Result<(), Fail> {
-    let alloc = rt.alloc();
-    expect(
-        &rt,
-        alloc,
-        &JOBS,
-        &[
-            (PLAIN, b"drop x", 5, 1),
-            (PLAIN, b"new x job 1\ndrop x", 6, 2),
-            (
-                PLAIN,
-                b"new x job 1\nif x { lock q push_back q x unlock\ndrop x }",
-                7,
-                3,
-            ),
-            (PLAIN, b"new x job 1", 6, 4),
-            (PLAIN, b"new x job 1\nif x {\n}", 7, 5),
-            (PLAIN, b"repeat 2 {\nnew x job 1\n}", 7, 6),
-            (PLAIN, b"push_back q x", 5, 7),
-            (PLAIN, b"lock q\nlock q", 6, 8),
-            (PLAIN, b"lock q\nnew x job 1", 6, 9),
-            (PLAIN, b"lock q", 6, 10),
-            (HANDLER, b"lock q", 5, 11),
-            (
-                PLAIN,
-                b"xchg x s null\nif x { acquire y x drop y drop x }",
-                6,
-                12,
-            ),
-        ],
-    )
+    expect(&rt, rt.alloc(), &JOBS, EACH_RULE_IS_BROKEN, 12)
 }
 
 // Names and blocks alone.
+const NAMES_IN_BLOCKS: &[u8] = b"\
+plain 7 1 drop x
+plain 8 2 new x item 1/drop x
+plain 9 3 new x item 1/if x { drop x/drop x }
+plain 8 4 new x item 1
+plain 9 5 new x item 1/if x {/}
+plain 9 6 repeat 2 {/new x item 1/}
+plain 8 12 new x item 1/if x { if x { drop x } else { drop x } }
+";
+
 #[test]
 fn names_in_blocks(rt: HostRuntime) -> Result<(), Fail> {
-    let alloc = rt.alloc();
-    expect(
-        &rt,
-        alloc,
-        &ITEMS,
-        &[
-            (PLAIN, b"drop x", 7, 1),
-            (PLAIN, b"new x item 1\ndrop x", 8, 2),
-            (PLAIN, b"new x item 1\nif x { drop x\ndrop x }", 9, 3),
-            (PLAIN, b"new x item 1", 8, 4),
-            (PLAIN, b"new x item 1\nif x {\n}", 9, 5),
-            (PLAIN, b"repeat 2 {\nnew x item 1\n}", 9, 6),
-            (
-                PLAIN,
-                b"new x item 1\nif x { if x { drop x } else { drop x } }",
-                8,
-                12,
-            ),
-        ],
-    )
+    expect(&rt, rt.alloc(), &ITEMS, NAMES_IN_BLOCKS, 7)
 }
 
 // Each statement, and nested blocks.
+const ACCEPTED: &[u8] = b"\
+plain 0 0
+plain 0 0 new x item 1 if x { drop x }
+plain 0 0 new x item 1 if x { get x a drop x } else { }
+plain 0 0 new x part 1 if x { acquire y x drop x get y v drop y }
+plain 0 0 new x item 1 if x { xchg y s x if y { drop y } }
+plain 0 0 xchg y s null if y { drop y }
+plain 0 0 new x item 1 if x { xchg x s x if x { drop x } }
+plain 0 0 new x job 1 2 if x { lock q push_front q x get x b unlock }
+plain 0 0 new x task 1 if x { lock r push_back r x unlock }
+plain 0 0 lock q pop_front x q unlock if x { drop x }
+plain 0 0 lock q pop_back x q unlock if x { drop x }
+plain 0 0 lock q pop_back x q if x { push_front q x } unlock
+plain 0 0 new x node 1 if x { lock t add t x unlock }
+plain 0 0 lock t first f t remove g t f unlock if g { drop g }
+plain 0 0 lock t first f t if f { get f k } else { } unlock
+plain 0 0 new x job 1 2 if x { lock q push_back q x pop_front x q unlock if x { drop x } }
+plain 0 0 lock t section { first f t if f { get f k } } unlock
+plain 0 0 lock t first f t remove f t f unlock if f { drop f }
+plain 0 0 lock t first f t if f { get f k } unlock
+plain 0 0 new x node 1 if x { lock t add t x remove y t x unlock if y { drop y } }
+plain 0 0 lock q unlock lock t unlock yield
+sleepable 0 0 section { section { new x item 1 if x { drop x } } } yield
+handler 0 0 new x part 7 if x { xchg o p x if o { drop o } }
+plain 0 0 repeat 0 { } repeat 4294967295 { yield }
+plain 0 0 repeat 3 { new x item 1 if x { drop x } } new x item 2 if x { drop x }
+plain 0 0 repeat 2 { repeat 2 { lock q repeat 2 { } unlock } }
+plain 0 0 new x item 1 new y item 2 if x { if y { drop x drop y } else { drop x } } else { if y { drop y } }
+plain 0 0 new x item 1 if x { section { repeat 1 { } drop x } }
+plain 0 0 new x item 1 if x { drop x new y item 1 if y { drop y } }
+";
+
 #[test]
 fn accepted(rt: HostRuntime) -> Result<(), Fail> {
-    let alloc = rt.alloc();
-    expect(
-        &rt,
-        alloc,
-        &ALL,
-        &[
-            (PLAIN, b"", 0, 0),
-            (PLAIN, b"new x item 1 if x { drop x }", 0, 0),
-            (
-                PLAIN,
-                b"new x item 1 if x { get x a drop x } else { }",
-                0,
-                0,
-            ),
-            (
-                PLAIN,
-                b"new x part 1 if x { acquire y x drop x get y v drop y }",
-                0,
-                0,
-            ),
-            (
-                PLAIN,
-                b"new x item 1 if x { xchg y s x if y { drop y } }",
-                0,
-                0,
-            ),
-            (PLAIN, b"xchg y s null if y { drop y }", 0, 0),
-            (
-                PLAIN,
-                b"new x item 1 if x { xchg x s x if x { drop x } }",
-                0,
-                0,
-            ),
-            (
-                PLAIN,
-                b"new x job 1 2 if x { lock q push_front q x get x b unlock }",
-                0,
-                0,
-            ),
-            (
-                PLAIN,
-                b"new x task 1 if x { lock r push_back r x unlock }",
-                0,
-                0,
-            ),
-            (PLAIN, b"lock q pop_front x q unlock if x { drop x }", 0, 0),
-            (PLAIN, b"lock q pop_back x q unlock if x { drop x }", 0, 0),
-            (
-                PLAIN,
-                b"lock q pop_back x q if x { push_front q x } unlock",
-                0,
-                0,
-            ),
-            (PLAIN, b"new x node 1 if x { lock t add t x unlock }", 0, 0),
-            (
-                PLAIN,
-                b"lock t first f t remove g t f unlock if g { drop g }",
-                0,
-                0,
-            ),
-            (
-                PLAIN,
-                b"lock t first f t if f { get f k } else { } unlock",
-                0,
-                0,
-            ),
-            (
-                PLAIN,
-                b"new x job 1 2 if x { lock q push_back q x pop_front x q unlock if x { drop x } }",
-                0,
-                0,
-            ),
-            (
-                PLAIN,
-                b"lock t section { first f t if f { get f k } } unlock",
-                0,
-                0,
-            ),
-            (
-                PLAIN,
-                b"lock t first f t remove f t f unlock if f { drop f }",
-                0,
-                0,
-            ),
-            (PLAIN, b"lock t first f t if f { get f k } unlock", 0, 0),
-            (
-                PLAIN,
-                b"new x node 1 if x { lock t add t x remove y t x unlock if y { drop y } }",
-                0,
-                0,
-            ),
-            (PLAIN, b"lock q unlock lock t unlock yield", 0, 0),
-            (
-                SLEEPABLE,
-                b"section { section { new x item 1 if x { drop x } } } yield",
-                0,
-                0,
-            ),
-            (
-                HANDLER,
-                b"new x part 7 if x { xchg o p x if o { drop o } }",
-                0,
-                0,
-            ),
-            (PLAIN, b"repeat 0 { } repeat 4294967295 { yield }", 0, 0),
-            (
-                PLAIN,
-                b"repeat 3 { new x item 1 if x { drop x } } new x item 2 if x { drop x }",
-                0,
-                0,
-            ),
-            (
-                PLAIN,
-                b"repeat 2 { repeat 2 { lock q repeat 2 { } unlock } }",
-                0,
-                0,
-            ),
-            (
-                PLAIN,
-                b"new x item 1 new y item 2 if x { if y { drop x drop y } else { drop x } } else { if y { drop y } }",
-                0,
-                0,
-            ),
-            (
-                PLAIN,
-                b"new x item 1 if x { section { repeat 1 { } drop x } }",
-                0,
-                0,
-            ),
-            (
-                PLAIN,
-                b"new x item 1 if x { drop x new y item 1 if y { drop y } }",
-                0,
-                0,
-            ),
-        ],
-    )
+    expect(&rt, rt.alloc(), &ALL, ACCEPTED, 29)
 }
 
 // Two rules broken at once: which one is first at a statement.
+const ORDERS_AT_A_STATEMENT: &[u8] = b"\
+# handlers, locks, graphs
+handler 5 11 yield
+handler 5 7 unlock
+handler 5 7 push_back q x
+plain 5 7 unlock
+plain 6 7 lock t/push_back q x
+plain 6 7 new x job 1 2/pop_front x q
+plain 6 8 lock q/lock t
+# under a lock, before the names
+plain 6 9 lock q/drop x
+plain 6 9 lock q/xchg y s x
+plain 6 9 lock q/xchg y s null
+plain 6 9 lock q/yield
+plain 7 9 new x job 1 2/lock q/new x job 1 2
+# names: unbound, spent, wrong, null
+plain 5 1 get x a
+plain 5 1 if x { }
+plain 5 1 acquire y x
+plain 6 3 new x item 1/if x { drop x get x v }
+plain 7 3 new x item 1/if x { drop x }/if x { }
+plain 6 12 new x item 1/acquire y x
+plain 6 2 new x part 1/acquire y x
+plain 6 12 new x item 1/get x v
+plain 6 2 new x item 1/get x a
+plain 7 12 new x item 1/if x {/get x v/}
+plain 7 12 new x item 1/lock q/push_back q x
+plain 7 2 new x job 1 2/lock q/push_back q x
+plain 6 12 new x part 1/xchg y s x
+plain 6 2 new x item 1/xchg y s x
+plain 7 12 new x part 1/if x {/xchg y s x/}
+plain 7 12 lock t/first f t/get f a
+plain 7 2 lock t/first f t/get f k
+plain 7 12 lock t/first f t/add t f
+plain 9 12 new x job 1 2/if x {/lock q/push_back q x/push_back q x/}
+plain 7 12 new x node 1/lock t/remove y t x
+plain 8 12 new x node 1/if x {/lock t/remove y t x/}
+plain 8 12 lock t/first f t/if f {/if f { }/}
+# the bound name comes last
+plain 6 1 new x item 1/new x item 1
+plain 7 1 new x part 1/if x {/acquire x x/}
+plain 6 1 new x part 1/acquire x y
+plain 6 12 new x item 1/acquire x x
+plain 8 1 new x item 1/new y item 1/if x {/xchg y s x/}
+plain 7 1 lock t/first f t/first f t
+plain 7 1 new x job 1 2/lock q/pop_front x q
+# what ends the references into a graph
+plain 8 3 lock t/first f t/unlock/if f { }
+plain 8 3 lock t/first f t/remove g t f/remove h t f
+plain 10 3 new x job 1 2/if x {/lock q/push_back q x/pop_back y q/get x a/}
+plain 9 3 new x task 1/if x {/lock r/push_back r x/get x a/}
+";
+
 #[test]
 fn orders_at_a_statement(rt: HostRuntime) -> Result<(), Fail> {
-    let alloc = rt.alloc();
-    expect(
-        &rt,
-        alloc,
-        &ALL,
-        &[
-            // handlers, locks, graphs
-            (HANDLER, b"yield", 5, 11),
-            (HANDLER, b"unlock", 5, 7),
-            (HANDLER, b"push_back q x", 5, 7),
-            (PLAIN, b"unlock", 5, 7),
-            (PLAIN, b"lock t\npush_back q x", 6, 7),
-            (PLAIN, b"new x job 1 2\npop_front x q", 6, 7),
-            (PLAIN, b"lock q\nlock t", 6, 8),
-            // under a lock, before the names
-            (PLAIN, b"lock q\ndrop x", 6, 9),
-            (PLAIN, b"lock q\nxchg y s x", 6, 9),
-            (PLAIN, b"lock q\nxchg y s null", 6, 9),
-            (PLAIN, b"lock q\nyield", 6, 9),
-            (PLAIN, b"new x job 1 2\nlock q\nnew x job 1 2", 7, 9),
-            // names: unbound, spent, wrong, null
-            (PLAIN, b"get x a", 5, 1),
-            (PLAIN, b"if x { }", 5, 1),
-            (PLAIN, b"acquire y x", 5, 1),
-            (PLAIN, b"new x item 1\nif x { drop x get x v }", 6, 3),
-            (PLAIN, b"new x item 1\nif x { drop x }\nif x { }", 7, 3),
-            (PLAIN, b"new x item 1\nacquire y x", 6, 12),
-            (PLAIN, b"new x part 1\nacquire y x", 6, 2),
-            (PLAIN, b"new x item 1\nget x v", 6, 12),
-            (PLAIN, b"new x item 1\nget x a", 6, 2),
-            (PLAIN, b"new x item 1\nif x {\nget x v\n}", 7, 12),
-            (PLAIN, b"new x item 1\nlock q\npush_back q x", 7, 12),
-            (PLAIN, b"new x job 1 2\nlock q\npush_back q x", 7, 2),
-            (PLAIN, b"new x part 1\nxchg y s x", 6, 12),
-            (PLAIN, b"new x item 1\nxchg y s x", 6, 2),
-            (PLAIN, b"new x part 1\nif x {\nxchg y s x\n}", 7, 12),
-            (PLAIN, b"lock t\nfirst f t\nget f a", 7, 12),
-            (PLAIN, b"lock t\nfirst f t\nget f k", 7, 2),
-            (PLAIN, b"lock t\nfirst f t\nadd t f", 7, 12),
-            (
-                PLAIN,
-                b"new x job 1 2\nif x {\nlock q\npush_back q x\npush_back q x\n}",
-                9,
-                12,
-            ),
-            (PLAIN, b"new x node 1\nlock t\nremove y t x", 7, 12),
-            (
-                PLAIN,
-                b"new x node 1\nif x {\nlock t\nremove y t x\n}",
-                8,
-                12,
-            ),
-            (PLAIN, b"lock t\nfirst f t\nif f {\nif f { }\n}", 8, 12),
-            // the bound name comes last
-            (PLAIN, b"new x item 1\nnew x item 1", 6, 1),
-            (PLAIN, b"new x part 1\nif x {\nacquire x x\n}", 7, 1),
-            (PLAIN, b"new x part 1\nacquire x y", 6, 1),
-            (PLAIN, b"new x item 1\nacquire x x", 6, 12),
-            (
-                PLAIN,
-                b"new x item 1\nnew y item 1\nif x {\nxchg y s x\n}",
-                8,
-                1,
-            ),
-            (PLAIN, b"lock t\nfirst f t\nfirst f t", 7, 1),
-            (PLAIN, b"new x job 1 2\nlock q\npop_front x q", 7, 1),
-            // what ends the references into a graph
-            (PLAIN, b"lock t\nfirst f t\nunlock\nif f { }", 8, 3),
-            (
-                PLAIN,
-                b"lock t\nfirst f t\nremove g t f\nremove h t f",
-                8,
-                3,
-            ),
-            (
-                PLAIN,
-                b"new x job 1 2\nif x {\nlock q\npush_back q x\npop_back y q\nget x a\n}",
-                10,
-                3,
-            ),
-            (
-                PLAIN,
-                b"new x task 1\nif x {\nlock r\npush_back r x\nget x a\n}",
-                9,
-                3,
-            ),
-        ],
-    )
+    expect(&rt, rt.alloc(), &ALL, ORDERS_AT_A_STATEMENT, 45)
 }
 
 // Rules at the ends of blocks, against those inside and against one another.
+const ORDERS_AT_THE_ENDS_OF_BLOCKS: &[u8] = b"\
+# a rule inside comes before one at the end
+plain 7 2 repeat 2 {/new x item 1/drop x/}
+plain 8 1 new x item 1/if x {/} else {/drop z/}
+plain 6 1 new x item 1/new x item 1
+# locks and their blocks
+plain 7 10 lock q/section {/unlock/}
+plain 7 10 new x item 1/lock q/if x { unlock } else { unlock }
+plain 7 10 section {/lock q/}/unlock
+plain 7 10 lock q/repeat 2 {/unlock/lock q/}/unlock
+plain 7 8 lock q/section {/lock q/}
+plain 8 10 repeat 1 {/new x item 1/lock q/}
+plain 7 10 new x item 1/lock q
+plain 8 10 new x item 1/if x {/lock q/} else {/}
+plain 9 10 new x item 1/if x {/} else {/lock q/}
+# branches
+plain 10 5 new x item 1/if x {/drop x/} else {/new y item 1/}
+plain 11 5 new x item 1/if x {/new y item 1/drop x/} else {/new y part 1/}
+plain 10 5 lock t/first f t/if f {/remove g t f/} else {/}/unlock
+plain 11 3 new c item 1/if c {/new x item 1/if x { drop x }/drop c/}/drop x
+plain 9 3 lock t/first f t/first g t/if f { if g { } }/get g k
+plain 8 3 lock t/first f t/if f { }/get f k
+plain 10 5 new x item 1/new y item 1/if x {/if y { drop y }/drop x/}
+# repeated blocks
+plain 8 6 lock t/repeat 2 {/first f t/}
+plain 8 6 lock t/repeat 0 {/first f t/}
+plain 9 6 lock t/first f t/repeat 1 {/remove g t f/}
+plain 9 6 new x item 1/if x {/repeat 1 {/drop x/}/}
+plain 9 3 repeat 1 {/new x item 1/if x { drop x }/}/drop x
+# the end of a script
+handler 11 5 new x part 1/if x {/acquire y x/drop x/} else {/xchg y p null/}
+handler 6 4 xchg y p null
+";
+
 #[test]
 fn orders_at_the_ends_of_blocks(rt: HostRuntime) -> Result<(), Fail> {
-    let alloc = rt.alloc();
-    expect(
-        &rt,
-        alloc,
-        &ALL,
-        &[
-            // a rule inside comes before one at the end
-            (PLAIN, b"repeat 2 {\nnew x item 1\ndrop x\n}", 7, 2),
-            (PLAIN, b"new x item 1\nif x {\n} else {\ndrop z\n}", 8, 1),
-            (PLAIN, b"new x item 1\nnew x item 1", 6, 1),
-            // locks and their blocks
-            (PLAIN, b"lock q\nsection {\nunlock\n}", 7, 10),
-            (
-                PLAIN,
-                b"new x item 1\nlock q\nif x { unlock } else { unlock }",
-                7,
-                10,
-            ),
-            (PLAIN, b"section {\nlock q\n}\nunlock", 7, 10),
-            (
-                PLAIN,
-                b"lock q\nrepeat 2 {\nunlock\nlock q\n}\nunlock",
-                7,
-                10,
-            ),
-            (PLAIN, b"lock q\nsection {\nlock q\n}", 7, 8),
-            (PLAIN, b"repeat 1 {\nnew x item 1\nlock q\n}", 8, 10),
-            (PLAIN, b"new x item 1\nlock q", 7, 10),
-            (PLAIN, b"new x item 1\nif x {\nlock q\n} else {\n}", 8, 10),
-            (PLAIN, b"new x item 1\nif x {\n} else {\nlock q\n}", 9, 10),
-            // branches
-            (
-                PLAIN,
-                b"new x item 1\nif x {\ndrop x\n} else {\nnew y item 1\n}",
-                10,
-                5,
-            ),
-            (
-                PLAIN,
-                b"new x item 1\nif x {\nnew y item 1\ndrop x\n} else {\nnew y part 1\n}",
-                11,
-                5,
-            ),
-            (
-                PLAIN,
-                b"lock t\nfirst f t\nif f {\nremove g t f\n} else {\n}\nunlock",
-                10,
-                5,
-            ),
-            (
-                PLAIN,
-                b"new c item 1\nif c {\nnew x item 1\nif x { drop x }\ndrop c\n}\ndrop x",
-                11,
-                3,
-            ),
-            (
-                PLAIN,
-                b"lock t\nfirst f t\nfirst g t\nif f { if g { } }\nget g k",
-                9,
-                3,
-            ),
-            (PLAIN, b"lock t\nfirst f t\nif f { }\nget f k", 8, 3),
-            (
-                PLAIN,
-                b"new x item 1\nnew y item 1\nif x {\nif y { drop y }\ndrop x\n}",
-                10,
-                5,
-            ),
-            // repeated blocks
-            (PLAIN, b"lock t\nrepeat 2 {\nfirst f t\n}", 8, 6),
-            (PLAIN, b"lock t\nrepeat 0 {\nfirst f t\n}", 8, 6),
-            (
-                PLAIN,
-                b"lock t\nfirst f t\nrepeat 1 {\nremove g t f\n}",
-                9,
-                6,
-            ),
-            (
-                PLAIN,
-                b"new x item 1\nif x {\nrepeat 1 {\ndrop x\n}\n}",
-                9,
-                6,
-            ),
-            (
-                PLAIN,
-                b"repeat 1 {\nnew x item 1\nif x { drop x }\n}\ndrop x",
-                9,
-                3,
-            ),
-            // the end of a script
-            (
-                HANDLER,
-                b"new x part 1\nif x {\nacquire y x\ndrop x\n} else {\nxchg y p null\n}",
-                11,
-                5,
-            ),
-            (HANDLER, b"xchg y p null", 6, 4),
-        ],
-    )
+    expect(&rt, rt.alloc(), &ALL, ORDERS_AT_THE_ENDS_OF_BLOCKS, 26)
 }
 
 // The first script that isn't accepted is named, and the scenario is handed back.
@@ -508,7 +323,7 @@ fn the_first_script_is_named(rt: HostRuntime) -> Result<(), Fail> {
 #[test]
 fn a_checked_scenario_is_given_back(rt: HostRuntime) -> Result<(), Fail> {
     let alloc = rt.alloc();
-    let text = text_of(alloc, &ITEMS, PLAIN, b"new x item 1 if x { drop x }")?;
+    let text = text_of(alloc, &ITEMS, b"plain", b"new x item 1 if x { drop x }")?;
     match checked(alloc, text.as_slice())? {
         Ok(checked) => {
             assert_eq!(rt; checked.scenario().scripts.as_slice().len(), 1);
@@ -533,11 +348,11 @@ fn many_names(rt: HostRuntime) -> Result<(), Fail> {
         let line = format!(in alloc; "if x{n} {{ drop x{n} }}\n")?;
         drops.extend_from_slice(line.as_bytes())?;
     }
-    let kept = text_of(alloc, &ITEMS, PLAIN, body.as_slice())?;
+    let kept = text_of(alloc, &ITEMS, b"plain", body.as_slice())?;
     // the body's 200 lines begin on line 7, behind them an empty one, then the brace
     assert_eq!(rt; answer(alloc, kept.as_slice())?, (0, 208, 4));
     body.extend_from_slice(drops.as_slice())?;
-    let dropped = text_of(alloc, &ITEMS, PLAIN, body.as_slice())?;
+    let dropped = text_of(alloc, &ITEMS, b"plain", body.as_slice())?;
     assert_eq!(rt; answer(alloc, dropped.as_slice())?, (0, 0, 0));
     Ok(())
 }

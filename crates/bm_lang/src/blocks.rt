@@ -16,8 +16,9 @@ use crate::fault::{BadKind, LangFault};
 use crate::keyword::Keyword;
 use crate::place::Place;
 use crate::reader::Tokens;
-use crate::scenario::{Action, Block, MapDeclaration, Statement, TypeDeclaration};
+use crate::scenario::{Action, Block, Statement};
 use crate::statements::simple;
+use crate::tables::{MapTable, TypeTable};
 use crate::token::Token;
 use std::alloc::Global;
 
@@ -26,11 +27,11 @@ use std::alloc::Global;
 pub fn block(
     alloc: Global,
     tokens: &mut Tokens<'_>,
-    types: &[TypeDeclaration],
-    maps: &[MapDeclaration],
+    types: TypeTable<'_>,
+    maps: MapTable<'_>,
     depth: u32,
 ) -> Result<Block, LangFault>
-    ensures { (p : ℕ) (scripts : List ScriptForm) → Reading result (knowing p (map type_form types.now) (map map_form maps.now) scripts) (Braced depth ∷ []) (λ _. knowing p (map type_form types.now) (map map_form maps.now) scripts) (spell_block (map type_form types.now) (map map_form maps.now)) (FineBlock (map type_form types.now) (map map_form maps.now) depth) (left tokens.old) (left tokens.new) }
+    ensures { (p : ℕ) (scripts : List ScriptForm) → Reading result (knowing p (map type_form types.entry.items.now) (map map_form maps.entry.items.now) scripts) (Braced depth ∷ []) (λ _. knowing p (map type_form types.entry.items.now) (map map_form maps.entry.items.now) scripts) (spell_block (map type_form types.entry.items.now) (map map_form maps.entry.items.now)) (FineBlock (map type_form types.entry.items.now) (map map_form maps.entry.items.now) depth) (left tokens.old) (left tokens.new) }
 {
     let place = opening(tokens)?;
     if depth == 0 {
@@ -63,13 +64,13 @@ pub fn block(
 fn action(
     alloc: Global,
     tokens: &mut Tokens<'_>,
-    types: &[TypeDeclaration],
-    maps: &[MapDeclaration],
+    types: TypeTable<'_>,
+    maps: MapTable<'_>,
     depth: u32,
     word: Keyword,
     start: Place,
 ) -> Result<Action, LangFault>
-    ensures { (p : ℕ) (scripts : List ScriptForm) → Stating result (knowing p (map type_form types.now) (map map_form maps.now) scripts) depth (spell_action (map type_form types.now) (map map_form maps.now) start.line) (FineAction (map type_form types.now) (map map_form maps.now) depth) (mark (Reserved word) start ∷ left tokens.old) (left tokens.new) }
+    ensures { (p : ℕ) (scripts : List ScriptForm) → Stating result (knowing p (map type_form types.entry.items.now) (map map_form maps.entry.items.now) scripts) depth (spell_action (map type_form types.entry.items.now) (map map_form maps.entry.items.now) start.line) (FineAction (map type_form types.entry.items.now) (map map_form maps.entry.items.now) depth) (mark (Reserved word) start ∷ left tokens.old) (left tokens.new) }
 {
     match word {
         Keyword::If => {
@@ -100,11 +101,11 @@ fn action(
 fn otherwise(
     alloc: Global,
     tokens: &mut Tokens<'_>,
-    types: &[TypeDeclaration],
-    maps: &[MapDeclaration],
+    types: TypeTable<'_>,
+    maps: MapTable<'_>,
     depth: u32,
 ) -> Result<Option<Block>, LangFault>
-    ensures { (p : ℕ) (scripts : List ScriptForm) → Reading result (knowing p (map type_form types.now) (map map_form maps.now) scripts) (Else depth ∷ []) (λ _. knowing p (map type_form types.now) (map map_form maps.now) scripts) (spell_option (map type_form types.now) (map map_form maps.now)) (FineOption (map type_form types.now) (map map_form maps.now) depth) (left tokens.old) (left tokens.new) }
+    ensures { (p : ℕ) (scripts : List ScriptForm) → Reading result (knowing p (map type_form types.entry.items.now) (map map_form maps.entry.items.now) scripts) (Else depth ∷ []) (λ _. knowing p (map type_form types.entry.items.now) (map map_form maps.entry.items.now) scripts) (spell_option (map type_form types.entry.items.now) (map map_form maps.entry.items.now)) (FineOption (map type_form types.entry.items.now) (map map_form maps.entry.items.now) depth) (left tokens.old) (left tokens.new) }
 {
     match optional(tokens, Keyword::Else) {
         Some(_) => Ok(Some(block(alloc, tokens, types, maps, depth)?)),

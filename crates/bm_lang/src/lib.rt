@@ -9,6 +9,7 @@ mod expect;
 mod fault;
 #[cfg(test)]
 mod fault_tests;
+mod index;
 mod items;
 mod keyword;
 mod law;
@@ -16,6 +17,8 @@ mod law;
 mod limit_tests;
 mod lines;
 mod listing;
+#[cfg(test)]
+mod long_tests;
 mod maps;
 mod names;
 mod place;
@@ -26,6 +29,7 @@ mod scan;
 mod scenario;
 mod scripts;
 mod statements;
+mod tables;
 #[cfg(test)]
 mod tests;
 mod token;

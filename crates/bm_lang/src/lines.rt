@@ -17,9 +17,10 @@ use crate::expect::{
 use crate::fault::{BadKind, LangFault};
 use crate::items::Items;
 use crate::keyword::Keyword;
-use crate::names::{runs_as, script_place};
+use crate::names::runs_as;
 use crate::reader::Tokens;
-use crate::scenario::{AtLine, RunLine, Script, ScriptId};
+use crate::scenario::{AtLine, RunLine, ScriptId};
+use crate::tables::{ScriptTable, script_place};
 use std::alloc::Global;
 
 /// The `run` lines that come next.
@@ -27,9 +28,9 @@ pub fn runs(
     alloc: Global,
     tokens: &mut Tokens<'_>,
     processors: u32,
-    scripts: &[Script],
+    scripts: ScriptTable<'_>,
 ) -> Result<Vec<RunLine>, LangFault>
-    ensures { (types : List TypeForm) (maps : List MapForm) → Reading result (knowing processors types maps (map script_form scripts.now)) (Runs ∷ []) (λ _. knowing processors types maps (map script_form scripts.now)) (λ v. flat_map (spell_run (map script_form scripts.now)) v.items) (λ v. All (FineRun processors (map script_form scripts.now)) v.items) (left tokens.old) (left tokens.new) }
+    ensures { (types : List TypeForm) (maps : List MapForm) → Reading result (knowing processors types maps (map script_form scripts.entry.items.now)) (Runs ∷ []) (λ _. knowing processors types maps (map script_form scripts.entry.items.now)) (λ v. flat_map (spell_run (map script_form scripts.entry.items.now)) v.items) (λ v. All (FineRun processors (map script_form scripts.entry.items.now)) v.items) (left tokens.old) (left tokens.new) }
 {
     let mut runs = Vec::new(alloc);
     while let Some(place) = optional(tokens, Keyword::Run) {
@@ -43,10 +44,10 @@ pub fn runs(
 fn run_line(
     tokens: &mut Tokens<'_>,
     processors: u32,
-    scripts: &[Script],
+    scripts: ScriptTable<'_>,
     line: u32,
 ) -> Result<RunLine, LangFault>
-    ensures read { (types : List TypeForm) (maps : List MapForm) → Reading result (knowing processors types maps (map script_form scripts.now)) (Processor ∷ ScriptOf false ∷ []) (λ _. knowing processors types maps (map script_form scripts.now)) (run_words (map script_form scripts.now)) (FineRun processors (map script_form scripts.now)) (left tokens.old) (left tokens.new) }
+    ensures read { (types : List TypeForm) (maps : List MapForm) → Reading result (knowing processors types maps (map script_form scripts.entry.items.now)) (Processor ∷ ScriptOf false ∷ []) (λ _. knowing processors types maps (map script_form scripts.entry.items.now)) (run_words (map script_form scripts.entry.items.now)) (FineRun processors (map script_form scripts.entry.items.now)) (left tokens.old) (left tokens.new) }
     ensures begun { IfOk result (λ r. r.line ≡ line) }
 {
     let processor = processor(tokens, processors)?;
@@ -63,9 +64,9 @@ pub fn ats(
     alloc: Global,
     tokens: &mut Tokens<'_>,
     processors: u32,
-    scripts: &[Script],
+    scripts: ScriptTable<'_>,
 ) -> Result<Vec<AtLine>, LangFault>
-    ensures { (types : List TypeForm) (maps : List MapForm) → Reading result (knowing processors types maps (map script_form scripts.now)) (Ats ∷ []) (λ _. knowing processors types maps (map script_form scripts.now)) (λ v. flat_map (spell_at (map script_form scripts.now)) v.items) (λ v. All (FineAt processors (map script_form scripts.now)) v.items) (left tokens.old) (left tokens.new) }
+    ensures { (types : List TypeForm) (maps : List MapForm) → Reading result (knowing processors types maps (map script_form scripts.entry.items.now)) (Ats ∷ []) (λ _. knowing processors types maps (map script_form scripts.entry.items.now)) (λ v. flat_map (spell_at (map script_form scripts.entry.items.now)) v.items) (λ v. All (FineAt processors (map script_form scripts.entry.items.now)) v.items) (left tokens.old) (left tokens.new) }
 {
     let mut ats = Vec::new(alloc);
     while let Some(place) = optional(tokens, Keyword::At) {
@@ -79,10 +80,10 @@ pub fn ats(
 fn at_line(
     tokens: &mut Tokens<'_>,
     processors: u32,
-    scripts: &[Script],
+    scripts: ScriptTable<'_>,
     line: u32,
 ) -> Result<AtLine, LangFault>
-    ensures read { (types : List TypeForm) (maps : List MapForm) → Reading result (knowing processors types maps (map script_form scripts.now)) (Processor ∷ AnyNumber ∷ Level ∷ ScriptOf true ∷ []) (λ _. knowing processors types maps (map script_form scripts.now)) (at_words (map script_form scripts.now)) (FineAt processors (map script_form scripts.now)) (left tokens.old) (left tokens.new) }
+    ensures read { (types : List TypeForm) (maps : List MapForm) → Reading result (knowing processors types maps (map script_form scripts.entry.items.now)) (Processor ∷ AnyNumber ∷ Level ∷ ScriptOf true ∷ []) (λ _. knowing processors types maps (map script_form scripts.entry.items.now)) (at_words (map script_form scripts.entry.items.now)) (FineAt processors (map script_form scripts.entry.items.now)) (left tokens.old) (left tokens.new) }
     ensures begun { IfOk result (λ a. a.line ≡ line) }
 {
     let processor = processor(tokens, processors)?;
@@ -123,16 +124,16 @@ fn level(tokens: &mut Tokens<'_>) -> Result<u32, LangFault>
 // A script that is a handler, or one that isn't.
 fn script_id(
     tokens: &mut Tokens<'_>,
-    scripts: &[Script],
+    scripts: ScriptTable<'_>,
     handler: bool,
 ) -> Result<ScriptId, LangFault>
-    ensures { (p : ℕ) (types : List TypeForm) (maps : List MapForm) → Reading result (knowing p types maps (map script_form scripts.now)) (ScriptOf handler ∷ []) (λ _. knowing p types maps (map script_form scripts.now)) (λ s. name (script_name (map script_form scripts.now) s.0) ∷ []) (λ s. IsSomeAnd (slice_get (map script_form scripts.now) s.0) (λ x. runs_as handler x.kind ≡ true)) (left tokens.old) (left tokens.new) }
+    ensures { (p : ℕ) (types : List TypeForm) (maps : List MapForm) → Reading result (knowing p types maps (map script_form scripts.entry.items.now)) (ScriptOf handler ∷ []) (λ _. knowing p types maps (map script_form scripts.entry.items.now)) (λ s. name (script_name (map script_form scripts.entry.items.now) s.0) ∷ []) (λ s. IsSomeAnd (slice_get (map script_form scripts.entry.items.now) s.0) (λ x. runs_as handler x.kind ≡ true)) (left tokens.old) (left tokens.new) }
 {
     let (name, place) = placed_name(tokens)?;
     let Some(found) = script_place(scripts, &name) else {
         return Err(fault(place, BadKind::Unknown));
     };
-    if !runs_as(handler, scripts[found].kind) {
+    if !runs_as(handler, scripts.items[found].kind) {
         return Err(fault(place, BadKind::Wrong));
     }
     Ok(ScriptId(found))

@@ -1,13 +1,11 @@
 //! Names that were declared, and what some words stand for.
 
-ghost use Rattle.std.specs.Prelude.{◌≡◌, position};
-ghost use Rattle.std.specs.Str.{bytes_eq};
+ghost use Rattle.std.specs.Prelude.{◌≡◌};
 ghost use Rattle.bm_lang.specs.Names.{fits, holds, runs_as};
 ghost use Rattle.bm_lang.specs.Grammar.{node_of, map_kind_of, script_kind_of, is_later};
 
 use crate::keyword::Keyword;
-use crate::scenario::{MapDeclaration, MapKind, Node, Script, ScriptKind, TypeDeclaration};
-use bm_word::Name;
+use crate::scenario::{MapKind, Node, ScriptKind};
 
 /// Where a map is named: which maps may stand there.
 #[derive(Clone, Copy, Debug)]
@@ -17,32 +15,6 @@ pub enum MapNeed {
     Tree,
     /// A list or a tree.
     Graph,
-}
-
-/// The place of the type with this name among some.
-pub fn type_place(types: &[TypeDeclaration], name: &Name) -> Option<usize>
-    ensures { result ≡ position (λ t. bytes_eq t.name name.now) types.now }
-{
-    types
-        .iter()
-        .position(|known| known.name.as_bytes() == name.as_bytes())
-}
-
-/// The place of the map with this name among some.
-pub fn map_place(maps: &[MapDeclaration], name: &Name) -> Option<usize>
-    ensures { result ≡ position (λ m. bytes_eq m.name name.now) maps.now }
-{
-    maps.iter()
-        .position(|known| known.name.as_bytes() == name.as_bytes())
-}
-
-/// The place of the script with this name among some.
-pub fn script_place(scripts: &[Script], name: &Name) -> Option<usize>
-    ensures { result ≡ position (λ s. bytes_eq s.name name.now) scripts.now }
-{
-    scripts
-        .iter()
-        .position(|known| known.name.as_bytes() == name.as_bytes())
 }
 
 /// Whether a map of this kind may stand where one is needed.

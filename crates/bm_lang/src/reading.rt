@@ -23,6 +23,7 @@ use crate::maps::maps;
 use crate::reader::Tokens;
 use crate::scenario::Scenario;
 use crate::scripts::scripts;
+use crate::tables::{MapTable, ScriptTable, TypeTable};
 use crate::token::Token;
 use crate::types::types;
 use std::alloc::Global;
@@ -51,11 +52,23 @@ fn whole(alloc: Global, bytes: &[u8]) -> Result<Scenario, LangFault>
 {
     let mut tokens = Tokens::new(bytes);
     let header = header(&mut tokens)?;
-    let types = types(alloc, &mut tokens)?;
-    let maps = maps(alloc, &mut tokens, &types)?;
-    let scripts = scripts(alloc, &mut tokens, &types, &maps)?;
-    let runs = runs(alloc, &mut tokens, header.processors, &scripts)?;
-    let ats = ats(alloc, &mut tokens, header.processors, &scripts)?;
+    let (types, names) = types(alloc, &mut tokens)?;
+    let known_types = TypeTable {
+        items: &types,
+        names: &names,
+    };
+    let (maps, map_names) = maps(alloc, &mut tokens, known_types)?;
+    let known_maps = MapTable {
+        items: &maps,
+        names: &map_names,
+    };
+    let (scripts, script_names) = scripts(alloc, &mut tokens, known_types, known_maps)?;
+    let known_scripts = ScriptTable {
+        items: &scripts,
+        names: &script_names,
+    };
+    let runs = runs(alloc, &mut tokens, header.processors, known_scripts)?;
+    let ats = ats(alloc, &mut tokens, header.processors, known_scripts)?;
     let turns = turns(alloc, &mut tokens, header.processors)?;
     end(&mut tokens)?;
     Ok(Scenario {

@@ -13,10 +13,12 @@ ghost use Rattle.bm_lang.specs.Reads.{Reading, Kinding};
 use crate::blocks::block;
 use crate::expect::{fault, optional, placed_name, refused};
 use crate::fault::{BadKind, LangFault};
+use crate::index::Index;
 use crate::keyword::Keyword;
-use crate::names::{script_kind_of, script_place};
+use crate::names::script_kind_of;
 use crate::reader::Tokens;
-use crate::scenario::{MapDeclaration, Script, ScriptKind, TypeDeclaration};
+use crate::scenario::{Script, ScriptKind};
+use crate::tables::{MapTable, ScriptTable, TypeTable, script_place};
 use crate::token::Token;
 use bm_word::Name;
 use std::alloc::Global;
@@ -28,29 +30,42 @@ const DEPTH: u32 = 16;
 pub fn scripts(
     alloc: Global,
     tokens: &mut Tokens<'_>,
-    types: &[TypeDeclaration],
-    maps: &[MapDeclaration],
-) -> Result<Vec<Script>, LangFault>
-    ensures { (p : ℕ) → Reading result (knowing p (map type_form types.now) (map map_form maps.now) []) (Scripts ∷ []) (λ v. knowing p (map type_form types.now) (map map_form maps.now) (map script_form v.items)) (λ v. flat_map (spell_script (map type_form types.now) (map map_form maps.now)) v.items) (λ v. FineScripts (map type_form types.now) (map map_form maps.now) [] v.items) (left tokens.old) (left tokens.new) }
+    types: TypeTable<'_>,
+    maps: MapTable<'_>,
+) -> Result<(Vec<Script>, Index), LangFault>
+    ensures read { (p : ℕ) → Reading result (knowing p (map type_form types.entry.items.now) (map map_form maps.entry.items.now) []) (Scripts ∷ []) (λ v. knowing p (map type_form types.entry.items.now) (map map_form maps.entry.items.now) (map script_form v.0.items)) (λ v. flat_map (spell_script (map type_form types.entry.items.now) (map map_form maps.entry.items.now)) v.0.items) (λ v. FineScripts (map type_form types.entry.items.now) (map map_form maps.entry.items.now) [] v.0.items) (left tokens.old) (left tokens.new) }
+    ensures same { IfOk result (λ v. v.1 ≡ map (λ x. x.name) v.0.items) }
 {
     let mut scripts = Vec::new(alloc);
+    let mut names = Index::new(alloc);
     while let Some(place) = optional(tokens, Keyword::Script) {
-        let script = script(alloc, tokens, types, maps, &scripts, place.line)?;
+        let script = script(
+            alloc,
+            tokens,
+            types,
+            maps,
+            ScriptTable {
+                items: &scripts,
+                names: &names,
+            },
+            place.line,
+        )?;
+        names.put(alloc, script.name.as_bytes())?;
         scripts.push(script)?;
     }
-    Ok(scripts)
+    Ok((scripts, names))
 }
 
 // A script, behind its first word on this line.
 fn script(
     alloc: Global,
     tokens: &mut Tokens<'_>,
-    types: &[TypeDeclaration],
-    maps: &[MapDeclaration],
-    scripts: &[Script],
+    types: TypeTable<'_>,
+    maps: MapTable<'_>,
+    scripts: ScriptTable<'_>,
     line: u32,
 ) -> Result<Script, LangFault>
-    ensures read { (p : ℕ) → Reading result (knowing p (map type_form types.now) (map map_form maps.now) (map script_form scripts.now)) (ScriptName ∷ []) (λ s. knowing p (map type_form types.now) (map map_form maps.now) (map script_form scripts.now ++ script_form s ∷ [])) (script_words (map type_form types.now) (map map_form maps.now)) (λ s. (is_some (script_named (map script_form scripts.now) s.name) ≡ false) × FineBlock (map type_form types.now) (map map_form maps.now) 16 s.body) (left tokens.old) (left tokens.new) }
+    ensures read { (p : ℕ) → Reading result (knowing p (map type_form types.entry.items.now) (map map_form maps.entry.items.now) (map script_form scripts.entry.items.now)) (ScriptName ∷ []) (λ s. knowing p (map type_form types.entry.items.now) (map map_form maps.entry.items.now) (map script_form scripts.entry.items.now ++ script_form s ∷ [])) (script_words (map type_form types.entry.items.now) (map map_form maps.entry.items.now)) (λ s. (is_some (script_named (map script_form scripts.entry.items.now) s.name) ≡ false) × FineBlock (map type_form types.entry.items.now) (map map_form maps.entry.items.now) 16 s.body) (left tokens.old) (left tokens.new) }
     ensures begun { IfOk result (λ s. s.line ≡ line) }
 {
     let (name, place) = placed_name(tokens)?;

@@ -19,10 +19,11 @@ use crate::expect::{any_name, fault, optional, placed_name, placed_number};
 use crate::fault::{BadKind, LangFault};
 use crate::items::Items;
 use crate::keyword::Keyword;
-use crate::names::{MapNeed, fits, is_later, map_place, type_place};
+use crate::names::{MapNeed, fits, is_later};
 use crate::place::Place;
 use crate::reader::Tokens;
-use crate::scenario::{Action, MapDeclaration, MapId, TypeDeclaration, TypeId};
+use crate::scenario::{Action, MapId, TypeId};
+use crate::tables::{MapTable, TypeTable, map_place, type_place};
 use bm_word::Name;
 use std::alloc::Global;
 
@@ -30,13 +31,13 @@ use std::alloc::Global;
 pub fn simple(
     alloc: Global,
     tokens: &mut Tokens<'_>,
-    types: &[TypeDeclaration],
-    maps: &[MapDeclaration],
+    types: TypeTable<'_>,
+    maps: MapTable<'_>,
     word: Keyword,
     start: Place,
 ) -> Result<Action, LangFault>
     requires { IsSimple word }
-    ensures { (p : ℕ) (scripts : List ScriptForm) (d : ℕ) → Stating result (knowing p (map type_form types.now) (map map_form maps.now) scripts) d (spell_action (map type_form types.now) (map map_form maps.now) start.line) (FineAction (map type_form types.now) (map map_form maps.now) d) (mark (Reserved word) start ∷ left tokens.old) (left tokens.new) }
+    ensures { (p : ℕ) (scripts : List ScriptForm) (d : ℕ) → Stating result (knowing p (map type_form types.entry.items.now) (map map_form maps.entry.items.now) scripts) d (spell_action (map type_form types.entry.items.now) (map map_form maps.entry.items.now) start.line) (FineAction (map type_form types.entry.items.now) (map map_form maps.entry.items.now) d) (mark (Reserved word) start ∷ left tokens.old) (left tokens.new) }
 {
     match word {
         Keyword::New => {
@@ -72,12 +73,12 @@ pub fn simple(
 // What a statement does that begins with this word and has the name of a list or a tree.
 fn on_graph(
     tokens: &mut Tokens<'_>,
-    maps: &[MapDeclaration],
+    maps: MapTable<'_>,
     word: Keyword,
     start: Place,
 ) -> Result<Action, LangFault>
     requires { IsOther word }
-    ensures { (p : ℕ) (types : List TypeForm) (scripts : List ScriptForm) (d : ℕ) → Stating result (knowing p types (map map_form maps.now) scripts) d (spell_action types (map map_form maps.now) start.line) (FineAction types (map map_form maps.now) d) (mark (Reserved word) start ∷ left tokens.old) (left tokens.new) }
+    ensures { (p : ℕ) (types : List TypeForm) (scripts : List ScriptForm) (d : ℕ) → Stating result (knowing p types (map map_form maps.entry.items.now) scripts) d (spell_action types (map map_form maps.entry.items.now) start.line) (FineAction types (map map_form maps.entry.items.now) d) (mark (Reserved word) start ∷ left tokens.old) (left tokens.new) }
 {
     match word {
         Keyword::Lock => {
@@ -139,10 +140,10 @@ fn two_names(tokens: &mut Tokens<'_>) -> Result<(Name, Name), LangFault>
 
 fn map_and_name(
     tokens: &mut Tokens<'_>,
-    maps: &[MapDeclaration],
+    maps: MapTable<'_>,
     need: MapNeed,
 ) -> Result<(MapId, Name), LangFault>
-    ensures { (p : ℕ) (types : List TypeForm) (scripts : List ScriptForm) → Reading result (knowing p types (map map_form maps.now) scripts) (MapOf need ∷ AnyName ∷ []) (λ _. knowing p types (map map_form maps.now) scripts) (λ x. name (map_name (map map_form maps.now) x.0.0) ∷ name x.1 ∷ []) (λ x. IsMap (map map_form maps.now) need x.0.0) (left tokens.old) (left tokens.new) }
+    ensures { (p : ℕ) (types : List TypeForm) (scripts : List ScriptForm) → Reading result (knowing p types (map map_form maps.entry.items.now) scripts) (MapOf need ∷ AnyName ∷ []) (λ _. knowing p types (map map_form maps.entry.items.now) scripts) (λ x. name (map_name (map map_form maps.entry.items.now) x.0.0) ∷ name x.1 ∷ []) (λ x. IsMap (map map_form maps.entry.items.now) need x.0.0) (left tokens.old) (left tokens.new) }
 {
     let map = map_id(tokens, maps, need)?;
     let name = any_name(tokens)?;
@@ -151,10 +152,10 @@ fn map_and_name(
 
 fn name_and_map(
     tokens: &mut Tokens<'_>,
-    maps: &[MapDeclaration],
+    maps: MapTable<'_>,
     need: MapNeed,
 ) -> Result<(Name, MapId), LangFault>
-    ensures { (p : ℕ) (types : List TypeForm) (scripts : List ScriptForm) → Reading result (knowing p types (map map_form maps.now) scripts) (AnyName ∷ MapOf need ∷ []) (λ _. knowing p types (map map_form maps.now) scripts) (λ x. name x.0 ∷ name (map_name (map map_form maps.now) x.1.0) ∷ []) (λ x. IsMap (map map_form maps.now) need x.1.0) (left tokens.old) (left tokens.new) }
+    ensures { (p : ℕ) (types : List TypeForm) (scripts : List ScriptForm) → Reading result (knowing p types (map map_form maps.entry.items.now) scripts) (AnyName ∷ MapOf need ∷ []) (λ _. knowing p types (map map_form maps.entry.items.now) scripts) (λ x. name x.0 ∷ name (map_name (map map_form maps.entry.items.now) x.1.0) ∷ []) (λ x. IsMap (map map_form maps.entry.items.now) need x.1.0) (left tokens.old) (left tokens.new) }
 {
     let name = any_name(tokens)?;
     let map = map_id(tokens, maps, need)?;
@@ -162,18 +163,14 @@ fn name_and_map(
 }
 
 // A map that fits.
-fn map_id(
-    tokens: &mut Tokens<'_>,
-    maps: &[MapDeclaration],
-    need: MapNeed,
-) -> Result<MapId, LangFault>
-    ensures { (p : ℕ) (types : List TypeForm) (scripts : List ScriptForm) → Reading result (knowing p types (map map_form maps.now) scripts) (MapOf need ∷ []) (λ _. knowing p types (map map_form maps.now) scripts) (λ m. name (map_name (map map_form maps.now) m.0) ∷ []) (λ m. IsMap (map map_form maps.now) need m.0) (left tokens.old) (left tokens.new) }
+fn map_id(tokens: &mut Tokens<'_>, maps: MapTable<'_>, need: MapNeed) -> Result<MapId, LangFault>
+    ensures { (p : ℕ) (types : List TypeForm) (scripts : List ScriptForm) → Reading result (knowing p types (map map_form maps.entry.items.now) scripts) (MapOf need ∷ []) (λ _. knowing p types (map map_form maps.entry.items.now) scripts) (λ m. name (map_name (map map_form maps.entry.items.now) m.0) ∷ []) (λ m. IsMap (map map_form maps.entry.items.now) need m.0) (left tokens.old) (left tokens.new) }
 {
     let (name, place) = placed_name(tokens)?;
     let Some(found) = map_place(maps, &name) else {
         return Err(fault(place, BadKind::Unknown));
     };
-    if !fits(need, maps[found].kind) {
+    if !fits(need, maps.items[found].kind) {
         return Err(fault(place, BadKind::Unknown));
     }
     Ok(MapId(found))
@@ -182,9 +179,9 @@ fn map_id(
 // What stands behind `xchg`.
 fn exchange(
     tokens: &mut Tokens<'_>,
-    maps: &[MapDeclaration],
+    maps: MapTable<'_>,
 ) -> Result<(Name, MapId, Option<Name>), LangFault>
-    ensures { (p : ℕ) (types : List TypeForm) (scripts : List ScriptForm) → Reading result (knowing p types (map map_form maps.now) scripts) (AnyName ∷ MapOf need.Slot ∷ NameOrNull ∷ []) (λ _. knowing p types (map map_form maps.now) scripts) (λ x. name x.0 ∷ name (map_name (map map_form maps.now) x.1.0) ∷ name_or_null x.2 ∷ []) (λ x. IsMap (map map_form maps.now) need.Slot x.1.0) (left tokens.old) (left tokens.new) }
+    ensures { (p : ℕ) (types : List TypeForm) (scripts : List ScriptForm) → Reading result (knowing p types (map map_form maps.entry.items.now) scripts) (AnyName ∷ MapOf need.Slot ∷ NameOrNull ∷ []) (λ _. knowing p types (map map_form maps.entry.items.now) scripts) (λ x. name x.0 ∷ name (map_name (map map_form maps.entry.items.now) x.1.0) ∷ name_or_null x.2 ∷ []) (λ x. IsMap (map map_form maps.entry.items.now) need.Slot x.1.0) (left tokens.old) (left tokens.new) }
 {
     let (name, slot) = name_and_map(tokens, maps, MapNeed::Slot)?;
     let given = name_or_null(tokens)?;
@@ -207,16 +204,16 @@ fn name_or_null(tokens: &mut Tokens<'_>) -> Result<Option<Name>, LangFault>
 fn creation(
     alloc: Global,
     tokens: &mut Tokens<'_>,
-    types: &[TypeDeclaration],
+    types: TypeTable<'_>,
 ) -> Result<(Name, TypeId, Vec<u32>), LangFault>
-    ensures { (p : ℕ) (maps : List MapForm) (scripts : List ScriptForm) → Reading result (knowing p (map type_form types.now) maps scripts) (AnyName ∷ NewType ∷ []) (λ _. knowing p (map type_form types.now) maps scripts) (λ x. name x.0 ∷ name (type_name (map type_form types.now) x.1.0) ∷ map number x.2.items) (λ x. IsSomeAnd (slice_get (map type_form types.now) x.1.0) (λ e. length x.2.items ≡ length e.fields)) (left tokens.old) (left tokens.new) }
+    ensures { (p : ℕ) (maps : List MapForm) (scripts : List ScriptForm) → Reading result (knowing p (map type_form types.entry.items.now) maps scripts) (AnyName ∷ NewType ∷ []) (λ _. knowing p (map type_form types.entry.items.now) maps scripts) (λ x. name x.0 ∷ name (type_name (map type_form types.entry.items.now) x.1.0) ∷ map number x.2.items) (λ x. IsSomeAnd (slice_get (map type_form types.entry.items.now) x.1.0) (λ e. length x.2.items ≡ length e.fields)) (left tokens.old) (left tokens.new) }
 {
     let name = any_name(tokens)?;
     let (type_name, place) = placed_name(tokens)?;
     let Some(found) = type_place(types, &type_name) else {
         return Err(fault(place, BadKind::Unknown));
     };
-    let count = types[found].fields.as_slice().len();
+    let count = types.items[found].fields.as_slice().len();
     let values = values(alloc, tokens, count)?;
     Ok((name, TypeId(found), values))
 }

@@ -15,12 +15,14 @@ ghost use Rattle.bm_lang.specs.declared.scenario.Node.{Node};
 
 use crate::expect::{closing, fault, open, optional, optional_name, placed_name, placed_number};
 use crate::fault::{BadKind, LangFault};
+use crate::index::Index;
 use crate::items::Items;
 use crate::keyword::Keyword;
-use crate::names::{node_of, type_place};
+use crate::names::node_of;
 use crate::place::Place;
 use crate::reader::Tokens;
 use crate::scenario::{Node, TypeDeclaration};
+use crate::tables::{TypeTable, type_place};
 use crate::token::Token;
 use bm_word::Name;
 use std::alloc::Global;
@@ -29,25 +31,39 @@ use std::alloc::Global;
 const MAX_SIZE: u64 = 4088;
 
 /// The type declarations that come next.
-pub fn types(alloc: Global, tokens: &mut Tokens<'_>) -> Result<Vec<TypeDeclaration>, LangFault>
-    ensures { (p : ℕ) → Reading result (drafting p [] no_draft) (Types ∷ []) (λ v. drafting p (map type_form v.items) no_draft) (λ v. flat_map spell_type v.items) (λ v. FineTypes [] v.items) (left tokens.old) (left tokens.new) }
+pub fn types(
+    alloc: Global,
+    tokens: &mut Tokens<'_>,
+) -> Result<(Vec<TypeDeclaration>, Index), LangFault>
+    ensures read { (p : ℕ) → Reading result (drafting p [] no_draft) (Types ∷ []) (λ v. drafting p (map type_form v.0.items) no_draft) (λ v. flat_map spell_type v.0.items) (λ v. FineTypes [] v.0.items) (left tokens.old) (left tokens.new) }
+    ensures same { IfOk result (λ v. v.1 ≡ map (λ t. t.name) v.0.items) }
 {
     let mut types = Vec::new(alloc);
+    let mut names = Index::new(alloc);
     while let Some(place) = optional(tokens, Keyword::Type) {
-        let declaration = type_declaration(alloc, tokens, &types, place.line)?;
+        let declaration = type_declaration(
+            alloc,
+            tokens,
+            TypeTable {
+                items: &types,
+                names: &names,
+            },
+            place.line,
+        )?;
+        names.put(alloc, declaration.name.as_bytes())?;
         types.push(declaration)?;
     }
-    Ok(types)
+    Ok((types, names))
 }
 
 // A type, behind its first word on this line.
 fn type_declaration(
     alloc: Global,
     tokens: &mut Tokens<'_>,
-    types: &[TypeDeclaration],
+    types: TypeTable<'_>,
     line: u32,
 ) -> Result<TypeDeclaration, LangFault>
-    ensures read { (p : ℕ) → Reading result (drafting p (map type_form types.now) no_draft) (TypeName ∷ Counted ∷ NodeOfType ∷ OpenBrace ∷ Fields ∷ PadOfType ∷ TypeEnd ∷ []) (λ t. drafting p (map type_form types.now ++ type_form t ∷ []) no_draft) type_words (λ t. (is_some (type_named (map type_form types.now) t.name) ≡ false) × FineType t) (left tokens.old) (left tokens.new) }
+    ensures read { (p : ℕ) → Reading result (drafting p (map type_form types.entry.items.now) no_draft) (TypeName ∷ Counted ∷ NodeOfType ∷ OpenBrace ∷ Fields ∷ PadOfType ∷ TypeEnd ∷ []) (λ t. drafting p (map type_form types.entry.items.now ++ type_form t ∷ []) no_draft) type_words (λ t. (is_some (type_named (map type_form types.entry.items.now) t.name) ≡ false) × FineType t) (left tokens.old) (left tokens.new) }
     ensures line { IfOk result (λ t. t.line ≡ line) }
 {
     let name = type_name(tokens, types)?;
@@ -69,8 +85,8 @@ fn type_declaration(
 }
 
 // The name of a type, which none of the types has.
-fn type_name(tokens: &mut Tokens<'_>, types: &[TypeDeclaration]) -> Result<Name, LangFault>
-    ensures { (p : ℕ) → Reading result (drafting p (map type_form types.now) no_draft) (TypeName ∷ []) (λ n. drafting p (map type_form types.now) (form n false None [] 0)) (λ n. name n ∷ []) (λ n. is_some (type_named (map type_form types.now) n) ≡ false) (left tokens.old) (left tokens.new) }
+fn type_name(tokens: &mut Tokens<'_>, types: TypeTable<'_>) -> Result<Name, LangFault>
+    ensures { (p : ℕ) → Reading result (drafting p (map type_form types.entry.items.now) no_draft) (TypeName ∷ []) (λ n. drafting p (map type_form types.entry.items.now) (form n false None [] 0)) (λ n. name n ∷ []) (λ n. is_some (type_named (map type_form types.entry.items.now) n) ≡ false) (left tokens.old) (left tokens.new) }
 {
     let (name, place) = placed_name(tokens)?;
     if type_place(types, &name).is_some() {
@@ -119,22 +135,15 @@ fn fields(alloc: Global, tokens: &mut Tokens<'_>) -> Result<Vec<Name>, LangFault
     ensures { (p : ℕ) (types : List TypeForm) (n : List ℕ) (c : Bool) (d : Option Node) → Reading result (drafting p types (form n c d [] 0)) (Fields ∷ []) (λ v. drafting p types (form n c d v.items 0)) (λ v. map name v.items) (λ v. Fresh [] v.items) (left tokens.old) (left tokens.new) }
 {
     let mut fields = Vec::new(alloc);
+    let mut names = Index::new(alloc);
     while let Some((field, place)) = optional_name(tokens) {
-        if has_field(&fields, &field) {
+        if names.place(field.as_bytes()).is_some() {
             return Err(fault(place, BadKind::Duplicate));
         }
+        names.put(alloc, field.as_bytes())?;
         fields.push(field)?;
     }
     Ok(fields)
-}
-
-// Whether one of the fields has this name.
-fn has_field(fields: &[Name], name: &Name) -> bool
-    ensures { result ≡ has_name fields.now name.now }
-{
-    fields
-        .iter()
-        .any(|known| known.as_bytes() == name.as_bytes())
 }
 
 // The pad of a type, if it has one.

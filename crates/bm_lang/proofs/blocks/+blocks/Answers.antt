@@ -20,25 +20,25 @@ pub block-returns-in_err-place : goal.block-returns-in_err-place
 block-returns-in_err-place t c = λ p scripts. failed _ _ _ _ _ _ _ _ _ c.from_residual.ensures.1 (no_braced _ _ _ _ _ _ [] c.in_err-place.ensures)
 
 pub block-returns-then-depth-eq0 : goal.block-returns-then-depth-eq0
-block-returns-then-depth-eq0 t c = λ p scripts. rw c.if-depth-eq0.true (fails_here _ _ _ (knowing p (map type_form c.args.types.now) (map map_form c.args.maps.now) scripts) (Braced 0) [] kind.Depth _ c.in_ok-place.ensures refl c.fault.ensures)
+block-returns-then-depth-eq0 t c = λ p scripts. rw c.if-depth-eq0.true (fails_here _ _ _ (knowing p (map type_form c.args.types.items.now) (map map_form c.args.maps.items.now) scripts) (Braced 0) [] kind.Depth _ c.in_ok-place.ensures refl c.fault.ensures)
 
 pub block-loop-statements-init : goal.block-loop-statements-init
 block-loop-statements-init t c = λ p scripts. rw c.new-statements.ensures.items (read_nothing _ _ _ _ refl)
 
 pub block-returns-in-Close : goal.block-returns-in-Close
-block-returns-in-Close t c = let n : nat_lt 0 c.args.depth ≡ true = grind (arith, nat_tests, c.if-depth-eq0.false) in let e = rw c.in-Close.is at c.take-next.ensures.begins in λ p scripts. as_read (read_shift (knowing p (map type_form c.args.types.now) (map map_form c.args.maps.now) scripts) (knowing p (map type_form c.args.types.now) (map map_form c.args.maps.now) scripts) _ (Braced c.args.depth) (Statements (c.args.depth - 1) ∷ CloseBrace ∷ []) [] [] _ (any token.Open) _ _ _ _ _ _ c.in_ok-place.ensures (rw n refl) refl tt (going (more' (CloseBrace ∷ []) (c.loop-statements.invariant p scripts)) (read_pass_close _ _ _ _ _ _ refl e) (λ f u. f)) (λ f. f)) (sym (block_is (map type_form c.args.types.now) (map map_form c.args.maps.now) c.loop-statements.statements c.take-next.result.place.line)) (λ f. block_fine (map type_form c.args.types.now) (map map_form c.args.maps.now) c.args.depth c.loop-statements.statements c.take-next.result.place.line (omega (arith, c.if-depth-eq0.false)) f)
+block-returns-in-Close t c = let n : nat_lt 0 c.args.depth ≡ true = grind (arith, nat_tests, c.if-depth-eq0.false) in let e = rw c.in-Close.is at c.take-next.ensures.begins in λ p scripts. as_read (read_shift (knowing p (map type_form c.args.types.items.now) (map map_form c.args.maps.items.now) scripts) (knowing p (map type_form c.args.types.items.now) (map map_form c.args.maps.items.now) scripts) _ (Braced c.args.depth) (Statements (c.args.depth - 1) ∷ CloseBrace ∷ []) [] [] _ (any token.Open) _ _ _ _ _ _ c.in_ok-place.ensures (rw n refl) refl tt (going (more' (CloseBrace ∷ []) (c.loop-statements.invariant p scripts)) (read_pass_close _ _ _ _ _ _ refl e) (λ f u. f)) (λ f. f)) (sym (block_is (map type_form c.args.types.items.now) (map map_form c.args.maps.items.now) c.loop-statements.statements c.take-next.result.place.line)) (λ f. block_fine (map type_form c.args.types.items.now) (map map_form c.args.maps.items.now) c.args.depth c.loop-statements.statements c.take-next.result.place.line (omega (arith, c.if-depth-eq0.false)) f)
 
 pub block-returns-in_err-action-in-Keyword : goal.block-returns-in_err-action-in-Keyword
-block-returns-in_err-action-in-Keyword t c = let n : nat_lt 0 c.args.depth ≡ true = grind (arith, nat_tests, c.if-depth-eq0.false) in let e = rw c.in-Keyword.is at c.take-next.ensures.begins in let h = rw (← e) at c.in_err-action-in-Keyword.ensures in λ p scripts. failed _ _ _ _ _ _ _ _ _ c.from_residual-in_err-action-in-Keyword.ensures.1 (fails_shift _ _ _ _ (knowing p (map type_form c.args.types.now) (map map_form c.args.maps.now) scripts) (knowing p (map type_form c.args.types.now) (map map_form c.args.maps.now) scripts) (Braced c.args.depth) (Statements (c.args.depth - 1) ∷ CloseBrace ∷ []) [] c.in_ok-place.ensures (rw n refl) (fails_going _ (more' (CloseBrace ∷ []) (c.loop-statements.invariant p scripts)) (h p scripts)))
+block-returns-in_err-action-in-Keyword t c = let n : nat_lt 0 c.args.depth ≡ true = grind (arith, nat_tests, c.if-depth-eq0.false) in let e = rw c.in-Keyword.is at c.take-next.ensures.begins in let h = rw (← e) at c.in_err-action-in-Keyword.ensures in λ p scripts. failed _ _ _ _ _ _ _ _ _ c.from_residual-in_err-action-in-Keyword.ensures.1 (fails_shift _ _ _ _ (knowing p (map type_form c.args.types.items.now) (map map_form c.args.maps.items.now) scripts) (knowing p (map type_form c.args.types.items.now) (map map_form c.args.maps.items.now) scripts) (Braced c.args.depth) (Statements (c.args.depth - 1) ∷ CloseBrace ∷ []) [] c.in_ok-place.ensures (rw n refl) (fails_going _ (more' (CloseBrace ∷ []) (c.loop-statements.invariant p scripts)) (h p scripts)))
 
 pub block-loop-statements-smaller : goal.block-loop-statements-smaller
 block-loop-statements-smaller t c = let e = rw c.in-Keyword.is at c.take-next.ensures.begins in let h = rw (← e) at c.in_ok-action-in-Keyword.ensures in statement_shorter _ _ _ _ c.in_ok-action-in-Keyword.action _ _ _ (h 0 [])
 
 pub block-loop-statements-preserved : goal.block-loop-statements-preserved
-block-loop-statements-preserved t c = let e = rw c.in-Keyword.is at c.take-next.ensures.begins in let h = rw (← e) at c.in_ok-action-in-Keyword.ensures in λ p scripts. rw (c.in_ok-push-in-Keyword.ensures.items, flat_map-push) (going (c.loop-statements.invariant p scripts) (h p scripts) (λ f u. statements-push (map type_form c.args.types.now) (map map_form c.args.maps.now) (c.args.depth - 1) c.loop-statements.statements.items _ f u))
+block-loop-statements-preserved t c = let e = rw c.in-Keyword.is at c.take-next.ensures.begins in let h = rw (← e) at c.in_ok-action-in-Keyword.ensures in λ p scripts. rw (c.in_ok-push-in-Keyword.ensures.items, flat_map-push) (going (c.loop-statements.invariant p scripts) (h p scripts) (λ f u. statements-push (map type_form c.args.types.items.now) (map map_form c.args.maps.items.now) (c.args.depth - 1) c.loop-statements.statements.items _ f u))
 
 pub block-returns-in_default : goal.block-returns-in_default
-block-returns-in_default t c = let n : nat_lt 0 c.args.depth ≡ true = grind (arith, nat_tests, c.if-depth-eq0.false) in λ p scripts. fails_shift _ _ _ _ (knowing p (map type_form c.args.types.now) (map map_form c.args.maps.now) scripts) (knowing p (map type_form c.args.types.now) (map map_form c.args.maps.now) scripts) (Braced c.args.depth) (Statements (c.args.depth - 1) ∷ CloseBrace ∷ []) [] c.in_ok-place.ensures (rw n refl) (fails_going _ (more' (CloseBrace ∷ []) (c.loop-statements.invariant p scripts)) (not_word _ _ (knowing p (map type_form c.args.types.now) (map map_form c.args.maps.now) scripts) (c.args.depth - 1) c.take-next.result _ c.take-next.ensures.begins c.in_default.not-Keyword c.in_default.not-Close c.refused.ensures))
+block-returns-in_default t c = let n : nat_lt 0 c.args.depth ≡ true = grind (arith, nat_tests, c.if-depth-eq0.false) in λ p scripts. fails_shift _ _ _ _ (knowing p (map type_form c.args.types.items.now) (map map_form c.args.maps.items.now) scripts) (knowing p (map type_form c.args.types.items.now) (map map_form c.args.maps.items.now) scripts) (Braced c.args.depth) (Statements (c.args.depth - 1) ∷ CloseBrace ∷ []) [] c.in_ok-place.ensures (rw n refl) (fails_going _ (more' (CloseBrace ∷ []) (c.loop-statements.invariant p scripts)) (not_word _ _ (knowing p (map type_form c.args.types.items.now) (map map_form c.args.maps.items.now) scripts) (c.args.depth - 1) c.take-next.result _ c.take-next.ensures.begins c.in_default.not-Keyword c.in_default.not-Close c.refused.ensures))
 
 pub action-returns-in_err-name-in-If : goal.action-returns-in_err-name-in-If
 action-returns-in_err-name-in-If t c = λ p scripts. rw c.in-If.is (failed_statement _ _ _ _ _ _ _ _ c.from_residual.ensures.1 (statement_fails _ _ c.args.depth word.If _ _ _ refl (fails_first _ _ _ _ _ (c.in_err-name-in-If.ensures _))))
@@ -50,7 +50,7 @@ pub action-returns-in_err-otherwise-in-If : goal.action-returns-in_err-otherwise
 action-returns-in_err-otherwise-in-If t c = λ p scripts. rw c.in-If.is (failed_statement _ _ _ _ _ _ _ _ c.from_residual-in_err-otherwise-in-If.ensures.1 (statement_fails _ _ c.args.depth word.If _ _ _ refl (fails_behind _ _ (c.in_ok-name-in-If.ensures _) (fails_behind _ _ (c.in_ok-body-in-If.ensures p scripts) (c.in_err-otherwise-in-If.ensures p scripts)))))
 
 pub action-returns-in_ok-otherwise-in-If : goal.action-returns-in_ok-otherwise-in-If
-action-returns-in_ok-otherwise-in-If t c = λ p scripts. rw (c.in-If.is, else_is) (statement c.args.depth word.If _ _ refl (both (c.in_ok-name-in-If.ensures _) (both (c.in_ok-body-in-If.ensures p scripts) (c.in_ok-otherwise-in-If.ensures p scripts))) (λ f. (f.1.0, else_fine (map type_form c.args.types.now) (map map_form c.args.maps.now) c.args.depth c.in_ok-otherwise-in-If.otherwise f.1.1)))
+action-returns-in_ok-otherwise-in-If t c = λ p scripts. rw (c.in-If.is, else_is) (statement c.args.depth word.If _ _ refl (both (c.in_ok-name-in-If.ensures _) (both (c.in_ok-body-in-If.ensures p scripts) (c.in_ok-otherwise-in-If.ensures p scripts))) (λ f. (f.1.0, else_fine (map type_form c.args.types.items.now) (map map_form c.args.maps.items.now) c.args.depth c.in_ok-otherwise-in-If.otherwise f.1.1)))
 
 pub action-returns-in_err-count-in-Repeat : goal.action-returns-in_err-count-in-Repeat
 action-returns-in_err-count-in-Repeat t c = λ p scripts. rw c.in-Repeat.is (failed_statement _ _ _ _ _ _ _ _ c.from_residual-in_err-count-in-Repeat.ensures.1 (statement_fails _ _ c.args.depth word.Repeat _ _ _ refl (fails_first _ _ _ _ _ (c.in_err-count-in-Repeat.ensures _))))
@@ -74,10 +74,10 @@ pub action-returns-in_default : goal.action-returns-in_default
 action-returns-in_default t c = λ p scripts. c.simple.ensures p scripts c.args.depth
 
 pub otherwise-returns-in_err-block-in-Some : goal.otherwise-returns-in_err-block-in-Some
-otherwise-returns-in_err-block-in-Some t c = λ p scripts. failed _ _ _ _ _ _ _ _ _ c.from_residual.ensures.1 (fails_shift _ _ _ _ (knowing p (map type_form c.args.types.now) (map map_form c.args.maps.now) scripts) (knowing p (map type_form c.args.types.now) (map map_form c.args.maps.now) scripts) (Else c.args.depth) (Braced c.args.depth ∷ []) [] c.in-Some.ensures refl (c.in_err-block-in-Some.ensures p scripts))
+otherwise-returns-in_err-block-in-Some t c = λ p scripts. failed _ _ _ _ _ _ _ _ _ c.from_residual.ensures.1 (fails_shift _ _ _ _ (knowing p (map type_form c.args.types.items.now) (map map_form c.args.maps.items.now) scripts) (knowing p (map type_form c.args.types.items.now) (map map_form c.args.maps.items.now) scripts) (Else c.args.depth) (Braced c.args.depth ∷ []) [] c.in-Some.ensures refl (c.in_err-block-in-Some.ensures p scripts))
 
 pub otherwise-returns-in_ok-block-in-Some : goal.otherwise-returns-in_ok-block-in-Some
-otherwise-returns-in_ok-block-in-Some t c = λ p scripts. read_shift (knowing p (map type_form c.args.types.now) (map map_form c.args.maps.now) scripts) (knowing p (map type_form c.args.types.now) (map map_form c.args.maps.now) scripts) _ (Else c.args.depth) (Braced c.args.depth ∷ []) [] [] _ (reserved word.Else) _ _ _ _ _ _ c.in-Some.ensures refl refl tt (c.in_ok-block-in-Some.ensures p scripts) (λ f. f)
+otherwise-returns-in_ok-block-in-Some t c = λ p scripts. read_shift (knowing p (map type_form c.args.types.items.now) (map map_form c.args.maps.items.now) scripts) (knowing p (map type_form c.args.types.items.now) (map map_form c.args.maps.items.now) scripts) _ (Else c.args.depth) (Braced c.args.depth ∷ []) [] [] _ (reserved word.Else) _ _ _ _ _ _ c.in-Some.ensures refl refl tt (c.in_ok-block-in-Some.ensures p scripts) (λ f. f)
 
 pub otherwise-returns-in-None : goal.otherwise-returns-in-None
-otherwise-returns-in-None t c = λ p scripts. absent (knowing p (map type_form c.args.types.now) (map map_form c.args.maps.now) scripts) (Else c.args.depth) (is_word word.Else) _ _ (λ t h. may_passed _ _ h) c.in-None.ensures
+otherwise-returns-in-None t c = λ p scripts. absent (knowing p (map type_form c.args.types.items.now) (map map_form c.args.maps.items.now) scripts) (Else c.args.depth) (is_word word.Else) _ _ (λ t h. may_passed _ _ h) c.in-None.ensures

@@ -11,7 +11,7 @@ use Rattle.bm_lang.specs.Reads.{Read}
 use Rattle.bm_lang.proofs.blocks.+blocks.Given as goal
 
 abbrev pub invariant-block-loop-statements : goal.invariant-block-loop-statements
-invariant-block-loop-statements l = (p : ℕ) (scripts : List ScriptForm) → Read (knowing p (map type_form l.types) (map map_form l.maps) scripts) (Statements (l.depth - 1) ∷ []) (knowing p (map type_form l.types) (map map_form l.maps) scripts) (Statements (l.depth - 1) ∷ []) (flat_map (spell_statement (map type_form l.types) (map map_form l.maps)) l.statements.items) (FineStatements (map type_form l.types) (map map_form l.maps) (l.depth - 1) l.statements.items) (left l.initial.tokens) (left l.tokens)
+invariant-block-loop-statements l = (p : ℕ) (scripts : List ScriptForm) → Read (knowing p (map type_form l.types.items.now) (map map_form l.maps.items.now) scripts) (Statements (l.depth - 1) ∷ []) (knowing p (map type_form l.types.items.now) (map map_form l.maps.items.now) scripts) (Statements (l.depth - 1) ∷ []) (flat_map (spell_statement (map type_form l.types.items.now) (map map_form l.maps.items.now)) l.statements.items) (FineStatements (map type_form l.types.items.now) (map map_form l.maps.items.now) (l.depth - 1) l.statements.items) (left l.initial.tokens) (left l.tokens)
 
 abbrev pub decreases-block-loop-statements : goal.decreases-block-loop-statements
 decreases-block-loop-statements l = length (left l.tokens)

@@ -18,10 +18,10 @@ pub loop-place-smaller : goal.loop-place-smaller
 loop-place-smaller c = shorter _ _ _ _ _ _ _ _ _ _ c.in-Some.ensures (c.in_ok-at.ensures.read [] [])
 
 pub loop-place-preserved : goal.loop-place-preserved
-loop-place-preserved c = λ types maps. rw (c.in_ok-push.ensures.items, flat_map-push) (going (c.loop-place.invariant types maps) (read_shift _ _ _ Ats (Processor ∷ AnyNumber ∷ Level ∷ ScriptOf true ∷ Ats ∷ []) [] (Ats ∷ []) _ (on c.in_ok-at.at.line (token.Reserved word.At)) _ _ _ _ _ _ c.in-Some.ensures refl refl c.in_ok-at.ensures.begun (more (Ats ∷ []) (c.in_ok-at.ensures.read types maps)) (λ u. u)) (λ f u. All-push (FineAt c.args.processors (map script_form c.args.scripts.now)) c.loop-place.ats.items c.in_ok-at.at f u))
+loop-place-preserved c = λ types maps. rw (c.in_ok-push.ensures.items, flat_map-push) (going (c.loop-place.invariant types maps) (read_shift _ _ _ Ats (Processor ∷ AnyNumber ∷ Level ∷ ScriptOf true ∷ Ats ∷ []) [] (Ats ∷ []) _ (on c.in_ok-at.at.line (token.Reserved word.At)) _ _ _ _ _ _ c.in-Some.ensures refl refl c.in_ok-at.ensures.begun (more (Ats ∷ []) (c.in_ok-at.ensures.read types maps)) (λ u. u)) (λ f u. All-push (FineAt c.args.processors (map script_form c.args.scripts.items.now)) c.loop-place.ats.items c.in_ok-at.at f u))
 
 pub loop-place-init : goal.loop-place-init
 loop-place-init c = λ types maps. rw c.new-ats.ensures.items (as_read (read_nothing _ _ _ _ refl) refl (λ u k d lt. absurd (omega arith)))
 
 pub returns : goal.returns
-returns c = λ types maps. as_read (going (c.loop-place.invariant types maps) (absent _ Ats (is_word word.At) _ _ (λ t h. may_passed _ _ h) c.in_default.ensures) (λ f u. f)) (append-nil (flat_map (spell_at (map script_form c.args.scripts.now)) c.loop-place.ats.items)) (λ f. f)
+returns c = λ types maps. as_read (going (c.loop-place.invariant types maps) (absent _ Ats (is_word word.At) _ _ (λ t h. may_passed _ _ h) c.in_default.ensures) (λ f u. f)) (append-nil (flat_map (spell_at (map script_form c.args.scripts.items.now)) c.loop-place.ats.items)) (λ f. f)

@@ -11,7 +11,7 @@ use Rattle.bm_lang.specs.Reads.{Read}
 use Rattle.bm_lang.proofs.lines.ats.Given as goal
 
 abbrev pub invariant-loop-place : goal.invariant-loop-place
-invariant-loop-place l = (types : List TypeForm) (maps : List MapForm) → Read (knowing l.processors types maps (map script_form l.scripts)) (Ats ∷ []) (knowing l.processors types maps (map script_form l.scripts)) (Ats ∷ []) (flat_map (spell_at (map script_form l.scripts)) l.ats.items) (All (FineAt l.processors (map script_form l.scripts)) l.ats.items) (left l.fn.tokens) (left l.tokens)
+invariant-loop-place l = (types : List TypeForm) (maps : List MapForm) → Read (knowing l.processors types maps (map script_form l.scripts.items.now)) (Ats ∷ []) (knowing l.processors types maps (map script_form l.scripts.items.now)) (Ats ∷ []) (flat_map (spell_at (map script_form l.scripts.items.now)) l.ats.items) (All (FineAt l.processors (map script_form l.scripts.items.now)) l.ats.items) (left l.fn.tokens) (left l.tokens)
 
 abbrev pub decreases-loop-place : goal.decreases-loop-place
 decreases-loop-place l = length (left l.tokens)

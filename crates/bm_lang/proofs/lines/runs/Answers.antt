@@ -18,10 +18,10 @@ pub loop-place-smaller : goal.loop-place-smaller
 loop-place-smaller c = shorter _ _ _ _ _ _ _ _ _ _ c.in-Some.ensures (c.in_ok-run.ensures.read [] [])
 
 pub loop-place-preserved : goal.loop-place-preserved
-loop-place-preserved c = λ types maps. rw (c.in_ok-push.ensures.items, flat_map-push) (going (c.loop-place.invariant types maps) (read_shift _ _ _ Runs (Processor ∷ ScriptOf false ∷ Runs ∷ []) [] (Runs ∷ []) _ (on c.in_ok-run.run'.line (token.Reserved word.Run)) _ _ _ _ _ _ c.in-Some.ensures refl refl c.in_ok-run.ensures.begun (more (Runs ∷ []) (c.in_ok-run.ensures.read types maps)) (λ u. u)) (λ f u. All-push (FineRun c.args.processors (map script_form c.args.scripts.now)) c.loop-place.runs.items c.in_ok-run.run' f u))
+loop-place-preserved c = λ types maps. rw (c.in_ok-push.ensures.items, flat_map-push) (going (c.loop-place.invariant types maps) (read_shift _ _ _ Runs (Processor ∷ ScriptOf false ∷ Runs ∷ []) [] (Runs ∷ []) _ (on c.in_ok-run.run'.line (token.Reserved word.Run)) _ _ _ _ _ _ c.in-Some.ensures refl refl c.in_ok-run.ensures.begun (more (Runs ∷ []) (c.in_ok-run.ensures.read types maps)) (λ u. u)) (λ f u. All-push (FineRun c.args.processors (map script_form c.args.scripts.items.now)) c.loop-place.runs.items c.in_ok-run.run' f u))
 
 pub loop-place-init : goal.loop-place-init
 loop-place-init c = λ types maps. rw c.new-runs.ensures.items (as_read (read_nothing _ _ _ _ refl) refl (λ u k d lt. absurd (omega arith)))
 
 pub returns : goal.returns
-returns c = λ types maps. as_read (going (c.loop-place.invariant types maps) (absent _ Runs (is_word word.Run) _ _ (λ t h. may_passed _ _ h) c.in_default.ensures) (λ f u. f)) (append-nil (flat_map (spell_run (map script_form c.args.scripts.now)) c.loop-place.runs.items)) (λ f. f)
+returns c = λ types maps. as_read (going (c.loop-place.invariant types maps) (absent _ Runs (is_word word.Run) _ _ (λ t h. may_passed _ _ h) c.in_default.ensures) (λ f u. f)) (append-nil (flat_map (spell_run (map script_form c.args.scripts.items.now)) c.loop-place.runs.items)) (λ f. f)

@@ -11,7 +11,7 @@ use Rattle.bm_lang.specs.Reads.{Read}
 use Rattle.bm_lang.proofs.lines.runs.Given as goal
 
 abbrev pub invariant-loop-place : goal.invariant-loop-place
-invariant-loop-place l = (types : List TypeForm) (maps : List MapForm) → Read (knowing l.processors types maps (map script_form l.scripts)) (Runs ∷ []) (knowing l.processors types maps (map script_form l.scripts)) (Runs ∷ []) (flat_map (spell_run (map script_form l.scripts)) l.runs.items) (All (FineRun l.processors (map script_form l.scripts)) l.runs.items) (left l.fn.tokens) (left l.tokens)
+invariant-loop-place l = (types : List TypeForm) (maps : List MapForm) → Read (knowing l.processors types maps (map script_form l.scripts.items.now)) (Runs ∷ []) (knowing l.processors types maps (map script_form l.scripts.items.now)) (Runs ∷ []) (flat_map (spell_run (map script_form l.scripts.items.now)) l.runs.items) (All (FineRun l.processors (map script_form l.scripts.items.now)) l.runs.items) (left l.fn.tokens) (left l.tokens)
 
 abbrev pub decreases-loop-place : goal.decreases-loop-place
 decreases-loop-place l = length (left l.tokens)

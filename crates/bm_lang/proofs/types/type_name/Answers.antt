@@ -13,7 +13,7 @@ pub returns-in_err-name : goal.returns-in_err-name
 returns-in_err-name c = λ p. search (rules, reading)
 
 pub returns-then-is_some : goal.returns-then-is_some
-returns-then-is_some c = λ p. let e : is_some (type_named (map type_form c.args.types.now) c.in_ok-name.name) ≡ true = is_form type_form (λ t. bytes_eq t.name c.in_ok-name.name) c.args.types.now ∙ ap is_some (sym c.type_place.ensures) ∙ sym c.is_some.ensures ∙ c.if-is_some.true in fails_here _ _ _ _ TypeName [] kind.Duplicate _ c.in_ok-name.ensures (rw e refl) c.fault.ensures
+returns-then-is_some c = λ p. let e : is_some (type_named (map type_form c.args.types.items.now) c.in_ok-name.name) ≡ true = is_form type_form (λ t. bytes_eq t.name c.in_ok-name.name) c.args.types.items.now ∙ ap is_some (sym c.type_place.ensures) ∙ sym c.is_some.ensures ∙ c.if-is_some.true in fails_here _ _ _ _ TypeName [] kind.Duplicate _ c.in_ok-name.ensures (rw e refl) c.fault.ensures
 
 pub returns : goal.returns
-returns c = λ p. let e : is_some (type_named (map type_form c.args.types.now) c.in_ok-name.name) ≡ false = is_form type_form (λ t. bytes_eq t.name c.in_ok-name.name) c.args.types.now ∙ ap is_some (sym c.type_place.ensures) ∙ sym c.is_some.ensures ∙ c.if-is_some.false in one _ _ TypeName _ _ _ _ c.in_ok-name.ensures (rw e refl) e
+returns c = λ p. let e : is_some (type_named (map type_form c.args.types.items.now) c.in_ok-name.name) ≡ false = is_form type_form (λ t. bytes_eq t.name c.in_ok-name.name) c.args.types.items.now ∙ ap is_some (sym c.type_place.ensures) ∙ sym c.is_some.ensures ∙ c.if-is_some.false in one _ _ TypeName _ _ _ _ c.in_ok-name.ensures (rw e refl) e

@@ -7,19 +7,26 @@ use Rattle.bm_lang.specs.Grammar.{Types, TypeName, Counted, NodeOfType, OpenBrac
 use Rattle.bm_lang.specs.Spelling.{on, spell_type}
 use Rattle.bm_lang.proofs.Pushes.{map-push, flat_map-push, types-push}
 use Rattle.bm_lang.proofs.Steps.{failed, fails_front, fails_shift, fails_going, as_read, more, going, absent, may_passed, read_shift, read_nothing, shorter}
+use Rattle.bm_lang.proofs.Lookups.{unplaced_type}
 use Rattle.bm_lang.proofs.types.types.Goals as goal
 
-pub returns-in_err-declaration : goal.returns-in_err-declaration
-returns-in_err-declaration c = λ p. let h = rw c.deref.ensures.value at (c.in_err-declaration.ensures.read p) in failed _ _ _ _ _ _ _ _ _ c.from_residual.ensures.1 (fails_going _ (c.loop-place.invariant p) (fails_shift _ _ _ _ _ _ Types (TypeName ∷ Counted ∷ NodeOfType ∷ OpenBrace ∷ Fields ∷ PadOfType ∷ TypeEnd ∷ Types ∷ []) [] c.in-Some.ensures refl (fails_front _ _ (TypeName ∷ Counted ∷ NodeOfType ∷ OpenBrace ∷ Fields ∷ PadOfType ∷ TypeEnd ∷ []) (Types ∷ []) _ h)))
+pub returns-in_err-declaration-clause-read : goal.returns-in_err-declaration-clause-read
+returns-in_err-declaration-clause-read c = λ p. let h = rw c.deref.ensures.value at (c.in_err-declaration.ensures.read p) in failed _ _ _ _ _ _ _ _ _ c.from_residual.ensures.1 (fails_going _ (c.loop-place.invariant.read p) (fails_shift _ _ _ _ _ _ Types (TypeName ∷ Counted ∷ NodeOfType ∷ OpenBrace ∷ Fields ∷ PadOfType ∷ TypeEnd ∷ Types ∷ []) [] c.in-Some.ensures refl (fails_front _ _ (TypeName ∷ Counted ∷ NodeOfType ∷ OpenBrace ∷ Fields ∷ PadOfType ∷ TypeEnd ∷ []) (Types ∷ []) _ h)))
+
+pub put-requires : goal.put-requires
+put-requires c = let f = rw c.deref.ensures.value at (c.in_ok-declaration.ensures.read 0) in rw c.as_bytes.ensures.value (unplaced_type c.loop-place.types.items c.loop-place.names c.in_ok-declaration.declaration.name c.loop-place.invariant.same f.fine.0)
 
 pub loop-place-smaller : goal.loop-place-smaller
 loop-place-smaller c = shorter _ _ _ _ _ _ _ _ _ _ c.in-Some.ensures (c.in_ok-declaration.ensures.read 0)
 
 pub loop-place-preserved : goal.loop-place-preserved
-loop-place-preserved c = λ p. let h = rw c.deref.ensures.value at (c.in_ok-declaration.ensures.read p) in rw (c.in_ok-push.ensures.items, map-push, flat_map-push) (going (c.loop-place.invariant p) (read_shift _ _ _ Types (TypeName ∷ Counted ∷ NodeOfType ∷ OpenBrace ∷ Fields ∷ PadOfType ∷ TypeEnd ∷ Types ∷ []) [] (Types ∷ []) _ (on c.in_ok-declaration.declaration.line (token.Reserved word.Type)) _ _ _ _ _ _ c.in-Some.ensures refl refl c.in_ok-declaration.ensures.line (more (Types ∷ []) h) (λ u. u)) (λ f u. types-push [] c.loop-place.types.items c.in_ok-declaration.declaration f (u.0, u.1, tt)))
+loop-place-preserved c = record { read = λ p. let h = rw c.deref.ensures.value at (c.in_ok-declaration.ensures.read p) in rw (c.in_ok-push.ensures.items, map-push, flat_map-push) (going (c.loop-place.invariant.read p) (read_shift _ _ _ Types (TypeName ∷ Counted ∷ NodeOfType ∷ OpenBrace ∷ Fields ∷ PadOfType ∷ TypeEnd ∷ Types ∷ []) [] (Types ∷ []) _ (on c.in_ok-declaration.declaration.line (token.Reserved word.Type)) _ _ _ _ _ _ c.in-Some.ensures refl refl c.in_ok-declaration.ensures.line (more (Types ∷ []) h) (λ u. u)) (λ f u. types-push [] c.loop-place.types.items c.in_ok-declaration.declaration f (u.0, u.1, tt))); same = rw (c.in_ok-put.ensures, c.in_ok-push.ensures.items, map-push, c.as_bytes.ensures.value, c.loop-place.invariant.same) refl }
 
 pub loop-place-init : goal.loop-place-init
-loop-place-init c = λ p. rw c.new-types.ensures.items (read_nothing _ _ _ _ refl)
+loop-place-init c = record { read = λ p. rw c.new-types.ensures.items (read_nothing _ _ _ _ refl); same = rw c.new-types.ensures.items c.new-names.ensures }
 
-pub returns : goal.returns
-returns c = λ p. as_read (going (c.loop-place.invariant p) (absent _ Types (is_word word.Type) _ _ (λ t h. may_passed _ _ h) c.in_default.ensures) (λ f u. f)) (append-nil (flat_map spell_type c.loop-place.types.items)) (λ f. f)
+pub returns-clause-read : goal.returns-clause-read
+returns-clause-read c = λ p. as_read (going (c.loop-place.invariant.read p) (absent _ Types (is_word word.Type) _ _ (λ t h. may_passed _ _ h) c.in_default.ensures) (λ f u. f)) (append-nil (flat_map spell_type c.loop-place.types.items)) (λ f. f)
+
+pub returns-clause-same : goal.returns-clause-same
+returns-clause-same c = c.loop-place.invariant.same
