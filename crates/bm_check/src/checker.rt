@@ -77,7 +77,7 @@ pub(crate) fn check_scripts(alloc: Global, scenario: &Scenario) -> Result<(), Ch
 ///
 /// `Rejected` comes exactly where a script isn't accepted, with the first such script in the order of the text, and
 /// its first broken rule with that rule's line. `NoMemory` comes where memory runs out. Both hand the scenario back.
-/// The rules stand in docs/rules-of-ownership.md, as definitions in `specs/Statements.antt`, `specs/Blocks.antt` and
+/// The rules stand in docs/ownership.md, as definitions in `specs/Statements.antt`, `specs/Blocks.antt` and
 /// `specs/Scripts.antt`.
 pub fn check(alloc: Global, scenario: Scenario) -> Result<Checked, (CheckFault, Scenario)>
     requires { first_limit scenario ≡ None }

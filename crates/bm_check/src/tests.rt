@@ -149,6 +149,27 @@ fn each_rule_is_broken(rt: HostRuntime) -> Result<(), Fail> {
     expect(&rt, rt.alloc(), &JOBS, EACH_RULE_IS_BROKEN, 12)
 }
 
+// A script for each rule that keeps it.
+const EACH_RULE_IS_KEPT: &[u8] = b"\
+plain 0 0 new x job 1 if x { drop x } new x job 2 if x { drop x }
+plain 0 0 new x job 1 if x { drop x }
+plain 0 0 new x job 1 if x { lock q push_back q x get x a unlock }
+plain 0 0 new x job 1 if x { xchg y s x if y { drop y } }
+plain 0 0 new x job 1 new y job 2 if x { drop x } if y { drop y }
+plain 0 0 repeat 2 { new x job 1 if x { drop x } }
+plain 0 0 lock q pop_front x q unlock if x { drop x }
+plain 0 0 lock q unlock lock q unlock
+plain 0 0 new x job 1 if x { lock q push_back q x unlock }
+plain 0 0 repeat 2 { lock q unlock }
+handler 0 0 new x job 1 if x { drop x }
+plain 0 0 xchg x s null if x { get x a drop x }
+";
+
+#[test]
+fn each_rule_is_kept(rt: HostRuntime) -> Result<(), Fail> {
+    expect(&rt, rt.alloc(), &JOBS, EACH_RULE_IS_KEPT, 12)
+}
+
 // Names and blocks alone.
 const NAMES_IN_BLOCKS: &[u8] = b"\
 plain 7 1 drop x
@@ -300,6 +321,194 @@ handler 6 4 xchg y p null
 #[test]
 fn orders_at_the_ends_of_blocks(rt: HostRuntime) -> Result<(), Fail> {
     expect(&rt, rt.alloc(), &ALL, ORDERS_AT_THE_ENDS_OF_BLOCKS, 26)
+}
+
+// Each statement with each state of the name that it uses, and of the name that it binds.
+const EACH_STATE: &[u8] = b"\
+# drop: unbound, spent, maybe, owned, soft, maybe soft
+plain 5 1 drop x
+plain 6 3 new x item 1 if x { drop x }/drop x
+plain 6 2 new x item 1/drop x
+plain 0 0 new x item 1 if x { drop x }
+plain 6 9 lock t first x t if x {/drop x }
+plain 6 9 lock t first x t/drop x
+# acquire
+plain 5 1 acquire y x
+plain 6 3 new x part 1 if x { drop x }/acquire y x
+plain 6 2 new x part 1/acquire y x
+plain 0 0 new x part 1 if x { acquire y x drop x drop y }
+plain 6 12 lock t first x t if x {/acquire y x }
+plain 6 12 lock t first x t/acquire y x
+# get
+plain 5 1 get x a
+plain 6 3 new x item 1 if x { drop x }/get x a
+plain 6 2 new x item 1/get x a
+plain 0 0 new x item 1 if x { get x a drop x }
+plain 0 0 lock t first x t if x { get x k } unlock
+plain 6 2 lock t first x t/get x k
+# xchg
+plain 5 1 xchg y s x
+plain 6 3 new x item 1 if x { drop x }/xchg y s x
+plain 6 2 new x item 1/xchg y s x
+plain 0 0 new x item 1 if x { xchg y s x if y { drop y } }
+plain 6 9 lock t first x t if x {/xchg y s x }
+plain 6 9 lock t first x t/xchg y s x
+# push_front; a name that may be a non-owning reference leads into a tree, whose lock is held then
+plain 6 1 lock q/push_front q x
+plain 6 3 new x job 1 2 if x { drop x } lock q/push_front q x
+plain 6 2 new x job 1 2 lock q/push_front q x
+plain 0 0 new x job 1 2 if x { lock q push_front q x unlock }
+plain 6 12 new x job 1 2 if x { lock q push_front q x/push_front q x unlock }
+plain 6 7 lock t first x t/push_front q x
+# push_back
+plain 6 1 lock q/push_back q x
+plain 6 3 new x job 1 2 if x { drop x } lock q/push_back q x
+plain 6 2 new x job 1 2 lock q/push_back q x
+plain 0 0 new x job 1 2 if x { lock q push_back q x unlock }
+plain 6 12 new x job 1 2 if x { lock q push_front q x/push_back q x unlock }
+plain 6 7 lock t first x t/push_back q x
+# add
+plain 6 1 lock t/add t x
+plain 6 3 new x node 1 if x { drop x } lock t/add t x
+plain 6 2 new x node 1 lock t/add t x
+plain 0 0 new x node 1 if x { lock t add t x unlock }
+plain 6 12 lock t first x t if x {/add t x }
+plain 6 12 lock t first x t/add t x
+# remove
+plain 6 1 lock t/remove y t x
+plain 6 3 new x node 1 if x { drop x } lock t/remove y t x
+plain 6 12 new x node 1 lock t/remove y t x
+plain 6 12 new x node 1 if x { lock t/remove y t x }
+plain 0 0 lock t first x t if x { remove y t x if y { add t y } } unlock
+plain 0 0 lock t first x t remove y t x if y { add t y } unlock
+# if
+plain 5 1 if x { }
+plain 6 3 new x item 1 if x { drop x }/if x { }
+plain 0 0 new x item 1 if x { drop x } else { }
+plain 6 12 new x item 1 if x {/if x { } }
+plain 6 12 lock t first x t if x {/if x { } }
+plain 0 0 lock t first x t if x { } else { } unlock
+# a name that is bound
+plain 0 0 new x item 1 if x { drop x } new x item 1 if x { drop x }
+plain 6 1 new x item 1/new x item 1
+plain 6 1 new x item 1 if x {/new x item 1 }
+plain 6 9 lock t first x t/new x item 1
+plain 6 1 lock t first x t if x {/first x t }
+plain 0 0 new x job 1 2 if x { lock q push_back q x pop_front x q unlock if x { drop x } }
+plain 6 1 new x job 1 2 lock q/pop_back x q
+plain 6 1 new x job 1 2 if x { lock q/pop_back x q }
+plain 0 0 lock t first x t remove x t x if x { add t x } unlock
+plain 6 1 new y item 1 lock t first x t/remove y t x
+plain 6 1 new y part 1 if y {/acquire y y }
+plain 0 0 xchg x s null if x { xchg x s x if x { drop x } }
+plain 6 1 new x item 1/xchg x s null
+# what ends the references into a graph, and what doesn't
+plain 6 3 new x job 1 2 if x { lock q push_back q x pop_front y q/get x a }
+plain 6 3 new x job 1 2 if x { lock q push_back q x unlock/get x a }
+plain 6 3 lock t first x t if x { first y t remove z t y/get x k }
+plain 6 3 lock t first x t unlock lock t/if x { }
+plain 0 0 new x job 1 2 new y job 1 2 if x { if y { lock q push_back q x push_front q y get x a get y b unlock } else { drop x } } else { if y { drop y } }
+";
+
+#[test]
+fn each_statement_against_each_state(rt: HostRuntime) -> Result<(), Fail> {
+    expect(&rt, rt.alloc(), &ALL, EACH_STATE, 72)
+}
+
+// One name with each pair of states at the ends of two branches, and at the two ends of a repeated block.
+const PAIRS_OF_STATES: &[u8] = b"\
+# the ends of branches: unbound, spent and maybe
+plain 0 0 new c item 1 if c { drop c } else { }
+plain 6 5 new c item 1 if c { drop c } else { new z item 1/}
+plain 6 5 new c item 1 if c { drop c new z item 1/}
+plain 6 5 new c item 1 if c { drop c new z item 1 } else { new z item 1 if z { drop z }/}
+plain 6 5 new c item 1 if c { drop c new z item 1 if z { drop z } } else { new z item 1/}
+plain 0 0 new c item 1 if c { drop c new z item 1 } else { new z item 1 } if z { drop z }
+plain 6 5 new c item 1 if c { drop c new z item 1 } else { new z part 1/}
+plain 0 0 new c item 1 if c { drop c } else { new z item 1 if z { drop z } } new z item 1 if z { drop z }
+plain 0 0 new c item 1 if c { drop c new z item 1 if z { drop z } } new z item 1 if z { drop z }
+# owned before
+plain 0 0 new z item 1 if z { new c item 1 if c { drop c } drop z }
+plain 6 5 new z item 1 if z { new c item 1 if c { drop c } else { drop z/} }
+plain 6 5 new z item 1 if z { new c item 1 if c { drop c drop z/} }
+plain 6 5 new z item 1 if z { new c item 1 if c { drop c } else { xchg z s z/} }
+plain 6 5 new z item 1 if z { new c item 1 if c { drop c xchg z s z/} }
+plain 6 5 new z node 1 if z { lock t first c t if c { } else { add t z/} }
+plain 6 5 new z node 1 if z { lock t first c t if c { add t z/} }
+plain 6 5 new z node 1 if z { lock t first c t if c { } else { add t z remove y t z if y { add t y } first z t/} }
+plain 0 0 new z node 1 if z { lock t first c t if c { add t z } else { add t z } get z k unlock }
+# non-owning before
+plain 6 3 lock t first z t if z { first c t if c { } else { remove y t z if y { add t y } }/get z k } unlock
+plain 6 3 lock t first z t if z { first c t if c { } else { remove y t z if y { add t y } first z t }/get z k }
+plain 6 5 lock t first z t if z { first c t if c { remove z t z/} }
+plain 6 5 lock t first z t if z { first c t if c { } else { remove z t z/} }
+plain 6 3 lock t first z t first c t if c { } else { remove y t z if y { add t y } }/remove y t z
+plain 6 3 lock t first z t first c t if c { remove y t z if y { add t y } }/if z { }
+plain 0 0 lock t first z t first c t if c { } if z { } unlock
+plain 6 5 lock t first z t first c t if c { remove z t z/}
+plain 6 5 lock t first z t first c t if c { } else { remove z t z/}
+plain 6 3 lock t first c t if c { } else { first z t }/get z k
+plain 6 3 lock t first c t if c { first z t }/get z k
+# repeated blocks: maybe, owned, soft, maybe soft, spent before
+plain 0 0 new z item 1 repeat 1 { } if z { drop z }
+plain 0 0 new z item 1 repeat 1 { if z { drop z } new z item 2 } if z { drop z }
+plain 6 6 new z item 1 repeat 1 { if z { drop z }/}
+plain 0 0 new z item 1 if z { repeat 3 { get z a } drop z }
+plain 6 6 new z item 1 if z { repeat 1 { xchg z s z/} }
+plain 6 6 new z node 1 if z { lock t repeat 1 { add t z/} }
+plain 0 0 lock t first z t if z { repeat 2 { get z k } get z k } unlock
+plain 6 6 lock t first z t if z { repeat 1 { remove y t z if y { add t y }/} }
+plain 6 6 lock t first z t if z { repeat 1 { remove z t z/} }
+plain 0 0 lock t first z t repeat 2 { } if z { } unlock
+plain 6 6 lock t first z t repeat 2 { if z { }/}
+plain 6 6 lock t first z t repeat 1 { remove y t z if y { add t y }/}
+plain 6 6 lock t first z t repeat 1 { remove z t z/}
+plain 0 0 new z item 1 if z { drop z } repeat 1 { }
+plain 6 6 new z item 1 if z { drop z } repeat 1 { new z item 2/}
+plain 6 6 lock t first z t remove y t z if y { add t y } repeat 1 { first z t/}
+";
+
+#[test]
+fn pairs_of_states(rt: HostRuntime) -> Result<(), Fail> {
+    expect(&rt, rt.alloc(), &ALL, PAIRS_OF_STATES, 45)
+}
+
+// Each statement in a handler, and two rules broken at one statement.
+const HANDLERS_AND_ORDERS: &[u8] = b"\
+# handlers
+handler 0 0 new x item 1 if x { drop x }
+handler 0 0 new x part 1 if x { acquire y x get y v drop y drop x }
+handler 0 0 xchg y s null if y { xchg y s y if y { drop y } }
+handler 0 0 repeat 2 { } section { }
+handler 5 7 push_front q x
+handler 5 7 add t x
+handler 5 7 pop_front x q
+handler 5 7 pop_back x q
+handler 5 7 first x t
+handler 5 7 remove y t x
+handler 5 11 lock t
+# the lock of a graph before its names
+plain 6 7 lock q/add t x
+plain 6 7 new x node 1 if x { drop x } lock q/add t x
+plain 6 7 new x item 1 lock q/add t x
+plain 6 7 new x node 1 lock q/add t x
+plain 6 7 new x job 1 2 lock t/pop_back x q
+plain 6 7 new x node 1 lock q/first x t
+# what mustn't stand under a lock before its names
+plain 6 9 new x item 1 if x { drop x } lock q/drop x
+plain 6 9 new x item 1 lock q/drop x
+plain 6 9 new x part 1 lock q/xchg y s x
+plain 6 9 xchg y p null lock q/xchg y p null
+# the name that is used before the one that is bound
+plain 6 3 new x part 1 if x { drop x } new y item 1/acquire y x
+plain 6 2 new x part 1/acquire x x
+plain 6 12 new x node 1 new y item 1 lock t/remove y t x
+plain 6 2 new x item 1 new y item 1/xchg y s x
+";
+
+#[test]
+fn handlers_and_orders(rt: HostRuntime) -> Result<(), Fail> {
+    expect(&rt, rt.alloc(), &ALL, HANDLERS_AND_ORDERS, 25)
 }
 
 // The first script that isn't accepted is named, and the scenario is handed back.
