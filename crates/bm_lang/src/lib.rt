@@ -1,5 +1,5 @@
-//! The language of scenarios. This layer has the tokens of a scenario's text, with their places, and the kinds of a
-//! text's fault.
+//! The language of scenarios: a text is read as the scenario that it says, or its fault is told with line, column and
+//! kind; a scenario is printed back, and asked for the first limit that it exceeds.
 #![tactic(auto)]
 
 mod blocks;
