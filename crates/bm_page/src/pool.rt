@@ -107,7 +107,6 @@ impl Pool {
     /// has no class any more where no other unit of it is out. This project's own rule.
     pub fn put_back(&mut self, unit: Unit)
         requires out { (stocked_at self.old.units unit.number).out ≡ true }
-        requires class { class_at self.old.classes (unit.number / 256) ≡ Some unit.class }
         ensures pool { self.new ≡ returned unit self.old }
 
         ensures fewer_out { count_out self.new.units + 1 ≡ count_out self.old.units }
