@@ -1,5 +1,6 @@
 pub mod Seen
 pub mod Spans
+pub mod Alone
 pub mod Folds
 pub mod Between
 pub mod Plain

@@ -3,6 +3,7 @@ pub mod Effect
 pub mod Lists
 pub mod Places
 pub mod Spans
+pub mod Alone
 pub mod Kept
 pub mod Plain
 pub mod Phrases

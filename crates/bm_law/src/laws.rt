@@ -9,6 +9,7 @@ ghost use Rattle.bm_law.specs.State.{Row, State, idle_side, opening, seen, seven
 ghost use Rattle.bm_law.specs.Effect.{effect};
 ghost use Rattle.bm_law.specs.Lists.{Log, AllName, Leaves, Names, after, brought, lists_of, names};
 ghost use Rattle.bm_law.specs.Spans.{Above, Records};
+ghost use Rattle.bm_law.specs.Alone.{Adds, Alone};
 ghost use Rattle.bm_law.specs.Kept.{Between, Inside, Kept, Ready, RowKept};
 ghost use Rattle.bm_law.specs.Plain.{all_plain, is_plain};
 ghost use Rattle.bm_law.specs.Phrases.{AddPhrase, AllocPhrase, DelayPhrase, FreePhrase};
@@ -77,6 +78,19 @@ pub fn stretch_law()
     ensures points { (l : ℕ) (a b : Option Log) → Above (l + 1) a b → Records l [] a b }
     ensures above { (l : ℕ) (v : List Entry) (a b : Option Log) → Records l v a b → Above l a b }
     ensures above_join { (l : ℕ) (a b c : Option Log) → Above l a b → Above l b c → Above l a c }
+{}
+
+/// Stretches of a log into which no handler came: of none, of one entry, of two stretches. What the log gained over one
+/// is exactly what the call recorded.
+pub fn alone_law()
+    ensures none { (l : ℕ) (a : Option Log) → Alone l a a }
+    ensures one { (l : ℕ) (e : Entry) (a b : Option Log) → Appends a l e b → Alone l a b }
+    ensures join { (l : ℕ) (a b c : Option Log) → Alone l a b → Alone l b c → Alone l a c }
+    ensures adds { (l : ℕ) (own : List Entry) (a b : Option Log) → Records l own a b → Alone l a b → Adds l own a b }
+    ensures adds_none { (l : ℕ) (a : Option Log) → Adds l [] a a }
+    ensures adds_one { (l : ℕ) (e : Entry) (a b : Option Log) → Appends a l e b → Adds l (e ∷ []) a b }
+    ensures adds_join { (l : ℕ) (v w : List Entry) (a b c : Option Log) → Adds l v a b → Adds l w b c → Adds l (v ++ w) a c }
+    ensures records { (l : ℕ) (own : List Entry) (a b : Option Log) → Adds l own a b → Records l own a b }
 {}
 
 /// What calls of higher levels keep, they keep one after the other; and a whole call keeps it for the levels below.
@@ -164,6 +178,7 @@ mod tests {
         lists_law();
         seen_law::<u16, u16>();
         stretch_law();
+        alone_law();
         kept_law::<u16>();
         plain_law::<u16>();
         units_law();

@@ -6,8 +6,8 @@ mod mark;
 mod worked;
 
 pub use laws::{
-    counts_law, fold_law, kept_law, lengths_law, lists_law, null_law, opening_law, places_law,
-    plain_law, room_law, seen_law, step_law, stretch_law, units_law,
+    alone_law, counts_law, fold_law, kept_law, lengths_law, lists_law, null_law, opening_law,
+    places_law, plain_law, room_law, seen_law, step_law, stretch_law, units_law,
 };
 pub use mark::Mark;
 pub use worked::{worked_deferred, worked_logs, worked_phrases};
