@@ -1,5 +1,5 @@
 -- Units that pass no test of a host stand nowhere in its caches, and units that stand nowhere are none of theirs.
-use Rattle.std.proofs.Common.{◌≡◌, ◌≢◌, ◌<◌, ◌≤◌, ℕ, zero, suc, ◌+◌, ◌++◌, Bool, true, false, not, ◌||◌, List, [], ◌∷◌, length, map, get_or, slice_index_or, Option, refl, sym, ◌∙◌, ap, subst, arith, inl, inr, eqb, cond, ne_eqb, eq-eqb}
+use Rattle.std.proofs.Common.{◌≡◌, ◌≢◌, ◌<◌, ◌≤◌, ℕ, zero, suc, ◌+◌, ◌++◌, Bool, true, false, not, ◌||◌, List, [], ◌∷◌, length, map, slice_index_or, Option, refl, sym, ◌∙◌, ap, subst, arith, inl, inr, eqb, cond, ne_eqb, eq-eqb}
 use Rattle.std.specs.List.{All}
 use Rattle.std.proofs.lemmas.List.{map-append}
 use Rattle.std.proofs.lemmas.List.Elements.{All-head, All-tail, All-cons, All-nil, All-append}
@@ -12,7 +12,7 @@ use Rattle.bm_law.specs.Places.{Stack, list_at, Free, Extra, Extra_delayed, Dela
 use Rattle.bm_law.proofs.Stands.{times-append}
 use Rattle.bm_cache.specs.Tokens.{Token, number_of}
 use Rattle.bm_cache.specs.Each.{Each, Numbered}
-use Rattle.bm_cache.specs.Tests.{Tests, Passes, Reusable, Waits, Either, Same, Suits, Proper, Lasting}
+use Rattle.bm_cache.specs.Tests.{Tests, Passes, Reusable, Either, Same, Suits, Proper, Lasting}
 use Rattle.bm_cache.specs.Holding.{holds, tests_beside, Holding}
 use Rattle.bm_journal.specs.declared.counts.Counts.{Counts}
 use Rattle.bm_law.specs.Lists.{Log}

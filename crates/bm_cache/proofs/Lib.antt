@@ -5,4 +5,7 @@ pub mod Asked
 pub mod Opened
 pub mod Stretch
 pub mod Moments
+pub mod Unbroken
 pub mod Absent
+pub mod Lent
+pub mod Outside

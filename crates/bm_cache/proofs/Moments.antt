@@ -1,23 +1,22 @@
 -- What holds right after a point, and right after a step.
-use Rattle.std.proofs.Common.{◌≡◌, ◌≢◌, ◌<◌, ◌≤◌, ℕ, ◌+◌, ◌-◌, ◌++◌, true, false, Bool, List, [], ◌∷◌, length, map, take, drop, Option, Some, None, refl, sym, ◌∙◌, ap, subst, arith, inl, inr, eqb, cond, eq-eqb}
+use Rattle.std.proofs.Common.{◌≡◌, ◌<◌, ◌≤◌, ℕ, ◌+◌, ◌++◌, true, false, List, [], ◌∷◌, length, take, Option, Some, None, refl, sym, ◌∙◌, ap, subst, arith, inl, eq-eqb}
 use Rattle.std.specs.List.{All}
 use Rattle.std.proofs.lemmas.List.{length-append}
-use Rattle.std.proofs.lemmas.List.Elements.{All-head, All-cons, All-nil, All-take}
+use Rattle.std.proofs.lemmas.List.Elements.{All-head, All-take}
 use Rattle.bm_journal.specs.declared.counts.Counts.{Counts}
 use Rattle.bm_journal.specs.declared.entry.Entry.{Entry}
 use Rattle.bm_journal.specs.declared.entry.Entry.TheVariants as entry
 use Rattle.bm_law.specs.declared.mark.Mark.{Mark}
 use Rattle.bm_law.specs.declared.mark.Mark.TheVariants as mark
-use Rattle.bm_law.specs.State.{Row, Side, State, seen, idle_side, with_row, with_side}
+use Rattle.bm_law.specs.State.{Row, Side, State, idle_side, with_side}
 use Rattle.bm_law.specs.Effect.{effect}
-use Rattle.bm_law.specs.Lists.{Log, Names, brought}
-use Rattle.bm_law.specs.Kept.{Between, Inside, Kept, RowKept, Ready}
-use Rattle.bm_law.specs.Waiting.{Agrees, CountsAgree, pops_waiting, pushes_waiting, took, gave}
-use Rattle.bm_law.specs.Places.{Stack, list_at, Free, Extra, Extra_delayed, Delayed, First, Ready as ready_list, Second}
+use Rattle.bm_law.specs.Lists.{Log}
+use Rattle.bm_law.specs.Kept.{Between, Kept, Ready}
+use Rattle.bm_law.specs.Waiting.{CountsAgree, pops_waiting, pushes_waiting, took, gave}
 use Rattle.bm_law.proofs.Waiting.{pops-side, pushes-side, pops-row, pushes-row, pops-kept, pushes-kept}
-use Rattle.bm_cache.specs.Tokens.{Token, number_of}
-use Rattle.bm_cache.specs.Each.{Each, Arrives, Sits}
-use Rattle.bm_cache.specs.Tests.{Tests, Passes, Reusable, Waits, Same, Suits, Either, Proper, Lasting}
+use Rattle.bm_cache.specs.Tokens.{Token}
+use Rattle.bm_cache.specs.Each.{Arrives, Sits}
+use Rattle.bm_cache.specs.Tests.{Tests, Passes, Reusable, Same, Suits, Either, Proper}
 use Rattle.std.specs.Option.{is_some}
 use Rattle.bm_law.specs.Phrases.{raise_unless}
 use Rattle.bm_cache.specs.Span.{Face, Came, Fine, Span, Goes, Begun}

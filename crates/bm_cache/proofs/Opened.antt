@@ -1,7 +1,7 @@
 -- Caches with nothing in them are placed, and stay so while they are filled.
 use Rattle.std.proofs.Common.{◌≡◌, ◌<◌, ◌≤◌, ℕ, ◌+◌, ◌++◌, List, [], ◌∷◌, length, map, get_or, replicate, Option, Some, None, IfSome, refl, sym, ◌∙◌, ap, subst, arith, inl, inr, append_assoc, append-nil}
 use Rattle.std.specs.List.{All}
-use Rattle.std.proofs.lemmas.List.{get_or-replicate, length-replicate, map-append}
+use Rattle.std.proofs.lemmas.List.{get_or-replicate, length-replicate}
 use Rattle.std.proofs.lemmas.List.Elements.{All-nil}
 use Rattle.std.proofs.lemmas.Bool.Decides.{leb_tells}
 use Rattle.std.proofs.Math.ListN.{get_or-eq_default}
@@ -14,8 +14,7 @@ use Rattle.bm_law.specs.State.{Row, Side, State, seen, opening, state_of, empty_
 use Rattle.bm_law.specs.Effect.{effect}
 use Rattle.bm_law.specs.Kept.{Ready}
 use Rattle.bm_law.specs.Lists.{Log}
-use Rattle.bm_law.specs.Stands.{Once, stands, times, comes_in, goes_out}
-use Rattle.bm_law.specs.Waiting.{CountsAgree, pops_waiting, pushes_waiting}
+use Rattle.bm_law.specs.Stands.{Once, stands, times}
 use Rattle.bm_law.specs.Lengths.{Tells}
 use Rattle.bm_law.specs.Places.{Stack, list_at, Free, Extra, Extra_delayed, Delayed, First, Ready as ready_list, Second}
 use Rattle.bm_law.proofs.Between.{Ready-opening, Ready-fill}
@@ -27,7 +26,7 @@ use Rattle.bm_law.proofs.Waiting.{counts-opened}
 use Rattle.bm_law.proofs.Stands.{stands-effect, times-append}
 use Rattle.bm_cache.specs.Tokens.{Token, number_of}
 use Rattle.bm_cache.specs.Steps.{steps_in, next_number}
-use Rattle.bm_cache.specs.Each.{Each, Numbered, Sits, Classed}
+use Rattle.bm_cache.specs.Each.{Numbered, Sits, Classed}
 use Rattle.bm_cache.specs.Opening.{Fills, Filled, FillsSit, FillsSuit, Opened, filled, fill_log, named, numbers_in}
 use Rattle.bm_cache.specs.Tests.{Tests, Suits, Either, Proper}
 use Rattle.bm_cache.specs.Span.{Fine}

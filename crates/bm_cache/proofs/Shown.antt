@@ -1,5 +1,5 @@
 -- How the shown state follows a write to the caches and hands.
-use Rattle.std.proofs.Common.{◌≡◌, ◌<◌, ◌≤◌, ◌+◌, ℕ, List, length, get_or, set, refl, sym, ◌∙◌, ap, subst, arith}
+use Rattle.std.proofs.Common.{◌≡◌, ◌<◌, ◌≤◌, ℕ, List, length, get_or, set, refl, ◌∙◌, ap, subst, arith}
 use Rattle.bm_law.specs.State.{Row, Side, State, state_of, with_row, with_side, on_row, on_side}
 use Rattle.bm_law.proofs.Writes as writes
 use Rattle.bm_cache.specs.Tokens.{Token}

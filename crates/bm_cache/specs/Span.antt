@@ -1,13 +1,13 @@
 -- A stretch of a call.
-use Rattle.std.specs.Prelude.{◌≡◌, ◌≤◌, ℕ, ◌+◌, List, [], ◌∷◌, Option}
+use Rattle.std.specs.Prelude.{◌≡◌, ◌≤◌, ℕ, List, [], ◌∷◌, Option}
 use Rattle.bm_journal.specs.declared.counts.Counts.{Counts}
 use Rattle.bm_journal.specs.declared.entry.Entry.{Entry}
 use Rattle.bm_journal.specs.declared.entry.Entry.TheVariants.{Enter}
-use Rattle.bm_law.specs.State.{State}
 use Rattle.bm_law.specs.Effect.{effect}
 use Rattle.bm_law.specs.Lists.{Log}
 use Rattle.bm_law.specs.Kept.{Between, Kept, Ready}
 use Rattle.bm_law.specs.Spans.{Above, Records}
+use Rattle.bm_law.specs.Alone.{Alone}
 use Rattle.bm_cache.specs.Tokens.{Token}
 use Rattle.bm_cache.specs.Tests.{Tests, Proper, Aimed, Lasting}
 use Rattle.bm_cache.specs.Shown.{shown}
@@ -52,6 +52,10 @@ pub record Goes {H : Type 0} (faces : H → Face) (waits : H → ℕ) (stays : H
   pub face : faces now ≡ faces before
   pub pending : waits now ≤ waits before
   pub keeps : stays before now
+
+-- Where no handler ran, which the number of those that wait tells, the log has grown by entries of the host's level alone.
+pub record Unbroken {H R : Type 0} (faces : H → Face) (waits : H → ℕ) (holds : H → Caches R) (log : R → Option Log) (before now : H) : Type 0 where
+  pub alone : waits now ≡ waits before → Alone (faces before).level (log (holds before).recorder) (log (holds now).recorder)
 
 -- A free of unit u has begun: its first entry brought the unit, and the active number was raised to b.
 pub record Begun {R : Type 0} (log : R → Option Log) (l : ℕ) (u : Token) (first : Entry) (b : ℕ) (tests tests' : Tests) (before now : Caches R) : Type 0 where

@@ -8,7 +8,7 @@ ghost use Rattle.bm_cache.specs.Tokens.{Token};
 ghost use Rattle.std.specs.List.{All};
 ghost use Rattle.bm_cache.specs.Tests.{Reusable, Waits, Same};
 ghost use Rattle.bm_cache.specs.Shown.{shown, waiting};
-ghost use Rattle.bm_cache.specs.Span.{Fine, Goes, Span};
+ghost use Rattle.bm_cache.specs.Span.{Fine, Goes, Span, Unbroken};
 ghost use Rattle.std.specs.Prelude.{IsTrue};
 ghost use Rattle.bm_law.specs.State.{State, idle_side, seen};
 ghost use Rattle.bm_law.specs.Effect.{effect};
@@ -50,6 +50,7 @@ pub fn take_free<R: Recorder, H: Host<R>>(host: &mut H, class: Class) -> bool
     ensures none { result ≡ false → (((shown (H.held host.old)).rows class).free ≡ []) × (((shown (H.held host.new)).sides (H.face host.old).level) ≡ ((shown (H.held host.old)).sides (H.face host.old).level)) × (waiting class (shown (H.held host.new)) ≡ 0) × Span R.log (H.face host.old).level class 1 1 (Entry.PopNone class ∷ []) (H.tests host.old) (H.tests host.new) (H.held host.old) (H.held host.new) }
     ensures fine { Fine R.log R.counts (H.tests host.new) (H.face host.new).processors ((H.face host.new).level + 1) (H.held host.new) }
     ensures goes { Goes H.face H.pending H.keeps host.old host.new }
+    ensures alone { Unbroken H.face H.pending H.held R.log host.old host.new }
     ensures sound { H.sound host.new }
 {
     let level = host.level();
@@ -69,6 +70,7 @@ pub fn count_taken<R: Recorder, H: Host<R>>(host: &mut H, class: Class) -> u32
     ensures lasts { All (Same (H.tests host.old) (H.tests host.new)) ((shown (H.held host.old)).sides (H.face host.old).level).hand }
     ensures fine { Fine R.log R.counts (H.tests host.new) (H.face host.new).processors ((H.face host.new).level + 1) (H.held host.new) }
     ensures goes { Goes H.face H.pending H.keeps host.old host.new }
+    ensures alone { Unbroken H.face H.pending H.held R.log host.old host.new }
     ensures sound { H.sound host.new }
 {
     let level = host.level();
@@ -91,6 +93,7 @@ fn give_taken<R: Recorder, H: Host<R>>(host: &mut H, class: Class) -> Unit
     ensures numbered { Numbered result }
     ensures fine { Fine R.log R.counts (H.tests host.new) (H.face host.new).processors ((H.face host.new).level + 1) (H.held host.new) }
     ensures goes { Goes H.face H.pending H.keeps host.old host.new }
+    ensures alone { Unbroken H.face H.pending H.held R.log host.old host.new }
     ensures sound { H.sound host.new }
 {
     let level = host.level();
@@ -110,6 +113,7 @@ fn reply_none<R: Recorder, H: Host<R>>(host: &mut H, class: Class, reply: Entry)
     ensures side { ((shown (H.held host.new)).sides (H.face host.old).level) ≡ ((shown (H.held host.old)).sides (H.face host.old).level) }
     ensures fine { Fine R.log R.counts (H.tests host.new) (H.face host.new).processors ((H.face host.new).level + 1) (H.held host.new) }
     ensures goes { Goes H.face H.pending H.keeps host.old host.new }
+    ensures alone { Unbroken H.face H.pending H.held R.log host.old host.new }
     ensures sound { H.sound host.new }
 {
     let level = host.level();
@@ -130,6 +134,7 @@ pub fn alloc<R: Recorder, H: Host<R>>(host: &mut H, class: Class) -> Given
     ensures came { Came R.log (H.face host.old).level (H.tests host.old) (H.tests host.new) (H.held host.old) (H.held host.new) }
     ensures fine { Fine R.log R.counts (H.tests host.new) (H.face host.new).processors (H.face host.new).level (H.held host.new) }
     ensures goes { Goes H.face H.pending H.keeps host.old host.new }
+    ensures alone { Unbroken H.face H.pending H.held R.log host.old host.new }
     ensures sound { H.sound host.new }
 {
     let active = raise_active(host, class);

@@ -1,9 +1,9 @@
 //! The cache of one class.
 
-ghost use Rattle.std.specs.Prelude.{◌≡◌, ◌+◌, ◌-◌, ◌<◌, ◌∷◌, ◌≤◌, ◌++◌, ◌^◌, reverse, [], true, length, drop, IfOk, MatchOption, is_some, Some};
+ghost use Rattle.std.specs.Prelude.{◌≡◌, ◌+◌, ◌-◌, ◌<◌, ◌∷◌, ◌≤◌, ◌++◌, ◌^◌, reverse, [], true, length, drop, IfOk, MatchOption, is_some, Some, None, flat_map, vec_capacity, vec_len};
 ghost use Rattle.bm_journal.specs.declared.ids.Domain.{Domain as DomainValue};
-ghost use Rattle.bm_law.specs.State.{empty_row};
-ghost use Rattle.bm_law.specs.Effect.{aimed};
+ghost use Rattle.bm_law.specs.State.{empty_row, seven_lists};
+ghost use Rattle.bm_law.specs.Effect.{aimed, stamped};
 ghost use Rattle.bm_law.specs.Lists.{stamp_of};
 ghost use Rattle.std.specs.Prelude.{IsTrue, map};
 ghost use Rattle.bm_journal.specs.UnitCount.{unit_count};
@@ -372,5 +372,96 @@ impl Cache {
         ensures { self.new ≡ record self.old { extra_delayed = unit ∷ self.old.extra_delayed } }
     {
         self.extra_delayed.push(unit);
+    }
+
+    /// The batch of a domain has this stamp from now on.
+    pub(crate) fn set_stamp(&mut self, domain: Domain, stamp: u32)
+        ensures { self.new ≡ record self.old { deferred = stamped domain stamp self.old.deferred } }
+    {
+        match domain {
+            Domain::Plain => self.plain = Some(stamp),
+            Domain::Tracing => self.tracing = Some(stamp),
+        }
+    }
+
+    /// All units of the seven lists, and below them those of parcels, become Second, and a tracing batch is in progress.
+    pub(crate) fn sweep(&mut self, parcels: Vec<Vec<Unit>>)
+        requires { length (seven_lists self.old) + length (flat_map (λ p. p.items) parcels.items) ≤ 65536 }
+        ensures { self.new ≡ record self.old { free = []; extra = []; delayed = []; extra_delayed = []; count = 0; deferred = record self.old.deferred { first = []; ready = []; second = seven_lists self.old ++ flat_map (λ p. p.items) parcels.items; tracing = Some 0 } } }
+    {
+        self.second.put_below(parcels);
+        self.second.pour(&mut self.ready);
+        self.second.pour(&mut self.first);
+        self.second.pour(&mut self.extra_delayed);
+        self.second.pour(&mut self.delayed);
+        self.second.pour(&mut self.extra);
+        self.second.pour(&mut self.free);
+        self.count = 0;
+        self.tracing = Some(0);
+    }
+
+    /// The units of Second, as an entry names them.
+    pub(crate) fn second_names(&self, alloc: Global) -> Units
+        ensures count { unit_count result ≡ length self.now.deferred.second }
+        ensures whole { IsTrue (is_whole result) → result ≡ Units.Whole (map number_of self.now.deferred.second) }
+    {
+        self.second.names(alloc)
+    }
+
+    /// All of Second leaves, into a vector that is empty and has room for it.
+    pub(crate) fn second_out(&mut self, out: &mut Vec<Unit>)
+        requires empty { vec_len out.old ≡ 0 }
+        requires room { length self.old.deferred.second ≤ vec_capacity out.old }
+        ensures out { out.new.items ≡ self.old.deferred.second }
+        ensures row { self.new ≡ record self.old { deferred = record self.old.deferred { second = [] } } }
+    {
+        self.second.move_out(out);
+    }
+
+    /// No tracing batch is in progress any more.
+    pub(crate) fn end_second(&mut self)
+        ensures { self.new ≡ record self.old { deferred = record self.old.deferred { tracing = None } } }
+    {
+        self.tracing = None;
+    }
+
+    /// Units go on Ready, with the first one on top.
+    pub(crate) fn receive(&mut self, units: Vec<Unit>)
+        requires { length units.items + length self.old.deferred.ready ≤ 65536 }
+        ensures { self.new ≡ record self.old { deferred = record self.old.deferred { ready = units.items ++ self.old.deferred.ready } } }
+    {
+        self.ready.put_on(units);
+    }
+
+    /// The length of First.
+    pub(crate) fn first_len(&self) -> u32
+        ensures { result ≡ length self.now.deferred.first }
+    {
+        self.first.len()
+    }
+
+    /// All of First leaves, into a vector that is empty and has room for it.
+    pub(crate) fn first_out(&mut self, out: &mut Vec<Unit>)
+        requires empty { vec_len out.old ≡ 0 }
+        requires room { length self.old.deferred.first ≤ vec_capacity out.old }
+        ensures out { out.new.items ≡ self.old.deferred.first }
+        ensures row { self.new ≡ record self.old { deferred = record self.old.deferred { first = [] } } }
+    {
+        self.first.move_out(out);
+    }
+
+    /// Units go on First, with the first one on top.
+    pub(crate) fn first_in(&mut self, units: Vec<Unit>)
+        requires { length units.items + length self.old.deferred.first ≤ 65536 }
+        ensures { self.new ≡ record self.old { deferred = record self.old.deferred { first = units.items ++ self.old.deferred.first } } }
+    {
+        self.first.put_on(units);
+    }
+
+    /// No plain batch is in progress any more.
+    pub(crate) fn end_first(&mut self)
+        ensures { self.new ≡ record self.old { deferred = record self.old.deferred { plain = None } } }
+    {
+        self.plain = None;
     }
 }

@@ -14,6 +14,8 @@ pub struct Caches<R> {
     pub(crate) rows: Vec<Cache>,
     pub(crate) sides: Vec<Hand>,
     pub(crate) step: u64,
+    /// Whether the units that were taken out last came out of First, and not out of the hand.
+    pub(crate) first_lent: bool,
     pub(crate) recorder: R,
     ghost rows_whole: { vec_len rows ≡ 11 },
     ghost sides_whole: { vec_len sides ≡ 4 },

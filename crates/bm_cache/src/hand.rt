@@ -1,6 +1,6 @@
 //! What one level has in hand.
 
-ghost use Rattle.std.specs.Prelude.{◌≡◌, ◌+◌, ◌≤◌, ◌<◌, ◌++◌, ◌∷◌, [], length, drop, IfOk, MatchOption};
+ghost use Rattle.std.specs.Prelude.{◌≡◌, ◌+◌, ◌≤◌, ◌<◌, ◌++◌, ◌∷◌, [], length, drop, IfOk, MatchOption, vec_capacity, vec_len};
 ghost use Rattle.bm_law.specs.State.{idle_side};
 ghost use Rattle.bm_law.specs.declared.mark.Mark.TheVariants as mark;
 
@@ -96,6 +96,33 @@ impl Hand {
         self.mark = Mark::Quiet;
         while let Some(unit) = from.pop() {
             self.take_in(unit, Mark::Quiet);
+        }
+    }
+
+    /// Units come behind the others, in their order, and the last step waits for `mark` from now on.
+    pub(crate) fn take_in_all(&mut self, units: Vec<Unit>, mark: Mark)
+        requires { length self.old.hand + length units.items ≤ 65536 }
+        ensures { self.new ≡ record { hand = self.old.hand ++ units.items; mark = mark } }
+    {
+        let mut units = VecDeque::from_vec(units);
+        if let Err(_refused) = self.units.append(&mut units) {
+            unreachable!();
+        }
+        units.destroy_empty();
+        self.mark = mark;
+    }
+
+    /// All units leave, in the order in which they came, into a vector that is empty and has room for them.
+    pub(crate) fn move_out(&mut self, out: &mut Vec<Unit>)
+        requires empty { vec_len out.old ≡ 0 }
+        requires room { length self.old.hand ≤ vec_capacity out.old }
+        ensures out { out.new.items ≡ self.old.hand }
+        ensures side { self.new ≡ record self.old { hand = [] } }
+    {
+        while let Some(unit) = self.give_out() {
+            if let Err(_refused) = out.push(unit) {
+                unreachable!();
+            }
         }
     }
 

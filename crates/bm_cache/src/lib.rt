@@ -10,13 +10,16 @@ mod deferred_steps;
 mod free_steps;
 mod hand;
 mod host;
+mod loans;
 #[cfg(test)]
 mod machines;
+mod moves;
 mod opening;
 mod put_steps;
 mod queries;
 mod release;
 mod release_delayed;
+mod returns;
 mod stack;
 mod steps;
 mod stretches;

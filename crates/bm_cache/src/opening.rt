@@ -57,6 +57,7 @@ impl<R: Recorder> Caches<R> {
                     rows,
                     sides,
                     step: 1,
+                    first_lent: false,
                     recorder,
                 };
                 caches.fill_all(units, numbers);

@@ -92,6 +92,7 @@ impl<R> Caches<R> {
             rows,
             sides,
             step: _,
+            first_lent: _,
             recorder,
         } = self;
         give_up_rows(rows);
@@ -109,6 +110,7 @@ impl<R: Recorder + Drop> Caches<R> {
             rows,
             sides,
             step: _,
+            first_lent: _,
             recorder: _,
         } = self;
         give_up_rows(rows);

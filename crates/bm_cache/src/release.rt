@@ -9,7 +9,7 @@ ghost use Rattle.bm_cache.specs.Tokens.{Token};
 ghost use Rattle.std.specs.List.{All};
 ghost use Rattle.bm_cache.specs.Tests.{Reusable, Waits, Same};
 ghost use Rattle.bm_cache.specs.Shown.{shown, waiting};
-ghost use Rattle.bm_cache.specs.Span.{Fine, Goes, Span};
+ghost use Rattle.bm_cache.specs.Span.{Fine, Goes, Span, Unbroken};
 ghost use Rattle.bm_law.specs.State.{seen};
 ghost use Rattle.bm_law.specs.Stands.{stands};
 ghost use Rattle.bm_cache.specs.Tokens.{number_of};
@@ -34,6 +34,7 @@ pub fn push_free<R: Recorder, H: Host<R>>(host: &mut H, class: Class)
     ensures pushed { (u : Token) × (((shown (H.held host.old)).sides (H.face host.old).level).hand ≡ u ∷ []) × (((shown (H.held host.new)).sides (H.face host.old).level) ≡ record { hand = []; mark = mark.Gave class }) × Span R.log (H.face host.old).level class 1 1 (entry.Push class u.number ∷ []) (H.tests host.old) (H.tests host.new) (H.held host.old) (H.held host.new) }
     ensures fine { Fine R.log R.counts (H.tests host.new) (H.face host.new).processors ((H.face host.new).level + 1) (H.held host.new) }
     ensures goes { Goes H.face H.pending H.keeps host.old host.new }
+    ensures alone { Unbroken H.face H.pending H.held R.log host.old host.new }
     ensures sound { H.sound host.new }
 {
     let level = host.level();
@@ -52,6 +53,7 @@ pub fn count_added<R: Recorder, H: Host<R>>(host: &mut H, class: Class) -> u32
     ensures waits { waiting class (shown (H.held host.new)) ≡ 0 }
     ensures fine { Fine R.log R.counts (H.tests host.new) (H.face host.new).processors ((H.face host.new).level + 1) (H.held host.new) }
     ensures goes { Goes H.face H.pending H.keeps host.old host.new }
+    ensures alone { Unbroken H.face H.pending H.held R.log host.old host.new }
     ensures sound { H.sound host.new }
 {
     let level = host.level();
@@ -71,6 +73,7 @@ pub fn look_at_extra<R: Recorder, H: Host<R>>(host: &mut H, class: Class) -> u32
     ensures lasts { All (Same (H.tests host.old) (H.tests host.new)) ((shown (H.held host.old)).sides (H.face host.old).level).hand }
     ensures fine { Fine R.log R.counts (H.tests host.new) (H.face host.new).processors ((H.face host.new).level + 1) (H.held host.new) }
     ensures goes { Goes H.face H.pending H.keeps host.old host.new }
+    ensures alone { Unbroken H.face H.pending H.held R.log host.old host.new }
     ensures sound { H.sound host.new }
 {
     let level = host.level();
@@ -92,6 +95,7 @@ pub fn put_at<R: Recorder, H: Host<R>>(host: &mut H, class: Class, seen: u32) ->
     ensures lasts { All (Same (H.tests host.old) (H.tests host.new)) ((shown (H.held host.old)).sides (H.face host.old).level).hand }
     ensures fine { Fine R.log R.counts (H.tests host.new) (H.face host.new).processors ((H.face host.new).level + 1) (H.held host.new) }
     ensures goes { Goes H.face H.pending H.keeps host.old host.new }
+    ensures alone { Unbroken H.face H.pending H.held R.log host.old host.new }
     ensures sound { H.sound host.new }
 {
     let level = host.level();
@@ -110,6 +114,7 @@ pub fn put_on_extra<R: Recorder, H: Host<R>>(host: &mut H, class: Class)
     ensures put { (u : Token) × (lost : List ℕ) × (k : ℕ) × (((shown (H.held host.old)).sides (H.face host.old).level).hand ≡ u ∷ []) × (((shown (H.held host.new)).sides (H.face host.old).level) ≡ record { hand = []; mark = mark.Quiet }) × (length lost + H.pending host.new ≤ H.pending host.old) × Span R.log (H.face host.old).level class 1 1 (overtaken class lost ++ entry.Look class k ∷ entry.Put class u.number ∷ []) (H.tests host.old) (H.tests host.new) (H.held host.old) (H.held host.new) }
     ensures fine { Fine R.log R.counts (H.tests host.new) (H.face host.new).processors ((H.face host.new).level + 1) (H.held host.new) }
     ensures goes { Goes H.face H.pending H.keeps host.old host.new }
+    ensures alone { Unbroken H.face H.pending H.held R.log host.old host.new }
     ensures sound { H.sound host.new }
 {
     'looks: loop {
@@ -136,6 +141,7 @@ pub fn begin_plain<R: Recorder, H: Host<R>>(host: &mut H, unit: Unit) -> u32
     ensures waits { result ≡ 1 → waiting unit.class (shown (H.held host.new)) ≡ 0 }
     ensures fine { Fine R.log R.counts (H.tests host.new) (H.face host.new).processors ((H.face host.new).level + 1) (H.held host.new) }
     ensures goes { Goes H.face H.pending H.keeps host.old host.new }
+    ensures alone { Unbroken H.face H.pending H.held R.log host.old host.new }
     ensures sound { H.sound host.new }
 {
     let level = host.level();
@@ -156,6 +162,7 @@ fn end_pushed<R: Recorder, H: Host<R>>(host: &mut H, class: Class)
     ensures pushed { (u : Token) × (k a : ℕ) × (((shown (H.held host.old)).sides (H.face host.old).level).hand ≡ u ∷ []) × (((shown (H.held host.new)).sides (H.face host.old).level) ≡ record { hand = []; mark = mark.Quiet }) × Span R.log (H.face host.old).level class 1 0 (entry.Push class u.number ∷ entry.Count class k ∷ entry.Leave class a ∷ raise_above class k) (H.tests host.old) (H.tests host.new) (H.held host.old) (H.held host.new) }
     ensures fine { Fine R.log R.counts (H.tests host.new) (H.face host.new).processors ((H.face host.new).level + 1) (H.held host.new) }
     ensures goes { Goes H.face H.pending H.keeps host.old host.new }
+    ensures alone { Unbroken H.face H.pending H.held R.log host.old host.new }
     ensures sound { H.sound host.new }
 {
     push_free(host, class);
@@ -174,6 +181,7 @@ fn end_put<R: Recorder, H: Host<R>>(host: &mut H, class: Class)
     ensures put { (u : Token) × (lost : List ℕ) × (k a : ℕ) × (((shown (H.held host.old)).sides (H.face host.old).level).hand ≡ u ∷ []) × (((shown (H.held host.new)).sides (H.face host.old).level) ≡ record { hand = []; mark = mark.Quiet }) × (length lost + H.pending host.new ≤ H.pending host.old) × Span R.log (H.face host.old).level class 1 0 (overtaken class lost ++ entry.Look class k ∷ entry.Put class u.number ∷ entry.Leave class a ∷ []) (H.tests host.old) (H.tests host.new) (H.held host.old) (H.held host.new) }
     ensures fine { Fine R.log R.counts (H.tests host.new) (H.face host.new).processors ((H.face host.new).level + 1) (H.held host.new) }
     ensures goes { Goes H.face H.pending H.keeps host.old host.new }
+    ensures alone { Unbroken H.face H.pending H.held R.log host.old host.new }
     ensures sound { H.sound host.new }
 {
     put_on_extra(host, class);
@@ -194,6 +202,7 @@ pub fn free<R: Recorder, H: Host<R>>(host: &mut H, unit: Unit)
     ensures came { Came R.log (H.face host.old).level (H.tests host.old) (H.tests host.new) (H.held host.old) (H.held host.new) }
     ensures fine { Fine R.log R.counts (H.tests host.new) (H.face host.new).processors (H.face host.new).level (H.held host.new) }
     ensures goes { Goes H.face H.pending H.keeps host.old host.new }
+    ensures alone { Unbroken H.face H.pending H.held R.log host.old host.new }
     ensures sound { H.sound host.new }
 {
     let class = unit.class();

@@ -9,7 +9,7 @@ ghost use Rattle.bm_cache.specs.Tokens.{Token};
 ghost use Rattle.std.specs.List.{All};
 ghost use Rattle.bm_cache.specs.Tests.{Reusable, Waits, Same};
 ghost use Rattle.bm_cache.specs.Shown.{shown, waiting};
-ghost use Rattle.bm_cache.specs.Span.{Fine, Goes, Span};
+ghost use Rattle.bm_cache.specs.Span.{Fine, Goes, Span, Unbroken};
 ghost use Rattle.bm_law.specs.State.{seen};
 ghost use Rattle.bm_law.specs.Stands.{stands};
 ghost use Rattle.bm_cache.specs.Tokens.{number_of};
@@ -34,6 +34,7 @@ pub fn push_delayed<R: Recorder, H: Host<R>>(host: &mut H, class: Class)
     ensures waits { waiting class (shown (H.held host.new)) ≡ waiting class (shown (H.held host.old)) }
     ensures fine { Fine R.log R.counts (H.tests host.new) (H.face host.new).processors ((H.face host.new).level + 1) (H.held host.new) }
     ensures goes { Goes H.face H.pending H.keeps host.old host.new }
+    ensures alone { Unbroken H.face H.pending H.held R.log host.old host.new }
     ensures sound { H.sound host.new }
 {
     let level = host.level();
@@ -53,6 +54,7 @@ pub fn look_at_extra_delayed<R: Recorder, H: Host<R>>(host: &mut H, class: Class
     ensures lasts { All (Same (H.tests host.old) (H.tests host.new)) ((shown (H.held host.old)).sides (H.face host.old).level).hand }
     ensures fine { Fine R.log R.counts (H.tests host.new) (H.face host.new).processors ((H.face host.new).level + 1) (H.held host.new) }
     ensures goes { Goes H.face H.pending H.keeps host.old host.new }
+    ensures alone { Unbroken H.face H.pending H.held R.log host.old host.new }
     ensures sound { H.sound host.new }
 {
     let level = host.level();
@@ -74,6 +76,7 @@ pub fn put_at_delayed<R: Recorder, H: Host<R>>(host: &mut H, class: Class, seen:
     ensures lasts { All (Same (H.tests host.old) (H.tests host.new)) ((shown (H.held host.old)).sides (H.face host.old).level).hand }
     ensures fine { Fine R.log R.counts (H.tests host.new) (H.face host.new).processors ((H.face host.new).level + 1) (H.held host.new) }
     ensures goes { Goes H.face H.pending H.keeps host.old host.new }
+    ensures alone { Unbroken H.face H.pending H.held R.log host.old host.new }
     ensures sound { H.sound host.new }
 {
     let level = host.level();
@@ -92,6 +95,7 @@ pub fn put_on_extra_delayed<R: Recorder, H: Host<R>>(host: &mut H, class: Class)
     ensures put { (u : Token) × (lost : List ℕ) × (k : ℕ) × (((shown (H.held host.old)).sides (H.face host.old).level).hand ≡ u ∷ []) × (((shown (H.held host.new)).sides (H.face host.old).level) ≡ record { hand = []; mark = mark.Quiet }) × (length lost + H.pending host.new ≤ H.pending host.old) × Span R.log (H.face host.old).level class 1 1 (overtaken_delayed class lost ++ entry.LookDelayed class k ∷ entry.PutDelayed class u.number ∷ []) (H.tests host.old) (H.tests host.new) (H.held host.old) (H.held host.new) }
     ensures fine { Fine R.log R.counts (H.tests host.new) (H.face host.new).processors ((H.face host.new).level + 1) (H.held host.new) }
     ensures goes { Goes H.face H.pending H.keeps host.old host.new }
+    ensures alone { Unbroken H.face H.pending H.held R.log host.old host.new }
     ensures sound { H.sound host.new }
 {
     'looks: loop {
@@ -118,6 +122,7 @@ pub fn begin_delayed<R: Recorder, H: Host<R>>(host: &mut H, unit: Unit) -> u32
     ensures waits { result ≡ 1 → waiting unit.class (shown (H.held host.new)) ≡ 0 }
     ensures fine { Fine R.log R.counts (H.tests host.new) (H.face host.new).processors ((H.face host.new).level + 1) (H.held host.new) }
     ensures goes { Goes H.face H.pending H.keeps host.old host.new }
+    ensures alone { Unbroken H.face H.pending H.held R.log host.old host.new }
     ensures sound { H.sound host.new }
 {
     let level = host.level();
@@ -138,6 +143,7 @@ fn end_delayed_pushed<R: Recorder, H: Host<R>>(host: &mut H, class: Class)
     ensures pushed { (u : Token) × (a : ℕ) × (((shown (H.held host.old)).sides (H.face host.old).level).hand ≡ u ∷ []) × (((shown (H.held host.new)).sides (H.face host.old).level) ≡ record { hand = []; mark = mark.Quiet }) × Span R.log (H.face host.old).level class 1 0 (entry.Delayed class u.number ∷ entry.Leave class a ∷ raise_unless (is_some ((shown (H.held host.old)).rows class).deferred.plain) class) (H.tests host.old) (H.tests host.new) (H.held host.old) (H.held host.new) }
     ensures fine { Fine R.log R.counts (H.tests host.new) (H.face host.new).processors ((H.face host.new).level + 1) (H.held host.new) }
     ensures goes { Goes H.face H.pending H.keeps host.old host.new }
+    ensures alone { Unbroken H.face H.pending H.held R.log host.old host.new }
     ensures sound { H.sound host.new }
 {
     push_delayed(host, class);
@@ -155,6 +161,7 @@ fn end_delayed_put<R: Recorder, H: Host<R>>(host: &mut H, class: Class)
     ensures put { (u : Token) × (lost : List ℕ) × (k a : ℕ) × (((shown (H.held host.old)).sides (H.face host.old).level).hand ≡ u ∷ []) × (((shown (H.held host.new)).sides (H.face host.old).level) ≡ record { hand = []; mark = mark.Quiet }) × (length lost + H.pending host.new ≤ H.pending host.old) × Span R.log (H.face host.old).level class 1 0 (overtaken_delayed class lost ++ entry.LookDelayed class k ∷ entry.PutDelayed class u.number ∷ entry.Leave class a ∷ raise_unless (is_some ((shown (H.held host.old)).rows class).deferred.plain) class) (H.tests host.old) (H.tests host.new) (H.held host.old) (H.held host.new) }
     ensures fine { Fine R.log R.counts (H.tests host.new) (H.face host.new).processors ((H.face host.new).level + 1) (H.held host.new) }
     ensures goes { Goes H.face H.pending H.keeps host.old host.new }
+    ensures alone { Unbroken H.face H.pending H.held R.log host.old host.new }
     ensures sound { H.sound host.new }
 {
     put_on_extra_delayed(host, class);
@@ -175,6 +182,7 @@ pub fn free_delayed<R: Recorder, H: Host<R>>(host: &mut H, unit: Unit)
     ensures came { Came R.log (H.face host.old).level (H.tests host.old) (H.tests host.new) (H.held host.old) (H.held host.new) }
     ensures fine { Fine R.log R.counts (H.tests host.new) (H.face host.new).processors (H.face host.new).level (H.held host.new) }
     ensures goes { Goes H.face H.pending H.keeps host.old host.new }
+    ensures alone { Unbroken H.face H.pending H.held R.log host.old host.new }
     ensures sound { H.sound host.new }
 {
     let class = unit.class();

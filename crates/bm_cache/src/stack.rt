@@ -3,12 +3,13 @@
 ghost use Rattle.bm_journal.specs.UnitCount.{unit_count};
 ghost use Rattle.bm_journal.specs.WellFormed.{is_whole};
 ghost use Rattle.bm_cache.specs.Tokens.{number_of};
-ghost use Rattle.std.specs.Prelude.{IsTrue, map, ◌≡◌, ◌+◌, ◌<◌, ◌≤◌, ◌++◌, ◌∷◌, ◌↔◌, ℕ, [], true, length, drop, reverse, IfOk, MatchOption, vec_len};
+ghost use Rattle.std.specs.Prelude.{IsTrue, map, ◌≡◌, ◌+◌, ◌<◌, ◌≤◌, ◌++◌, ◌∷◌, ◌↔◌, ℕ, [], true, length, drop, reverse, IfOk, MatchOption, flat_map, vec_capacity, vec_len};
 
 use bm_journal::{UnitNumbers, Units};
 use bm_page::Unit;
 use bm_word::NoMemory;
 use std::alloc::Global;
+use std::collections::VecDeque;
 use std::marker::Model;
 
 /// How many units a list has room for: as many as there are unit numbers.
@@ -96,6 +97,39 @@ impl Stack {
         }
     }
 
+    /// All units of vectors go below the others, in their order.
+    pub(crate) fn put_below(&mut self, parcels: Vec<Vec<Unit>>)
+        requires { length self.old + length (flat_map (λ p. p.items) parcels.items) ≤ 65536 }
+        ensures { self.new ≡ self.old ++ flat_map (λ p. p.items) parcels.items }
+    {
+        self.units.reverse();
+        append_all(&mut self.units, parcels);
+        self.units.reverse();
+    }
+
+    /// Units go on top, with the first one on top.
+    pub(crate) fn put_on(&mut self, units: Vec<Unit>)
+        requires { length units.items + length self.old ≤ 65536 }
+        ensures { self.new ≡ units.items ++ self.old }
+    {
+        let mut units = units;
+        units.reverse();
+        self.push_all(units);
+    }
+
+    /// All units leave, the top first, into a vector that is empty and has room for them.
+    pub(crate) fn move_out(&mut self, out: &mut Vec<Unit>)
+        requires empty { vec_len out.old ≡ 0 }
+        requires room { length self.old ≤ vec_capacity out.old }
+        ensures out { out.new.items ≡ self.old }
+        ensures rest { self.new ≡ [] }
+    {
+        if let Err(_refused) = out.append(&mut self.units) {
+            unreachable!();
+        }
+        out.reverse();
+    }
+
     /// All units of another list go on top one by one, from its top, so that its last one ends on top.
     pub(crate) fn pour_one_by_one(&mut self, from: &mut Stack)
         requires { length self.old + length from.old ≤ 65536 }
@@ -169,6 +203,22 @@ pub(crate) fn four(alloc: Global) -> Result<(Stack, Stack, Stack, Stack), NoMemo
     }
 }
 
+/// All units of vectors move behind those of another one, which has room for them.
+fn append_all(units: &mut Vec<Unit>, parcels: Vec<Vec<Unit>>)
+    requires { length units.old.items + length (flat_map (λ p. p.items) parcels.items) ≤ vec_capacity units.old }
+    ensures items { units.new.items ≡ units.old.items ++ flat_map (λ p. p.items) parcels.items }
+    ensures capacity { vec_capacity units.old ≤ vec_capacity units.new }
+{
+    let mut rest = VecDeque::from_vec(parcels);
+    while let Some(mut parcel) = rest.pop_front() {
+        if let Err(_refused) = units.append(&mut parcel) {
+            unreachable!();
+        }
+        parcel.destroy_empty();
+    }
+    rest.destroy_empty();
+}
+
 /// The numbers of units.
 pub(crate) fn list_numbers(alloc: Global, units: &Vec<Unit>) -> Result<Vec<u16>, NoMemory>
     ensures { IfOk result (λ numbers. numbers.items ≡ map number_of units.now.items) }
@@ -178,4 +228,16 @@ pub(crate) fn list_numbers(alloc: Global, units: &Vec<Unit>) -> Result<Vec<u16>,
         numbers.push(unit.number())?;
     }
     Ok(numbers)
+}
+
+/// The numbers of units, as an entry names them; where there is no memory for them, how many they are.
+pub(crate) fn list_names(alloc: Global, units: &Vec<Unit>) -> Units
+    requires { length units.now.items ≤ 65536 }
+    ensures count { unit_count result ≡ length units.now.items }
+    ensures whole { IsTrue (is_whole result) → result ≡ Units.Whole (map number_of units.now.items) }
+{
+    match list_numbers(alloc, units) {
+        Ok(numbers) => Units::Whole(UnitNumbers::new(numbers)),
+        Err(_refused) => Units::Counted(units.len() as u32),
+    }
 }

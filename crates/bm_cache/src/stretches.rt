@@ -9,7 +9,7 @@ ghost use Rattle.bm_cache.specs.Tokens.{Token};
 ghost use Rattle.std.specs.List.{All};
 ghost use Rattle.bm_cache.specs.Tests.{Reusable, Waits, Same};
 ghost use Rattle.bm_cache.specs.Shown.{shown, waiting};
-ghost use Rattle.bm_cache.specs.Span.{Fine, Goes, Span};
+ghost use Rattle.bm_cache.specs.Span.{Fine, Goes, Span, Unbroken};
 
 use crate::Host;
 use bm_class::{Class, marks};
@@ -30,6 +30,7 @@ pub fn raise_active<R: Recorder, H: Host<R>>(host: &mut H, class: Class) -> u32
     ensures lasts { All (Same (H.tests host.old) (H.tests host.new)) ((shown (H.held host.old)).sides (H.face host.old).level).hand }
     ensures fine { Fine R.log R.counts (H.tests host.new) (H.face host.new).processors ((H.face host.new).level + 1) (H.held host.new) }
     ensures goes { Goes H.face H.pending H.keeps host.old host.new }
+    ensures alone { Unbroken H.face H.pending H.held R.log host.old host.new }
     ensures sound { H.sound host.new }
 {
     let level = host.level();
@@ -48,6 +49,7 @@ pub fn lower_active<R: Recorder, H: Host<R>>(host: &mut H, class: Class) -> u32
     ensures lasts { All (Same (H.tests host.old) (H.tests host.new)) ((shown (H.held host.old)).sides (H.face host.old).level).hand }
     ensures fine { Fine R.log R.counts (H.tests host.new) (H.face host.new).processors ((H.face host.new).level + 1) (H.held host.new) }
     ensures goes { Goes H.face H.pending H.keeps host.old host.new }
+    ensures alone { Unbroken H.face H.pending H.held R.log host.old host.new }
     ensures sound { H.sound host.new }
 {
     let level = host.level();
@@ -64,6 +66,7 @@ pub fn raise_flag<R: Recorder, H: Host<R>>(host: &mut H, class: Class)
     ensures lasts { All (Same (H.tests host.old) (H.tests host.new)) ((shown (H.held host.old)).sides (H.face host.old).level).hand }
     ensures fine { Fine R.log R.counts (H.tests host.new) (H.face host.new).processors ((H.face host.new).level + 1) (H.held host.new) }
     ensures goes { Goes H.face H.pending H.keeps host.old host.new }
+    ensures alone { Unbroken H.face H.pending H.held R.log host.old host.new }
     ensures sound { H.sound host.new }
 {
     let level = host.level();
@@ -82,6 +85,7 @@ pub fn lower_below<R: Recorder, H: Host<R>>(host: &mut H, class: Class, seen: u3
     ensures lasts { All (Same (H.tests host.old) (H.tests host.new)) ((shown (H.held host.old)).sides (H.face host.old).level).hand }
     ensures fine { Fine R.log R.counts (H.tests host.new) (H.face host.new).processors ((H.face host.new).level + 1) (H.held host.new) }
     ensures goes { Goes H.face H.pending H.keeps host.old host.new }
+    ensures alone { Unbroken H.face H.pending H.held R.log host.old host.new }
     ensures sound { H.sound host.new }
 {
     let active = lower_active(host, class);
@@ -102,6 +106,7 @@ pub fn lower_above<R: Recorder, H: Host<R>>(host: &mut H, class: Class, seen: u3
     ensures lasts { All (Same (H.tests host.old) (H.tests host.new)) ((shown (H.held host.old)).sides (H.face host.old).level).hand }
     ensures fine { Fine R.log R.counts (H.tests host.new) (H.face host.new).processors ((H.face host.new).level + 1) (H.held host.new) }
     ensures goes { Goes H.face H.pending H.keeps host.old host.new }
+    ensures alone { Unbroken H.face H.pending H.held R.log host.old host.new }
     ensures sound { H.sound host.new }
 {
     let active = lower_active(host, class);
@@ -122,6 +127,7 @@ pub fn lower_unless<R: Recorder, H: Host<R>>(host: &mut H, class: Class) -> u32
     ensures lasts { All (Same (H.tests host.old) (H.tests host.new)) ((shown (H.held host.old)).sides (H.face host.old).level).hand }
     ensures fine { Fine R.log R.counts (H.tests host.new) (H.face host.new).processors ((H.face host.new).level + 1) (H.held host.new) }
     ensures goes { Goes H.face H.pending H.keeps host.old host.new }
+    ensures alone { Unbroken H.face H.pending H.held R.log host.old host.new }
     ensures sound { H.sound host.new }
 {
     let active = lower_active(host, class);

@@ -14,6 +14,9 @@ ghost use Rattle.bm_cache.specs.Placed.{Placed};
 ghost use Rattle.bm_cache.specs.Shown.{shown};
 ghost use Rattle.bm_cache.specs.Holding.{Holding, tests_beside};
 
+mod closing;
+mod moving;
+
 use crate::machines::{Ground, Kept, Plan, handler};
 use crate::*;
 use bm_class::Class;

@@ -1,26 +1,17 @@
-use Rattle.std.specs.Option.{is_some}
-use Rattle.std.proofs.Common.{not, ◌≡◌, ◌≢◌, ◌+◌, ◌-◌, ◌<◌, ◌≤◌, ◌++◌, ℕ, Bool, Option, Some, None, List, [], ◌∷◌, length, map, drop, take, true, false, refl, ap, ◌∙◌, sym, subst, arith, inl, inr, append_assoc, lt-ltb}
+use Rattle.std.proofs.Common.{◌≡◌, ◌+◌, ℕ, [], ◌∷◌, refl, ap, ◌∙◌, sym, subst}
 use Rattle.std.specs.List.{All}
-use Rattle.bm_journal.specs.declared.entry.Entry.{Entry}
 use Rattle.bm_journal.specs.declared.entry.Entry.TheVariants as entry
-use Rattle.bm_law.specs.declared.mark.Mark.TheVariants as mark
-use Rattle.bm_law.specs.State.{Row, Side, State}
-use Rattle.bm_law.specs.Effect.{effect}
-use Rattle.bm_law.specs.Places.{Free as free_list, Extra as extra_list}
-use Rattle.bm_cache.specs.Tokens.{Token, number_of, seal_numbers, given_by}
-use Rattle.bm_cache.specs.Tests.{Tests, Reusable, Waits, Same, Either}
-use Rattle.bm_cache.specs.Shown.{shown, waiting, Took}
-use Rattle.bm_cache.specs.Span.{Face, Came, Fine, Span, Goes}
-use Rattle.bm_law.specs.Kept.{Ready}
-use Rattle.bm_law.proofs.Plain.{plain-overtaken, plain-overtaken_delayed, plain-join, plain-below, plain-above, plain-unless}
-use Rattle.bm_law.specs.Waiting.{is_waiting}
-use Rattle.bm_law.specs.Phrases.{given, overtaken, overtaken_delayed, raise_below, raise_above, raise_unless}
-use Rattle.bm_law.specs.Plain.{all_plain}
-use Rattle.bm_cache.specs.Walk.{Walk}
+use Rattle.bm_law.specs.State.{Side}
+use Rattle.bm_cache.specs.Tokens.{Token, seal_numbers, given_by}
+use Rattle.bm_cache.specs.Tests.{Tests, Reusable, Same}
+use Rattle.bm_cache.specs.Shown.{shown}
+use Rattle.bm_cache.specs.Span.{Face, Fine, Span}
+use Rattle.bm_law.proofs.Plain.{plain-below}
+use Rattle.bm_law.specs.Phrases.{given, raise_below}
 use Rattle.bm_cache.specs.declared.caches.Caches.{Caches}
-use Rattle.bm_cache.proofs.Asked.{one-first}
-use Rattle.bm_cache.proofs.Stretch.{stretch, fine-step, span-join, walk-still, walk-join, span-none, overtaken-more, overtaken_delayed-more, lasting-join, lasting-none, lasting-below, between-enter, between-leave, between-raise, between-pop, between-push, between-count, between-delayed, between-put, between-put_delayed, between-hand, between-none}
-use Rattle.bm_cache.proofs.Moments.{took-at, span-at, waiting-kept, counted-down, counted-up, popped-side, pushed-side, delayed-side, put-side, put_delayed-side, lost-side, lost_delayed-side, lasts-one, arrives-one, reusable-either, first-reusable, one-token, longer, longer_delayed, span-from, goes-join, goes-back, came-none, between-note, fine-same, between-given, given-lifts, given-arrives, given-aims, begun, come-side, unless-none, unless-some}
+use Rattle.bm_cache.proofs.Stretch.{stretch, fine-step, span-join}
+use Rattle.bm_cache.proofs.Moments.{took-at, span-at, lasts-one, one-token, goes-join, goes-back, came-none, between-given, given-lifts, given-arrives, given-aims}
+use Rattle.bm_cache.proofs.Unbroken.{unbroken-join, unbroken-step}
 use Rattle.bm_cache.proofs.allocate.give_taken.Goals as goal
 
 pub returns-clause-given : goal.returns-clause-given
@@ -101,3 +92,7 @@ returns-clause-class g c =
     let pr : c.caches.result.now.processor ≡ (g.H.Host.held c.args.host.now).processor = ap (λ (d : Caches g.row.R.Denot). d.processor) c.caches.ensures.held ∙ s12.processor in
     let is : c.give.result ≡ given_by (g.H.Host.held c.args.host.now).processor u = q.3 ∙ ap (λ (n : ℕ). given_by n q.0) pr ∙ ap (given_by (g.H.Host.held c.args.host.now).processor) (sym same) in
     ap (λ (t : Token). t.class) is ∙ c.requires.hand.3
+
+pub returns-clause-alone : goal.returns-clause-alone
+returns-clause-alone g c =
+    unbroken-join c.count_taken-count.ensures.goes (goes-join g.met.H.Host.keeps_join c.lower_below.ensures.goes (goes-back c.lower_below.new.host (g.H.Host.with_held c.lower_below.new.host c.give.new.self) (g.met.H.Host.face_back c.lower_below.new.host c.give.new.self) (g.met.H.Host.pending_back c.lower_below.new.host c.give.new.self) (g.met.H.Host.keeps_back c.lower_below.new.host c.give.new.self))) c.count_taken-count.ensures.alone (unbroken-join c.lower_below.ensures.goes (goes-back c.lower_below.new.host (g.H.Host.with_held c.lower_below.new.host c.give.new.self) (g.met.H.Host.face_back c.lower_below.new.host c.give.new.self) (g.met.H.Host.pending_back c.lower_below.new.host c.give.new.self) (g.met.H.Host.keeps_back c.lower_below.new.host c.give.new.self)) c.lower_below.ensures.alone (unbroken-step g.H.Host.face g.H.Host.pending g.H.Host.held g.R.Recorder.log c.lower_below.new.host c.lower_below.new.host (g.H.Host.with_held c.lower_below.new.host c.give.new.self) c.caches.result.now c.give.new.self c.level-level.result (given c.give.result.number (c.give.result.life + 1) (seal_numbers c.give.result.seal)) [] (λ _. refl) (c.level-level.ensures.same ∙ sym (ap (λ (f : Face). f.level) c.count_taken-count.ensures.goes.face) ∙ sym (ap (λ (f : Face). f.level) c.lower_below.ensures.goes.face)) c.caches.ensures.held (g.met.H.Host.held_back c.lower_below.new.host c.give.new.self) (g.met.H.Host.pending_back c.lower_below.new.host c.give.new.self) c.give.ensures.step))

@@ -1,7 +1,7 @@
-use Rattle.std.proofs.Common.{rules, ◌≡◌, ◌+◌, ◌++◌, ℕ, [], ◌∷◌, refl, sym}
+use Rattle.std.proofs.Common.{rules}
 use Rattle.bm_cache.specs.Holding.{tests_beside}
 use Rattle.bm_cache.specs.Shown.{shown}
-use Rattle.bm_cache.proofs.Absent.{nowhere, failing, proper-other, lasting-other, tests-held, tests-other, tests-free, holding-rest, holding-last, came-other, fine-other}
+use Rattle.bm_cache.proofs.Absent.{nowhere, failing, proper-other, lasting-other, tests-held, tests-other, tests-free, holding-rest, came-other, fine-other}
 use Rattle.bm_cache.proofs.machines.run_first.Goals as goal
 
 pub handler-requires-clause-fine : goal.handler-requires-clause-fine

@@ -1,26 +1,12 @@
-use Rattle.std.specs.Option.{is_some}
-use Rattle.std.proofs.Common.{not, ◌≡◌, ◌≢◌, ◌+◌, ◌-◌, ◌<◌, ◌≤◌, ◌++◌, ℕ, Bool, Option, Some, None, List, [], ◌∷◌, length, map, drop, take, true, false, refl, ap, ◌∙◌, sym, subst, arith, inl, inr, append_assoc, lt-ltb}
-use Rattle.std.specs.List.{All}
-use Rattle.bm_journal.specs.declared.entry.Entry.{Entry}
+use Rattle.std.proofs.Common.{◌≡◌, ℕ, [], ◌∷◌, false, refl, ap, ◌∙◌, subst, arith}
 use Rattle.bm_journal.specs.declared.entry.Entry.TheVariants as entry
 use Rattle.bm_law.specs.declared.mark.Mark.TheVariants as mark
-use Rattle.bm_law.specs.State.{Row, Side, State}
-use Rattle.bm_law.specs.Effect.{effect}
-use Rattle.bm_law.specs.Places.{Free as free_list, Extra as extra_list}
-use Rattle.bm_cache.specs.Tokens.{Token, number_of, seal_numbers, given_by}
-use Rattle.bm_cache.specs.Tests.{Tests, Reusable, Waits, Same, Either}
-use Rattle.bm_cache.specs.Shown.{shown, waiting, Took}
-use Rattle.bm_cache.specs.Span.{Face, Came, Fine, Span, Goes}
-use Rattle.bm_law.specs.Kept.{Ready}
-use Rattle.bm_law.proofs.Plain.{plain-overtaken, plain-overtaken_delayed, plain-join, plain-below, plain-above, plain-unless}
-use Rattle.bm_law.specs.Waiting.{is_waiting}
-use Rattle.bm_law.specs.Phrases.{given, overtaken, overtaken_delayed, raise_below, raise_above, raise_unless}
-use Rattle.bm_law.specs.Plain.{all_plain}
-use Rattle.bm_cache.specs.Walk.{Walk}
-use Rattle.bm_cache.specs.declared.caches.Caches.{Caches}
-use Rattle.bm_cache.proofs.Asked.{one-first}
-use Rattle.bm_cache.proofs.Stretch.{stretch, fine-step, span-join, walk-still, walk-join, span-none, overtaken-more, overtaken_delayed-more, lasting-join, lasting-none, lasting-below, between-enter, between-leave, between-raise, between-pop, between-push, between-count, between-delayed, between-put, between-put_delayed, between-hand, between-none}
-use Rattle.bm_cache.proofs.Moments.{took-at, span-at, waiting-kept, counted-down, counted-up, popped-side, pushed-side, delayed-side, put-side, put_delayed-side, lost-side, lost_delayed-side, lasts-one, arrives-one, reusable-either, first-reusable, one-token, longer, longer_delayed, span-from, goes-join, goes-back, came-none, between-note, fine-same, between-given, given-lifts, given-arrives, given-aims, begun, come-side, unless-none, unless-some}
+use Rattle.bm_law.specs.State.{Side, State}
+use Rattle.bm_cache.specs.Tokens.{Token}
+use Rattle.bm_cache.specs.Shown.{shown, Took}
+use Rattle.bm_cache.specs.Span.{Face}
+use Rattle.bm_cache.proofs.Moments.{took-at, lasts-one, span-from, goes-back, begun, come-side}
+use Rattle.bm_cache.proofs.Unbroken.{unbroken-join, unbroken-step}
 use Rattle.bm_cache.proofs.release.begin_plain.Goals as goal
 
 pub returns-clause-begun : goal.returns-clause-begun
@@ -57,3 +43,7 @@ returns-clause-suits g c =
     let hm : (g.H.Host.held (g.H.Host.with_held c.args.host.now c.begin_free.new.self)) ≡ c.begin_free.new.self = g.met.H.Host.held_back c.args.host.now c.begin_free.new.self in
     let sn : (shown (g.H.Host.held (g.H.Host.with_held c.args.host.now c.begin_free.new.self))).sides (g.H.Host.face (g.H.Host.with_held c.args.host.now c.begin_free.new.self)).level ≡ record { hand = c.args.unit ∷ []; mark = mark.Bound c.args.unit.home false } = rw (lm, hm) sm in
     lasts-one (g.H.Host.tests (g.H.Host.with_held c.args.host.now c.begin_free.new.self)) (g.H.Host.tests c.raise_active.new.host) 0 c.args.unit _ (ap (λ (s : Side Token). s.hand) sn) c.raise_active.ensures.lasts (rw (g.met.H.Host.tests_back c.args.host.now c.begin_free.new.self) c.requires.suits)
+
+pub returns-clause-alone : goal.returns-clause-alone
+returns-clause-alone g c =
+    unbroken-join (goes-back c.args.host.now (g.H.Host.with_held c.args.host.now c.begin_free.new.self) (g.met.H.Host.face_back c.args.host.now c.begin_free.new.self) (g.met.H.Host.pending_back c.args.host.now c.begin_free.new.self) (g.met.H.Host.keeps_back c.args.host.now c.begin_free.new.self)) c.raise_active.ensures.goes (unbroken-step g.H.Host.face g.H.Host.pending g.H.Host.held g.R.Recorder.log c.args.host.now c.args.host.now (g.H.Host.with_held c.args.host.now c.begin_free.new.self) c.caches.result.now c.begin_free.new.self c.level-level.result (entry.Free c.args.unit.number c.args.unit.home) (c.args.unit ∷ []) (λ _. refl) c.level-level.ensures.same c.caches.ensures.held (g.met.H.Host.held_back c.args.host.now c.begin_free.new.self) (g.met.H.Host.pending_back c.args.host.now c.begin_free.new.self) c.begin_free.ensures.step) c.raise_active.ensures.alone

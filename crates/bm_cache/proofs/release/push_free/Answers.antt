@@ -1,18 +1,13 @@
-use Rattle.std.proofs.Common.{◌≡◌, ◌≢◌, ◌+◌, ◌-◌, ◌<◌, ◌≤◌, ◌++◌, ℕ, Bool, Option, Some, None, List, [], ◌∷◌, length, map, drop, take, true, false, refl, ap, ◌∙◌, sym, subst, arith, inl, inr, append_assoc, lt-ltb}
-use Rattle.std.specs.List.{All}
-use Rattle.bm_journal.specs.declared.entry.Entry.{Entry}
+use Rattle.std.proofs.Common.{◌≡◌, ◌+◌, ℕ, [], ◌∷◌, ap, ◌∙◌, sym, subst, arith}
 use Rattle.bm_journal.specs.declared.entry.Entry.TheVariants as entry
-use Rattle.bm_law.specs.declared.mark.Mark.TheVariants as mark
-use Rattle.bm_law.specs.State.{Row, Side, State}
-use Rattle.bm_law.specs.Effect.{effect}
-use Rattle.bm_law.specs.Places.{Free as free_list, Extra as extra_list}
-use Rattle.bm_cache.specs.Tokens.{Token, number_of}
-use Rattle.bm_cache.specs.Tests.{Tests, Reusable, Waits, Same, Either}
-use Rattle.bm_cache.specs.Shown.{shown, waiting, Took}
-use Rattle.bm_cache.specs.Span.{Face, Fine, Span}
-use Rattle.bm_cache.proofs.Asked.{one-first}
-use Rattle.bm_cache.proofs.Stretch.{stretch, fine-step, between-enter, between-leave, between-raise, between-pop, between-push, between-count, between-delayed, between-put, between-put_delayed, between-hand, between-none}
-use Rattle.bm_cache.proofs.Moments.{took-at, span-at, waiting-kept, counted-down, counted-up, popped-side, pushed-side, delayed-side, put-side, put_delayed-side, lost-side, lost_delayed-side, lasts-one, arrives-one, reusable-either, first-reusable, one-token, longer, longer_delayed}
+use Rattle.bm_law.specs.State.{Side, State}
+use Rattle.bm_cache.specs.Tokens.{Token}
+use Rattle.bm_cache.specs.Tests.{Reusable}
+use Rattle.bm_cache.specs.Shown.{shown, Took}
+use Rattle.bm_cache.specs.Span.{Face, Fine}
+use Rattle.bm_cache.proofs.Stretch.{stretch, fine-step, between-push}
+use Rattle.bm_cache.proofs.Moments.{took-at, pushed-side, lasts-one, arrives-one, one-token}
+use Rattle.bm_cache.proofs.Unbroken.{unbroken-step}
 use Rattle.bm_cache.proofs.release.push_free.Goals as goal
 
 pub returns-clause-pushed : goal.returns-clause-pushed
@@ -39,3 +34,8 @@ returns-clause-fine g c =
     let e : ((shown (g.H.Host.held c.point.new.self)).sides (g.H.Host.face c.args.host.now).level).hand ≡ c.requires.hand.0 ∷ [] = he ∙ c.requires.hand.1 in
     let p : Reusable (g.H.Host.tests c.point.new.self) c.requires.hand.0 = lasts-one (g.H.Host.tests c.args.host.now) (g.H.Host.tests c.point.new.self) 0 c.requires.hand.0 _ c.requires.hand.1 (c.point.ensures.came.lasting.hands (g.H.Host.face c.args.host.now).level (omega arith)) (c.requires.suits c.requires.hand.0 c.requires.hand.1) in
     fine-step g.R.Recorder.log g.R.Recorder.counts (g.H.Host.face c.args.host.now).level _ (entry.Push c.args.class q.0.number) _ _ (g.H.Host.face c.point.new.self) _ (g.H.Host.held c.point.new.self) _ _ _ c.level-level.ensures.same c.caches.ensures.held (g.met.H.Host.held_back c.point.new.self c.push.new.self) (g.met.H.Host.tests_back c.point.new.self c.push.new.self) (g.met.H.Host.face_back c.point.new.self c.push.new.self) (ap (λ (f : Face). f.level) c.point.ensures.goes.face) (let F : ℕ → Type 0 = λ n. Fine g.R.Recorder.log g.R.Recorder.counts (g.H.Host.tests c.point.new.self) (g.H.Host.face c.point.new.self).processors (n + 1) (g.H.Host.held c.point.new.self) in subst F (ap (λ (f : Face). f.level) c.point.ensures.goes.face) c.point.ensures.fine) q.3 c.push.ensures.placed tt (arrives-one (Reusable (g.H.Host.tests c.point.new.self)) _ c.requires.hand.0 e p) tt
+
+pub returns-clause-alone : goal.returns-clause-alone
+returns-clause-alone g c =
+    let q = c.push.ensures.pushed in
+    unbroken-step g.H.Host.face g.H.Host.pending g.H.Host.held g.R.Recorder.log c.args.host.now c.point.new.self (g.H.Host.with_held c.point.new.self c.push.new.self) c.caches.result.now c.push.new.self c.level-level.result (entry.Push c.args.class q.0.number) [] c.point.ensures.quiet c.level-level.ensures.same c.caches.ensures.held (g.met.H.Host.held_back c.point.new.self c.push.new.self) (g.met.H.Host.pending_back c.point.new.self c.push.new.self) q.3

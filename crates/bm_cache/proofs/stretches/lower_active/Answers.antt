@@ -1,11 +1,9 @@
-use Rattle.std.proofs.Common.{◌≡◌, ◌+◌, ◌-◌, ◌<◌, ◌≤◌, ◌++◌, ℕ, Bool, Option, Some, None, List, [], ◌∷◌, length, map, drop, take, true, false, refl, ap, ◌∙◌, sym, subst, arith}
+use Rattle.std.proofs.Common.{◌+◌, ◌<◌, ℕ, [], ap, subst}
 use Rattle.bm_journal.specs.declared.entry.Entry.TheVariants as entry
-use Rattle.bm_law.specs.declared.mark.Mark.TheVariants as mark
-use Rattle.bm_law.specs.State.{Row, Side, State}
-use Rattle.bm_cache.specs.Tokens.{Token, number_of}
-use Rattle.bm_cache.specs.Shown.{shown, waiting, Took}
+use Rattle.bm_cache.specs.Shown.{shown}
 use Rattle.bm_cache.specs.Span.{Face, Fine}
-use Rattle.bm_cache.proofs.Stretch.{stretch, fine-step, between-enter, between-leave, between-raise, between-pop, between-push, between-count, between-delayed, between-put, between-put_delayed, between-hand, between-none}
+use Rattle.bm_cache.proofs.Stretch.{stretch, fine-step, between-leave}
+use Rattle.bm_cache.proofs.Unbroken.{unbroken-step}
 use Rattle.bm_cache.proofs.stretches.lower_active.Goals as goal
 
 pub returns-clause-span : goal.returns-clause-span
@@ -15,3 +13,7 @@ returns-clause-span g c =
 
 pub returns-clause-fine : goal.returns-clause-fine
 returns-clause-fine g c = fine-step g.R.Recorder.log g.R.Recorder.counts (g.H.Host.face c.args.host.now).level _ (entry.Leave c.args.class c.leave.result) _ _ (g.H.Host.face c.point.new.self) _ (g.H.Host.held c.point.new.self) _ _ _ c.level-level.ensures.same c.caches.ensures.held (g.met.H.Host.held_back c.point.new.self c.leave.new.self) (g.met.H.Host.tests_back c.point.new.self c.leave.new.self) (g.met.H.Host.face_back c.point.new.self c.leave.new.self) (ap (λ (f : Face). f.level) c.point.ensures.goes.face) (let F : ℕ → Type 0 = λ n. Fine g.R.Recorder.log g.R.Recorder.counts (g.H.Host.tests c.point.new.self) (g.H.Host.face c.point.new.self).processors (n + 1) (g.H.Host.held c.point.new.self) in subst F (ap (λ (f : Face). f.level) c.point.ensures.goes.face) c.point.ensures.fine) c.leave.ensures.step c.leave.ensures.placed tt tt tt
+
+pub returns-clause-alone : goal.returns-clause-alone
+returns-clause-alone g c =
+    unbroken-step g.H.Host.face g.H.Host.pending g.H.Host.held g.R.Recorder.log c.args.host.now c.point.new.self (g.H.Host.with_held c.point.new.self c.leave.new.self) c.caches.result.now c.leave.new.self c.level-level.result (entry.Leave c.args.class c.leave.result) [] c.point.ensures.quiet c.level-level.ensures.same c.caches.ensures.held (g.met.H.Host.held_back c.point.new.self c.leave.new.self) (g.met.H.Host.pending_back c.point.new.self c.leave.new.self) c.leave.ensures.step

@@ -1,22 +1,12 @@
 use Rattle.std.specs.Option.{is_some}
-use Rattle.std.proofs.Common.{not, ◌≡◌, ◌≢◌, ◌+◌, ◌-◌, ◌<◌, ◌≤◌, ◌++◌, ℕ, Bool, Option, Some, None, List, [], ◌∷◌, length, map, drop, take, true, false, refl, ap, ◌∙◌, sym, subst, arith, inl, inr, append_assoc, lt-ltb}
-use Rattle.std.specs.List.{All}
-use Rattle.bm_journal.specs.declared.entry.Entry.{Entry}
+use Rattle.std.proofs.Common.{not, ◌≡◌, [], ◌∷◌, false, refl, ap, ◌∙◌, subst}
 use Rattle.bm_journal.specs.declared.entry.Entry.TheVariants as entry
-use Rattle.bm_law.specs.declared.mark.Mark.TheVariants as mark
-use Rattle.bm_law.specs.State.{Row, Side, State}
-use Rattle.bm_law.specs.Effect.{effect}
-use Rattle.bm_law.specs.Places.{Free as free_list, Extra as extra_list}
-use Rattle.bm_cache.specs.Tokens.{Token, number_of}
-use Rattle.bm_cache.specs.Tests.{Tests, Reusable, Waits, Same, Either}
-use Rattle.bm_cache.specs.Shown.{shown, waiting, Took}
-use Rattle.bm_cache.specs.Span.{Face, Came, Fine, Span, Goes}
-use Rattle.bm_law.specs.Kept.{Ready}
-use Rattle.bm_law.specs.Phrases.{raise_below, raise_above, raise_unless}
+use Rattle.bm_cache.specs.Shown.{shown}
+use Rattle.bm_cache.specs.Span.{Face}
 use Rattle.bm_cache.specs.declared.caches.Caches.{Caches}
-use Rattle.bm_cache.proofs.Asked.{one-first}
-use Rattle.bm_cache.proofs.Stretch.{stretch, fine-step, span-join, walk-still, walk-join, lasting-join, lasting-none, lasting-below, between-enter, between-leave, between-raise, between-pop, between-push, between-count, between-delayed, between-put, between-put_delayed, between-hand, between-none}
-use Rattle.bm_cache.proofs.Moments.{took-at, span-at, waiting-kept, counted-down, counted-up, popped-side, pushed-side, delayed-side, put-side, put_delayed-side, lost-side, lost_delayed-side, lasts-one, arrives-one, reusable-either, first-reusable, one-token, longer, longer_delayed, span-from, goes-join, goes-back, unless-none, unless-some}
+use Rattle.bm_cache.proofs.Stretch.{span-join, walk-still}
+use Rattle.bm_cache.proofs.Moments.{span-from, goes-join, goes-back, unless-none}
+use Rattle.bm_cache.proofs.Unbroken.{unbroken-join, unbroken-same}
 use Rattle.bm_cache.proofs.stretches.lower_unless.Goals as goal
 
 pub returns-then-is_none-clause-span : goal.returns-then-is_none-clause-span
@@ -31,3 +21,11 @@ returns-then-is_none-clause-span g c =
 pub returns-then-is_none-clause-goes : goal.returns-then-is_none-clause-goes
 returns-then-is_none-clause-goes g c =
     goes-join g.met.H.Host.keeps_join c.lower_active-active.ensures.goes (goes-join g.met.H.Host.keeps_join (goes-back c.lower_active-active.new.host (g.H.Host.with_held c.lower_active-active.new.host c.caches.result.now) (g.met.H.Host.face_back c.lower_active-active.new.host c.caches.result.now) (g.met.H.Host.pending_back c.lower_active-active.new.host c.caches.result.now) (g.met.H.Host.keeps_back c.lower_active-active.new.host c.caches.result.now)) c.raise_flag.ensures.goes)
+
+pub returns-then-is_none-clause-alone : goal.returns-then-is_none-clause-alone
+returns-then-is_none-clause-alone g c =
+    unbroken-join c.lower_active-active.ensures.goes (goes-join g.met.H.Host.keeps_join (goes-back c.lower_active-active.new.host (g.H.Host.with_held c.lower_active-active.new.host c.caches.result.now) (g.met.H.Host.face_back c.lower_active-active.new.host c.caches.result.now) (g.met.H.Host.pending_back c.lower_active-active.new.host c.caches.result.now) (g.met.H.Host.keeps_back c.lower_active-active.new.host c.caches.result.now)) c.raise_flag.ensures.goes) c.lower_active-active.ensures.alone (unbroken-join (goes-back c.lower_active-active.new.host (g.H.Host.with_held c.lower_active-active.new.host c.caches.result.now) (g.met.H.Host.face_back c.lower_active-active.new.host c.caches.result.now) (g.met.H.Host.pending_back c.lower_active-active.new.host c.caches.result.now) (g.met.H.Host.keeps_back c.lower_active-active.new.host c.caches.result.now)) c.raise_flag.ensures.goes (unbroken-same g.H.Host.face g.H.Host.pending g.H.Host.held g.R.Recorder.log c.lower_active-active.new.host (g.H.Host.with_held c.lower_active-active.new.host c.caches.result.now) (g.met.H.Host.held_back c.lower_active-active.new.host c.caches.result.now ∙ c.caches.ensures.held)) c.raise_flag.ensures.alone)
+
+pub returns-else-is_none-clause-alone : goal.returns-else-is_none-clause-alone
+returns-else-is_none-clause-alone g c =
+    unbroken-join c.lower_active-active.ensures.goes (goes-back c.lower_active-active.new.host (g.H.Host.with_held c.lower_active-active.new.host c.caches.result.now) (g.met.H.Host.face_back c.lower_active-active.new.host c.caches.result.now) (g.met.H.Host.pending_back c.lower_active-active.new.host c.caches.result.now) (g.met.H.Host.keeps_back c.lower_active-active.new.host c.caches.result.now)) c.lower_active-active.ensures.alone (unbroken-same g.H.Host.face g.H.Host.pending g.H.Host.held g.R.Recorder.log c.lower_active-active.new.host (g.H.Host.with_held c.lower_active-active.new.host c.caches.result.now) (g.met.H.Host.held_back c.lower_active-active.new.host c.caches.result.now ∙ c.caches.ensures.held))

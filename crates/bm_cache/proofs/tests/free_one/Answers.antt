@@ -1,7 +1,7 @@
-use Rattle.std.proofs.Common.{◌≡◌, ◌+◌, ◌++◌, ℕ, [], ◌∷◌, refl, sym}
+use Rattle.std.proofs.Common.{refl}
 use Rattle.bm_cache.specs.Holding.{tests_beside}
 use Rattle.bm_cache.specs.Shown.{shown}
-use Rattle.bm_cache.proofs.Absent.{nowhere, failing, proper-other, tests-held, tests-other, tests-free, holding-rest, holding-last, fine-other}
+use Rattle.bm_cache.proofs.Absent.{nowhere, failing, proper-other, tests-held, tests-other, tests-free, holding-rest, fine-other}
 use Rattle.bm_cache.proofs.tests.free_one.Goals as goal
 
 pub handler-requires-clause-sound : goal.handler-requires-clause-sound

@@ -1,6 +1,5 @@
-use Rattle.std.proofs.Common.{◌≡◌, ap, ◌∙◌}
+use Rattle.std.proofs.Common.{ap, ◌∙◌}
 use Rattle.bm_law.specs.State.{Row}
-use Rattle.bm_law.specs.Lists.{stamp_of}
 use Rattle.bm_cache.specs.Numbers.{numbers_of}
 use Rattle.bm_cache.specs.Tokens.{Token}
 use Rattle.bm_cache.proofs.Shown.{at-row}

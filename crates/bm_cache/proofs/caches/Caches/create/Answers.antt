@@ -1,10 +1,4 @@
-use Rattle.std.proofs.Common.{◌≡◌, ◌+◌, ◌≤◌, ◌++◌, ℕ, List, [], ◌∷◌, map, Option, Some, None, IfSome, refl, ap, ◌∙◌, sym, subst, arith}
-use Rattle.bm_law.proofs.Between.{Ready-opening}
-use Rattle.bm_law.specs.Kept.{Ready}
-use Rattle.bm_law.specs.State.{State, opening}
-use Rattle.bm_cache.specs.Tokens.{Token}
-use Rattle.bm_cache.specs.Opening.{filled}
-use Rattle.bm_cache.specs.Shown.{shown}
+use Rattle.std.proofs.Common.{refl}
 use Rattle.bm_cache.proofs.Opened.{shown-opening, placed-opening, fresh-opening, opened}
 use Rattle.bm_cache.proofs.caches.Caches.create.Goals as goal
 

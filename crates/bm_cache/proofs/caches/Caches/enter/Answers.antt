@@ -1,13 +1,12 @@
-use Rattle.std.proofs.Common.{◌≡◌, ◌+◌, ◌<◌, ℕ, [], refl, ap, ◌∙◌, sym, arith}
+use Rattle.std.proofs.Common.{◌≡◌, ◌+◌, [], refl, ap, ◌∙◌, arith}
 use Rattle.bm_journal.specs.declared.entry.Entry.TheVariants.{Enter}
 use Rattle.bm_law.specs.declared.mark.Mark.TheVariants.{Quiet}
 use Rattle.bm_law.specs.State.{Row, Side}
 use Rattle.bm_law.specs.Effect.{aimed}
 use Rattle.bm_cache.specs.Tokens.{Token}
-use Rattle.bm_cache.specs.Shown.{shown, Took}
-use Rattle.bm_cache.specs.Placed.{Placed}
+use Rattle.bm_cache.specs.Shown.{shown}
 use Rattle.bm_cache.proofs.Shown.{at-row, at-side, wrote-both, below_eleven, below_four}
-use Rattle.bm_cache.proofs.Placed.{Sound, placed-step, still}
+use Rattle.bm_cache.proofs.Placed.{placed-step, still}
 use Rattle.bm_cache.proofs.caches.Caches.enter.Goals as goal
 
 pub enter-active-requires : goal.enter-active-requires

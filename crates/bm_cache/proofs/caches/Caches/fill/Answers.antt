@@ -1,24 +1,14 @@
-use Rattle.std.proofs.Common.{◌≡◌, ◌≢◌, ◌+◌, ◌-◌, ◌<◌, ◌≤◌, ◌++◌, ℕ, Bool, Option, Some, None, List, [], ◌∷◌, length, map, drop, take, reverse, true, false, refl, ap, ◌∙◌, sym, subst, arith}
-use Rattle.std.proofs.lemmas.List.{length-map}
-use Rattle.std.specs.List.{All}
-use Rattle.std.proofs.lemmas.List.Elements.{All-head, All-cons, All-nil}
-use Rattle.bm_journal.specs.declared.entry.Entry.{Entry}
+use Rattle.std.proofs.Common.{◌≡◌, ◌+◌, ◌++◌, ℕ, length, reverse, refl, ap, ◌∙◌, subst, arith}
 use Rattle.bm_journal.specs.declared.entry.Entry.TheVariants as entry
-use Rattle.bm_journal.specs.Recording.{Appends}
-use Rattle.bm_law.specs.declared.mark.Mark.TheVariants as mark
 use Rattle.bm_journal.specs.Counts.{counts_after}
 use Rattle.bm_journal.specs.declared.units.Units.{Units}
 use Rattle.bm_journal.specs.declared.units.Units.TheVariants.{Whole}
-use Rattle.bm_law.specs.State.{Row, Side, State, seen}
+use Rattle.bm_law.specs.State.{Row}
 use Rattle.bm_cache.specs.Opening.{named}
-use Rattle.bm_law.specs.Effect.{aimed, effect}
-use Rattle.bm_cache.specs.Tokens.{Token, number_of, seal_numbers, given_by}
-use Rattle.bm_cache.specs.Each.{Numbered, Sits}
-use Rattle.bm_cache.specs.Shown.{shown, waiting, Took}
-use Rattle.bm_cache.specs.Placed.{Placed}
-use Rattle.bm_cache.proofs.Shown.{at-row, at-side, wrote-both, wrote-row, wrote-side, wrote-none, below_eleven, below_four}
-use Rattle.bm_cache.proofs.Placed.{Sound, placed-step}
-use Rattle.bm_cache.proofs.Asked.{Room, rooms, sound, sound-fresh, hand_room, fill-room, fill-count, fill-sound, count-positive, count-below, number-first, sits-first, some-length, numbered-first, held-first}
+use Rattle.bm_cache.specs.Tokens.{Token}
+use Rattle.bm_cache.proofs.Shown.{at-row, wrote-row, below_eleven}
+use Rattle.bm_cache.proofs.Placed.{placed-step}
+use Rattle.bm_cache.proofs.Asked.{fill-room, fill-count, fill-sound}
 use Rattle.bm_cache.proofs.caches.Caches.fill.Goals as goal
 
 pub fill-requires-clause-room : goal.fill-requires-clause-room

@@ -1,21 +1,14 @@
-use Rattle.std.proofs.Common.{◌≡◌, ◌≢◌, ◌+◌, ◌-◌, ◌<◌, ◌≤◌, ◌++◌, ℕ, Bool, Option, Some, None, List, [], ◌∷◌, length, map, drop, take, true, false, refl, ap, ◌∙◌, sym, subst, arith}
-use Rattle.std.proofs.lemmas.List.{length-map}
-use Rattle.std.specs.List.{All}
-use Rattle.std.proofs.lemmas.List.Elements.{All-head, All-cons, All-nil}
-use Rattle.bm_journal.specs.declared.entry.Entry.{Entry}
+use Rattle.std.proofs.Common.{◌≡◌, ◌++◌, ℕ, List, [], ◌∷◌, length, map, drop, take, refl, ap, ◌∙◌, sym, subst, arith}
 use Rattle.bm_journal.specs.declared.entry.Entry.TheVariants as entry
 use Rattle.bm_journal.specs.Recording.{Appends}
 use Rattle.bm_law.specs.declared.mark.Mark.TheVariants as mark
-use Rattle.bm_law.specs.State.{Row, Side, State, seen}
-use Rattle.bm_law.specs.Effect.{aimed, effect}
+use Rattle.bm_law.specs.State.{Row, Side}
 use Rattle.bm_law.specs.Places.{Free as free}
-use Rattle.bm_cache.specs.Tokens.{Token, number_of, seal_numbers, given_by}
-use Rattle.bm_cache.specs.Each.{Numbered, Sits}
-use Rattle.bm_cache.specs.Shown.{shown, waiting, Took}
-use Rattle.bm_cache.specs.Placed.{Placed}
-use Rattle.bm_cache.proofs.Shown.{at-row, at-side, wrote-both, wrote-row, wrote-side, wrote-none, wrote-same, below_eleven, below_four}
-use Rattle.bm_cache.proofs.Placed.{Sound, placed-step}
-use Rattle.bm_cache.proofs.Asked.{Room, rooms, sound, sound-fresh, hand_room, note-took, note-placed, count-positive, count-below, number-first, sits-first, some-length, numbered-first, held-first}
+use Rattle.bm_cache.specs.Tokens.{Token, number_of}
+use Rattle.bm_cache.specs.Shown.{shown, Took}
+use Rattle.bm_cache.proofs.Shown.{at-row, at-side, wrote-both, wrote-same, below_eleven, below_four}
+use Rattle.bm_cache.proofs.Placed.{placed-step}
+use Rattle.bm_cache.proofs.Asked.{rooms, sound, number-first, some-length, held-first}
 use Rattle.bm_cache.proofs.caches.Caches.pop.Goals as goal
 
 pub take_in-requires : goal.take_in-requires

@@ -1,16 +1,13 @@
-use Rattle.std.proofs.Common.{◌≡◌, ◌≢◌, ◌+◌, ◌-◌, ◌<◌, ◌≤◌, ◌++◌, ℕ, Bool, List, [], ◌∷◌, length, map, drop, take, true, false, refl, ap, ◌∙◌, sym, subst, arith}
-use Rattle.bm_journal.specs.declared.entry.Entry.{Entry}
+use Rattle.std.proofs.Common.{◌≡◌, ◌++◌, ℕ, List, [], ◌∷◌, length, map, drop, take, refl, ap, ◌∙◌, sym, subst, arith}
 use Rattle.bm_journal.specs.declared.entry.Entry.TheVariants as entry
 use Rattle.bm_law.specs.declared.mark.Mark.TheVariants as mark
 use Rattle.bm_journal.specs.Recording.{Appends}
-use Rattle.bm_law.specs.State.{Row, Side, State, seen}
-use Rattle.bm_law.specs.Effect.{aimed, effect}
+use Rattle.bm_law.specs.State.{Row, Side}
 use Rattle.bm_cache.specs.Tokens.{Token, number_of}
-use Rattle.bm_cache.specs.Shown.{shown, waiting, Took}
-use Rattle.bm_cache.specs.Placed.{Placed}
-use Rattle.bm_cache.proofs.Shown.{at-row, at-side, wrote-both, wrote-row, wrote-side, wrote-none, below_eleven, below_four}
-use Rattle.bm_cache.proofs.Placed.{Sound, placed-step}
-use Rattle.bm_cache.proofs.Asked.{Room, rooms, sound, fresh-one, count-positive, count-below, number-first, sits-first, some-length, numbered-first}
+use Rattle.bm_cache.specs.Shown.{shown, Took}
+use Rattle.bm_cache.proofs.Shown.{at-row, at-side, wrote-both, below_eleven, below_four}
+use Rattle.bm_cache.proofs.Placed.{placed-step}
+use Rattle.bm_cache.proofs.Asked.{rooms, sound, number-first, sits-first, some-length}
 use Rattle.bm_cache.proofs.caches.Caches.push.Goals as goal
 
 pub push-requires : goal.push-requires

@@ -1,25 +1,15 @@
-use Rattle.bm_cache.proofs.Opened.{no-items}
-use Rattle.std.proofs.Common.{◌≡◌, ◌≢◌, ◌+◌, ◌-◌, ◌<◌, ◌≤◌, ◌++◌, ℕ, Bool, Option, Some, None, List, [], ◌∷◌, length, map, drop, take, reverse, true, false, refl, ap, ◌∙◌, sym, subst, arith}
+use Rattle.std.proofs.Common.{◌+◌, ◌++◌, Some, List, [], length, map, refl, ap, ◌∙◌, sym, arith}
 use Rattle.std.proofs.lemmas.List.{length-map}
-use Rattle.std.specs.List.{All}
-use Rattle.std.proofs.lemmas.List.Elements.{All-head, All-cons, All-nil}
-use Rattle.bm_journal.specs.declared.entry.Entry.{Entry}
 use Rattle.bm_journal.specs.declared.entry.Entry.TheVariants as entry
-use Rattle.bm_journal.specs.Recording.{Appends}
-use Rattle.bm_law.specs.declared.mark.Mark.TheVariants as mark
-use Rattle.bm_law.specs.State.{Row, Side, State, seen}
-use Rattle.bm_law.specs.Effect.{aimed, effect}
+use Rattle.bm_law.specs.State.{Row}
 use Rattle.bm_law.specs.Places.{Ready as the_list}
-use Rattle.bm_cache.specs.Tokens.{Token, number_of, seal_numbers, given_by}
-use Rattle.bm_cache.specs.Each.{Numbered, Sits}
+use Rattle.bm_cache.specs.Tokens.{Token, number_of}
 use Rattle.bm_journal.specs.declared.units.Units.TheVariants.{Whole}
 use Rattle.bm_law.specs.Stands.{Known}
-use Rattle.bm_cache.specs.Listed.{TookList}
-use Rattle.bm_cache.specs.Shown.{shown, waiting, Took}
-use Rattle.bm_cache.specs.Placed.{Placed}
-use Rattle.bm_cache.proofs.Shown.{at-row, at-side, wrote-both, wrote-row, wrote-side, wrote-none, below_eleven, below_four}
-use Rattle.bm_cache.proofs.Placed.{Sound, placed-list, of-class}
-use Rattle.bm_cache.proofs.Asked.{pair-rooms, Room, rooms, sound, sound-fresh, hand_room, note-took, note-placed, count-positive, count-below, number-first, sits-first, some-length, numbered-first, held-first}
+use Rattle.bm_cache.specs.Shown.{shown}
+use Rattle.bm_cache.proofs.Shown.{at-row, wrote-row, below_eleven, below_four}
+use Rattle.bm_cache.proofs.Placed.{placed-list}
+use Rattle.bm_cache.proofs.Asked.{pair-rooms, sound}
 use Rattle.bm_cache.proofs.caches.Caches.take_all_ready.Goals as goal
 
 pub begin_second-requires : goal.begin_second-requires

@@ -1,7 +1,7 @@
-use Rattle.std.proofs.Common.{◌≡◌, List, map, reverse, sym, ap, ◌∙◌}
+use Rattle.std.proofs.Common.{map, reverse, sym, ap, ◌∙◌}
 use Rattle.bm_journal.specs.declared.units.Units.TheVariants.{Whole}
 use Rattle.bm_law.proofs.Seen.{map-reverse}
-use Rattle.bm_cache.specs.Tokens.{Token, number_of}
+use Rattle.bm_cache.specs.Tokens.{number_of}
 use Rattle.bm_cache.proofs.stack.Stack.names.Goals as goal
 
 pub returns-in-Ok-clause-whole : goal.returns-in-Ok-clause-whole

@@ -1,0 +1,49 @@
+use Rattle.std.proofs.Common.{◌≡◌, ◌++◌, Some, List, [], length, map, refl, ap, ◌∙◌, sym}
+use Rattle.std.proofs.lemmas.List.{length-map}
+use Rattle.bm_journal.specs.declared.entry.Entry.TheVariants as entry
+use Rattle.bm_journal.specs.declared.units.Units.TheVariants.{Whole}
+use Rattle.bm_law.specs.State.{Row, seven_lists}
+use Rattle.bm_law.specs.Stands.{Known}
+use Rattle.bm_cache.specs.Tokens.{Token, number_of}
+use Rattle.bm_cache.specs.Shown.{shown}
+use Rattle.bm_cache.proofs.Shown.{at-row, wrote-row, below_eleven, below_four}
+use Rattle.bm_cache.proofs.Placed.{placed-units}
+use Rattle.bm_cache.proofs.Lent.{sweep-names, sweep-brings, sweep-count, sweep-room, sweep-sound}
+use Rattle.std.specs.Prelude.{flat_map}
+use Rattle.bm_cache.proofs.caches.Caches.sweep_in.Goals as goal
+
+pub sweep-requires : goal.sweep-requires
+sweep-requires g c =
+    let r = at-row c.args.self.now c.args.class _ _ c.index-row.ensures.same c.index-row.ensures.in_range c.index_mut-cache.ensures.value in
+    let m = sweep-room g.R.Recorder.log g.R.Recorder.counts c.args.self.now c.requires.placed c.args.class c.args.level (flat_map (λ p. p.items) c.args.parcels.items) (below_eleven _ _ c.index-row.ensures.same c.index-row.ensures.in_range) (below_four _ _ c.number-level.ensures.same c.number-level.ensures.bound) c.requires.sit c.requires.none c.requires.fresh in
+    rw r m
+
+pub returns-clause-step : goal.returns-clause-step
+returns-clause-step g c =
+    let us : List Token = flat_map (λ p. p.items) c.args.parcels.items in
+    let row : Row Token = (shown c.args.self.now).rows c.args.class in
+    let r = at-row c.args.self.now c.args.class _ _ c.index-row.ensures.same c.index-row.ensures.in_range c.index_mut-cache.ensures.value in
+    let x : c.sweep.new.self.deferred.second ≡ seven_lists row ++ us = ap (λ (y : Row Token). y.deferred.second) c.sweep.ensures ∙ ap (λ (y : Row Token). seven_lists y ++ us) r in
+    record {
+      units = c.second_names-units.result;
+      count = c.second_names-units.ensures.count ∙ ap length x ∙ sym (length-map (seven_lists row ++ us) number_of);
+      whole = λ h. c.second_names-units.ensures.whole h ∙ ap (λ (ts : List Token). Whole (map number_of ts)) x;
+      names = sweep-names row us;
+      brings = sweep-brings row us;
+      after = wrote-row c.args.self.now _ c.args.class _ (λ r. record r { free = []; extra = []; delayed = []; extra_delayed = []; count = 0; deferred = record r.deferred { first = []; ready = []; second = seven_lists r ++ us; tracing = Some 0 } }) _ _ c.index-row.ensures.same c.index-row.ensures.in_range c.index_mut-cache.ensures.value c.sweep.ensures refl refl refl;
+      records = c.put.ensures.recorded;
+      told = c.put.ensures.whole;
+      number = c.saturating_add-self.ensures;
+      processor = refl;
+    }
+
+pub returns-clause-placed : goal.returns-clause-placed
+unfolding returns-clause-step
+returns-clause-placed g c =
+    let us : List Token = flat_map (λ p. p.items) c.args.parcels.items in
+    let row : Row Token = (shown c.args.self.now).rows c.args.class in
+    let t = returns-clause-step g c in
+    let k : Known c.args.level (entry.Sweep c.args.class t.units) = record { level = (below_four _ _ c.number-level.ensures.same c.number-level.ensures.bound); class = (below_eleven _ _ c.index-row.ensures.same c.index-row.ensures.in_range) } in
+    placed-units g.R.Recorder.log g.R.Recorder.counts c.args.self.now _ c.args.level (entry.Sweep c.args.class) (map number_of (seven_lists row ++ us)) us c.requires.placed t c.put.ensures.counted
+    (sweep-sound g.R.Recorder.log g.R.Recorder.counts c.args.self.now c.requires.placed c.args.class c.args.level us (below_eleven _ _ c.index-row.ensures.same c.index-row.ensures.in_range) (below_four _ _ c.number-level.ensures.same c.number-level.ensures.bound) c.requires.sit c.requires.none c.requires.fresh)
+    (λ ns. refl) k (t.count ∙ sweep-count row us) refl
