@@ -9,6 +9,7 @@ use Rattle.bm_lang.specs.declared.scenario.RunLine.{RunLine}
 use Rattle.bm_lang.specs.declared.scenario.Scenario.{Scenario}
 use Rattle.bm_lang.specs.declared.scenario.Script.{Script}
 use Rattle.bm_law.specs.State.{State, seven_lists}
+use Rattle.bm_law.specs.Alone.{at_level}
 use Rattle.bm_law.specs.Lists.{Log, Leaves}
 use Rattle.bm_law.specs.SweepPhrases.{SweepPhrase}
 use Rattle.bm_lawful.specs.Held.{Names, no_names, OwnsNothing}
@@ -17,8 +18,7 @@ use Rattle.bm_lawful.specs.Runs.{RunsBlock}
 
 -- entries of ordinary code, which is level 0
 abbrev pub ordinary : List Entry → Log
-ordinary [] = []
-ordinary (e ∷ es) = (0, e) ∷ ordinary es
+ordinary own = at_level 0 own
 
 -- the opening: a cache of each class is filled
 abbrev pub AreFills : List ℕ → List Entry → Type 0

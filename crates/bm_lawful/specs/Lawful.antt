@@ -2,6 +2,7 @@
 use Rattle.std.specs.Prelude.{◌≡◌, ℕ, List, [], Some, length, map, slice_get}
 use Rattle.bm_journal.specs.declared.entry.Entry.{Entry}
 use Rattle.bm_journal.specs.declared.journal.Journal.{Journal}
+use Rattle.bm_journal.specs.Totals.{totals_of}
 use Rattle.bm_lang.specs.declared.scenario.Scenario.{Scenario}
 use Rattle.bm_lang.specs.declared.scenario.Script.{Script}
 use Rattle.bm_lang.specs.declared.scenario.MapDeclaration.{MapDeclaration}
@@ -38,3 +39,4 @@ pub record Lawful (s : Scenario) (j : Journal) : Type 0 where
   pub count : length j.logs ≡ s.processors
   pub logs : (p : ℕ) (log : Log) → slice_get j.logs p ≡ Some log → LawfulLog s p log
   pub graphs : j.graphs ≡ []
+  pub totals : j.totals ≡ totals_of j.logs
