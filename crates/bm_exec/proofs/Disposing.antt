@@ -1,5 +1,5 @@
 -- An object that is given up.
-use Rattle.std.proofs.Common.{◌≡◌, ◌≢◌, ◌<◌, ℕ, not, List, [], ◌∷◌, length, sym, ap, ◌∙◌, Option, Some, None, inl, inr, get_or, nat_le, is_some, arith, eq-eqb, ne_eqb, subst, zero, suc}
+use Rattle.std.proofs.Common.{◌≡◌, ◌≢◌, ◌<◌, ◌&&◌, true, ℕ, not, List, [], ◌∷◌, length, sym, ap, ◌∙◌, Option, Some, None, inl, inr, get_or, nat_le, is_some, arith, eq-eqb, ne_eqb, subst, zero, suc}
 use mathlib.Core.Path.{fun_ext}
 use Rattle.std.proofs.Math.ListN.{set}
 use Rattle.std.proofs.lemmas.Bool.Decides.{nat_tests}
@@ -16,6 +16,8 @@ use Rattle.bm_law.specs.Stands.{stands}
 use Rattle.bm_law.proofs.Spans.{Records-one, Records-join}
 use Rattle.bm_cache.specs.Answers.{RestFreed}
 use Rattle.bm_cache.specs.Tests.{Passes, Reusable, Either, Suits, Proper}
+use Rattle.bm_page.specs.declared.units.Stocked.{Stocked}
+use Rattle.bm_page.specs.Stock.{stocked_at}
 use Rattle.bm_cache.specs.Tokens.{Token, number_of}
 use Rattle.bm_exec.specs.Living.{Living, Lives, with_life, Disposed}
 use Rattle.bm_exec.specs.Slots.{unit_at, living_of, lives_of, tests_of, Kept}
@@ -23,39 +25,40 @@ use Rattle.bm_exec.proofs.Apart.{together}
 use Rattle.bm_exec.proofs.Lives.{at-same, at-other, nat_same, first, join, none-of}
 
 -- what passes isn't one that lives
-not-alive : (slots : List (Option Token)) (asked j n : ℕ) (u v : Token) → unit_at slots n ≡ Some u → Passes (tests_of slots asked) j v → v.number ≢ n
-not-alive slots asked j n u v e p = λ q. clash (none-of (unit_at slots v.number) (first (not (is_some (unit_at slots v.number))) (nat_le v.life asked) p)) (ap (unit_at slots) q ∙ e)
+not-alive : (slots : List (Option Token)) (stock : List Stocked) (asked j n : ℕ) (u v : Token) → unit_at slots n ≡ Some u → Passes (tests_of slots asked stock) j v → v.number ≢ n
+not-alive slots stock asked j n u v e p = λ q. clash (none-of (unit_at slots v.number) (first (not (is_some (unit_at slots v.number))) (nat_le v.life asked && (stocked_at stock v.number).out) p)) (ap (unit_at slots) q ∙ e)
   where
     clash : {x : Option Token} → x ≡ None → x ≡ Some u → ⊥
     clash f g = cc
 
-suits-apart : (slots : List (Option Token)) (asked n : ℕ) (u : Token) (k : Stack) (v : Token) → unit_at slots n ≡ Some u → Suits (tests_of slots asked) k v → v.number ≢ n
-suits-apart slots asked n u Free v e s = not-alive slots asked 0 n u v e s
-suits-apart slots asked n u Extra v e s = not-alive slots asked 0 n u v e s
-suits-apart slots asked n u Ready v e s = not-alive slots asked 0 n u v e s
-suits-apart slots asked n u Delayed v e s = not-alive slots asked 1 n u v e s
-suits-apart slots asked n u Extra_delayed v e s = not-alive slots asked 1 n u v e s
-suits-apart slots asked n u First v e s = not-alive slots asked 1 n u v e s
-suits-apart slots asked n u Second v e (inl s) = not-alive slots asked 0 n u v e s
-suits-apart slots asked n u Second v e (inr s) = not-alive slots asked 1 n u v e s
+suits-apart : (slots : List (Option Token)) (stock : List Stocked) (asked n : ℕ) (u : Token) (k : Stack) (v : Token) → unit_at slots n ≡ Some u → Suits (tests_of slots asked stock) k v → v.number ≢ n
+suits-apart slots stock asked n u Free v e s = not-alive slots stock asked 0 n u v e s
+suits-apart slots stock asked n u Extra v e s = not-alive slots stock asked 0 n u v e s
+suits-apart slots stock asked n u Ready v e s = not-alive slots stock asked 0 n u v e s
+suits-apart slots stock asked n u Delayed v e s = not-alive slots stock asked 1 n u v e s
+suits-apart slots stock asked n u Extra_delayed v e s = not-alive slots stock asked 1 n u v e s
+suits-apart slots stock asked n u First v e s = not-alive slots stock asked 1 n u v e s
+suits-apart slots stock asked n u Second v e (inl s) = not-alive slots stock asked 0 n u v e s
+suits-apart slots stock asked n u Second v e (inr s) = not-alive slots stock asked 1 n u v e s
 
-either-apart : (slots : List (Option Token)) (asked n : ℕ) (u v : Token) → unit_at slots n ≡ Some u → Either (tests_of slots asked) v → v.number ≢ n
-either-apart slots asked n u v e (inl s) = not-alive slots asked 0 n u v e s
-either-apart slots asked n u v e (inr s) = not-alive slots asked 1 n u v e s
+either-apart : (slots : List (Option Token)) (stock : List Stocked) (asked n : ℕ) (u v : Token) → unit_at slots n ≡ Some u → Either (tests_of slots asked stock) v → v.number ≢ n
+either-apart slots stock asked n u v e (inl s) = not-alive slots stock asked 0 n u v e s
+either-apart slots stock asked n u v e (inr s) = not-alive slots stock asked 1 n u v e s
 
 -- one that lives stands nowhere in the caches
-pub alive-apart : (slots : List (Option Token)) (asked n : ℕ) (u : Token) (s : State Token) → unit_at slots n ≡ Some u → Proper (tests_of slots asked) s → stands n (seen number_of s) ≡ 0
-alive-apart slots asked n u s e p = together n s (record {
-  lists = λ c k i d lt. suits-apart slots asked n u k (get_or (list_at k (s.rows c)) i d) e (p.lists c k i d lt);
-  hands = λ l i d lt. either-apart slots asked n u (get_or (s.sides l).hand i d) e (p.hands l i d lt);
+pub alive-apart : (slots : List (Option Token)) (stock : List Stocked) (asked n : ℕ) (u : Token) (s : State Token) → unit_at slots n ≡ Some u → Proper (tests_of slots asked stock) s → stands n (seen number_of s) ≡ 0
+alive-apart slots stock asked n u s e p = together n s (record {
+  lists = λ c k i d lt. suits-apart slots stock asked n u k (get_or (list_at k (s.rows c)) i d) e (p.lists c k i d lt);
+  hands = λ l i d lt. either-apart slots stock asked n u (get_or (s.sides l).hand i d) e (p.hands l i d lt);
 })
 
 -- .. and may be used again once it lives no more
-pub freed-suits : (processors asked n : ℕ) (u : Token) (slots : List (Option Token)) → Kept processors asked slots → n < length slots → unit_at slots n ≡ Some u → Reusable (tests_of (set slots n None) asked) u
-freed-suits processors asked n u slots k lt e =
+pub freed-suits : (processors asked n : ℕ) (u : Token) (slots : List (Option Token)) (stock : List Stocked) → Kept processors asked slots stock → n < length slots → unit_at slots n ≡ Some u → Reusable (tests_of (set slots n None) asked stock) u
+freed-suits processors asked n u slots stock k lt e =
     let m = k.number n u e in
     let h = k.life n u e in
-    join (not (is_some (unit_at (set slots n None) u.number))) (nat_le u.life asked) (ap (λ x. not (is_some x)) (ap (unit_at (set slots n None)) m ∙ at-same slots n None lt)) (grind (arith, nat_tests, h))
+    let c : nat_le u.life asked ≡ true = grind (arith, nat_tests, h) in
+    join (not (is_some (unit_at (set slots n None) u.number))) (nat_le u.life asked && (stocked_at stock u.number).out) (ap (λ x. not (is_some x)) (ap (unit_at (set slots n None)) m ∙ at-same slots n None lt)) (join (nat_le u.life asked) (stocked_at stock u.number).out c (rw m (k.out n u e)))
 
 pub lives-less : (slots : List (Option Token)) (n : ℕ) → n < length slots → lives_of (set slots n None) ≡ with_life n None (lives_of slots)
 lives-less slots n lt = fun_ext (λ v. elim (nat_same v n) [
@@ -78,11 +81,11 @@ within [] n u e = cc
 within (x ∷ xs) zero u e = omega arith
 within (x ∷ xs) (suc n) u e = let h = within xs n u e in omega (arith, h)
 
-pub disposed : (processors asked fell c : ℕ) (o : ObjId) (u : Token) (rest : List Entry) (log0 log1 log2 log3 : Option Log) (slots : List (Option Token)) (lives' : Lives) →
-    Kept processors asked slots → o.unit < length slots → unit_at slots o.unit ≡ Some u → lives_of slots o.unit ≡ Some (record { class = c; life = o.life }) →
+pub disposed : (processors asked fell c : ℕ) (o : ObjId) (u : Token) (rest : List Entry) (log0 log1 log2 log3 : Option Log) (slots : List (Option Token)) (stock : List Stocked) (lives' : Lives) →
+    Kept processors asked slots stock → o.unit < length slots → unit_at slots o.unit ≡ Some u → lives_of slots o.unit ≡ Some (record { class = c; life = o.life }) →
     Appends log0 0 (entry.Drop o.unit o.life) log1 → Appends log1 0 entry.Last log2 → Records 0 (entry.Free u.number u.home ∷ rest) log2 log3 → RestFreed fell u.class u.number rest →
     lives' ≡ lives_of (set slots o.unit None) → Disposed 0 c o log0 log3 (lives_of slots) lives'
-disposed processors asked fell c o u rest log0 log1 log2 log3 slots lives' k lt e alive n m r f lives =
+disposed processors asked fell c o u rest log0 log1 log2 log3 slots stock lives' k lt e alive n m r f lives =
     let is = living-is u c o.life (ap living_of (sym e) ∙ alive) in
     let number = k.number o.unit u e in record {
       home = u.home;

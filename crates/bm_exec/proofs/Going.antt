@@ -5,6 +5,8 @@ use Rattle.bm_lang.specs.declared.scenario.Statement.{Statement}
 use Rattle.bm_lang.specs.declared.scenario.TypeDeclaration.{TypeDeclaration}
 use Rattle.bm_lang.specs.Limits.{action_cost}
 use Rattle.bm_law.specs.Lists.{Log}
+use Rattle.bm_law.specs.Alone.{Alone}
+use Rattle.bm_law.proofs.Alone.{Adds-alone}
 use Rattle.bm_law.proofs.Spans.{Records-none, Records-join}
 use Rattle.bm_lawful.specs.Held.{Held, Nothing, Null, Object, Names, OwnsNothing}
 use Rattle.bm_check.specs.Statements.{Setting}
@@ -67,11 +69,12 @@ owns-none Nothing e = tt
 owns-none Null e = tt
 owns-none (Object t u n) e = cc
 
-pub went-end : (types : List TypeDeclaration) (l : ℕ) (e : Setting) (n0 n1 : Names) (b0 b1 : List Open) (lives : Lives) (a0 a1 : ℕ) (log0 log1 : Option Log) →
-    Went types l n0 n1 b0 b1 lives a0 a1 log0 log1 → Ended b1 → SafeStack e (store_of n0) b0 → Ran types l n0 n1 b0 log0 log1
-went-end types l e n0 n1 b0 b1 lives a0 a1 log0 log1 w d s = record {
+pub went-end : (types : List TypeDeclaration) (l : ℕ) (e : Setting) (n0 n1 : Names) (b0 b1 : List Open) (lives : Lives) (a0 a1 w0 w1 : ℕ) (log0 log1 : Option Log) →
+    Went types l n0 n1 b0 b1 lives a0 a1 log0 log1 → (w1 ≡ w0 → Alone l log0 log1) → Ended b1 → SafeStack e (store_of n0) b0 → Ran types l n0 n1 b0 w0 w1 log0 log1
+went-end types l e n0 n1 b0 b1 lives a0 a1 w0 w1 log0 log1 w u d s = record {
   part = w.part;
   records = w.records;
+  adds = λ h. Adds-alone l w.part log0 log1 w.records (u h);
   runs = rw (sym (append-nil w.part)) (w.runs n1 [] (d.runs types n1));
   owns_nothing = λ x. owns-none (n1 x) ((d.safe e n1 (w.safe e s)).values x);
 }

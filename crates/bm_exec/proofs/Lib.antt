@@ -6,6 +6,7 @@ mod Results
 mod Objects
 mod Performing
 mod Going
+mod Undisturbed
 mod Lives
 mod Apart
 mod Starting

@@ -5,6 +5,8 @@ use Rattle.std.proofs.lemmas.Bool.Decides.{Decides-eqb, nat_tests}
 use Rattle.std.proofs.Math.Dec.{eqb}
 use Rattle.bm_exec.proofs.Tables.{is_or_not}
 use Rattle.bm_cache.specs.Tests.{Passes, Reusable}
+use Rattle.bm_page.specs.declared.units.Stocked.{Stocked}
+use Rattle.bm_page.specs.Stock.{stocked_at}
 use Rattle.bm_cache.specs.Tokens.{Token}
 use Rattle.bm_exec.specs.Slots.{joined, unit_at, AllEmpty, Kept, tests_of}
 
@@ -61,27 +63,33 @@ pub at-other : (slots : List (Option Token)) (i j : ℕ) (x : Option Token) → 
 at-other slots i j x ne = ap joined (slot-other slots i j x ne)
 
 -- the slots after a unit was put into one
-pub kept-put : (processors asked n : ℕ) (u : Token) (slots : List (Option Token)) → Kept processors asked slots → asked + 1 < 2 ^ 31 → n < length slots → u.number ≡ n → u.life ≤ asked + 1 → u.home < processors → Kept processors (asked + 1) (set slots n (Some u))
-kept-put processors asked n u slots k room lt number life home = record {
+pub kept-put : (processors asked n : ℕ) (u : Token) (slots : List (Option Token)) (stock : List Stocked) → Kept processors asked slots stock → asked + 1 < 2 ^ 31 → n < length slots → u.number ≡ n → u.life ≤ asked + 1 → u.home < processors → (stocked_at stock n).out ≡ true → Kept processors (asked + 1) (set slots n (Some u)) stock
+kept-put processors asked n u slots stock k room lt number life home out = record {
   size = length-set slots n (Some u) ∙ k.size;
   number = λ m v e. elim (nat_same m n) [ inl same ↦ (let q = one m v e same in rw q (number ∙ sym same)) | inr other ↦ k.number m v (sym (at-other slots n m (Some u) other) ∙ e) ];
   life = λ m v e. elim (nat_same m n) [ inl same ↦ (let q = one m v e same in rw q life) | inr other ↦ (let h = k.life m v (sym (at-other slots n m (Some u) other) ∙ e) in omega (arith, h)) ];
   home = λ m v e. elim (nat_same m n) [ inl same ↦ (let q = one m v e same in rw q home) | inr other ↦ k.home m v (sym (at-other slots n m (Some u) other) ∙ e) ];
+  out = λ m v e. elim (nat_same m n) [ inl same ↦ rw same out | inr other ↦ k.out m v (sym (at-other slots n m (Some u) other) ∙ e) ];
   few = room;
 }
   where
     one : (m : ℕ) (v : Token) → unit_at (set slots n (Some u)) m ≡ Some v → m ≡ n → v ≡ u
     one m v e same = let f = rw same at e in let g = at-same slots n (Some u) lt in some-one v u (sym f ∙ g)
 
-pub life-below : (slots : List (Option Token)) (asked : ℕ) (u : Token) → Reusable (tests_of slots asked) u → u.life ≤ asked
-life-below slots asked u e = let h = second (not (is_some (unit_at slots u.number))) (nat_le u.life asked) e in grind (arith, nat_tests, h)
+pub life-below : (slots : List (Option Token)) (asked : ℕ) (stock : List Stocked) (u : Token) → Reusable (tests_of slots asked stock) u → u.life ≤ asked
+life-below slots asked stock u e = let h = first (nat_le u.life asked) (stocked_at stock u.number).out (second (not (is_some (unit_at slots u.number))) (nat_le u.life asked && (stocked_at stock u.number).out) e) in grind (arith, nat_tests, h)
 
-pub lives-not : (slots : List (Option Token)) (asked : ℕ) (u : Token) → Reusable (tests_of slots asked) u → unit_at slots u.number ≡ None
-lives-not slots asked u e = none-of (unit_at slots u.number) (first (not (is_some (unit_at slots u.number))) (nat_le u.life asked) e)
+-- what passes a test is out of the stock
+pub is-out : (slots : List (Option Token)) (asked j : ℕ) (stock : List Stocked) (u : Token) → Passes (tests_of slots asked stock) j u → (stocked_at stock u.number).out ≡ true
+is-out slots asked j stock u e = second (nat_le u.life asked) (stocked_at stock u.number).out (second (not (is_some (unit_at slots u.number))) (nat_le u.life asked && (stocked_at stock u.number).out) e)
+
+pub lives-not : (slots : List (Option Token)) (asked : ℕ) (stock : List Stocked) (u : Token) → Reusable (tests_of slots asked stock) u → unit_at slots u.number ≡ None
+lives-not slots asked stock u e = none-of (unit_at slots u.number) (first (not (is_some (unit_at slots u.number))) (nat_le u.life asked && (stocked_at stock u.number).out) e)
 
 -- a unit that isn't the one that began a life is told as before
-pub begun-test : (slots : List (Option Token)) (asked n : ℕ) (x : Option Token) (j : ℕ) (v : Token) → v.number ≢ n → Passes (tests_of slots asked) j v → Passes (tests_of (set slots n x) (asked + 1)) j v
-begun-test slots asked n x j v other e =
-    let a = first (not (is_some (unit_at slots v.number))) (nat_le v.life asked) e in
-    let b = life-below slots asked v e in
-    rw (at-other slots n v.number x other) (join (not (is_some (unit_at slots v.number))) (nat_le v.life (asked + 1)) a (grind (arith, nat_tests, b)))
+pub begun-test : (slots : List (Option Token)) (asked n : ℕ) (stock : List Stocked) (x : Option Token) (j : ℕ) (v : Token) → v.number ≢ n → Passes (tests_of slots asked stock) j v → Passes (tests_of (set slots n x) (asked + 1) stock) j v
+begun-test slots asked n stock x j v other e =
+    let a = first (not (is_some (unit_at slots v.number))) (nat_le v.life asked && (stocked_at stock v.number).out) e in
+    let b = life-below slots asked stock v e in
+    let c : nat_le v.life (asked + 1) ≡ true = grind (arith, nat_tests, b) in
+    rw (at-other slots n v.number x other) (join (not (is_some (unit_at slots v.number))) (nat_le v.life (asked + 1) && (stocked_at stock v.number).out) a (join (nat_le v.life (asked + 1)) (stocked_at stock v.number).out c (is-out slots asked j stock v e)))

@@ -1,18 +1,19 @@
 -- Types with their classes, and the objects that names hold.
-use Rattle.std.proofs.Common.{◌≡◌, ℕ, zero, suc, Bool, true, false, List, [], ◌∷◌, map, refl, sym, ap, ◌∙◌, Option, Some, None, slice_get, eqb, eq-eqb, inl, inr, if◌then◌else◌}
+use Rattle.std.proofs.Common.{◌≡◌, ℕ, zero, suc, Bool, true, false, List, [], ◌∷◌, map, refl, sym, ap, ◌∙◌, Option, Some, None, slice_get, eqb, eq-eqb, inl, inr, subst, if◌then◌else◌}
 use mathlib.Core.Path.{fun_ext}
 use Rattle.std.specs.Str.{bytes_eq}
 use Rattle.bm_journal.specs.declared.ids.ObjId.{ObjId}
 use Rattle.bm_lang.specs.declared.scenario.TypeDeclaration.{TypeDeclaration}
 use Rattle.bm_lang.specs.declared.scenario.TypeId.{TypeId}
 use Rattle.bm_class.specs.Sizes.{class_of_size}
-use Rattle.bm_lawful.specs.Held.{Held, Nothing, Null, Object, Names, with_name}
+use Rattle.bm_lawful.specs.Held.{Held, Nothing, Null, Object, Names, with_name, OwnsNothing}
 use Rattle.bm_lawful.specs.Opened.{OfClass, object_size}
 use Rattle.bm_lawful.specs.Runs.{answered}
 use Rattle.bm_check.specs.Values as safe
 use Rattle.bm_exec.specs.Runnable.{Classes}
 use Rattle.bm_exec.specs.Stores.{store_of, value_of}
 use Rattle.bm_exec.specs.Living.{Living, Lives, with_life, Holds, Begins, reply_of}
+use Rattle.bm_check.specs.Values.{is_owning}
 use Rattle.std.proofs.lemmas.Bool.Decides.{Decides-eqb}
 use Rattle.bm_exec.proofs.Tables.{same_word, word_is_itself, is_or_not}
 
@@ -51,8 +52,18 @@ pub nothing-is-none : (t : TypeId) (u n : ℕ) → Nothing ≡ Object t u n → 
 nothing-is-none t u n e = cc
 
 -- the names after a reply
-holds-null : (types : List TypeDeclaration) (lives lives' : Lives) (names : Names) (x : List ℕ) (v : Held) → ((t : TypeId) (u n : ℕ) → v ≡ Object t u n → ⊥) → lives' ≡ lives → Holds types lives names → Holds types lives' (with_name x v names)
-holds-null types lives lives' names x v none e h = record {
+-- a name that holds an object stands elsewhere than one that owns none
+kept-name : (x y : List ℕ) (v : Held) (names : Names) (t : TypeId) (u n : ℕ) → is_owning (value_of (names x)) ≡ false → names y ≡ Object t u n → with_name x v names y ≡ Object t u n
+kept-name x y v names t u n free f = elim (is_or_not (bytes_eq x y)) [
+  | inl same ↦ absurd (owns-not (ap (λ z. is_owning (value_of (names z))) (same_word x y same) ∙ ap (λ z. is_owning (value_of z)) f) free)
+  | inr other ↦ elsewhere x v names y other ∙ f
+]
+  where
+    owns-not : {b : Bool} → b ≡ true → b ≡ false → ⊥
+    owns-not p q = cc
+
+holds-null : (types : List TypeDeclaration) (lives lives' : Lives) (names : Names) (x : List ℕ) (v : Held) → ((t : TypeId) (u n : ℕ) → v ≡ Object t u n → ⊥) → is_owning (value_of (names x)) ≡ false → lives' ≡ lives → Holds types lives names → Holds types lives' (with_name x v names)
+holds-null types lives lives' names x v none free e h = record {
   living = λ y t u n f. elim (is_or_not (bytes_eq x y)) [
     | inl same ↦ absurd (none t u n (sym (here x v names y same) ∙ f))
     | inr other ↦ rw e (h.living y t u n (sym (elsewhere x v names y other) ∙ f))
@@ -64,6 +75,7 @@ holds-null types lives lives' names x v none e h = record {
       | inr other' ↦ h.once y z t t' u n n' (sym (elsewhere x v names y other) ∙ f) (sym (elsewhere x v names z other') ∙ g)
     ]
   ];
+  reached = λ u l f. let r = h.reached u l (rw e at f) in (r.0, r.1, r.2, kept-name x r.0 v names r.1 u r.2 free r.3);
 }
 
 with-here : (u u' c n n' : ℕ) (lives : Lives) → u ≡ u' → n ≡ n' → with_life u (Some (record { class = c; life = n })) lives u' ≡ Some (record { class = c; life = n' })
@@ -83,8 +95,8 @@ clash : (t t' : TypeId) (u u' n n' : ℕ) → Object t u n ≡ Object t' u' n' �
 clash t t' u u' n n' e f = let q = same-object t t' u u' n n' e in let w : eqb u u' ≡ true = eq-eqb u u' q.1 in cc
 
 -- a name that holds a new object
-holds-new : (types : List TypeDeclaration) (lives lives' : Lives) (names : Names) (x : List ℕ) (t : TypeId) (u n c : ℕ) (d : TypeDeclaration) → OfClass types t.0 c d → lives u ≡ None → lives' ≡ with_life u (Some (record { class = c; life = n })) lives → Holds types lives names → Holds types lives' (with_name x (Object t u n) names)
-holds-new types lives lives' names x t u n c d of fresh e h =
+holds-new : (types : List TypeDeclaration) (lives lives' : Lives) (names : Names) (x : List ℕ) (t : TypeId) (u n c : ℕ) (d : TypeDeclaration) → OfClass types t.0 c d → lives u ≡ None → is_owning (value_of (names x)) ≡ false → lives' ≡ with_life u (Some (record { class = c; life = n })) lives → Holds types lives names → Holds types lives' (with_name x (Object t u n) names)
+holds-new types lives lives' names x t u n c d of fresh free e h =
     let kept = λ (y : List ℕ) (t' : TypeId) (u' n' : ℕ) (f : names y ≡ Object t' u' n'). (let l = h.living y t' u' n' f in fresh-other u u' lives _ fresh l.3) in record {
       living = λ y t' u' n' f. elim (is_or_not (bytes_eq x y)) [
         | inl same ↦ (let q = same-object t t' u u' n n' (sym (here x (Object t u n) names y same) ∙ f) in
@@ -101,6 +113,10 @@ holds-new types lives lives' names x t u n c d of fresh e h =
           | inl same' ↦ absurd (clash t t'' u u' n n'' (sym (here x (Object t u n) names z same') ∙ g) (kept y t' u' n' (sym (elsewhere x (Object t u n) names y other) ∙ f)))
           | inr other' ↦ h.once y z t' t'' u' n' n'' (sym (elsewhere x (Object t u n) names y other) ∙ f) (sym (elsewhere x (Object t u n) names z other') ∙ g)
         ]
+      ];
+      reached = λ u' l f. elim (is_or_not (eqb u u')) [
+        | inl same ↦ (x, t, n, here x (Object t u n) names x (word_is_itself x) ∙ ap (λ k. Object t k n) ((Decides-eqb u u').0 same))
+        | inr other ↦ (let r = h.reached u' l (sym (with-other u u' _ lives other) ∙ (rw e at f)) in (r.0, r.1, r.2, kept-name x r.0 (Object t u n) names r.1 u' r.2 free r.3))
       ];
     }
 
@@ -119,8 +135,18 @@ holds-less types lives lives' names x t u n held e h = record {
       | inr other' ↦ h.once y z t' t'' u' n' n'' (sym (elsewhere x Nothing names y other) ∙ f) (sym (elsewhere x Nothing names z other') ∙ g)
     ]
   ];
+  reached = λ u' l f. elim (is_or_not (eqb u u')) [
+    | inl same ↦ absurd (lives-no-more u u' l lives same (rw e at f))
+    | inr other ↦ (let r = h.reached u' l (sym (with-other u u' None lives other) ∙ (rw e at f)) in
+        (r.0, r.1, r.2, elim (is_or_not (bytes_eq x r.0)) [
+          | inl same ↦ absurd (clash t r.1 u u' n r.2 (sym held ∙ ap names (same_word x r.0 same) ∙ r.3) other)
+          | inr apart ↦ elsewhere x Nothing names r.0 apart ∙ r.3
+        ]))
+  ];
 }
   where
+    lives-no-more : (u v : ℕ) (l : Living) (lives : Lives) → eqb u v ≡ true → with_life u None lives v ≡ Some l → ⊥
+    lives-no-more u v l lives same f = let g = rw same at f in cc
     apart : (y : List ℕ) (t' : TypeId) (u' n' : ℕ) → bytes_eq x y ≡ false → names y ≡ Object t' u' n' → eqb u u' ≡ false
     apart y t' u' n' other f = elim (is_or_not (eqb u u')) [
       | inl same ↦ (let q : u ≡ u' = (Decides-eqb u u').0 same in
@@ -130,6 +156,14 @@ holds-less types lives lives' names x t u n held e h = record {
     ]
 
 -- what a reply leaves
-pub holds-reply : (types : List TypeDeclaration) (lives lives' : Lives) (names : Names) (x : List ℕ) (t : TypeId) (c : ℕ) (d : TypeDeclaration) (reply : Option ObjId) → OfClass types t.0 c d → Begins c lives lives' reply → Holds types lives names → Holds types lives' (with_name x (answered t (reply_of reply)) names)
-holds-reply types lives lives' names x t c d None of e h = holds-null types lives lives' names x Null (λ t u n f. null-is-none t u n f) e h
-holds-reply types lives lives' names x t c d (Some o) of e h = holds-new types lives lives' names x t o.unit o.life c d of e.0 e.1 h
+pub holds-reply : (types : List TypeDeclaration) (lives lives' : Lives) (names : Names) (x : List ℕ) (t : TypeId) (c : ℕ) (d : TypeDeclaration) (reply : Option ObjId) → OfClass types t.0 c d → is_owning (value_of (names x)) ≡ false → Begins c lives lives' reply → Holds types lives names → Holds types lives' (with_name x (answered t (reply_of reply)) names)
+holds-reply types lives lives' names x t c d None of free e h = holds-null types lives lives' names x Null (λ t u n f. null-is-none t u n f) free e h
+holds-reply types lives lives' names x t c d (Some o) of free e h = holds-new types lives lives' names x t o.unit o.life c d of e.0 free e.1 h
+
+-- where no name owns, nothing lives
+pub no-lives : (types : List TypeDeclaration) (lives : Lives) (names : Names) → Holds types lives names → ((x : List ℕ) → OwnsNothing (names x)) → (u : ℕ) → lives u ≡ None
+no-lives types lives names h o u = unheld (lives u) refl
+  where
+    unheld : (l : Option Living) → lives u ≡ l → l ≡ None
+    unheld None e = refl
+    unheld (Some l) e = let r = h.reached u l e in absurd (subst OwnsNothing r.3 (o r.0))

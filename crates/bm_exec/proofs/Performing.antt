@@ -36,16 +36,16 @@ safe-reply e os names x t values None s = rw (store-with x Null names) (s.1.1 fa
 safe-reply e os names x t values (Some o) s = rw (store-with x (Object t o.unit o.life) names) (s.1.1 true)
 
 pub new-performed : (types : List TypeDeclaration) (classes : List ℕ) (l : ℕ) (x : List ℕ) (t : TypeId) (values : List ℕ) (names names' : Names) (lives lives' : Lives) (asked asked' : ℕ) (log log' : Option Log) (reply : Option ObjId) (d : TypeDeclaration) (c : ℕ) →
-    Classes types classes → slice_get types t.0 ≡ Some d → slice_get classes t.0 ≡ Some c → Holds types lives names → Created l c d.name values log log' lives lives' reply → names' ≡ with_name x (answered t (reply_of reply)) names → asked' ≡ asked + 1 →
+    Classes types classes → slice_get types t.0 ≡ Some d → slice_get classes t.0 ≡ Some c → safe.is_owning (value_of (names x)) ≡ false → Holds types lives names → Created l c d.name values log log' lives lives' reply → names' ≡ with_name x (answered t (reply_of reply)) names → asked' ≡ asked + 1 →
     (os : List Open) → Performed types l (New x t values) names names' os os lives' asked asked' log log'
-new-performed types classes l x t values names names' lives lives' asked asked' log log' reply d c cs f g h made e n os =
+new-performed types classes l x t values names names' lives lives' asked asked' log log' reply d c cs f g free h made e n os =
     let of = class-at types classes t.0 d c cs f g in record {
       part = entry.New d.name values ∷ made.own;
       records = made.records;
       runs = λ after rest z. then-of (RunsAction types (New x t values)) (RunsStack types os) names names' after (entry.New d.name values ∷ made.own) rest
           (record { class = c; declared = d; of_class = of; own = made.own; reply = reply_of reply; part_is = refl; allocates = made.allocates; after_is = e }) z;
       safe = λ s y. rw e (safe-reply s os names x t values reply y);
-      holds = rw e (holds-reply types lives lives' names x t c d reply of made.begins h);
+      holds = rw e (holds-reply types lives lives' names x t c d reply of free made.begins h);
       can = λ a b. b;
       cost = omega (arith, n);
       weight = omega arith;

@@ -1,5 +1,5 @@
 -- A frame at a script's beginning.
-use Rattle.std.proofs.Common.{◌≡◌, true, ◌&&◌, List, [], refl, sym, ◌∙◌, arith}
+use Rattle.std.proofs.Common.{◌≡◌, true, ◌&&◌, List, [], refl, sym, ◌∙◌, arith, ℕ, Option, Some, None}
 use Rattle.bm_journal.specs.declared.entry.Entry.{Entry}
 use Rattle.bm_lang.specs.declared.scenario.Block.{Block}
 use Rattle.bm_lang.specs.declared.scenario.TypeDeclaration.{TypeDeclaration}
@@ -14,7 +14,7 @@ use Rattle.bm_exec.specs.Lists.{block_list}
 use Rattle.bm_exec.specs.Cost.{stack_cost}
 use Rattle.bm_exec.specs.Stack.{RunsOpen, RunsStack, SafeStack}
 use Rattle.bm_exec.specs.Runnable.{can_run_block, can_run_list, can_run_stack}
-use Rattle.bm_exec.specs.Living.{Lives, Holds}
+use Rattle.bm_exec.specs.Living.{Living, Lives, Holds}
 use Rattle.bm_exec.specs.Steps.{Pushed}
 use Rattle.bm_exec.proofs.Blocks.{block-can}
 use Rattle.bm_exec.proofs.Objects.{nothing-is-none}
@@ -32,8 +32,12 @@ start-safe e b now names q p s = rw q (rw p.now_is (once-safe e p.top [] no_name
 pub start-runs : (types : List TypeDeclaration) (b : Block) (now : List Open) → Pushed [] now (block_list b) 0 b → (names after : Names) (part : List Entry) → RunsStack types now names part after → RunsBlock types b names part after
 start-runs types b now p names after part x = block-once types p.top b p.rest_is p.repeats_is names after part (undone (RunsOpen types p.top) names after part (rw p.now_is at x))
 
-pub start-holds : (types : List TypeDeclaration) (lives : Lives) (names : Names) → names ≡ no_names → Holds types lives names
-start-holds types lives names e = rw e (record {
+pub start-holds : (types : List TypeDeclaration) (lives : Lives) (names : Names) → names ≡ no_names → ((u : ℕ) → lives u ≡ None) → Holds types lives names
+start-holds types lives names e none = rw e (record {
   living = λ x t u n f. absurd (nothing-is-none t u n f);
   once = λ x y t t' u n n' f g. absurd (nothing-is-none t u n f);
+  reached = λ u l f. absurd (none-lives (none u) f);
 })
+  where
+    none-lives : {x : Option Living} {l : Living} → x ≡ None → x ≡ Some l → ⊥
+    none-lives p q = cc

@@ -1,5 +1,5 @@
 -- The objects that live, by their units.
-use Rattle.std.specs.Prelude.{◌≡◌, ℕ, List, ◌∷◌, Option, Some, None, eqb, if◌then◌else◌}
+use Rattle.std.specs.Prelude.{◌≡◌, ◌≤◌, ℕ, List, ◌∷◌, Option, Some, None, eqb, if◌then◌else◌}
 use Rattle.bm_journal.specs.declared.entry.Entry.{Entry}
 use Rattle.bm_journal.specs.declared.entry.Entry.TheVariants as entry
 use Rattle.bm_journal.specs.declared.ids.ObjId.{ObjId}
@@ -8,6 +8,7 @@ use Rattle.bm_lang.specs.declared.scenario.TypeId.{TypeId}
 use Rattle.bm_law.specs.Lists.{Log}
 use Rattle.bm_law.specs.Phrases.{FreePhrase}
 use Rattle.bm_law.specs.Spans.{Records}
+use Rattle.bm_law.specs.Alone.{Alone}
 use Rattle.bm_lawful.specs.Held.{Names, Object}
 use Rattle.bm_lawful.specs.Opened.{OfClass}
 use Rattle.bm_lawful.specs.Runs.{Allocates}
@@ -47,7 +48,14 @@ pub record Disposed (l c : ℕ) (o : ObjId) (log log' : Option Log) (lives lives
   pub frees : FreePhrase c o.unit home own
   pub ends : lives' ≡ with_life o.unit None lives
 
--- Each name that holds an object holds one that lives, of its type's class, and no two names hold one object.
+-- No handler was added to those that wait; and where none ran, the log has grown by entries of the machine's level alone.
+pub record Undisturbed {M : Type 0} (levels waits : M → ℕ) (logs : M → Option Log) (before now : M) : Type 0 where
+  pub pending : waits now ≤ waits before
+  pub alone : waits now ≡ waits before → Alone (levels before) (logs before) (logs now)
+
+-- Each name that holds an object holds one that lives, of its type's class, no two names hold one object, and each object
+-- that lives is held by a name.
 pub record Holds (types : List TypeDeclaration) (lives : Lives) (names : Names) : Type 0 where
   pub living : (x : List ℕ) (t : TypeId) (u n : ℕ) → names x ≡ Object t u n → (c : ℕ) × (d : TypeDeclaration) × OfClass types t.0 c d × (lives u ≡ Some (record { class = c; life = n }))
   pub once : (x y : List ℕ) (t t' : TypeId) (u n n' : ℕ) → names x ≡ Object t u n → names y ≡ Object t' u n' → x ≡ y
+  pub reached : (u : ℕ) (l : Living) → lives u ≡ Some l → (x : List ℕ) × (t : TypeId) × (n : ℕ) × (names x ≡ Object t u n)

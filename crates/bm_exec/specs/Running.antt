@@ -7,6 +7,7 @@ use Rattle.bm_lang.specs.declared.scenario.TypeDeclaration.{TypeDeclaration}
 use Rattle.bm_lang.specs.Limits.{action_cost}
 use Rattle.bm_law.specs.Lists.{Log}
 use Rattle.bm_law.specs.Spans.{Records}
+use Rattle.bm_law.specs.Alone.{Adds}
 use Rattle.bm_lawful.specs.Held.{Names, no_names, OwnsNothing}
 use Rattle.bm_lawful.specs.Runs.{Then, RunsAction, RunsBlock}
 use Rattle.bm_check.specs.Statements.{Setting}
@@ -41,18 +42,21 @@ pub record Went (types : List TypeDeclaration) (l : ℕ) (names names' : Names) 
   pub can : can_run_stack types before ≡ true → can_run_stack types now ≡ true
   pub cost : asked' + stack_cost now ≤ asked + stack_cost before
 
--- All was run, and the names own nothing.
-pub record Ran (types : List TypeDeclaration) (l : ℕ) (names names' : Names) (before : List Open) (log log' : Option Log) : Type 0 where
+-- All was run, and the names own nothing. Of the handlers so many waited before and so many wait now: where none ran, the
+-- log has gained exactly the script's own entries.
+pub record Ran (types : List TypeDeclaration) (l : ℕ) (names names' : Names) (before : List Open) (waits waits' : ℕ) (log log' : Option Log) : Type 0 where
   pub part : List Entry
   pub records : Records l part log log'
+  pub adds : waits' ≡ waits → Adds l part log log'
   pub runs : RunsStack types before names part names'
   pub owns_nothing : (x : List ℕ) → OwnsNothing (names' x)
 
 -- A script was run from its beginning to its end: its own entries are a run of its block, begun with names that hold
--- nothing, and at the end its names own nothing.
-pub record RanScript (types : List TypeDeclaration) (l : ℕ) (script : Script) (log log' : Option Log) : Type 0 where
+-- nothing, and at the end its names own nothing. Where no handler ran, the log has gained exactly these entries.
+pub record RanScript (types : List TypeDeclaration) (l : ℕ) (script : Script) (waits waits' : ℕ) (log log' : Option Log) : Type 0 where
   pub part : List Entry
   pub after : Names
   pub records : Records l part log log'
+  pub adds : waits' ≡ waits → Adds l part log log'
   pub runs : RunsBlock types script.body no_names part after
   pub owns_nothing : (x : List ℕ) → OwnsNothing (after x)

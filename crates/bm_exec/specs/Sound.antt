@@ -1,10 +1,13 @@
 -- What the machine of ordinary code needs and leaves.
+use Rattle.std.specs.Prelude.{◌≡◌}
 use Rattle.bm_journal.specs.Recording.{Kept as Recorded}
 use Rattle.bm_cache.specs.Span.{Fine}
 use Rattle.bm_exec.specs.declared.level0.Machine0.{Machine0}
 use Rattle.bm_exec.specs.Slots.{Kept, tests_of}
 
--- What the machine of ordinary code keeps: its slots, and caches on which a call of level 0 may begin.
+-- What the machine of ordinary code keeps: its slots, and caches on which a call of level 0 may begin. It is the one
+-- processor that there is by now.
 pub record Sound (m : Machine0) : Type 0 where
-  pub kept : Kept m.processors m.asked m.slots.slots.items
-  pub fine : Fine (λ (k : Recorded). k.told) (λ k. k.counted) (tests_of m.slots.slots.items m.asked) m.processors 0 m.caches
+  pub one : m.processors ≡ 1
+  pub kept : Kept m.processors m.asked m.slots.slots.items m.pool.units
+  pub fine : Fine (λ (k : Recorded). k.told) (λ k. k.counted) (tests_of m.slots.slots.items m.asked m.pool.units) m.processors 0 m.caches

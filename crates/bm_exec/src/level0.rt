@@ -15,14 +15,15 @@ use crate::slots::Slots;
 use bm_cache::{Caches, Given, Host, alloc, free};
 use bm_class::Class;
 use bm_journal::{Entry, Keep, Level, ObjId, Values};
-use bm_page::Unit;
+use bm_page::{Pool, Unit};
 use bm_word::Name;
 
-/// One processor at level 0, where ordinary code runs: its caches, the units that live, and how many objects were asked
-/// for. No handler runs on it by now.
+/// One processor at level 0, where ordinary code runs: its caches, the units that live, the stock, and how many objects
+/// were asked for. No handler runs on it by now.
 pub struct Machine0 {
     pub caches: Caches<Keep>,
     pub slots: Slots,
+    pub pool: Pool,
     pub asked: u32,
     pub processors: u8,
 }
@@ -41,11 +42,11 @@ impl Host<Keep> for Machine0 {
 
     ghost pending = { λ _. 0 };
 
-    ghost tests = { λ m. tests_of m.slots.slots.items m.asked };
+    ghost tests = { λ m. tests_of m.slots.slots.items m.asked m.pool.units };
 
-    ghost sound = { λ m. Kept m.processors m.asked m.slots.slots.items };
+    ghost sound = { λ m. Kept m.processors m.asked m.slots.slots.items m.pool.units };
 
-    ghost keeps = { λ a b. (b.slots ≡ a.slots) × (b.asked ≡ a.asked) };
+    ghost keeps = { λ a b. (b.slots ≡ a.slots) × (b.asked ≡ a.asked) × (b.pool ≡ a.pool) };
 
     ghost held_back = { λ h c. refl };
 
@@ -57,11 +58,11 @@ impl Host<Keep> for Machine0 {
 
     ghost sound_back = { λ h c s. s };
 
-    ghost keeps_back = { λ h c. (refl, refl) };
+    ghost keeps_back = { λ h c. (refl, refl, refl) };
 
-    ghost keeps_same = { λ h. (refl, refl) };
+    ghost keeps_same = { λ h. (refl, refl, refl) };
 
-    ghost keeps_join = { λ a b c x y. (y.0 ∙ x.0, y.1 ∙ x.1) };
+    ghost keeps_join = { λ a b c x y. (y.0 ∙ x.0, y.1 ∙ x.1, y.2 ∙ x.2) };
 
     fn caches(&mut self) -> &mut Caches<Keep> {
         &mut self.caches
@@ -81,6 +82,8 @@ impl Machine for Machine0 {
     ghost log = { λ m. m.caches.recorder.told };
 
     ghost level = { λ _. 0 };
+
+    ghost pending = { λ _. 0 };
 
     ghost lives = { λ m. lives_of m.slots.slots.items };
 
@@ -118,13 +121,14 @@ fn begin_life(machine: &mut Machine0, unit: Unit) -> ObjId
     requires sound { Sound machine.old }
     requires room { machine.old.asked + 1 < 2 ^ 31 }
     requires gone { stands unit.number (seen number_of (shown machine.old.caches)) ≡ 0 }
-    requires suits { Reusable (tests_of machine.old.slots.slots.items machine.old.asked) unit }
+    requires suits { Reusable (tests_of machine.old.slots.slots.items machine.old.asked machine.old.pool.units) unit }
     requires home { unit.home < machine.old.processors }
     ensures object { result ≡ record { unit = unit.number; life = unit.life + 1 } }
     ensures none { lives_of machine.old.slots.slots.items unit.number ≡ None }
     ensures lives { lives_of machine.new.slots.slots.items ≡ with_life unit.number (Some (record { class = unit.class; life = unit.life + 1 })) (lives_of machine.old.slots.slots.items) }
     ensures asked { machine.new.asked ≡ machine.old.asked + 1 }
     ensures caches { machine.new.caches ≡ machine.old.caches }
+    ensures pool { machine.new.pool ≡ machine.old.pool }
     ensures sound { Sound machine.new }
 {
     let mut unit = unit;

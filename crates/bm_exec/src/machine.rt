@@ -2,7 +2,7 @@
 
 ghost use Rattle.std.specs.Prelude.{◌≡◌, ◌+◌, ◌<◌, ◌^◌, ℕ, Option, Some};
 ghost use Rattle.bm_law.specs.Lists.{Log};
-ghost use Rattle.bm_exec.specs.Living.{Lives, Created, Disposed};
+ghost use Rattle.bm_exec.specs.Living.{Lives, Created, Disposed, Undisturbed};
 
 use bm_class::Class;
 use bm_journal::{ObjId, Values};
@@ -16,6 +16,9 @@ pub trait Machine {
 
     /// The level that the script runs at.
     ghost level: { Self → ℕ };
+
+    /// How many handlers haven't run.
+    ghost pending: { Self → ℕ };
 
     /// The objects that live.
     ghost lives: { Self → Lives };
@@ -34,7 +37,8 @@ pub trait Machine {
         ensures created { Created (level self.old) class name values (log self.old) (log self.new) (lives self.old) (lives self.new) result }
         ensures sound { sound self.new }
         ensures level { level self.new ≡ level self.old }
-        ensures asked { asked self.new ≡ asked self.old + 1 };
+        ensures asked { asked self.new ≡ asked self.old + 1 }
+        ensures alone { Undisturbed level pending log self.old self.new };
 
     /// Gives up the one reference to an object that lives.
     fn dispose(&mut self, object: ObjId)
@@ -43,5 +47,6 @@ pub trait Machine {
         ensures disposed { (c : ℕ) → lives self.old object.unit ≡ Some (record { class = c; life = object.life }) → Disposed (level self.old) c object (log self.old) (log self.new) (lives self.old) (lives self.new) }
         ensures sound { sound self.new }
         ensures level { level self.new ≡ level self.old }
-        ensures asked { asked self.new ≡ asked self.old };
+        ensures asked { asked self.new ≡ asked self.old }
+        ensures alone { Undisturbed level pending log self.old self.new };
 }

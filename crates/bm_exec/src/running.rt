@@ -13,7 +13,7 @@ ghost use Rattle.bm_exec.specs.Stores.{store_of, value_of};
 ghost use Rattle.bm_exec.specs.Stack.{SafeStack};
 ghost use Rattle.bm_exec.specs.Cost.{stack_cost};
 ghost use Rattle.bm_exec.specs.Runnable.{Classes, can_run_action, can_run_block, can_run_stack};
-ghost use Rattle.bm_exec.specs.Living.{Holds};
+ghost use Rattle.bm_exec.specs.Living.{Holds, Undisturbed};
 ghost use Rattle.bm_exec.specs.declared.frame.Open.{Open};
 ghost use Rattle.bm_exec.specs.Running.{Performed, Ran, RanScript};
 ghost use Rattle.bm_exec.specs.declared.running.Stopped.TheVariants as stopped;
@@ -64,6 +64,7 @@ fn perform_new<'s, M: Machine>(
     ensures sound { M.sound machine.new }
     ensures level { M.level machine.new ≡ M.level machine.old }
     ensures asked { M.asked machine.new ≤ M.asked machine.old + 1 }
+    ensures alone { Undisturbed M.level M.pending M.log machine.old machine.new }
 {
     let Some(declared) = types.declared.get(type_id.0) else {
         unreachable!();
@@ -93,6 +94,7 @@ fn perform_drop<'s, M: Machine>(
     ensures sound { M.sound machine.new }
     ensures level { M.level machine.new ≡ M.level machine.old }
     ensures asked { M.asked machine.new ≤ M.asked machine.old + 1 }
+    ensures alone { Undisturbed M.level M.pending M.log machine.old machine.new }
 {
     let Holding::Object(_, object) = names.holding(name.as_bytes()) else {
         unreachable!();
@@ -118,6 +120,7 @@ fn perform<'s, M: Machine>(
     ensures sound { M.sound machine.new }
     ensures level { M.level machine.new ≡ M.level machine.old }
     ensures asked { M.asked machine.new ≤ M.asked machine.old + 1 }
+    ensures alone { Undisturbed M.level M.pending M.log machine.old machine.new }
 {
     match &statement.action {
         Action::New {
@@ -153,10 +156,12 @@ pub fn resume<'s, M: Machine>(frame: &mut Frame<'s>, machine: &mut M, types: &Ty
     requires holds { Holds types.now.declared.now (M.lives machine.old) (names_of frame.old.names) }
     requires can { can_run_stack types.now.declared.now (reverse frame.old.blocks.items) ≡ true }
     requires accepted { (e : Setting) × SafeStack e (store_of (names_of frame.old.names)) (reverse frame.old.blocks.items) }
-    ensures ended { result ≡ stopped.Ended → Ran types.now.declared.now (M.level machine.old) (names_of frame.old.names) (names_of frame.new.names) (reverse frame.old.blocks.items) (M.log machine.old) (M.log machine.new) }
+    ensures ended { result ≡ stopped.Ended → Ran types.now.declared.now (M.level machine.old) (names_of frame.old.names) (names_of frame.new.names) (reverse frame.old.blocks.items) (M.pending machine.old) (M.pending machine.new) (M.log machine.old) (M.log machine.new) }
+    ensures none { result ≡ stopped.Ended → (u : ℕ) → M.lives machine.new u ≡ None }
     ensures asked { M.asked machine.new ≤ M.asked machine.old + stack_cost (reverse frame.old.blocks.items) }
     ensures sound { M.sound machine.new }
     ensures level { M.level machine.new ≡ M.level machine.old }
+    ensures alone { Undisturbed M.level M.pending M.log machine.old machine.new }
 {
     loop {
         let Ok(next) = next_statement(&mut frame.blocks) else {
@@ -187,10 +192,12 @@ pub fn run_script<'s, M: Machine>(
     requires none { (u : ℕ) → M.lives machine.old u ≡ None }
     requires can { can_run_block types.now.declared.now script.now.body ≡ true }
     requires accepted { Accepted scenario.now script.now }
-    ensures ended { result ≡ stopped.Ended → RanScript types.now.declared.now (M.level machine.old) script.now (M.log machine.old) (M.log machine.new) }
+    ensures ended { result ≡ stopped.Ended → RanScript types.now.declared.now (M.level machine.old) script.now (M.pending machine.old) (M.pending machine.new) (M.log machine.old) (M.log machine.new) }
+    ensures none { result ≡ stopped.Ended → (u : ℕ) → M.lives machine.new u ≡ None }
     ensures asked { M.asked machine.new ≤ M.asked machine.old + block_cost script.now.body }
     ensures sound { M.sound machine.new }
     ensures level { M.level machine.new ≡ M.level machine.old }
+    ensures alone { Undisturbed M.level M.pending M.log machine.old machine.new }
 {
     accepted_scripts_are_safe();
     let mut frame = Frame {

@@ -3,6 +3,7 @@ use Rattle.bm_exec.specs.Seen.{names_of}
 use Rattle.bm_lang.specs.declared.scenario.Action.{None', Some'}
 use Rattle.bm_exec.proofs.Performing.{first-performed, other-performed, skip-performed, repeat-performed}
 use Rattle.bm_exec.proofs.Results.{on-ok}
+use Rattle.bm_exec.proofs.Undisturbed.{undisturbed-none}
 use Rattle.bm_exec.proofs.running.perform.Goals as goal
 
 -- src/resume.rt:100:1
@@ -32,3 +33,15 @@ pub returns-in-Repeat-clause-performed : goal.returns-in-Repeat-clause-performed
 returns-in-Repeat-clause-performed g c =
     on-ok c.repeat_block.result _ _ c.repeat_block.ensures.pushed (λ o.
     rw c.in-Repeat.is (repeat-performed c.args.types.now.declared.now (g.M.Machine.level c.args.machine.now) c.in-Repeat.count c.in-Repeat.body (names_of c.args.frame.now.names) _ _ (g.M.Machine.lives c.args.machine.now) (g.M.Machine.asked c.args.machine.now) (g.M.Machine.log c.args.machine.now) o c.requires.holds))
+
+pub returns-in-Object-clause-alone : goal.returns-in-Object-clause-alone
+returns-in-Object-clause-alone g c = undisturbed-none g.M.Machine.level g.M.Machine.pending g.M.Machine.log c.args.machine.now
+
+pub returns-in-Some-clause-alone : goal.returns-in-Some-clause-alone
+returns-in-Some-clause-alone g c = undisturbed-none g.M.Machine.level g.M.Machine.pending g.M.Machine.log c.args.machine.now
+
+pub returns-in-None-clause-alone : goal.returns-in-None-clause-alone
+returns-in-None-clause-alone g c = undisturbed-none g.M.Machine.level g.M.Machine.pending g.M.Machine.log c.args.machine.now
+
+pub returns-in-Repeat-clause-alone : goal.returns-in-Repeat-clause-alone
+returns-in-Repeat-clause-alone g c = undisturbed-none g.M.Machine.level g.M.Machine.pending g.M.Machine.log c.args.machine.now

@@ -1,11 +1,13 @@
 use Rattle.std.proofs.Common.{arith, refl, ◌∙◌}
 use Rattle.bm_exec.proofs.Results.{not-err}
 use Rattle.bm_exec.proofs.Going.{went-none, went-step, went-end, some-cost}
+use Rattle.bm_exec.proofs.Objects.{no-lives}
+use Rattle.bm_exec.proofs.Undisturbed.{undisturbed-none, undisturbed-join}
 use Rattle.bm_exec.proofs.running.resume.Goals as goal
 
 -- src/running.rt:159:5
 pub loop-next-init : goal.loop-next-init
-loop-next-init g c = (went-none _ _ _ _ _ _ _ c.requires.holds, c.requires.sound, refl)
+loop-next-init g c = (went-none _ _ _ _ _ _ _ c.requires.holds, c.requires.sound, refl, undisturbed-none g.M.Machine.level g.M.Machine.pending g.M.Machine.log c.args.machine.now)
 
 -- src/running.rt:161:13
 pub returns-in_default-clause-asked : goal.returns-in_default-clause-asked
@@ -21,7 +23,12 @@ returns-in_default-clause-level g c = c.loop-next.invariant.2
 
 -- src/running.rt:164:13
 pub returns-in_default-next-clause-ended : goal.returns-in_default-next-clause-ended
-returns-in_default-next-clause-ended g c = λ _. went-end _ _ c.requires.accepted.0 _ _ _ _ _ _ _ _ _ c.loop-next.invariant.0 (rw c.in_default-next.is at c.in-Ok.ensures.stepped) c.requires.accepted.1
+returns-in_default-next-clause-ended g c = λ _. went-end _ _ c.requires.accepted.0 _ _ _ _ _ _ _ _ _ _ _ c.loop-next.invariant.0 c.loop-next.invariant.3.alone (rw c.in_default-next.is at c.in-Ok.ensures.stepped) c.requires.accepted.1
+
+pub returns-in_default-next-clause-none : goal.returns-in_default-next-clause-none
+returns-in_default-next-clause-none g c = λ _.
+    (let r = went-end _ _ c.requires.accepted.0 _ _ _ _ _ _ _ _ _ _ _ c.loop-next.invariant.0 c.loop-next.invariant.3.alone (rw c.in_default-next.is at c.in-Ok.ensures.stepped) c.requires.accepted.1 in
+    no-lives _ _ _ c.loop-next.invariant.0.holds r.owns_nothing)
 
 -- src/running.rt:164:13
 pub returns-in_default-next-clause-asked : goal.returns-in_default-next-clause-asked
@@ -75,4 +82,13 @@ pub loop-next-preserved : goal.loop-next-preserved
 loop-next-preserved g c =
     let t = rw c.in-Some.is at c.in-Ok.ensures.stepped in
     let p = not-err c.perform.result _ c.if-is_err.ensures.value c.perform.ensures.performed in
-    (went-step _ _ _ _ _ _ _ _ _ _ _ _ _ _ _ _ _ _ c.loop-next.invariant.0 t (rw c.loop-next.invariant.2 at p), c.perform.ensures.sound, c.perform.ensures.level ∙ c.loop-next.invariant.2)
+    (went-step _ _ _ _ _ _ _ _ _ _ _ _ _ _ _ _ _ _ c.loop-next.invariant.0 t (rw c.loop-next.invariant.2 at p), c.perform.ensures.sound, c.perform.ensures.level ∙ c.loop-next.invariant.2, undisturbed-join c.loop-next.invariant.2 c.loop-next.invariant.3 c.perform.ensures.alone)
+
+pub returns-in_default-clause-alone : goal.returns-in_default-clause-alone
+returns-in_default-clause-alone g c = c.loop-next.invariant.3
+
+pub returns-in_default-next-clause-alone : goal.returns-in_default-next-clause-alone
+returns-in_default-next-clause-alone g c = c.loop-next.invariant.3
+
+pub returns-then-is_err-clause-alone : goal.returns-then-is_err-clause-alone
+returns-then-is_err-clause-alone g c = undisturbed-join c.loop-next.invariant.2 c.loop-next.invariant.3 c.perform.ensures.alone

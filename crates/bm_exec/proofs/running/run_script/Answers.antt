@@ -2,6 +2,7 @@ use Rattle.std.proofs.Common.{arith}
 use Rattle.bm_check.specs.Statements.{setting_of}
 use Rattle.bm_exec.proofs.Results.{not-err}
 use Rattle.bm_exec.proofs.Starting.{start-cost, start-can, start-safe, start-runs, start-holds}
+use Rattle.bm_exec.proofs.Undisturbed.{undisturbed-none}
 use Rattle.bm_exec.proofs.running.run_script.Goals as goal
 
 -- src/running.rt:207:5
@@ -13,7 +14,7 @@ resume-requires-clause-room g c =
 -- src/running.rt:207:5
 pub resume-requires-clause-holds : goal.resume-requires-clause-holds
 resume-requires-clause-holds g c =
-    start-holds _ _ _ c.new-2.ensures
+    start-holds _ _ _ c.new-2.ensures c.requires.none
 
 -- src/running.rt:207:5
 pub resume-requires-clause-can : goal.resume-requires-clause-can
@@ -32,10 +33,13 @@ pub returns-clause-ended : goal.returns-clause-ended
 returns-clause-ended g c =
     let o = rw c.new.ensures.items at (not-err c.open_block.result _ c.if-is_err.ensures.value c.open_block.ensures.pushed) in
     λ e. (let r = c.resume.ensures.ended e in
-    record { part = r.part; after = _; records = r.records; runs = start-runs _ _ _ o _ _ _ (rw c.new-2.ensures at r.runs); owns_nothing = r.owns_nothing })
+    record { part = r.part; after = _; records = r.records; adds = r.adds; runs = start-runs _ _ _ o _ _ _ (rw c.new-2.ensures at r.runs); owns_nothing = r.owns_nothing })
 
 -- src/running.rt:181:1
 pub returns-clause-asked : goal.returns-clause-asked
 returns-clause-asked g c =
     let o = rw c.new.ensures.items at (not-err c.open_block.result _ c.if-is_err.ensures.value c.open_block.ensures.pushed) in
     omega (arith, c.resume.ensures.asked, start-cost c.args.types.now.declared.now _ _ o)
+
+pub returns-then-is_err-clause-alone : goal.returns-then-is_err-clause-alone
+returns-then-is_err-clause-alone g c = undisturbed-none g.M.Machine.level g.M.Machine.pending g.M.Machine.log c.args.machine.now

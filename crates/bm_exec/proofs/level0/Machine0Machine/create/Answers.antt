@@ -1,5 +1,6 @@
-use Rattle.std.proofs.Common.{refl, inl}
+use Rattle.std.proofs.Common.{refl, inl, arith}
 use Rattle.bm_exec.proofs.Creating.{created-one, created-none}
+use Rattle.bm_exec.proofs.Undisturbed.{after-one}
 use Rattle.bm_exec.proofs.level0.Machine0Machine.create.Goals as goal
 
 pub returns-in-Unit-clause-created : goal.returns-in-Unit-clause-created
@@ -15,3 +16,18 @@ returns-in-Empty-clause-created c =
     let a = rw c.in-Empty.is at c.alloc.ensures.answer in
     let n = rw c.ordinary.ensures at c.note.ensures.step in
     created-none c.args.class c.args.name c.args.values _ _ _ _ (c.args.self.now.slots) (c.alloc.new.host.slots) n.records a.1.records (inl (a.0, refl)) c.alloc.ensures.goes.keeps.0
+
+pub returns-in-Unit-clause-alone : goal.returns-in-Unit-clause-alone
+returns-in-Unit-clause-alone c =
+    let n = rw c.ordinary.ensures at c.note.ensures.step in
+    record { pending = omega arith; alone = λ _. rw c.begin_life.ensures.caches (after-one 0 _ _ _ _ n.records (c.alloc.ensures.alone.alone refl)) }
+
+pub returns-in-Empty-clause-alone : goal.returns-in-Empty-clause-alone
+returns-in-Empty-clause-alone c =
+    let n = rw c.ordinary.ensures at c.note.ensures.step in
+    record { pending = omega arith; alone = λ _. after-one 0 _ _ _ _ n.records (c.alloc.ensures.alone.alone refl) }
+
+pub returns-in-Busy-clause-alone : goal.returns-in-Busy-clause-alone
+returns-in-Busy-clause-alone c =
+    let n = rw c.ordinary.ensures at c.note.ensures.step in
+    record { pending = omega arith; alone = λ _. after-one 0 _ _ _ _ n.records (c.alloc.ensures.alone.alone refl) }
