@@ -1,0 +1,2 @@
+pub mod Yet
+pub mod Unbuilt
