@@ -1,0 +1,17 @@
+pub mod Basics
+pub mod Results
+pub mod Declared
+pub mod ClassLists
+pub mod Fillings
+pub mod Gaining
+pub mod Scripting
+pub mod Sweeping
+pub mod Gathering
+pub mod Sweeps
+pub mod RunsAll
+pub mod LogAll
+pub mod Replies
+pub mod Beside
+pub mod OpenedList
+pub mod LogLaw
+pub mod OpeningLemmas

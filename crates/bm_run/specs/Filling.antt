@@ -1,0 +1,32 @@
+-- The units that caches begin with. (prefill_mem_cache in kernel/bpf/memalloc.c; the numbers are this project's own.)
+use Rattle.std.specs.Prelude.{◌≡◌, ◌≤◌, ℕ, List, [], ◌∷◌, ◌++◌, length, nat_le, if◌then◌else◌}
+use Rattle.bm_class.specs.Sizes.{size_of_class}
+use Rattle.bm_page.specs.declared.units.Stocked.{Stocked}
+use Rattle.bm_page.specs.UnitState.{UnitState}
+use Rattle.bm_page.specs.Stock.{Stock, stocked_at, fetched}
+
+-- a cache begins with 4 units of at most 256 bytes, or with 1 greater one
+abbrev pub prefill : ℕ → ℕ
+prefill c = if nat_le (size_of_class c) 256 then 4 else 1
+
+-- units for classes, and the stock that they leave
+pub record Filling : Type 0 where
+  pub fills : List (ℕ × List UnitState)
+  pub pool : Stock
+
+abbrev pub behind : List (ℕ × List UnitState) → Filling → Filling
+behind fills rest = record { fills = fills ++ rest.fills; pool = rest.pool }
+
+-- one class after the other fetches its units
+abbrev pub filling : List ℕ → Stock → Filling
+filling [] pool = record { fills = []; pool = pool }
+filling (c ∷ cs) pool = let f = fetched c (prefill c) pool in behind ((c, f.units) ∷ []) (filling cs f.pool)
+
+abbrev pub units_in : List (ℕ × List UnitState) → List UnitState
+units_in [] = []
+units_in (f ∷ fs) = f.1 ++ units_in fs
+
+-- no unit ever lived, and each number is one of 65,536
+pub record IsUnborn (units : List Stocked) : Type 0 where
+  pub size : length units ≤ 65536
+  pub life : (n : ℕ) → (stocked_at units n).life ≡ 0

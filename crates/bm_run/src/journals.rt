@@ -1,0 +1,181 @@
+//! The run of a scenario on one thread.
+
+ghost use Rattle.std.specs.Prelude.{◌≡◌, ◌≤◌, ◌∷◌, [], ℕ, List, IfOk, IsSome, IsTrue, map, length};
+ghost use Rattle.bm_journal.specs.WellFormed.{is_whole_log};
+ghost use Rattle.bm_journal.specs.Recording.{Kept as Recorded};
+ghost use Rattle.bm_lang.specs.declared.scenario.Script.{Script};
+ghost use Rattle.bm_lang.specs.declared.scenario.TypeDeclaration.{TypeDeclaration};
+ghost use Rattle.bm_lang.specs.Fine.{HasConditions};
+ghost use Rattle.bm_check.specs.Scripts.{IsChecked};
+ghost use Rattle.bm_class.specs.Sizes.{class_of_size};
+ghost use Rattle.bm_page.specs.declared.units.Stocked.{Stocked};
+ghost use Rattle.bm_law.specs.State.{seen, seven_lists};
+ghost use Rattle.bm_law.specs.Stands.{times};
+ghost use Rattle.bm_cache.specs.declared.caches.Caches.{Caches};
+ghost use Rattle.bm_cache.specs.Shown.{shown};
+ghost use Rattle.bm_cache.specs.Tokens.{number_of};
+ghost use Rattle.bm_exec.specs.Sound.{Sound};
+ghost use Rattle.bm_lawful.specs.Opened.{object_size, opened_classes};
+ghost use Rattle.bm_lawful.specs.Lawful.{Lawful, LawfulLog};
+ghost use Rattle.bm_built.specs.Yet.{RunsYet};
+ghost use Rattle.bm_run.specs.Closing.{Closing, SweptAll};
+
+use crate::classes::{opened_classes, type_classes, with_marks};
+use crate::closing::sweep_all;
+use crate::opening::open;
+use crate::scripts::{note, run_lines};
+use bm_check::Checked;
+use bm_class::Class;
+use bm_exec::{Machine0, Types};
+use bm_journal::{Entry, Histories, Journal, Log, Logs, Names, Opened, Recorder, totals_of};
+use bm_lang::{Scenario, Script, TypeDeclaration};
+use bm_word::NoMemory;
+use std::alloc::Global;
+
+// The names of types.
+fn type_names(alloc: Global, types: &[TypeDeclaration]) -> Result<Names, NoMemory>
+    ensures { IfOk result (λ names. names ≡ map (λ (t : TypeDeclaration). t.name) types.now) }
+{
+    let mut names = Vec::new(alloc);
+    for declared in types {
+        names.push(declared.name.duplicate())?;
+    }
+    Ok(Names::new(names))
+}
+
+// The names of scripts.
+fn script_names(alloc: Global, scripts: &[Script]) -> Result<Names, NoMemory>
+    ensures { IfOk result (λ names. names ≡ map (λ (s : Script). s.name) scripts.now) }
+{
+    let mut names = Vec::new(alloc);
+    for script in scripts {
+        names.push(script.name.duplicate())?;
+    }
+    Ok(Names::new(names))
+}
+
+// The list of one log.
+fn one_log(alloc: Global, log: Log) -> Result<Logs, NoMemory>
+    ensures { IfOk result (λ logs. logs ≡ log ∷ []) }
+{
+    let mut logs = Vec::new(alloc);
+    logs.push(log)?;
+    Ok(Logs::new(logs))
+}
+
+// The journal of a log.
+fn journal_of(
+    alloc: Global,
+    scenario: &Scenario,
+    classes: &[Class],
+    log: Log,
+) -> Result<Journal, NoMemory>
+    requires yet { RunsYet scenario.now }
+    requires pages { scenario.now.pages ≤ 256 }
+    requires classes { classes.now ≡ opened_classes scenario.now.types }
+    requires whole { IsTrue (is_whole_log log) }
+    requires lawful { LawfulLog scenario.now 0 log }
+    ensures { IfOk result (Lawful scenario.now) }
+{
+    let types = type_names(alloc, scenario.types.as_slice())?;
+    let scripts = script_names(alloc, scenario.scripts.as_slice())?;
+    let classes = Opened::new(with_marks(alloc, classes)?);
+    let logs = one_log(alloc, log)?;
+    let totals = totals_of(&logs);
+    Ok(Journal {
+        processors: scenario.processors as u8,
+        pages: scenario.pages as u16,
+        types,
+        maps: Names::new(Vec::new(alloc)),
+        scripts,
+        classes,
+        logs,
+        graphs: Histories::new(Vec::new(alloc)),
+        totals,
+    })
+}
+
+// Ends a processor after a want of memory, with all that it holds.
+fn give_up(machine: Machine0) {
+    let Machine0 {
+        caches,
+        slots,
+        pool,
+        asked: _,
+        processors: _,
+    } = machine;
+    caches.give_up();
+    slots.give_up();
+    pool.give_up();
+}
+
+// The closing: the classes that hold a unit are swept, and the processor ends. The answer is its log. Want of memory is
+// the only refusal.
+fn close(alloc: Global, machine: Machine0, classes: &[Class], word: u32) -> Result<Log, NoMemory>
+    requires sound { Sound machine }
+    requires few { length classes.now ≤ 11 }
+    requires once { (c : ℕ) → times c classes.now ≤ 1 }
+    requires unused { IsSome machine.caches.recorder.told → (c : ℕ) → times c classes.now ≡ 0 → seven_lists ((shown machine.caches).rows c) ≡ [] }
+    ensures closed { IfOk result (λ log. (c : Caches Recorded) × (stock : List Stocked) × SweptAll (seen number_of (shown machine.caches)) classes.now machine.caches c × Closing stock c × (c.recorder.told ≡ Some log)) }
+    ensures whole { IfOk result (λ log. IsTrue (is_whole_log log)) }
+{
+    let Machine0 {
+        mut caches,
+        slots,
+        mut pool,
+        asked: _,
+        processors: _,
+    } = machine;
+    slots.give_up();
+    let swept = sweep_all(alloc, &mut caches, &mut pool, classes, word);
+    pool.give_up();
+    if swept.is_err() || caches.recorder().failed() {
+        caches.give_up();
+        return Err(NoMemory);
+    }
+    caches.finish().into_log().ok_or(NoMemory)
+}
+
+// The log of a run.
+fn log_of(
+    alloc: Global,
+    scenario: &Scenario,
+    classes: &[Class],
+    opened: &[Class],
+) -> Result<Log, NoMemory>
+    requires yet { RunsYet scenario.now }
+    requires fine { HasConditions scenario.now }
+    requires checked { IsChecked scenario.now }
+    requires classes { map Some classes.now ≡ map (λ t. class_of_size (object_size t)) scenario.now.types }
+    requires opened { opened.now ≡ opened_classes scenario.now.types }
+    ensures lawful { IfOk result (LawfulLog scenario.now 0) }
+    ensures whole { IfOk result (λ log. IsTrue (is_whole_log log)) }
+{
+    let mut machine = open(alloc, scenario.pages as u16, opened)?;
+    let types = Types {
+        declared: scenario.types.as_slice(),
+        classes,
+    };
+    let Ok(word) = run_lines(alloc, &mut machine, &types, scenario) else {
+        give_up(machine);
+        return Err(NoMemory);
+    };
+    note(&mut machine, Entry::Ended);
+    note(&mut machine, Entry::Close);
+    close(alloc, machine, opened, word)
+}
+
+/// Runs a checked scenario of the forms that run by now, and gives its journal, which is lawful. Its time grows with the
+/// statements run. Want of memory is the only refusal.
+pub fn replay(alloc: Global, checked: &Checked) -> Result<Journal, NoMemory>
+    requires fine { HasConditions checked.now }
+    requires yet { RunsYet checked.now }
+    ensures { IfOk result (Lawful checked.now) }
+{
+    let scenario = checked.scenario();
+    let types = scenario.types.as_slice();
+    let classes = type_classes(alloc, types)?;
+    let opened = opened_classes(alloc, types, classes.as_slice())?;
+    let log = log_of(alloc, scenario, classes.as_slice(), opened.as_slice())?;
+    journal_of(alloc, scenario, opened.as_slice(), log)
+}
