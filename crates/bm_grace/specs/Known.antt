@@ -1,0 +1,35 @@
+-- What a processor's side knows of the words that all processors share.
+use Rattle.std.specs.Prelude.{ℕ, List}
+use Rattle.bm_journal.specs.declared.ids.Domain.{Domain}
+use Rattle.bm_journal.specs.declared.ids.Domain.TheVariants.{Plain, Tracing}
+use Rattle.bm_grace.specs.declared.step.TableStep.{TableStep}
+
+-- of one domain
+pub record Side : Type 0 where
+  -- its own section word, which is odd inside a section
+  pub word : ℕ
+  -- the odd number of the period that it has in progress, or 0
+  pub number : ℕ
+  -- the words of that period, as first and as last looked at, in the period's order; none before the first look
+  pub first : List ℕ
+  pub later : List ℕ
+  -- how many periods it may still begin
+  pub begins : ℕ
+  -- a number that the domain had
+  pub seen : ℕ
+
+-- of both domains: among how many processors, which one it is, and its sides
+pub record Sides : Type 0 where
+  pub processors : ℕ
+  pub processor : ℕ
+  pub plain : Side
+  pub tracing : Side
+
+-- all of it, and the steps that it took, in their order, where they are told
+pub record Known : Type 0 where
+  pub grace : Sides
+  pub steps : List TableStep
+
+abbrev pub side : Domain → Known → Side
+side Plain known = known.grace.plain
+side Tracing known = known.grace.tracing

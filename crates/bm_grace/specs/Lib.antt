@@ -1,0 +1,6 @@
+pub mod Answers
+pub mod Calls
+pub mod Kept
+pub mod Known
+pub mod Law
+pub mod PlainState

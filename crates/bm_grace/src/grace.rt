@@ -1,0 +1,88 @@
+//! One processor's side of both domains of grace periods.
+
+ghost use Rattle.std.specs.Prelude.{◌≡◌, ◌+◌, ◌%◌, ◌^◌, ◌<◌, ◌≤◌, ℕ, Bool, true, false, length};
+ghost use Rattle.bm_grace.specs.Known.{Known, side};
+ghost use Rattle.bm_grace.specs.Calls.{began, entered, finished, found_at, left, looked, looks, read};
+ghost use Rattle.bm_grace.specs.Answers.{Answers, BeganAt, CanFinish, Stamped, Verdict, ended, number_in};
+
+use crate::answer::{Began, Done, Look};
+use bm_journal::{Domain, Period};
+
+/// What a processor's side knows of the words that all processors share. Each call of a side changes it by one
+/// equation, so that what a call doesn't speak of stays as it was. This project's own.
+pub trait Knows {
+    /// What this side knows.
+    ghost known: { Self → Known };
+
+    /// Whether `known` has the steps that were taken.
+    ghost tells: { Bool };
+}
+
+/// One processor's side of both domains. A domain stands for a kind of grace period of the kernel: `Plain` for RCU,
+/// `Tracing` for RCU tasks trace. Each domain has a number, 0 at first, and one section word a processor, 0 at first.
+/// The numbers and words are this project's own.
+///
+/// No call takes memory. A side has 2^27 sections and 2^27 periods of a domain, which are more than a scenario makes.
+pub trait Grace: Knows {
+    /// Begins the outermost section of a domain, from outside of one. The answer is the processor's new section word,
+    /// an odd number. From `rcu_read_lock` and `rcu_read_lock_trace`.
+    fn enter(&mut self, domain: Domain) -> u32
+        requires outside { (side domain (Self.known self.old)).word % 2 ≡ 0 }
+        requires room { (side domain (Self.known self.old)).word < 2 ^ 28 }
+        ensures word { result ≡ (side domain (Self.known self.old)).word + 1 }
+        ensures known { Self.known self.new ≡ entered Self.tells domain (Self.known self.old) };
+
+    /// Ends the outermost section of a domain, from inside of it. The answer is the processor's new section word, an
+    /// even number. From `rcu_read_unlock` and `rcu_read_unlock_trace`.
+    fn leave(&mut self, domain: Domain) -> u32
+        requires inside { (side domain (Self.known self.old)).word % 2 ≡ 1 }
+        ensures word { result ≡ (side domain (Self.known self.old)).word + 1 }
+        ensures known { Self.known self.new ≡ left Self.tells domain (Self.known self.old) };
+
+    /// Reads a domain's number, and answers the stamp of it: the number at the end of the first period that begins
+    /// afterwards. That is the number and 2 where no period is in progress, and the number and 3 where one is. From
+    /// `get_state_synchronize_rcu`; `call_rcu` and `call_rcu_tasks_trace` keep it in a callback's place in its list.
+    fn stamp(&mut self, domain: Domain) -> u32
+        ensures { Stamped Self.tells domain result (Self.known self.old) (Self.known self.new) };
+
+    /// Reads a domain's number, and answers whether it is at least a stamp. From `poll_state_synchronize_rcu`.
+    fn done(&mut self, domain: Domain, stamp: u32) -> Done
+        ensures answer { Answers result stamp }
+        ensures seen { (side domain (Self.known self.old)).seen ≤ number_in result }
+        ensures known { Self.known self.new ≡ read Self.tells domain (number_in result) (Self.known self.old) };
+
+    /// Begins a period of a domain where its number is the even one that is named, and changes nothing elsewhere. The
+    /// number is odd from then on, until this side finishes the period. From `rcu_seq_start`.
+    fn begin(&mut self, domain: Domain, even: u32) -> Began
+        requires even { even % 2 ≡ 0 }
+        requires idle { (side domain (Self.known self.old)).number ≡ 0 }
+        requires room { 0 < (side domain (Self.known self.old)).begins }
+        ensures answer { BeganAt result even }
+        ensures seen { (side domain (Self.known self.old)).seen ≤ found_at even result }
+        ensures known { Self.known self.new ≡ began Self.tells domain result even (Self.known self.old) };
+
+    /// Looks at each word of the period of a domain that this side has in progress: at the plain words in the plain
+    /// domain, and at both words of each processor, the plain one first, in the tracing domain, whose periods imply
+    /// plain ones. The first look of a period reads each word as its first and its later one, each further look as its
+    /// later one. A word passes that was even when it was first looked at, or that is greater later. From
+    /// `rcu_watching_snap_recheck` and `rcu_tasks_wait_gp`.
+    fn look(&mut self, domain: Domain) -> Look
+        requires driving { (side domain (Self.known self.old)).number % 2 ≡ 1 }
+        ensures first { length (side domain (Self.known self.new)).first ≡ looks domain (Self.known self.old).grace.processors }
+        ensures later { length (side domain (Self.known self.new)).later ≡ looks domain (Self.known self.old).grace.processors }
+        ensures answer { let s = side domain (Self.known self.new) in Verdict result domain s.first s.later }
+        ensures known { Self.known self.new
+            ≡ looked Self.tells domain (side domain (Self.known self.new)).later (Self.known self.old) };
+
+    /// Ends the period of a domain that this side has in progress and all of whose words have passed. The number is
+    /// even again. The answer has that number, and the words as they were first and last looked at. From `rcu_seq_end`.
+    fn finish(&mut self, domain: Domain) -> Period
+        requires { CanFinish domain (Self.known self.old) }
+        ensures period { result ≡ ended domain (side domain (Self.known self.old)) }
+        ensures known { Self.known self.new ≡ finished Self.tells domain (Self.known self.old) };
+
+    /// Whether this side has a period of a domain in progress.
+    fn driving(&self, domain: Domain) -> bool
+        ensures none { result ≡ false → (side domain (Self.known self.now)).number ≡ 0 }
+        ensures odd { result ≡ true → (side domain (Self.known self.now)).number % 2 ≡ 1 };
+}
