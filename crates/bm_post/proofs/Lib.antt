@@ -1,0 +1,4 @@
+pub mod Counts
+pub mod Returned
+pub mod Fetched
+pub mod Posts

@@ -1,0 +1,67 @@
+-- The pool and all inboxes, for one thread.
+use Rattle.std.specs.Prelude.{ℕ, ◌+◌, ◌*◌, ◌&&◌, eqb, Bool, true, List, [], ◌∷◌, ◌++◌, drop, replicate, slice_index_or, slice_set}
+use Rattle.std.specs.List.{sum_by}
+use Rattle.bm_law.specs.Stands.{times}
+use Rattle.bm_page.specs.UnitState.{UnitState}
+use Rattle.bm_page.specs.Stock.{Stock, stocked_at, returned}
+use Rattle.bm_post.specs.Rights.{Rights, numbers}
+
+-- The parcels of an inbox, oldest first.
+abbrev pub Parcels : Type 0
+Parcels = List (List UnitState)
+
+-- The pool; among how many processors, and whose side it is now; and the inboxes of eight processors, eleven each, by
+-- class.
+pub record PostState : Type 0 where
+  pub pool : Stock
+  pub processors : ℕ
+  pub processor : ℕ
+  pub inboxes : List Parcels
+
+-- All inboxes are empty.
+abbrev pub no_parcels : List Parcels
+no_parcels = replicate 88 []
+
+abbrev pub place : ℕ → ℕ → ℕ
+place processor class = 11 * processor + class
+
+abbrev pub inbox : ℕ → ℕ → PostState → Parcels
+inbox processor class state = slice_index_or state.inboxes (place processor class) []
+
+abbrev pub with_inbox : ℕ → ℕ → Parcels → PostState → PostState
+with_inbox processor class parcels state =
+    record state { inboxes = slice_set state.inboxes (place processor class) parcels }
+
+-- Units were sent as one parcel, which is the newest.
+abbrev pub sent_to : ℕ → ℕ → List UnitState → PostState → PostState
+sent_to processor class units state =
+    with_inbox processor class (inbox processor class state ++ units ∷ []) state
+
+-- The oldest parcel of an inbox was taken.
+abbrev pub taken_by : ℕ → ℕ → PostState → PostState
+taken_by processor class state = with_inbox processor class (drop 1 (inbox processor class state)) state
+
+-- One unit after the other goes back to the pool.
+abbrev pub all_returned : List UnitState → Stock → Stock
+all_returned [] pool = pool
+all_returned (unit ∷ units) pool = all_returned units (returned unit pool)
+
+-- How often a number stands in parcels.
+abbrev pub times_in : ℕ → Parcels → ℕ
+times_in n parcels = sum_by (λ (units : List UnitState). times n (numbers units)) parcels
+
+abbrev pub waits : ℕ → List Parcels → ℕ
+waits n inboxes = sum_by (times_in n) inboxes
+
+-- Mine are the units that are out of the pool and stand in no inbox.
+abbrev pub is_mine : PostState → ℕ → Bool
+is_mine state n = (stocked_at state.pool.units n).out && eqb (waits n state.inboxes) 0
+
+-- On one thread each unit may be used again as soon as it is there, whatever its lives and its seal.
+abbrev pub rights_in : PostState → Rights
+rights_in state = record {
+  mine = is_mine state;
+  settled = λ n life seal. true;
+  due = λ n life seal. true;
+  ripe = λ n life seal. true;
+}

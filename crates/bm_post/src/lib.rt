@@ -1,0 +1,14 @@
+//! The pool and the inboxes, as one processor sees them, and both for one thread.
+#![tactic(auto)]
+
+mod back;
+mod inbox;
+mod law;
+mod plain;
+mod post;
+#[cfg(test)]
+mod tests;
+
+pub use law::taken_law;
+pub use plain::PlainPost;
+pub use post::Post;

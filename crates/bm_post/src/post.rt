@@ -1,0 +1,73 @@
+//! The pool and the inboxes, as one processor sees them.
+
+ghost use Rattle.std.specs.Prelude.{◌≡◌, ◌<◌, ◌≤◌, ℕ, List, Option, [], length, IfOk, IfErr, IfSome, IfNone, OnOk, OnErr};
+ghost use Rattle.std.specs.List.{All};
+ghost use Rattle.bm_post.specs.Calls.{Fetches, GivesBack, IsOf, KeepsCalls, PostCall, Receives, TellsCall, fetched, received, returned_call, sent};
+ghost use Rattle.bm_post.specs.Rights.{AreSame, Holds, Lasting, MayLeave, Rights, numbers};
+
+use bm_class::Class;
+use bm_page::Unit;
+use bm_word::NoMemory;
+
+/// The pool of units, and an inbox for each processor and class, as one processor sees them. The kernel has no inboxes:
+/// a processor there puts units on another one's list itself. This project's own.
+///
+/// It tells which units are `mine`: those that it gave this side and hasn't got back. Of a unit with its lives so far
+/// and its seal or none it tells three tests: whether it is *settled*, so that it may be used again; *due*, so that it
+/// waits for a grace period; and *ripe*, so that its grace period is seen to have passed. It may also tell its calls.
+pub trait Post {
+    /// Among how many processors.
+    ghost processors: { Self → ℕ };
+
+    /// Which units are mine, and the three tests.
+    ghost rights: { Self → Rights };
+
+    /// The calls that weren't refused, in order, where they are told.
+    ghost calls: { Self → Option (List PostCall) };
+
+    /// Appends up to `want` units of a class from the pool, and answers how many. They weren't mine before, and differ
+    /// from each other. `NoMemory`, where `out` can't grow, is the only error and changes nothing.
+    fn fetch(&mut self, class: Class, want: usize, out: &mut Vec<Unit>) -> Result<usize, NoMemory>
+        ensures ok { IfOk result (λ n. Fetches class want n out.old.items out.new.items (rights self.old) (rights self.new)) }
+        ensures err { OnErr result (out.new.items ≡ out.old.items) }
+        ensures same { OnErr result (AreSame (rights self.old) (rights self.new)) }
+        ensures lasts { Lasting [] (rights self.old) (rights self.new) }
+        ensures processors { processors self.new ≡ processors self.old }
+        ensures calls { IfOk result (λ n. TellsCall (fetched class want n out.old.items out.new.items) (calls self.old) (calls self.new)) }
+        ensures no_call { OnErr result (KeepsCalls (calls self.old) (calls self.new)) };
+
+    /// Gives units back to the pool; none is fine. They are mine, and settled or ripe.
+    fn put_back(&mut self, units: Vec<Unit>)
+        requires mine { Holds (rights self.old) units.items }
+        requires fit { All (MayLeave (rights self.old)) units.items }
+        ensures back { GivesBack (numbers units.items) (rights self.old) (rights self.new) }
+        ensures lasts { Lasting (numbers units.items) (rights self.old) (rights self.new) }
+        ensures processors { processors self.new ≡ processors self.old }
+        ensures calls { TellsCall (returned_call units.items) (calls self.old) (calls self.new) };
+
+    /// Sends units of a class to a processor's inbox, as one parcel; this one's own inbox too. They are mine, and settled
+    /// or ripe. It refuses for want of memory alone, and then hands the units back, which are mine still.
+    fn send(&mut self, to: u8, class: Class, units: Vec<Unit>) -> Result<(), Vec<Unit>>
+        requires to { to < processors self.old }
+        requires some { 0 < length units.items }
+        requires class { All (IsOf class) units.items }
+        requires mine { Holds (rights self.old) units.items }
+        requires fit { All (MayLeave (rights self.old)) units.items }
+        ensures sent { OnOk result (GivesBack (numbers units.items) (rights self.old) (rights self.new)) }
+        ensures refused { IfErr result (λ back. back.items ≡ units.items) }
+        ensures same { OnErr result (AreSame (rights self.old) (rights self.new)) }
+        ensures lasts { Lasting (numbers units.items) (rights self.old) (rights self.new) }
+        ensures processors { processors self.new ≡ processors self.old }
+        ensures calls { OnOk result (TellsCall (sent to class units.items) (calls self.old) (calls self.new)) }
+        ensures no_call { OnErr result (KeepsCalls (calls self.old) (calls self.new)) };
+
+    /// Takes the oldest parcel out of this processor's inbox of a class, as it was sent; `None` where it found the inbox
+    /// empty. The units weren't mine before, and differ from each other.
+    fn receive(&mut self, class: Class) -> Option<Vec<Unit>>
+        ensures some { IfSome result (λ units. Receives class units.items (rights self.old) (rights self.new)) }
+        ensures none { IfNone result (AreSame (rights self.old) (rights self.new)) }
+        ensures lasts { Lasting [] (rights self.old) (rights self.new) }
+        ensures processors { processors self.new ≡ processors self.old }
+        ensures calls { IfSome result (λ units. TellsCall (received class units.items) (calls self.old) (calls self.new)) }
+        ensures empty { IfNone result (TellsCall (received class []) (calls self.old) (calls self.new)) };
+}
