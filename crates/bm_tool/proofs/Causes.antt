@@ -1,45 +1,69 @@
 -- Causes of refusals.
-use Rattle.std.proofs.Common.{◌≡◌, ℕ, List, Option, Some, None, Result, Ok, Err, IfSome, IsSome, IfErr, subst, ap, ◌∙◌, ◌⊎◌, inl, inr, arith}
+use Rattle.std.proofs.Common.{◌≡◌, ℕ, ◌≤◌, Bool, false, List, Option, Some, None, Result, Ok, Err, length, IfSome, IsSomeAnd, IfErr, slice_get, refl, sym, subst, ◌∙◌}
+use Rattle.bm_lang.specs.declared.place.Place.{Place}
+use Rattle.bm_lang.specs.declared.scenario.Scenario.{Scenario}
+use Rattle.bm_lang.specs.declared.scenario.Script.{Script}
+use Rattle.bm_lang.specs.Limits.{first_limit}
+use Rattle.bm_lang.specs.Scenarios.{Reads}
+use Rattle.bm_lang.specs.Tokens.{tokens, start}
+use Rattle.bm_built.specs.Unbuilt.{unbuilt_before}
+use Rattle.bm_command.specs.declared.command.Command.{Command}
+use Rattle.bm_command.specs.declared.command.Command.TheVariants.{Replay}
 use Rattle.bm_tool.specs.declared.refusal.Refusal.{Refusal}
 use Rattle.bm_tool.specs.declared.refusal.Refusal.TheVariants as refusal
-use Rattle.bm_tool.specs.Outcome.{InputCause, HasNoReading, HasReading, IsTooLong, IsText, Stayed}
-use Rattle.bm_tool.specs.Refusals.{status_of}
+use Rattle.bm_tool.specs.Causes.{InputCause, IsBuilt, IsExceeded, IsRefused, IsRejection, IsScriptRejected, earlier}
+use Rattle.bm_tool.specs.Refusals.{input_limit}
 
 -- what holds of the bytes that were read holds of those that were left
 of_left : (P : List ℕ → Type 0) (left : Option (List ℕ)) (bytes : List ℕ) → IfSome left (λ l. bytes ≡ l) → P bytes → IfSome left P
 of_left P None bytes same p = tt
 of_left P (Some l) bytes same p = subst P same p
 
-moved : (left : Option (List ℕ)) (bytes : List ℕ) (before after : ℕ) (r : Refusal) → IfSome left (λ l. bytes ≡ l) → InputCause (Some bytes) before after r → InputCause left before after r
-moved left bytes before after refusal.Usage same h = h
-moved left bytes before after refusal.ReadFailed same h = h
-moved left bytes before after refusal.WriteFailed same h = h
-moved left bytes before after refusal.OutOfMemory same h = h
-moved left bytes before after (refusal.Text bad) same h = of_left HasNoReading left bytes same h
-moved left bytes before after refusal.InputLimit same h = of_left IsTooLong left bytes same h
+moved : (c : Command) (left : Option (List ℕ)) (bytes : List ℕ) (before after : ℕ) (r : Refusal) → IfSome left (λ l. bytes ≡ l) → InputCause c (Some bytes) before after r → InputCause c left before after r
+moved c left bytes before after refusal.Usage same h = h
+moved c left bytes before after refusal.ReadFailed same h = h
+moved c left bytes before after refusal.WriteFailed same h = h
+moved c left bytes before after refusal.OutOfMemory same h = h
+moved c left bytes before after (refusal.Text bad) same h = of_left (λ bytes. (length bytes ≤ input_limit) × IsRefused c bytes bad) left bytes same h
+moved c left bytes before after (refusal.Rejected script line rule) same h = of_left (λ bytes. IsScriptRejected c bytes script line rule) left bytes same h
+moved c left bytes before after (refusal.Limit l) same h = of_left (λ bytes. IsExceeded c bytes l) left bytes same h
 
-pub cause_of_left : {T : Type 0} (x : Result T Refusal) (left : Option (List ℕ)) (bytes : List ℕ) (before after : ℕ) → IfSome left (λ l. bytes ≡ l)
-    → IfErr x (λ r. (b a : ℕ) → InputCause (Some bytes) b a r) → IfErr x (InputCause left before after)
-cause_of_left (Ok t) left bytes before after same h = tt
-cause_of_left (Err r) left bytes before after same h = moved left bytes before after r same (h before after)
+pub cause_of_left : {T : Type 0} (x : Result T Refusal) (c : Command) (left : Option (List ℕ)) (bytes : List ℕ) (before after : ℕ) → IfSome left (λ l. bytes ≡ l)
+    → IfErr x (λ r. (b a : ℕ) → InputCause c (Some bytes) b a r) → IfErr x (InputCause c left before after)
+cause_of_left (Ok t) c left bytes before after same h = tt
+cause_of_left (Err r) c left bytes before after same h = moved c left bytes before after r same (h before after)
 
 -- the same bytes, once more under another name
 pub renamed : (left : Option (List ℕ)) (bytes more : List ℕ) → more ≡ bytes → IfSome left (λ l. bytes ≡ l) → IfSome left (λ l. more ≡ l)
 renamed None bytes more e h = tt
 renamed (Some l) bytes more e h = e ∙ h
 
--- where memory ran out, the status is 4
-out_of_memory : (r : Refusal) (status : ℕ) → (r ≡ refusal.OutOfMemory) ⊎ (⊥ × (r ≡ refusal.OutOfMemory)) → status ≡ status_of r → (status ≡ 0) ⊎ (status ≡ 4)
-out_of_memory r status (inl e) is = inr (is ∙ ap status_of e)
-out_of_memory r status (inr p) is = absurd p.0
+named : (scripts : List Script) (place : ℕ) (name : List ℕ) → IsSomeAnd (slice_get scripts place) (λ (x : Script). x.name ≡ name) → (x : Script) × (slice_get scripts place ≡ Some x) × (x.name ≡ name)
+named scripts place name h = found (slice_get scripts place) refl h
+  where
+    found : (o : Option Script) → slice_get scripts place ≡ o → IsSomeAnd o (λ (x : Script). x.name ≡ name) → (x : Script) × (slice_get scripts place ≡ Some x) × (x.name ≡ name)
+    found (Some x) e h = (x, e, h)
+    found None e h = absurd h
 
--- an input with a reading, from a source that didn't fail, is refused for want of memory alone
-pub refused_for_memory : (left : Option (List ℕ)) (before after : ℕ) (given r : Refusal) (status : ℕ) → InputCause left before after given → (r ≡ given) ⊎ (IsText given × (r ≡ refusal.OutOfMemory)) → status ≡ status_of r
-    → IfSome left HasReading → IsSome left → Stayed before after → (status ≡ 0) ⊎ (status ≡ 4)
-refused_for_memory None before after given r status cause same is reading some stayed = cc
-refused_for_memory (Some bytes) before after refusal.Usage r status cause same is reading some stayed = absurd cause
-refused_for_memory (Some bytes) before after refusal.ReadFailed r status cause same is reading some stayed = absurd (stayed cause)
-refused_for_memory (Some bytes) before after refusal.WriteFailed r status cause same is reading some stayed = absurd cause
-refused_for_memory (Some bytes) before after refusal.OutOfMemory r status cause same is reading some stayed = out_of_memory r status same is
-refused_for_memory (Some bytes) before after (refusal.Text bad) r status cause same is reading some stayed = absurd (cause.1 reading.1.0 reading.1.1)
-refused_for_memory (Some bytes) before after refusal.InputLimit r status cause same is reading some stayed = absurd (omega (arith, cause, reading.0))
+-- scripts that aren't accepted
+pub rejected : (c : Command) (bytes : List ℕ) (s : Scenario) (r : Refusal) → length bytes ≤ input_limit → Reads bytes s → IsBuilt c bytes → first_limit s ≡ None → IsRejection s r → (before after : ℕ) → InputCause c (Some bytes) before after r
+rejected c bytes s refusal.Usage short reads built within h before after = absurd h
+rejected c bytes s refusal.ReadFailed short reads built within h before after = absurd h
+rejected c bytes s refusal.WriteFailed short reads built within h before after = absurd h
+rejected c bytes s refusal.OutOfMemory short reads built within h before after = tt
+rejected c bytes s (refusal.Text bad) short reads built within h before after = absurd h
+rejected c bytes s (refusal.Rejected name line rule) short reads built within h before after =
+    let n = named s.scripts h.0 name h.2 in
+    record { within = short; scenario = s; reads = reads; built = built; limits = within; place = h.0; rejected = h.1; script = n.0; here = n.1; name_is = n.2 }
+rejected c bytes s (refusal.Limit l) short reads built within h before after = absurd h
+
+pub as_given : (s given : Scenario) (r : Refusal) → given ≡ s → IsRejection given r → IsRejection s r
+as_given s given r e h = subst (λ (s : Scenario). IsRejection s r) e h
+
+first_none : (p : Option Place) → earlier p None ≡ None → p ≡ None
+first_none None h = refl
+first_none (Some place) h = cc
+
+-- a text that `replay` lets pass has no form that can't be run yet
+pub has_built_forms : (c : Command) (totals : Bool) (bytes : List ℕ) → c ≡ Replay totals → IsBuilt c bytes → unbuilt_before None false (tokens start bytes) ≡ None
+has_built_forms c totals bytes is built = first_none _ (subst (λ c. IsBuilt c bytes) is built)

@@ -1,5 +1,1 @@
-mod Causes
-mod ReaderAgain
-mod ReaderLemmas
-mod ReaderTakes
-mod ReaderTokens
+pub mod Causes

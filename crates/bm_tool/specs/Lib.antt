@@ -1,5 +1,3 @@
-pub mod Lone
-pub mod LoneReading
+pub mod Causes
 pub mod Outcome
 pub mod Refusals
-pub mod Words

@@ -1,59 +1,65 @@
--- When each answer of the program comes. The order in which the causes are looked for is this project's own.
-use Rattle.std.specs.Prelude.{◌≡◌, ⊤, ℕ, ◌≤◌, ◌<◌, List, Option, Some, None, length, take, IfSome}
+-- What the program answers and writes where it isn't refused. (This project's own.)
+use Rattle.std.specs.Prelude.{◌≡◌, ℕ, ◌≤◌, true, false, List, [], Option, Some, None, length, take, IfSome, codes}
 use Rattle.std.specs.Io.KnownBytes.{Appends}
 use Rattle.bm_text.specs.Faults.{Rose}
 use Rattle.bm_text.specs.Sink.{AllFlushed}
 use Rattle.bm_journal.specs.declared.journal.Journal.{Journal}
-use Rattle.bm_journal.specs.JournalText.{journal_text}
+use Rattle.bm_journal.specs.JournalText.{journal_text, totals_text}
+use Rattle.bm_lang.specs.declared.scenario.Scenario.{Scenario}
+use Rattle.bm_lang.specs.Limits.{first_limit}
+use Rattle.bm_lang.specs.Scenarios.{Reads}
+use Rattle.bm_check.specs.Scripts.{AllAccepted}
+use Rattle.bm_lawful.specs.Lawful.{Lawful}
+use Rattle.bm_command.specs.declared.command.Command.{Command}
+use Rattle.bm_command.specs.declared.command.Command.TheVariants.{Replay, Check}
 use Rattle.bm_tool.specs.declared.refusal.Refusal.{Refusal}
-use Rattle.bm_tool.specs.declared.refusal.Refusal.TheVariants as refusal
-use Rattle.bm_tool.specs.Lone.{Lone, Reads}
+use Rattle.bm_tool.specs.Causes.{IsBuilt, Cause}
 use Rattle.bm_tool.specs.Refusals.{input_limit, status_of, line_of, Told}
 
--- the input is longer than its limit
-abbrev pub IsTooLong : List ℕ → Type 0
-IsTooLong bytes = input_limit < length bytes
+-- the bytes are read as this scenario, which is within the limits, and whose scripts are accepted
+pub record IsPrepared (c : Command) (bytes : List ℕ) (s : Scenario) : Type 0 where
+  pub within : length bytes ≤ input_limit
+  pub reads : Reads bytes s
+  pub built : IsBuilt c bytes
+  pub limits : first_limit s ≡ None
+  pub accepted : AllAccepted s
 
--- the input is within its limit and has no reading
-abbrev pub HasNoReading : List ℕ → Type 0
-HasNoReading bytes = (length bytes ≤ input_limit) × ((s : Lone) → Reads bytes s → ⊥)
+-- what a command asks of its input: a reading, in forms that it can serve, within the limits, with accepted scripts
+pub record IsServable (c : Command) (bytes : List ℕ) : Type 0 where
+  pub within : length bytes ≤ input_limit
+  pub reading : Scenario
+  pub reads : Reads bytes reading
+  pub built : IsBuilt c bytes
+  pub limits : (s : Scenario) → Reads bytes s → first_limit s ≡ None
+  pub accepted : (s : Scenario) → Reads bytes s → AllAccepted s
 
--- the input is within its limit and has a reading
-abbrev pub HasReading : List ℕ → Type 0
-HasReading bytes = (length bytes ≤ input_limit) × ((s : Lone) × Reads bytes s)
+-- What a command answers of the bytes that were left in the source: `replay` a lawful journal, `check` none.
+abbrev pub Serves : Command → Option (List ℕ) → Option Journal → Type 0
+Serves Check left journal = (journal ≡ None) × IfSome left (λ bytes. (s : Scenario) × IsPrepared Check bytes s)
+Serves (Replay totals) left None = ⊥
+Serves (Replay totals) left (Some journal) = IfSome left (λ bytes. (s : Scenario) × IsPrepared (Replay totals) bytes s × Lawful s journal)
 
--- The cause of each refusal that comes of the input: of the bytes left in the source, where they are told, and of the
--- source's count of faults before and after. Want of memory needs none.
-abbrev pub InputCause : Option (List ℕ) → ℕ → ℕ → Refusal → Type 0
-InputCause left before after refusal.Usage = ⊥
-InputCause left before after refusal.ReadFailed = Rose before after
-InputCause left before after refusal.WriteFailed = ⊥
-InputCause left before after refusal.OutOfMemory = ⊤
-InputCause left before after (refusal.Text bad) = IfSome left HasNoReading
-InputCause left before after refusal.InputLimit = IfSome left IsTooLong
+-- what a command writes: the text of the journal, or its lines of totals alone, or that the scripts are accepted
+abbrev pub out_text : Command → Option Journal → List ℕ
+out_text Check journal = codes "accepted\n"
+out_text (Replay totals) None = []
+out_text (Replay false) (Some journal) = journal_text journal
+out_text (Replay true) (Some journal) = totals_text journal.totals
 
--- a journal's text was written and flushed
-abbrev pub Printed : Option (List ℕ) → Option (List ℕ) → Option ℕ → Option ℕ → Option Journal → Type 0
-Printed old new flushed_before flushed_after None = ⊥
-Printed old new flushed_before flushed_after (Some journal) = Appends old new (journal_text journal) × AllFlushed flushed_before new flushed_after
+-- a text was written and flushed
+abbrev pub Printed : List ℕ → Option (List ℕ) → Option (List ℕ) → Option ℕ → Option ℕ → Type 0
+Printed text old new flushed_before flushed_after = Appends old new text × AllFlushed flushed_before new flushed_after
 
--- a front of a journal's text was written
-abbrev pub PrintedInPart : Option (List ℕ) → Option (List ℕ) → Option Journal → Type 0
-PrintedInPart old new None = ⊥
-PrintedInPart old new (Some journal) = (n : ℕ) × (n ≤ length (journal_text journal)) × Appends old new (take n (journal_text journal))
+-- a front of a text was written
+abbrev pub PrintedInPart : List ℕ → Option (List ℕ) → Option (List ℕ) → Type 0
+PrintedInPart text old new = (n : ℕ) × (n ≤ length text) × Appends old new (take n text)
 
--- a refusal whose line takes memory
-abbrev pub IsText : Refusal → Type 0
-IsText (refusal.Text bad) = ⊤
-IsText refusal.Usage = ⊥
-IsText refusal.ReadFailed = ⊥
-IsText refusal.WriteFailed = ⊥
-IsText refusal.OutOfMemory = ⊥
-IsText refusal.InputLimit = ⊥
-
--- the line of the status was told: that of a refusal with this status
-abbrev pub LineTold : ℕ → Option (List ℕ) → Option (List ℕ) → ℕ → ℕ → Type 0
-LineTold status old new before after = (r : Refusal) × (status ≡ status_of r) × Told old new before after (line_of r)
+-- A refusal: the status is its, it has its cause, and its line was told.
+pub record Refuses (words : List (List ℕ)) (left : Option (List ℕ)) (before after out_before out_after : ℕ) (old new : Option (List ℕ)) (err_before err_after status : ℕ) : Type 0 where
+  pub refusal : Refusal
+  pub status_is : status ≡ status_of refusal
+  pub cause : Cause words left before after out_before out_after refusal
+  pub told : Told old new err_before err_after (line_of refusal)
 
 -- no count of faults rose
 abbrev pub Stayed : ℕ → ℕ → Type 0

@@ -1,17 +1,15 @@
-//! The program's top call: words, a scenario read from a source, and its journal written to a sink.
+//! The program's top call: words, a scenario read from a source, and what is written to a sink.
 #![tactic(auto)]
 
-mod lone;
-mod reader;
+#[cfg(test)]
+mod example_tests;
+mod prepare;
 mod refusal;
-mod run;
+#[cfg(test)]
+mod refusal_tests;
 #[cfg(test)]
 mod tests;
 mod top;
-mod words;
 
-pub use lone::{Creation, LoneFault, LoneScenario};
-pub use reader::read_lone;
 pub use refusal::Refusal;
-pub use run::run_lone;
 pub use top::{Answer, bpfmem, out_of_memory};

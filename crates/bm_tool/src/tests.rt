@@ -1,9 +1,12 @@
+//! Whole calls: journals, totals, and devices that fail. What is expected is worked out by hand from the rules.
+
 use super::*;
 use bm_text::{MemSink, MemSource};
 use std::alloc::Global;
+use std::process::Abort;
 use std::test::Fail;
 
-const SCENARIO: &str = "scenario {
+pub(crate) const SCENARIO: &str = "scenario {
 processors 1
 pages 1
 deferred off
@@ -71,22 +74,115 @@ total tracing 1
 total handlers 0
 ";
 
+// The same without a page: the object is asked for in vain.
+const NO_PAGE: &str = "scenario { processors 1 pages 0 deferred off type item { a }
+script main plain { new x item 7 if x { drop x } } run 0 main }";
+
+const NO_PAGE_JOURNAL: &str = "processors 1 pages 0
+types item
+maps
+scripts main
+class 16 marks 32 96 48
+processor 0
+0 fill 16
+0 script main
+0 in plain 1
+0 new item 7
+0 enter 16 1
+0 pop 16 none
+0 leave 16 0
+0 raise 16
+0 empty
+0 out plain 2
+0 done main
+0 ended
+0 close
+total steps 4
+total given 0
+total empty 1
+total busy 0
+total last 0
+total still 0
+total acquired 0
+total exchanged 0
+total pushed 0
+total already 0
+total taken 0
+total none 0
+total raised 1
+total worked 0
+total fetched 0
+total returned 0
+total plain 0
+total tracing 0
+total handlers 0
+";
+
+// Two classes, and no script: the units of the opening go back.
+const NO_SCRIPT: &str =
+    "scenario { processors 1 pages 3 deferred off type t { pad 4088 } type u { a b } }";
+
+const NO_SCRIPT_JOURNAL: &str = "processors 1 pages 3
+types t u
+maps
+scripts
+class 32 marks 32 96 48
+class 4096 marks 2 6 3
+processor 0
+0 fill 32 0 1 2 3
+0 fill 4096 256
+0 ended
+0 close
+0 sweep 32 3 2 1 0
+0 stamp 32 tracing 2
+0 begin tracing 1
+0 finish tracing 2 first 0 0 later 0 0
+0 pass 32 tracing 2
+0 return 32 3 2 1 0
+0 sweep 4096 256
+0 stamp 4096 tracing 4
+0 begin tracing 3
+0 finish tracing 4 first 0 0 later 0 0
+0 pass 4096 tracing 4
+0 return 4096 256
+total steps 8
+total given 0
+total empty 0
+total busy 0
+total last 0
+total still 0
+total acquired 0
+total exchanged 0
+total pushed 0
+total already 0
+total taken 0
+total none 0
+total raised 0
+total worked 0
+total fetched 5
+total returned 5
+total plain 0
+total tracing 2
+total handlers 0
+";
+
 // What a call answered, and what it wrote.
 #[derive(Drop)]
-struct Called {
-    status: u8,
-    answered: bool,
-    out: Vec<u8>,
-    err: Vec<u8>,
+pub(crate) struct Called {
+    pub(crate) status: u8,
+    pub(crate) answered: bool,
+    pub(crate) out: Vec<u8>,
+    pub(crate) err: Vec<u8>,
 }
 
-// Calls the program over memory; the calls of source and sink whose numbers are given fail.
-fn call(
+// Calls the program over memory; the calls of the source and of the two sinks whose numbers are given fail.
+fn call_over(
     alloc: Global,
     words: &[&str],
     text: &[u8],
     source_fails: &[u32],
-    sink_fails: &[u32],
+    out_fails: &[u32],
+    err_fails: &[u32],
 ) -> Result<Called, Fail> {
     let piece = 10;
     let mut source = MemSource::new(
@@ -94,8 +190,8 @@ fn call(
         piece,
         Vec::from_slice(alloc, source_fails)?,
     );
-    let mut out = MemSink::new(alloc, 4096, piece, Vec::from_slice(alloc, sink_fails)?)?;
-    let mut err = MemSink::new(alloc, 4096, piece, Vec::new(alloc))?;
+    let mut out = MemSink::new(alloc, 4096, piece, Vec::from_slice(alloc, out_fails)?)?;
+    let mut err = MemSink::new(alloc, 4096, piece, Vec::from_slice(alloc, err_fails)?)?;
     let answer = bpfmem(alloc, words, &mut source, &mut out, &mut err);
     Ok(Called {
         status: answer.status,
@@ -105,118 +201,242 @@ fn call(
     })
 }
 
-#[test]
-fn one_object_made_and_dropped(rt: HostRuntime) -> Result<(), Fail> {
-    let called = call(rt.alloc(), &["replay"], SCENARIO.as_bytes(), &[], &[])?;
+pub(crate) fn call(alloc: Global, words: &[&str], text: &[u8]) -> Result<Called, Fail> {
+    call_over(alloc, words, text, &[], &[], &[])
+}
+
+// A call answered so, and wrote these texts; or memory ran out, which it told, and nothing else. Answers whether it was
+// the first.
+pub(crate) fn agrees(
+    rt: &impl Abort,
+    called: &Called,
+    status: u8,
+    out: &str,
+    err: &str,
+    note: &str,
+) -> bool {
     if called.status == 4 {
         assert_eq!(rt;
             called.err.as_slice(),
-            b"bpfmem: out of memory\n".as_slice()
+            b"bpfmem: out of memory\n".as_slice(),
+            "{note}"
         );
-        assert!(rt; called.out.is_empty());
-        return Ok(());
+        assert!(rt; called.out.is_empty(), "{note}");
+        assert!(rt; !called.answered, "{note}");
+        return false;
     }
-    assert_eq!(rt; called.status, 0);
-    assert_eq!(rt; called.out.as_slice(), JOURNAL.as_bytes());
-    assert!(rt; called.err.is_empty());
-    assert!(rt; called.answered);
-    Ok(())
+    assert_eq!(rt; called.status, status, "{note}");
+    assert_eq!(rt; called.err.as_slice(), err.as_bytes(), "{note}");
+    assert_eq!(rt; called.out.as_slice(), out.as_bytes(), "{note}");
+    true
 }
 
 #[test]
-fn memory_is_there_for_the_first_journal(rt: HostRuntime) -> Result<(), Fail> {
-    assert_eq!(rt;
-        call(rt.alloc(), &["replay"], SCENARIO.as_bytes(), &[], &[])?.status,
-        0
-    );
-    Ok(())
-}
-
-#[test]
-fn refusals_have_their_status_and_line(rt: HostRuntime) -> Result<(), Fail> {
-    let table: [(&[&str], &str, u8, &str); 12] = [
-        (&[], SCENARIO, 1, "bpfmem: usage\n"),
-        (&["run"], SCENARIO, 1, "bpfmem: usage\n"),
-        (&["Replay"], SCENARIO, 1, "bpfmem: usage\n"),
-        (&["replay "], SCENARIO, 1, "bpfmem: usage\n"),
-        (&["replay", "replay"], SCENARIO, 1, "bpfmem: usage\n"),
-        (&["replay", "--totals"], SCENARIO, 1, "bpfmem: usage\n"),
-        (&["--help"], SCENARIO, 1, "bpfmem: usage\n"),
-        (&["replay"], "", 5, "bpfmem: line 1 column 1: end\n"),
-        (
-            &["replay"],
-            "scenario {\nprocessors 1\n",
-            5,
-            "bpfmem: line 3 column 1: end\n",
-        ),
-        (
-            &["replay"],
-            "scenario {\nprocessors 2\n",
-            5,
-            "bpfmem: line 2 column 12: not_yet\n",
-        ),
-        (
-            &["replay"],
-            "scenario {\npages 1\n",
-            5,
-            "bpfmem: line 2 column 1: unexpected\n",
-        ),
-        (
-            &["replay"],
-            "scenario {\n\tprocessors 007",
-            5,
-            "bpfmem: line 2 column 13: number\n",
-        ),
+fn journals_and_their_totals_alone(rt: HostRuntime) -> Result<(), Fail> {
+    let table = [
+        (SCENARIO, JOURNAL),
+        (NO_PAGE, NO_PAGE_JOURNAL),
+        (NO_SCRIPT, NO_SCRIPT_JOURNAL),
     ];
-    for (words, text, status, line) in table {
-        let called = call(rt.alloc(), words, text.as_bytes(), &[], &[])?;
-        assert_eq!(rt; called.status, status, "{line}");
-        assert_eq!(rt; called.err.as_slice(), line.as_bytes(), "{line}");
-        assert!(rt; called.out.is_empty(), "{line}");
-        assert!(rt; !called.answered, "{line}");
+    for (text, journal) in table {
+        let called = call(rt.alloc(), &["replay"], text.as_bytes())?;
+        let done = agrees(&rt, &called, 0, journal, "", text);
+        assert_eq!(rt; called.answered, done, "{text}");
+
+        let (_, totals) = journal
+            .split_once("total steps")
+            .expect(&rt, "a journal has totals");
+        let called = call(rt.alloc(), &["replay", "--totals"], text.as_bytes())?;
+        let lines = format!(in rt.alloc(); "total steps{totals}")?;
+        let done = agrees(&rt, &called, 0, lines.as_str(), "", text);
+        assert_eq!(rt; called.answered, done, "{text}");
     }
     Ok(())
 }
 
 #[test]
-fn a_byte_behind_the_last_brace_is_unexpected(rt: HostRuntime) -> Result<(), Fail> {
-    let mut text = String::from_str(rt.alloc(), SCENARIO)?;
-    text.push_str("x")?;
-    let called = call(rt.alloc(), &["replay"], text.as_bytes(), &[], &[])?;
-    assert_eq!(rt; called.status, 5);
-    assert_eq!(rt;
-        called.err.as_slice(),
-        b"bpfmem: line 12 column 1: unexpected\n".as_slice()
-    );
+fn memory_is_there_for_each_command(rt: HostRuntime) -> Result<(), Fail> {
+    let table: [&[&str]; 3] = [&["replay"], &["replay", "--totals"], &["check"]];
+    for words in table {
+        assert_eq!(rt; call(rt.alloc(), words, SCENARIO.as_bytes())?.status, 0);
+    }
+    Ok(())
+}
+
+// Blocks six deep, with names that are bound again. By the rules an `item` has 16 bytes and a `big` 512, so the opening
+// fetches 4 units of the one and then 1 of the other, where there are pages.
+const NESTED: &str = "deferred off type item { a } type big { pad 504 }
+script main plain {
+repeat 2 {
+new x big
+if x {
+repeat 3 {
+new y big
+if y { drop y } else { repeat 2 { new y item 5 if y { drop y } } }
+}
+drop x
+} else {
+new x item 1
+if x { drop x }
+}
+}
+}
+run 0 main }";
+
+const NESTED_ON_NO_PAGE: &str = "total steps 16
+total given 0
+total empty 4
+total busy 0
+total last 0
+total still 0
+total acquired 0
+total exchanged 0
+total pushed 0
+total already 0
+total taken 0
+total none 0
+total raised 4
+total worked 0
+total fetched 0
+total returned 0
+total plain 0
+total tracing 0
+total handlers 0
+";
+
+const NESTED_ON_ONE_PAGE: &str = "total steps 30
+total given 2
+total empty 2
+total busy 0
+total last 2
+total still 0
+total acquired 0
+total exchanged 0
+total pushed 0
+total already 0
+total taken 0
+total none 0
+total raised 4
+total worked 0
+total fetched 4
+total returned 4
+total plain 0
+total tracing 1
+total handlers 0
+";
+
+const NESTED_ON_TWO_PAGES: &str = "total steps 158
+total given 14
+total empty 6
+total busy 0
+total last 14
+total still 0
+total acquired 0
+total exchanged 0
+total pushed 0
+total already 0
+total taken 0
+total none 0
+total raised 20
+total worked 0
+total fetched 5
+total returned 5
+total plain 0
+total tracing 2
+total handlers 0
+";
+
+// No page: each `big` and then each `item` is asked for in vain, in 4 steps each (enter, pop, leave, raise).
+//
+// One page: it becomes one of items. Each `big` is asked for in vain in 4 steps, the item is given in 5 (one more, the
+// count) and given back in 4. The closing of the one class is 4 steps.
+//
+// Two pages: the `big` is given in 5 steps; three times another is asked for in vain in 4 and two items come and go in 9
+// each; and the `big` goes back in 4. That is 75 steps, twice, and 4 for the closing of each class.
+#[test]
+fn nested_blocks(rt: HostRuntime) -> Result<(), Fail> {
+    let table = [
+        ("0", NESTED_ON_NO_PAGE),
+        ("1", NESTED_ON_ONE_PAGE),
+        ("2", NESTED_ON_TWO_PAGES),
+    ];
+    for (pages, totals) in table {
+        let text = format!(in rt.alloc(); "scenario {{ processors 1 pages {pages} {NESTED}")?;
+        let called = call(rt.alloc(), &["replay", "--totals"], text.as_bytes())?;
+        agrees(&rt, &called, 0, totals, "", pages);
+    }
     Ok(())
 }
 
 #[test]
 fn devices_that_fail(rt: HostRuntime) -> Result<(), Fail> {
-    let called = call(rt.alloc(), &["replay"], SCENARIO.as_bytes(), &[2], &[])?;
-    assert_eq!(rt; called.status, 2);
-    assert_eq!(rt; called.err.as_slice(), b"bpfmem: read failed\n".as_slice());
-    assert!(rt; called.out.is_empty());
-    let called = call(rt.alloc(), &["replay"], SCENARIO.as_bytes(), &[], &[2])?;
-    assert_eq!(rt; called.status, 3);
-    assert_eq!(rt; called.err.as_slice(), b"bpfmem: write failed\n".as_slice());
-    assert_eq!(rt; called.out.as_slice(), b"processors".as_slice());
-    assert!(rt; called.answered);
+    let text = SCENARIO.as_bytes();
+
+    // the source in mid-stream, and at its first call; where the words are no command it isn't read
+    let called = call_over(rt.alloc(), &["replay"], text, &[2], &[], &[])?;
+    agrees(&rt, &called, 2, "", "bpfmem: read failed\n", "second read");
+    let called = call_over(rt.alloc(), &["check"], text, &[1], &[], &[])?;
+    agrees(&rt, &called, 2, "", "bpfmem: read failed\n", "first read");
+    let called = call_over(rt.alloc(), &["checks"], text, &[1], &[], &[])?;
+    agrees(&rt, &called, 1, "", "bpfmem: usage\n", "no read");
+
+    // the sink: a front of the text was written, and a journal is answered by `replay` alone
+    let called = call_over(rt.alloc(), &["replay"], text, &[], &[2], &[])?;
+    let done = agrees(
+        &rt,
+        &called,
+        3,
+        "processors",
+        "bpfmem: write failed\n",
+        "second write",
+    );
+    assert_eq!(rt; called.answered, done);
+    let called = call_over(rt.alloc(), &["check"], text, &[], &[1], &[])?;
+    agrees(&rt, &called, 3, "", "bpfmem: write failed\n", "first write");
+    assert!(rt; !called.answered);
+
+    // the flush behind the last byte of `accepted`
+    let called = call_over(rt.alloc(), &["check"], text, &[], &[2], &[])?;
+    agrees(
+        &rt,
+        &called,
+        3,
+        "accepted\n",
+        "bpfmem: write failed\n",
+        "flush",
+    );
+
+    // the sink for refusals: the status stays
+    let called = call_over(rt.alloc(), &[], text, &[], &[], &[2])?;
+    assert_eq!(rt; called.status, 1);
+    assert_eq!(rt; called.err.as_slice(), b"bpfmem: us".as_slice());
     Ok(())
 }
 
 #[test]
 fn the_input_has_a_limit(rt: HostRuntime) -> Result<(), Fail> {
-    let mut source = MemSource::new(
-        vec![in rt.alloc(); b' '; 1048577]?,
-        65536,
-        Vec::new(rt.alloc()),
-    );
-    let mut out = MemSink::new(rt.alloc(), 64, 64, Vec::new(rt.alloc()))?;
-    let mut err = MemSink::new(rt.alloc(), 64, 64, Vec::new(rt.alloc()))?;
-    let answer = bpfmem(rt.alloc(), &["replay"], &mut source, &mut out, &mut err);
-    assert_eq!(rt; answer.status, 7);
-    assert_eq!(rt; err.bytes(), b"bpfmem: limit input\n".as_slice());
-    assert!(rt; out.bytes().is_empty());
+    let words: [&[&str]; 2] = [&["replay"], &["check"]];
+    for words in words {
+        for (spaces, status, line) in [
+            (1_048_577, 7, "bpfmem: limit input\n"),
+            (1_048_576, 5, "bpfmem: line 1 column 1048577: end\n"),
+        ] {
+            let mut source = MemSource::new(
+                vec![in rt.alloc(); b' '; spaces]?,
+                65536,
+                Vec::new(rt.alloc()),
+            );
+            let mut out = MemSink::new(rt.alloc(), 64, 64, Vec::new(rt.alloc()))?;
+            let mut err = MemSink::new(rt.alloc(), 64, 64, Vec::new(rt.alloc()))?;
+            let answer = bpfmem(rt.alloc(), words, &mut source, &mut out, &mut err);
+            let called = Called {
+                status: answer.status,
+                answered: answer.journal.is_some(),
+                out: out.into_bytes(),
+                err: err.into_bytes(),
+            };
+            agrees(&rt, &called, status, "", line, line);
+        }
+    }
     Ok(())
 }

@@ -1,22 +1,23 @@
 //! The top call.
 
-ghost use Rattle.std.specs.Prelude.{◌≡◌, ◌≢◌, ◌⊎◌, ◌↔◌, ℕ, ◌≤◌, ◌<◌, ◌^◌, ◌-◌, List, None, Some, Err, length, take, vec_len, IfSome, IsSome, IfOk, IfErr, OnOk};
+ghost use Rattle.std.specs.Prelude.{◌≡◌, ◌≢◌, ◌⊎◌, ◌↔◌, ℕ, ◌≤◌, List, None, Some, length, vec_len, IfSome, IsSome, IfOk, IfErr, OnOk};
 ghost use Rattle.std.specs.Io.KnownBytes.{IsAtEnd};
 ghost use Rattle.bm_text.specs.Faults.{Rose};
-ghost use Rattle.bm_journal.specs.JournalText.{journal_text};
-ghost use Rattle.bm_tool.specs.Words.{IsReplay};
-ghost use Rattle.bm_tool.specs.Lone.{Lone, Reads};
+ghost use Rattle.bm_command.specs.Words.{command_of, texts};
+ghost use Rattle.bm_command.specs.declared.command.Command.{Command as Asked};
+ghost use Rattle.bm_tool.specs.declared.refusal.Refusal.{Refusal as RefusalValue};
 ghost use Rattle.bm_tool.specs.declared.refusal.Refusal.TheVariants.{OutOfMemory, WriteFailed};
-ghost use Rattle.bm_tool.specs.Refusals.{input_limit, status_of, line_of, Told};
-ghost use Rattle.bm_tool.specs.Outcome.{InputCause, HasNoReading, HasReading, IsTooLong, Printed, PrintedInPart, IsText, LineTold, Stayed};
+ghost use Rattle.bm_tool.specs.Causes.{InputCause};
+ghost use Rattle.bm_tool.specs.Outcome.{IsServable, Serves, out_text, Printed, PrintedInPart, Refuses, Stayed};
+ghost use Rattle.bm_tool.specs.Refusals.{input_limit, status_of, line_of, IsLong, Told};
 
-use crate::lone::LoneFault;
-use crate::reader::read_lone;
-use crate::refusal::{Refusal, bad_text_line};
-use crate::run::run_lone;
-use crate::words::is_replay;
-use bm_journal::{Journal, text_of};
+use crate::prepare::{Done, perform, prepare};
+use crate::refusal::{Refusal, bad_text_line, limit_line, rejected_line};
+use bm_command::{Command, CommandFault, read_command};
+use bm_journal::Journal;
+use bm_lang::Limit;
 use bm_text::{Sink, Source, TextFault, read_all, write_all};
+use bm_word::NoMemory;
 use std::alloc::Global;
 
 // The greatest input, in bytes.
@@ -27,101 +28,48 @@ const INPUT_LIMIT: usize = 1048576;
 pub struct Answer {
     /// The exit status: 0 where all was done, else that of a refusal.
     pub status: u8,
-    /// The journal, at status 0, and at status 3, where it couldn't be written whole.
+    /// The journal that `replay` made, at status 0, and at status 3, where its text couldn't be written whole.
     pub journal: Option<Journal>,
 }
 
-// A journal and its text.
-#[derive(Drop)]
-struct Made {
-    journal: Journal,
-    text: Vec<u8>,
-}
-
 // Reads the whole input, up to its limit.
-fn input<S: Source>(alloc: Global, source: &mut S) -> Result<Vec<u8>, Refusal>
+fn input<S: Source>(alloc: Global, command: Command, source: &mut S) -> Result<Vec<u8>, Refusal>
     ensures all { IfOk result (λ bytes. IfSome (S.left source.old) (λ left. bytes.items ≡ left)) }
     ensures within { IfOk result (λ bytes. vec_len bytes ≤ input_limit) }
     ensures end { OnOk result (IsAtEnd (S.left source.new)) }
-    ensures cause { IfErr result (InputCause (S.left source.old) (S.faults source.old) (S.faults source.new)) }
+    ensures cause { IfErr result (InputCause command (S.left source.old) (S.faults source.old) (S.faults source.new)) }
 {
     match read_all(alloc, source, INPUT_LIMIT) {
         Ok(bytes) => Ok(bytes),
         Err(TextFault::Read) => Err(Refusal::ReadFailed),
-        Err(TextFault::TooLong) => Err(Refusal::InputLimit),
+        Err(TextFault::TooLong) => Err(Refusal::Limit(Limit::Input)),
         Err(TextFault::NoMemory) => Err(Refusal::OutOfMemory),
     }
 }
 
-// Reads a scenario, runs it and makes the journal's text.
-fn played(alloc: Global, bytes: &[u8]) -> Result<Made, Refusal>
+// What a command answers of bytes.
+fn serve(alloc: Global, command: Command, bytes: &[u8]) -> Result<Done, Refusal>
     requires { length bytes.now ≤ input_limit }
-    ensures text { IfOk result (λ made. made.text.items ≡ journal_text made.journal) }
-    ensures reading { OnOk result (HasReading bytes.now) }
-    ensures cause { IfErr result (λ r. (before after : ℕ) → InputCause (Some bytes.now) before after r) }
+    ensures serves { IfOk result (λ done. Serves command (Some bytes.now) done.journal) }
+    ensures text { IfOk result (λ done. done.text.items ≡ out_text command done.journal) }
+    ensures cause { IfErr result (λ r. (before after : ℕ) → InputCause command (Some bytes.now) before after r) }
 {
-    let scenario = match read_lone(alloc, bytes) {
-        Ok(scenario) => scenario,
-        Err(LoneFault::Bad(bad)) => return Err(Refusal::Text(bad)),
-        Err(LoneFault::NoMemory) => return Err(Refusal::OutOfMemory),
-    };
-    let Ok(journal) = run_lone(alloc, &scenario) else {
-        return Err(Refusal::OutOfMemory);
-    };
-    match text_of(alloc, &journal) {
-        Ok(text) => Ok(Made { journal, text }),
-        Err(_) => Err(Refusal::OutOfMemory),
+    let checked = prepare(alloc, command, bytes)?;
+    match perform(alloc, command, bytes, &checked) {
+        Ok(done) => Ok(done),
+        Err(NoMemory) => Err(Refusal::OutOfMemory),
     }
 }
 
-// Reads the input and plays it.
-fn replay<S: Source>(alloc: Global, source: &mut S) -> Result<Made, Refusal>
-    ensures text { IfOk result (λ made. made.text.items ≡ journal_text made.journal) }
-    ensures reading { OnOk result (IfSome (S.left source.old) HasReading) }
+// Reads the input, and does what the command asks.
+fn run<S: Source>(alloc: Global, command: Command, source: &mut S) -> Result<Done, Refusal>
+    ensures serves { IfOk result (λ done. Serves command (S.left source.old) done.journal) }
+    ensures text { IfOk result (λ done. done.text.items ≡ out_text command done.journal) }
     ensures end { OnOk result (IsAtEnd (S.left source.new)) }
-    ensures cause { IfErr result (InputCause (S.left source.old) (S.faults source.old) (S.faults source.new)) }
+    ensures cause { IfErr result (InputCause command (S.left source.old) (S.faults source.old) (S.faults source.new)) }
 {
-    let bytes = input(alloc, source)?;
-    played(alloc, bytes.as_slice())
-}
-
-// Writes the line of a refusal, and answers the refusal. Where there is no memory for the line it is that.
-fn tell<E: Sink>(alloc: Global, err: &mut E, refusal: Refusal) -> Refusal
-    ensures same { (result ≡ refusal) ⊎ (IsText refusal × (result ≡ OutOfMemory)) }
-    ensures told { Told (E.written err.old) (E.written err.new) (E.faults err.old) (E.faults err.new) (line_of result) }
-{
-    match refusal {
-        Refusal::Text(bad) => match bad_text_line(alloc, bad) {
-            Ok(line) => {
-                put(err, line.as_slice());
-                refusal
-            }
-            Err(_) => {
-                put(err, b"bpfmem: out of memory\n");
-                Refusal::OutOfMemory
-            }
-        },
-        Refusal::Usage => {
-            put(err, b"bpfmem: usage\n");
-            refusal
-        }
-        Refusal::ReadFailed => {
-            put(err, b"bpfmem: read failed\n");
-            refusal
-        }
-        Refusal::WriteFailed => {
-            put(err, b"bpfmem: write failed\n");
-            refusal
-        }
-        Refusal::OutOfMemory => {
-            put(err, b"bpfmem: out of memory\n");
-            refusal
-        }
-        Refusal::InputLimit => {
-            put(err, b"bpfmem: limit input\n");
-            refusal
-        }
-    }
+    let bytes = input(alloc, command, source)?;
+    serve(alloc, command, bytes.as_slice())
 }
 
 // Writes a line once. A fault changes nothing else.
@@ -131,38 +79,87 @@ fn put<E: Sink>(err: &mut E, line: &[u8])
     let _ = write_all(err, line);
 }
 
-// Writes a journal's text.
-fn print<K: Sink, E: Sink>(out: &mut K, err: &mut E, made: Made) -> Answer
-    requires { made.text.items ≡ journal_text made.journal }
-    ensures status { (result.status ≡ 0) ⊎ (result.status ≡ 3) }
-    ensures failed { result.status ≡ 3 → Rose (K.faults out.old) (K.faults out.new) }
-    ensures printed { result.status ≡ 0 → Printed (K.written out.old) (K.written out.new) (K.flushed out.old) (K.flushed out.new) result.journal }
-    ensures in_part { result.status ≡ 3 → PrintedInPart (K.written out.old) (K.written out.new) result.journal }
-    ensures silent { result.status ≡ 0 → E.written err.new ≡ E.written err.old }
-    ensures told { result.status ≡ 3 → Told (E.written err.old) (E.written err.new) (E.faults err.old) (E.faults err.new) (line_of WriteFailed) }
+// Writes the line of a refusal where there was memory for it. Else it is a want of memory.
+fn tell_long<E: Sink>(err: &mut E, refusal: Refusal, line: Result<Vec<u8>, NoMemory>) -> Refusal
+    requires { IfOk line (λ text. text.items ≡ line_of refusal) }
+    ensures same { (result ≡ refusal) ⊎ (result ≡ OutOfMemory) }
+    ensures told { Told (E.written err.old) (E.written err.new) (E.faults err.old) (E.faults err.new) (line_of result) }
 {
-    let Made { journal, text } = made;
-    match write_all(out, text.as_slice()) {
-        Ok(()) => Answer {
-            status: 0,
-            journal: Some(journal),
-        },
-        Err(_) => {
-            put(err, b"bpfmem: write failed\n");
-            Answer {
-                status: 3,
-                journal: Some(journal),
-            }
+    match line {
+        Ok(text) => {
+            put(err, text.as_slice());
+            refusal
+        }
+        Err(NoMemory) => {
+            put(err, b"bpfmem: out of memory\n");
+            Refusal::OutOfMemory
         }
     }
 }
 
-fn refused(refusal: Refusal) -> Answer
-    ensures status { result.status ≡ status_of refusal }
+// Writes the line of a refusal, and answers the refusal. Where there is no memory for the line it is that.
+fn tell<E: Sink>(alloc: Global, err: &mut E, refusal: Refusal) -> Refusal
+    ensures same { (result ≡ refusal) ⊎ (IsLong refusal × (result ≡ OutOfMemory)) }
+    ensures told { Told (E.written err.old) (E.written err.new) (E.faults err.old) (E.faults err.new) (line_of result) }
+{
+    match refusal {
+        Refusal::Usage => {
+            put(err, b"bpfmem: usage\n");
+            Refusal::Usage
+        }
+        Refusal::ReadFailed => {
+            put(err, b"bpfmem: read failed\n");
+            Refusal::ReadFailed
+        }
+        Refusal::WriteFailed => {
+            put(err, b"bpfmem: write failed\n");
+            Refusal::WriteFailed
+        }
+        Refusal::OutOfMemory => {
+            put(err, b"bpfmem: out of memory\n");
+            Refusal::OutOfMemory
+        }
+        Refusal::Limit(limit) => {
+            put(err, limit_line(limit));
+            Refusal::Limit(limit)
+        }
+        Refusal::Text(bad) => tell_long(err, Refusal::Text(bad), bad_text_line(alloc, bad)),
+        Refusal::Rejected { script, line, rule } => {
+            let text = rejected_line(alloc, &script, line, rule);
+            tell_long(err, Refusal::Rejected { script, line, rule }, text)
+        }
+    }
+}
+
+// Writes what a command did.
+fn print<K: Sink, E: Sink>(out: &mut K, err: &mut E, done: Done) -> Answer
+    ensures status { (result.status ≡ 0) ⊎ (result.status ≡ 3) }
+    ensures journal { result.journal ≡ done.journal }
+    ensures failed { result.status ≡ 3 → Rose (K.faults out.old) (K.faults out.new) }
+    ensures printed { result.status ≡ 0 → Printed done.text.items (K.written out.old) (K.written out.new) (K.flushed out.old) (K.flushed out.new) }
+    ensures in_part { result.status ≡ 3 → PrintedInPart done.text.items (K.written out.old) (K.written out.new) }
+    ensures silent { result.status ≡ 0 → E.written err.new ≡ E.written err.old }
+    ensures told { result.status ≡ 3 → Told (E.written err.old) (E.written err.new) (E.faults err.old) (E.faults err.new) (line_of WriteFailed) }
+{
+    let Done { journal, text } = done;
+    match write_all(out, text.as_slice()) {
+        Ok(()) => Answer { status: 0, journal },
+        Err(_) => {
+            put(err, b"bpfmem: write failed\n");
+            Answer { status: 3, journal }
+        }
+    }
+}
+
+// The answer of a refusal, whose line is written.
+fn refused<E: Sink>(alloc: Global, err: &mut E, refusal: Refusal) -> Answer
+    ensures told { (r : RefusalValue) × ((r ≡ refusal) ⊎ (IsLong refusal × (r ≡ OutOfMemory))) × (result.status ≡ status_of r)
+        × Told (E.written err.old) (E.written err.new) (E.faults err.old) (E.faults err.new) (line_of r) }
     ensures journal { result.journal ≡ None }
 {
+    let told = tell(alloc, err, refusal);
     Answer {
-        status: refusal.status(),
+        status: told.status(),
         journal: None,
     }
 }
@@ -175,14 +172,19 @@ pub fn out_of_memory<E: Sink>(err: &mut E) -> Answer
     ensures told { Told (E.written err.old) (E.written err.new) (E.faults err.old) (E.faults err.new) (line_of OutOfMemory) }
 {
     put(err, b"bpfmem: out of memory\n");
-    refused(Refusal::OutOfMemory)
+    Answer {
+        status: Refusal::OutOfMemory.status(),
+        journal: None,
+    }
 }
 
-/// The program: reads a scenario and writes its journal. `replay` is its one command by now.
+/// The program. `replay` reads a scenario from `source`, runs it and writes its journal to `out`, or with `--totals` the
+/// lines of its totals; `check` reads a scenario and writes `accepted` where all its scripts are accepted.
 ///
 /// The statuses are 0 where all was done, 1 where the words are no command, 2 where the source failed, 3 where the sink
-/// failed, 4 where memory ran out, 5 where the text has no reading, and 7 where the input is longer than its limit. They
-/// are looked for in the order words, input, text, run, output.
+/// failed, 4 where memory ran out, 5 where the text has no reading (for `replay` also where it has a form that can't be
+/// run yet), 6 where a script isn't accepted, and 7 where a limit is exceeded. They are looked for in the order words,
+/// input, text, limits, scripts, run, output. At every status but 0 a line is written to `err`.
 pub fn bpfmem<S: Source, K: Sink, E: Sink>(
     alloc: Global,
     words: &[&str],
@@ -190,38 +192,38 @@ pub fn bpfmem<S: Source, K: Sink, E: Sink>(
     out: &mut K,
     err: &mut E,
 ) -> Answer
-    // When each status comes.
-    ensures usage { (result.status ≡ 1) ↔ (IsReplay words.now → ⊥) }
-    ensures read_failed { result.status ≡ 2 → Rose (S.faults source.old) (S.faults source.new) }
-    ensures write_failed { result.status ≡ 3 → Rose (K.faults out.old) (K.faults out.new) }
-    ensures text { result.status ≡ 5 → IfSome (S.left source.old) HasNoReading }
-    ensures limit { result.status ≡ 7 → IfSome (S.left source.old) IsTooLong }
-    ensures served { (result.status ≡ 0) ⊎ (result.status ≡ 3) → IfSome (S.left source.old) HasReading }
-    // The word, a reading and no fault of the source or the sink: then all is done, or memory ran out.
-    ensures complete { IsReplay words.now → IfSome (S.left source.old) HasReading
-        → Stayed (S.faults source.old) (S.faults source.new) → Stayed (K.faults out.old) (K.faults out.new)
-        → IsSome (S.left source.old) → (result.status ≡ 0) ⊎ (result.status ≡ 4) }
+    // Each refusal has its status, its cause and its line.
+    ensures refused { result.status ≢ 0 → Refuses (texts words.now) (S.left source.old) (S.faults source.old) (S.faults source.new)
+        (K.faults out.old) (K.faults out.new) (E.written err.old) (E.written err.new) (E.faults err.old) (E.faults err.new) result.status }
+    ensures usage { (result.status ≡ 1) ↔ (command_of (texts words.now) ≡ None) }
 
-    // What is written to `out`, and which journal is answered.
-    ensures printed { result.status ≡ 0
-        → Printed (K.written out.old) (K.written out.new) (K.flushed out.old) (K.flushed out.new) result.journal }
-    ensures printed_in_part { result.status ≡ 3 → PrintedInPart (K.written out.old) (K.written out.new) result.journal }
+    // Where all was done, or only the writing failed: what the command serves, and what was written.
+    ensures served { (result.status ≡ 0) ⊎ (result.status ≡ 3)
+        → (c : Asked) × (command_of (texts words.now) ≡ Some c) × Serves c (S.left source.old) result.journal
+        × (result.status ≡ 0 → Printed (out_text c result.journal) (K.written out.old) (K.written out.new) (K.flushed out.old) (K.flushed out.new))
+        × (result.status ≡ 3 → PrintedInPart (out_text c result.journal) (K.written out.old) (K.written out.new)) }
+    ensures silent { result.status ≡ 0 → E.written err.new ≡ E.written err.old }
+    ensures all_taken { (result.status ≡ 0) ⊎ (result.status ≡ 3) → IsAtEnd (S.left source.new) }
+
+    // At every other status nothing is written to `out`, and no journal is answered.
     ensures nothing_printed { result.status ≢ 0 → result.status ≢ 3
         → (result.journal ≡ None) × (K.written out.new ≡ K.written out.old) }
-
-    // What is written to `err`, and what is taken from `source`.
-    ensures silent { result.status ≡ 0 → E.written err.new ≡ E.written err.old }
-    ensures line { result.status ≢ 0
-        → LineTold result.status (E.written err.old) (E.written err.new) (E.faults err.old) (E.faults err.new) }
     ensures nothing_taken { result.status ≡ 1
         → (S.left source.new ≡ S.left source.old) × (S.faults source.new ≡ S.faults source.old) }
-    ensures all_taken { (result.status ≡ 0) ⊎ (result.status ≡ 3) → IsAtEnd (S.left source.new) }
+
+    // A command, a text that it can serve, and no fault of the source or the sink: then all is done, or memory ran out.
+    ensures complete { (c : Asked) → command_of (texts words.now) ≡ Some c → IsSome (S.left source.old)
+        → IfSome (S.left source.old) (IsServable c)
+        → Stayed (S.faults source.old) (S.faults source.new) → Stayed (K.faults out.old) (K.faults out.new)
+        → (result.status ≡ 0) ⊎ (result.status ≡ 4) }
 {
-    if !is_replay(words) {
-        return refused(tell(alloc, err, Refusal::Usage));
-    }
-    match replay(alloc, source) {
-        Ok(made) => print(out, err, made),
-        Err(refusal) => refused(tell(alloc, err, refusal)),
+    let command = match read_command(alloc, words) {
+        Ok(command) => command,
+        Err(CommandFault::Usage) => return refused(alloc, err, Refusal::Usage),
+        Err(CommandFault::NoMemory) => return refused(alloc, err, Refusal::OutOfMemory),
+    };
+    match run(alloc, command, source) {
+        Ok(done) => print(out, err, done),
+        Err(refusal) => refused(alloc, err, refusal),
     }
 }

@@ -1,0 +1,95 @@
+-- When each refusal of the program comes. The order in which the causes are looked for is this project's own: words,
+-- input, text, limits, scripts, run, output.
+use Rattle.std.specs.Prelude.{◌≡◌, ◌⊎◌, ⊤, ℕ, ◌≤◌, ◌<◌, false, List, Option, Some, None, length, IfSome, IsSomeAnd, slice_get}
+use Rattle.bm_text.specs.Faults.{Rose}
+use Rattle.bm_lang.specs.declared.bounds.Limit.{Limit}
+use Rattle.bm_lang.specs.declared.bounds.Limit.TheVariants.{Input}
+use Rattle.bm_lang.specs.declared.fault.BadText.{BadText}
+use Rattle.bm_lang.specs.declared.place.Place.{Place}
+use Rattle.bm_lang.specs.declared.scenario.Scenario.{Scenario}
+use Rattle.bm_lang.specs.declared.scenario.Script.{Script}
+use Rattle.bm_lang.specs.Limits.{first_limit}
+use Rattle.bm_lang.specs.Machine.{fault_of}
+use Rattle.bm_lang.specs.Scenarios.{Reads}
+use Rattle.bm_lang.specs.Tokens.{tokens, start}
+use Rattle.bm_check.specs.declared.rule.Rule.{Rule}
+use Rattle.bm_check.specs.Scripts.{IsRejected}
+use Rattle.bm_built.specs.Unbuilt.{unbuilt_before, not_yet}
+use Rattle.bm_command.specs.declared.command.Command.{Command}
+use Rattle.bm_command.specs.declared.command.Command.TheVariants.{Replay, Check}
+use Rattle.bm_command.specs.Words.{command_of}
+use Rattle.bm_tool.specs.declared.refusal.Refusal.{Refusal}
+use Rattle.bm_tool.specs.declared.refusal.Refusal.TheVariants as refusal
+use Rattle.bm_tool.specs.Refusals.{input_limit}
+
+-- a form that can't be run yet is a fault where it comes first
+abbrev pub earlier : Option Place → Option BadText → Option BadText
+earlier (Some place) fault = Some (not_yet place)
+earlier None fault = fault
+
+-- the first fault of a text for a command, where its fault by the whole language is this
+abbrev pub command_fault : Command → Option BadText → List ℕ → Option BadText
+command_fault Check fault bytes = fault
+command_fault (Replay totals) fault bytes = earlier (unbuilt_before fault false (tokens start bytes)) fault
+
+-- a text without a reading, with its fault by the whole language
+pub record IsUnread (bytes : List ℕ) (fault : BadText) : Type 0 where
+  pub none : (s : Scenario) → Reads bytes s → ⊥
+  pub first : fault_of bytes ≡ Some fault
+
+-- The fault of a text that is refused: it has no reading, or a form that can't be run yet.
+abbrev pub IsRefused : Command → List ℕ → BadText → Type 0
+IsRefused c bytes bad =
+    ((fault : BadText) × IsUnread bytes fault × (command_fault c (Some fault) bytes ≡ Some bad))
+    ⊎ ((s : Scenario) × Reads bytes s × (command_fault c None bytes ≡ Some bad))
+
+-- all forms of a text can be run
+abbrev pub IsBuilt : Command → List ℕ → Type 0
+IsBuilt c bytes = command_fault c None bytes ≡ None
+
+-- the limit is the first that is exceeded, by a text that isn't refused before
+abbrev pub IsExceeded : Command → List ℕ → Limit → Type 0
+IsExceeded c bytes l =
+    ((l ≡ Input) × (input_limit < length bytes))
+    ⊎ ((length bytes ≤ input_limit) × IsBuilt c bytes × ((s : Scenario) × Reads bytes s × (first_limit s ≡ Some l)))
+
+-- The script of this name is the first that isn't accepted, with its first broken rule and that rule's line. The text
+-- isn't refused before.
+pub record IsScriptRejected (c : Command) (bytes name : List ℕ) (line : ℕ) (rule : Rule) : Type 0 where
+  pub within : length bytes ≤ input_limit
+  pub scenario : Scenario
+  pub reads : Reads bytes scenario
+  pub built : IsBuilt c bytes
+  pub limits : first_limit scenario ≡ None
+  pub place : ℕ
+  pub rejected : IsRejected scenario place line rule
+  pub script : Script
+  pub here : slice_get scenario.scripts place ≡ Some script
+  pub name_is : script.name ≡ name
+
+-- the refusal of a scenario not all of whose scripts are accepted, where memory didn't run out
+abbrev pub IsRejection : Scenario → Refusal → Type 0
+IsRejection s refusal.OutOfMemory = ⊤
+IsRejection s (refusal.Rejected name line rule) = (place : ℕ) × IsRejected s place line rule × IsSomeAnd (slice_get s.scripts place) (λ (x : Script). x.name ≡ name)
+IsRejection s refusal.Usage = ⊥
+IsRejection s refusal.ReadFailed = ⊥
+IsRejection s refusal.WriteFailed = ⊥
+IsRejection s (refusal.Text bad) = ⊥
+IsRejection s (refusal.Limit l) = ⊥
+
+-- The cause of each refusal that comes of the input: of the bytes left in the source, where they are told, and of the
+-- source's count of faults before and after. Want of memory needs none.
+abbrev pub InputCause : Command → Option (List ℕ) → ℕ → ℕ → Refusal → Type 0
+InputCause c left before after refusal.Usage = ⊥
+InputCause c left before after refusal.ReadFailed = Rose before after
+InputCause c left before after refusal.WriteFailed = ⊥
+InputCause c left before after refusal.OutOfMemory = ⊤
+InputCause c left before after (refusal.Text bad) = IfSome left (λ bytes. (length bytes ≤ input_limit) × IsRefused c bytes bad)
+InputCause c left before after (refusal.Rejected script line rule) = IfSome left (λ bytes. IsScriptRejected c bytes script line rule)
+InputCause c left before after (refusal.Limit l) = IfSome left (λ bytes. IsExceeded c bytes l)
+
+-- The cause of each refusal: also of the words, and of the sink's count of faults before and after.
+abbrev pub Cause : List (List ℕ) → Option (List ℕ) → ℕ → ℕ → ℕ → ℕ → Refusal → Type 0
+Cause words left before after out_before out_after refusal.Usage = command_of words ≡ None
+Cause words left before after out_before out_after refusal.WriteFailed = Rose out_before out_after
+Cause words left before after out_before out_after r = (c : Command) × (command_of words ≡ Some c) × InputCause c left before after r
