@@ -1,5 +1,5 @@
 -- Which units are out once a fetch is done.
-use Rattle.std.proofs.Common.{◌≡◌, ◌≢◌, ◌⊎◌, ℕ, zero, suc, Bool, true, ◌∷◌, length, refl, sym, ◌∙◌, ap, subst, inl, inr, arith, eq-eqb, Option, Some, None}
+use Rattle.std.proofs.Common.{◌≡◌, ◌≢◌, ◌⊎◌, ℕ, zero, suc, true, ◌∷◌, length, refl, sym, ◌∙◌, ap, subst, inl, inr, arith, eq-eqb, Option, Some, None}
 use Rattle.std.proofs.lemmas.Bool.{cases_eq, cases_lt}
 use Rattle.std.proofs.lemmas.List.{get_or_past}
 use Rattle.bm_law.specs.Stands.{times}
@@ -8,9 +8,6 @@ use Rattle.bm_page.specs.Stock.{Stock, stocked_at, unborn, fetched, next_unit, g
 use Rattle.bm_page.proofs.StockLemmas.{stocked_at-same, stocked_at-other}
 use Rattle.bm_page.proofs.FetchLemmas.{fetched-zero, fetched-none, fetched-next, number-unit_given}
 use Rattle.bm_post.specs.Rights.{numbers}
-
-out : Stock → ℕ → Bool
-out pool n = (stocked_at pool.units n).out
 
 given-other : (class number n : ℕ) (pool : Stock) → n ≢ number → stocked_at (given class number pool).units n ≡ stocked_at pool.units n
 unfolding given

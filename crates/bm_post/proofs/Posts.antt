@@ -101,9 +101,6 @@ mine-parts s us n holds h =
     let parts = and_parts (stocked_at s.pool.units n).out (eqb (waits n s.inboxes) 0) mine in
     (parts.0, eqb-true (waits n s.inboxes) 0 parts.1)
 
-pub mine-out : (s : PostState) (us : List UnitState) → Holds (rights_in s) us → All (λ (u : UnitState). (stocked_at s.pool.units u.number).out ≡ true) us
-mine-out s us holds k d lt = (and_parts (stocked_at s.pool.units (get_or us k d).number).out (eqb (waits (get_or us k d).number s.inboxes) 0) (holds.each k d lt)).0
-
 pub post-back : (p q : ℕ) (pool pool' : Stock) (xs : List Parcels) (us : List UnitState) → pool' ≡ all_returned (reverse us) pool → Holds (rights_in (state pool p q xs)) us → IsPost p q pool xs → IsPost p q pool' xs
 post-back p q pool pool' xs us e holds is = record {
   processor_limit = is.processor_limit;

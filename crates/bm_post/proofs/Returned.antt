@@ -1,5 +1,5 @@
 -- The pool once units are back.
-use Rattle.std.proofs.Common.{◌≡◌, ◌≢◌, ℕ, zero, suc, ◌<◌, ◌≤◌, Bool, true, false, List, [], ◌∷◌, ◌++◌, length, get_or, set, length-set, reverse, refl, ◌∙◌, ap, subst, inl, inr, arith, eqb, eq-eqb, ne_eqb}
+use Rattle.std.proofs.Common.{◌≡◌, ◌≢◌, ℕ, zero, suc, ◌<◌, ◌≤◌, true, false, List, [], ◌∷◌, ◌++◌, length, get_or, set, length-set, reverse, refl, ◌∙◌, ap, subst, inl, inr, arith, eqb, eq-eqb, ne_eqb}
 use Rattle.std.specs.List.{All}
 use Rattle.std.proofs.lemmas.Bool.{cases_eq, cases_lt}
 use Rattle.std.proofs.lemmas.List.{reverse-append, get_or_past}
@@ -11,9 +11,6 @@ use Rattle.bm_page.proofs.StockLemmas.{stocked_at-same, stocked_at-other}
 use Rattle.bm_post.specs.Rights.{numbers}
 use Rattle.bm_post.specs.PostState.{all_returned}
 use Rattle.bm_post.proofs.Counts.{times-last, here-times}
-
-pub is_out : Stock → ℕ → Bool
-is_out pool n = (stocked_at pool.units n).out
 
 returned-other : (u : UnitState) (pool : Stock) (n : ℕ) → n ≢ u.number → stocked_at (returned u pool).units n ≡ stocked_at pool.units n
 unfolding returned
@@ -98,10 +95,3 @@ out-front us vs u pool e once out i d lt =
     front [] u i d lt h = absurd (omega arith)
     front (v ∷ vs) u zero d lt h = h 0 d (omega arith)
     front (v ∷ vs) u (suc i) d lt h = front vs u i d (omega arith) (λ k x l. h (suc k) x (omega arith))
-
-pub out-last : (us vs : List UnitState) (u : UnitState) (pool : Stock) → us ≡ vs ++ u ∷ [] → AreOut pool us → (stocked_at pool.units u.number).out ≡ true
-out-last us vs u pool e out = last vs u (subst (AreOut pool) e out)
-  where
-    last : (vs : List UnitState) (u : UnitState) → AreOut pool (vs ++ u ∷ []) → (stocked_at pool.units u.number).out ≡ true
-    last [] u h = h 0 u (omega arith)
-    last (v ∷ vs) u h = last vs u (λ k x l. h (suc k) x (omega arith))

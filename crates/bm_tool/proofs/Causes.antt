@@ -1,5 +1,5 @@
 -- Causes of refusals.
-use Rattle.std.proofs.Common.{◌≡◌, ℕ, ◌≤◌, Bool, false, List, Option, Some, None, Result, Ok, Err, length, IfSome, IsSomeAnd, IfErr, slice_get, refl, sym, subst, ◌∙◌}
+use Rattle.std.proofs.Common.{◌≡◌, ℕ, ◌≤◌, Bool, false, List, Option, Some, None, Result, Ok, Err, length, IfSome, IsSomeAnd, IfErr, slice_get, refl, subst, ◌∙◌}
 use Rattle.bm_lang.specs.declared.place.Place.{Place}
 use Rattle.bm_lang.specs.declared.scenario.Scenario.{Scenario}
 use Rattle.bm_lang.specs.declared.scenario.Script.{Script}
