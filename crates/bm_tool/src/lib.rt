@@ -3,6 +3,8 @@
 
 #[cfg(test)]
 mod example_tests;
+#[cfg(test)]
+mod nested_example;
 mod prepare;
 mod refusal;
 #[cfg(test)]
