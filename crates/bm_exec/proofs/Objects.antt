@@ -137,16 +137,21 @@ holds-less types lives lives' names x t u n held e h = record {
   ];
   reached = λ u' l f. elim (is_or_not (eqb u u')) [
     | inl same ↦ absurd (lives-no-more u u' l lives same (rw e at f))
-    | inr other ↦ (let r = h.reached u' l (sym (with-other u u' None lives other) ∙ (rw e at f)) in
-        (r.0, r.1, r.2, elim (is_or_not (bytes_eq x r.0)) [
-          | inl same ↦ absurd (clash t r.1 u u' n r.2 (sym held ∙ ap names (same_word x r.0 same) ∙ r.3) other)
-          | inr apart ↦ elsewhere x Nothing names r.0 apart ∙ r.3
-        ]))
+    | inr other ↦ (let r = h.reached u' l (sym (with-other u u' None lives other) ∙ (rw e at f)) in (
+      r.0,
+      r.1,
+      r.2,
+      elim (is_or_not (bytes_eq x r.0)) [
+        | inl same ↦ absurd (clash t r.1 u u' n r.2 (sym held ∙ ap names (same_word x r.0 same) ∙ r.3) other)
+        | inr apart ↦ elsewhere x Nothing names r.0 apart ∙ r.3
+      ],
+    ))
   ];
 }
   where
     lives-no-more : (u v : ℕ) (l : Living) (lives : Lives) → eqb u v ≡ true → with_life u None lives v ≡ Some l → ⊥
     lives-no-more u v l lives same f = let g = rw same at f in cc
+
     apart : (y : List ℕ) (t' : TypeId) (u' n' : ℕ) → bytes_eq x y ≡ false → names y ≡ Object t' u' n' → eqb u u' ≡ false
     apart y t' u' n' other f = elim (is_or_not (eqb u u')) [
       | inl same ↦ (let q : u ≡ u' = (Decides-eqb u u').0 same in
