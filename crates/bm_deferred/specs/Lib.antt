@@ -1,0 +1,3 @@
+pub mod Parts
+pub mod WorkPhrases
+pub mod WorkedParts
