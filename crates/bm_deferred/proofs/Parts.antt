@@ -1,5 +1,5 @@
 -- How parts of a log are made.
-use Rattle.std.proofs.Common.{◌≡◌, ℕ, ◌+◌, ◌≤◌, true, false, List, [], ◌∷◌, ◌++◌, refl, arith}
+use Rattle.std.proofs.Common.{◌≡◌, ℕ, List, [], ◌∷◌, ◌++◌, refl, arith}
 use Rattle.bm_journal.specs.declared.entry.Entry.{Entry}
 use Rattle.bm_law.specs.State.{State}
 use Rattle.bm_law.specs.Lists.{Log, after}

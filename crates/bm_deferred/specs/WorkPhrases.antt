@@ -1,7 +1,7 @@
 -- The phrases of deferred work. (bpf_mem_refill, alloc_bulk, free_bulk, check_free_by_rcu and do_call_rcu in
 -- kernel/bpf/memalloc.c. Parcels, the order of a refill's sources, stamps, polling, and the place of the second stage are
 -- this project's own.)
-use Rattle.std.specs.Prelude.{◌≡◌, ◌⊎◌, ◌<◌, ◌≤◌, ℕ, zero, suc, ◌+◌, ◌/◌, Bool, true, false, not, ◌&&◌, nat_lt, nat_le, is_none, is_some, Option, Some, None, List, [], ◌∷◌, ◌++◌}
+use Rattle.std.specs.Prelude.{◌≡◌, ◌⊎◌, ◌<◌, ◌≤◌, ℕ, zero, suc, ◌+◌, ◌/◌, Bool, true, false, not, ◌&&◌, nat_lt, nat_le, is_none, Option, Some, None, List, [], ◌∷◌, ◌++◌}
 use Rattle.std.specs.List.{All}
 use Rattle.bm_class.specs.Sizes.{size_of_class}
 use Rattle.bm_class.specs.Watermarks.{low_of_size, high_of_size, batch_of_size}
@@ -11,8 +11,8 @@ use Rattle.bm_journal.specs.declared.units.Units.TheVariants.{Whole}
 use Rattle.bm_journal.specs.declared.entry.Entry.{Entry}
 use Rattle.bm_journal.specs.declared.entry.Entry.TheVariants as entry
 use Rattle.bm_law.specs.State.{State}
-use Rattle.bm_law.specs.Lists.{Log, after, is_unstamped}
-use Rattle.bm_law.specs.Phrases.{AddPhrase, added}
+use Rattle.bm_law.specs.Lists.{is_unstamped}
+use Rattle.bm_law.specs.Phrases.{AddPhrase}
 use Rattle.bm_law.specs.SweepPhrases.{PollPhrase}
 use Rattle.bm_deferred.specs.Parts.{Part, Nothing, Stand, Say, Then, If, When}
 
@@ -107,15 +107,15 @@ abbrev pub Balance : ℕ → ℕ → Part
 Balance l c s part = (count : ℕ) × Then (Say l (IsOne (entry.Read c count))) (BalanceAt l c count) s part
 
 -- after a parcel of these units the rest follows; after none nothing
-abbrev pub Unless_empty : List ℕ → Part → Part
-Unless_empty [] rest = Nothing
-Unless_empty (u ∷ us) rest = rest
+abbrev pub AfterParcel : List ℕ → Part → Part
+AfterParcel [] rest = Nothing
+AfterParcel (u ∷ us) rest = rest
 
 -- Parcels are received until there is none, at most so many.
 abbrev pub Receive : ℕ → ℕ → ℕ → Part
 Receive l c zero = Nothing
 Receive l c (suc n) = λ s part.
-    (units : List ℕ) × Then (Say l (IsOne (entry.Receive c (Whole units)))) (Unless_empty units (Receive l c n)) s part
+    (units : List ℕ) × Then (Say l (IsOne (entry.Receive c (Whole units)))) (AfterParcel units (Receive l c n)) s part
 
 -- a poll of a domain, and what follows the number that it sees
 abbrev pub Polled : ℕ → ℕ → Domain → (ℕ → Part) → Part
