@@ -1,5 +1,5 @@
 -- What a processor's side knows of the words that all processors share.
-use Rattle.std.specs.Prelude.{ℕ, List}
+use Rattle.std.specs.Prelude.{ℕ, List, []}
 use Rattle.bm_journal.specs.declared.ids.Domain.{Domain}
 use Rattle.bm_journal.specs.declared.ids.Domain.TheVariants.{Plain, Tracing}
 use Rattle.bm_grace.specs.declared.step.TableStep.{TableStep}
@@ -33,3 +33,13 @@ pub record Known : Type 0 where
 abbrev pub side : Domain → Known → Side
 side Plain known = known.grace.plain
 side Tracing known = known.grace.tracing
+
+-- of what has no part in grace periods
+abbrev pub no_side : Side
+no_side = record { word = 0; number = 0; first = []; later = []; begins = 0; seen = 0 }
+
+abbrev pub no_known : Known
+no_known = record {
+  grace = record { processors = 0; processor = 0; plain = no_side; tracing = no_side };
+  steps = [];
+}

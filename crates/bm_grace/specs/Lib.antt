@@ -4,3 +4,4 @@ pub mod Kept
 pub mod Known
 pub mod Law
 pub mod PlainState
+pub mod Rights

@@ -3,19 +3,23 @@
 ghost use Rattle.std.specs.Prelude.{◌≡◌, ◌+◌, ◌%◌, ◌^◌, ◌<◌, ◌≤◌, ℕ, Bool, true, false, length};
 ghost use Rattle.bm_grace.specs.Known.{Known, side};
 ghost use Rattle.bm_grace.specs.Calls.{began, entered, finished, found_at, left, looked, looks, read};
+ghost use Rattle.bm_grace.specs.Rights.{Ages, MineSince, Rights, Ripens};
 ghost use Rattle.bm_grace.specs.Answers.{Answers, BeganAt, CanFinish, Stamped, Verdict, ended, number_in};
 
 use crate::answer::{Began, Done, Look};
 use bm_journal::{Domain, Period};
 
-/// What a processor's side knows of the words that all processors share. Each call of a side changes it by one
-/// equation, so that what a call doesn't speak of stays as it was. This project's own.
+/// What a processor's side knows of the words that all processors share, and which units are its own. Each call of a side
+/// changes what it knows by one equation, so that what a call doesn't speak of stays as it was. This project's own.
 pub trait Knows {
     /// What this side knows.
     ghost known: { Self → Known };
 
     /// Whether `known` has the steps that were taken.
     ghost tells: { Bool };
+
+    /// Which units are this side's, and what it tells of their waiting.
+    ghost rights: { Self → Rights };
 }
 
 /// One processor's side of both domains. A domain stands for a kind of grace period of the kernel: `Plain` for RCU,
@@ -30,26 +34,32 @@ pub trait Grace: Knows {
         requires outside { (side domain (Self.known self.old)).word % 2 ≡ 0 }
         requires room { (side domain (Self.known self.old)).word < 2 ^ 28 }
         ensures word { result ≡ (side domain (Self.known self.old)).word + 1 }
-        ensures known { Self.known self.new ≡ entered Self.tells domain (Self.known self.old) };
+        ensures known { Self.known self.new ≡ entered Self.tells domain (Self.known self.old) }
+        ensures rights { Ages (Self.rights self.old) (Self.rights self.new) };
 
     /// Ends the outermost section of a domain, from inside of it. The answer is the processor's new section word, an
     /// even number. From `rcu_read_unlock` and `rcu_read_unlock_trace`.
     fn leave(&mut self, domain: Domain) -> u32
         requires inside { (side domain (Self.known self.old)).word % 2 ≡ 1 }
         ensures word { result ≡ (side domain (Self.known self.old)).word + 1 }
-        ensures known { Self.known self.new ≡ left Self.tells domain (Self.known self.old) };
+        ensures known { Self.known self.new ≡ left Self.tells domain (Self.known self.old) }
+        ensures rights { Ages (Self.rights self.old) (Self.rights self.new) };
 
     /// Reads a domain's number, and answers the stamp of it: the number at the end of the first period that begins
     /// afterwards. That is the number and 2 where no period is in progress, and the number and 3 where one is. From
     /// `get_state_synchronize_rcu`; `call_rcu` and `call_rcu_tasks_trace` keep it in a callback's place in its list.
     fn stamp(&mut self, domain: Domain) -> u32
-        ensures { Stamped Self.tells domain result (Self.known self.old) (Self.known self.new) };
+        ensures known { Stamped Self.tells domain result (Self.known self.old) (Self.known self.new) }
+        ensures rights { Ages (Self.rights self.old) (Self.rights self.new) }
+        ensures since { MineSince domain result (Self.rights self.old) (Self.rights self.new) };
 
     /// Reads a domain's number, and answers whether it is at least a stamp. From `poll_state_synchronize_rcu`.
     fn done(&mut self, domain: Domain, stamp: u32) -> Done
         ensures answer { Answers result stamp }
         ensures seen { (side domain (Self.known self.old)).seen ≤ number_in result }
-        ensures known { Self.known self.new ≡ read Self.tells domain (number_in result) (Self.known self.old) };
+        ensures known { Self.known self.new ≡ read Self.tells domain (number_in result) (Self.known self.old) }
+        ensures rights { Ages (Self.rights self.old) (Self.rights self.new) }
+        ensures ripe { Ripens domain stamp result (Self.rights self.old) (Self.rights self.new) };
 
     /// Begins a period of a domain where its number is the even one that is named, and changes nothing elsewhere. The
     /// number is odd from then on, until this side finishes the period. From `rcu_seq_start`.
@@ -59,7 +69,8 @@ pub trait Grace: Knows {
         requires room { 0 < (side domain (Self.known self.old)).begins }
         ensures answer { BeganAt result even }
         ensures seen { (side domain (Self.known self.old)).seen ≤ found_at even result }
-        ensures known { Self.known self.new ≡ began Self.tells domain result even (Self.known self.old) };
+        ensures known { Self.known self.new ≡ began Self.tells domain result even (Self.known self.old) }
+        ensures rights { Ages (Self.rights self.old) (Self.rights self.new) };
 
     /// Looks at each word of the period of a domain that this side has in progress: at the plain words in the plain
     /// domain, and at both words of each processor, the plain one first, in the tracing domain, whose periods imply
@@ -72,14 +83,16 @@ pub trait Grace: Knows {
         ensures later { length (side domain (Self.known self.new)).later ≡ looks domain (Self.known self.old).grace.processors }
         ensures answer { let s = side domain (Self.known self.new) in Verdict result domain s.first s.later }
         ensures known { Self.known self.new
-            ≡ looked Self.tells domain (side domain (Self.known self.new)).later (Self.known self.old) };
+            ≡ looked Self.tells domain (side domain (Self.known self.new)).later (Self.known self.old) }
+        ensures rights { Ages (Self.rights self.old) (Self.rights self.new) };
 
     /// Ends the period of a domain that this side has in progress and all of whose words have passed. The number is
     /// even again. The answer has that number, and the words as they were first and last looked at. From `rcu_seq_end`.
     fn finish(&mut self, domain: Domain) -> Period
         requires { CanFinish domain (Self.known self.old) }
         ensures period { result ≡ ended domain (side domain (Self.known self.old)) }
-        ensures known { Self.known self.new ≡ finished Self.tells domain (Self.known self.old) };
+        ensures known { Self.known self.new ≡ finished Self.tells domain (Self.known self.old) }
+        ensures rights { Ages (Self.rights self.old) (Self.rights self.new) };
 
     /// Whether this side has a period of a domain in progress.
     fn driving(&self, domain: Domain) -> bool

@@ -3,6 +3,7 @@
 ghost use Rattle.std.specs.Prelude.{◌≡◌, ◌≢◌, ◌⊎◌, ◌+◌, ◌*◌, ◌%◌, ◌^◌, ◌<◌, ◌≤◌, Bool, true, false, [], length, slice_index};
 ghost use Rattle.bm_grace.specs.Known.{side};
 ghost use Rattle.bm_grace.specs.Calls.{began, entered, finished, found_at, left, looked, looks, read};
+ghost use Rattle.bm_grace.specs.Rights.{no_rights};
 ghost use Rattle.bm_grace.specs.Answers.{Answers, BeganAt, CanFinish, Stamped, Verdict, ended, next, number_in};
 ghost use Rattle.bm_grace.specs.PlainState.{domain_in, idle, is_processor, known_in, period_begun, period_ended, period_looked, side_in, with_domain, word_moved, words_in};
 
@@ -103,6 +104,8 @@ impl Knows for PlainGrace {
     ghost known = { known_in };
 
     ghost tells = { false };
+
+    ghost rights = { λ _. no_rights };
 }
 
 impl Grace for PlainGrace {

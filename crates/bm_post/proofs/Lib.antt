@@ -2,3 +2,4 @@ pub mod Counts
 pub mod Returned
 pub mod Fetched
 pub mod Posts
+pub mod Room

@@ -12,12 +12,14 @@ use Rattle.bm_page.specs.UnitState.{UnitState}
 use Rattle.bm_page.specs.declared.units.Stocked.{Stocked}
 use Rattle.bm_page.specs.Stock.{Stock, stocked_at, fetched}
 use Rattle.bm_page.specs.Out.{AreOut, IsFromStock}
-use Rattle.bm_post.specs.Rights.{Rights, AreSame, MayLeave, Gains, Loses, Holds, numbers}
+use Rattle.bm_grace.specs.Rights.{Rights}
+use Rattle.bm_post.specs.Rights.{AreSame, MayLeave, Gains, Loses, Holds, numbers}
 use Rattle.bm_post.specs.Calls.{IsOf, Takes, Fetches, Receives}
 use Rattle.bm_post.specs.PostState.{Parcels, PostState, all_returned, is_mine, rights_in, times_in, waits, no_parcels}
-use Rattle.bm_post.specs.Kept.{IsParcel, IsPost}
+use Rattle.bm_post.specs.Kept.{IsParcel, IsPost, IsRoomy}
 use Rattle.bm_post.proofs.Counts.{at-number, here-times, once-pairs, zero-or-more}
 use Rattle.bm_post.proofs.Fetched.{fetch-keeps, fetch-others}
+use Rattle.bm_post.proofs.Room.{all-reversed, all-roomy, came-room, fetched-roomy, leaves-room}
 use Rattle.bm_post.proofs.Returned.{others-stay, all-in, times-reversed}
 
 and-false : (b : Bool) → b && false ≡ false
@@ -54,6 +56,7 @@ fetched-post class want p q pool xs is = record {
   once = is.once;
   out = λ n h. fetch-keeps class want n pool (is.out n h);
   whole = is.whole;
+  roomy = fetched-roomy class want pool is.roomy;
 }
 
 pub post-fetch : {E : Type 0} (r : Result ℕ E) (class want p q : ℕ) (pool pool' : Stock) (xs : List Parcels) → OnOk r (pool' ≡ (fetched class want pool).pool) → OnErr r (pool' ≡ pool) → IsPost p q pool xs → IsPost p q pool' xs
@@ -87,7 +90,7 @@ fetches (Ok n) class want p q pool pool' xs list longer count units pool_is most
   most = most;
   takes = record {
     of_class = λ k d lt. (each k d lt).of_class;
-    settled = λ k d lt. refl;
+    settled = came-room class pool pool' (fetched class want pool).units is.roomy (subst IsRoomy (sym pool_is) (fetched-roomy class want pool is.roomy)) each (out [] (none_out pool));
     gains = fetch-gains class want p q pool pool' xs pool_is each (out [] (none_out pool)) is;
   };
 }
@@ -101,8 +104,8 @@ mine-parts s us n holds h =
     let parts = and_parts (stocked_at s.pool.units n).out (eqb (waits n s.inboxes) 0) mine in
     (parts.0, eqb-true (waits n s.inboxes) 0 parts.1)
 
-pub post-back : (p q : ℕ) (pool pool' : Stock) (xs : List Parcels) (us : List UnitState) → pool' ≡ all_returned (reverse us) pool → Holds (rights_in (state pool p q xs)) us → IsPost p q pool xs → IsPost p q pool' xs
-post-back p q pool pool' xs us e holds is = record {
+pub post-back : (p q : ℕ) (pool pool' : Stock) (xs : List Parcels) (us : List UnitState) → pool' ≡ all_returned (reverse us) pool → Holds (rights_in (state pool p q xs)) us → All (MayLeave (rights_in (state pool p q xs))) us → IsPost p q pool xs → IsPost p q pool' xs
+post-back p q pool pool' xs us e holds fit is = record {
   processor_limit = is.processor_limit;
   turn = is.turn;
   inbox_count = is.inbox_count;
@@ -113,6 +116,7 @@ post-back p q pool pool' xs us e holds is = record {
         | inr some ↦ absurd (let w = (mine-parts (state pool p q xs) us n holds some).1 in omega (arith, w, h))
       ];
   whole = is.whole;
+  roomy = subst IsRoomy (sym e) (all-roomy (reverse us) pool (all-reversed us (leaves-room (state pool p q xs) us fit)) is.roomy);
 }
 
 pub back-loses : (p q : ℕ) (pool pool' : Stock) (xs : List Parcels) (us : List UnitState) → pool' ≡ all_returned (reverse us) pool → Loses (numbers us) (rights_in (state pool p q xs)) (rights_in (state pool' p q xs))
@@ -143,8 +147,8 @@ sent-waits n i xs us lt =
     let b = times_in-more n (get_or xs i []) us in
     omega (arith, a, b)
 
-sent-post : (p q i : ℕ) (pool : Stock) (xs : List Parcels) (us : List UnitState) → i < 88 → 0 < length us → All (IsOf (i % 11)) us → Holds (rights_in (state pool p q xs)) us → IsPost p q pool xs → IsPost p q pool (set xs i (get_or xs i [] ++ us ∷ []))
-sent-post p q i pool xs us lt some class holds is =
+sent-post : (p q i : ℕ) (pool : Stock) (xs : List Parcels) (us : List UnitState) → i < 88 → 0 < length us → All (IsOf (i % 11)) us → Holds (rights_in (state pool p q xs)) us → All (MayLeave (rights_in (state pool p q xs))) us → IsPost p q pool xs → IsPost p q pool (set xs i (get_or xs i [] ++ us ∷ []))
+sent-post p q i pool xs us lt some class holds fit is =
     let there : i < length xs = let k = is.inbox_count in omega (arith, k) in
     record {
       processor_limit = is.processor_limit;
@@ -164,12 +168,13 @@ sent-post p q i pool xs us lt some class holds is =
             | inl none ↦ is.out n (omega (arith, w, h, none))
             | inr more ↦ (mine-parts (state pool p q xs) us n holds more).0
           ];
-      whole = whole-set xs i (get_or xs i [] ++ us ∷ []) there (All-append (IsParcel (i % 11)) (get_or xs i []) (us ∷ []) (is.whole i) (alone (IsParcel (i % 11)) us (record { some = some; of_class = class }))) is.whole;
+      whole = whole-set xs i (get_or xs i [] ++ us ∷ []) there (All-append (IsParcel (i % 11)) (get_or xs i []) (us ∷ []) (is.whole i) (alone (IsParcel (i % 11)) us (record { some = some; of_class = class; room = leaves-room (state pool p q xs) us fit }))) is.whole;
+      roomy = is.roomy;
     }
 
-pub post-send : {A E : Type 0} (r : Result A E) (p q i : ℕ) (pool : Stock) (xs : List Parcels) (y : Parcels) (us : List UnitState) → i < 88 → OnOk r (y ≡ get_or xs i [] ++ us ∷ []) → OnErr r (y ≡ get_or xs i []) → 0 < length us → All (IsOf (i % 11)) us → Holds (rights_in (state pool p q xs)) us → IsPost p q pool xs → IsPost p q pool (set xs i y)
-post-send (Ok x) p q i pool xs y us lt ok err some class holds is = subst (λ z. IsPost p q pool (set xs i z)) (sym ok) (sent-post p q i pool xs us lt some class holds is)
-post-send (Err e) p q i pool xs y us lt ok err some class holds is = subst (λ z. IsPost p q pool (set xs i z)) (sym err) (subst (λ z. IsPost p q pool z) (sym (set-get_or xs i [])) is)
+pub post-send : {A E : Type 0} (r : Result A E) (p q i : ℕ) (pool : Stock) (xs : List Parcels) (y : Parcels) (us : List UnitState) → i < 88 → OnOk r (y ≡ get_or xs i [] ++ us ∷ []) → OnErr r (y ≡ get_or xs i []) → 0 < length us → All (IsOf (i % 11)) us → Holds (rights_in (state pool p q xs)) us → All (MayLeave (rights_in (state pool p q xs))) us → IsPost p q pool xs → IsPost p q pool (set xs i y)
+post-send (Ok x) p q i pool xs y us lt ok err some class holds fit is = subst (λ z. IsPost p q pool (set xs i z)) (sym ok) (sent-post p q i pool xs us lt some class holds fit is)
+post-send (Err e) p q i pool xs y us lt ok err some class holds fit is = subst (λ z. IsPost p q pool (set xs i z)) (sym err) (subst (λ z. IsPost p q pool z) (sym (set-get_or xs i [])) is)
 
 pub send-same : {A E : Type 0} (r : Result A E) (p q i : ℕ) (pool : Stock) (xs : List Parcels) (y : Parcels) → OnErr r (y ≡ get_or xs i []) → OnErr r (AreSame (rights_in (state pool p q xs)) (rights_in (state pool p q (set xs i y))))
 send-same (Ok x) p q i pool xs y err = tt
@@ -194,6 +199,7 @@ taken-post p q i pool xs us y lt e is =
       once = λ n. let w = taken-waits n i xs us y there e in let o = is.once n in omega (arith, w, o);
       out = λ n h. is.out n (let w = taken-waits n i xs us y there e in omega (arith, w, h));
       whole = whole-set xs i y there (λ k d less. all (suc k) d (omega arith)) is.whole;
+      roomy = is.roomy;
     }
 
 pub post-receive : {A : Type 0} (r : Option A) (items : A → List UnitState) (p q i : ℕ) (pool : Stock) (xs : List Parcels) (y : Parcels) → i < 88 → IfSome r (λ v. get_or xs i [] ≡ items v ∷ y) → IfNone r (get_or xs i [] ≡ []) → y ≡ drop 1 (get_or xs i []) → IsPost p q pool xs → IsPost p q pool (set xs i y)
@@ -212,7 +218,7 @@ receives (Some v) items p q i class pool xs y lt c e is =
       some = first.some;
       takes = record {
         of_class = subst (λ k. All (IsOf k) us) c first.of_class;
-        settled = λ k d less. refl;
+        settled = first.room;
         gains = record {
           once = λ n. let w = taken-waits n i xs us y there e in let o = is.once n in omega (arith, w, o);
           were_not = λ n h.
@@ -238,8 +244,8 @@ get-none zero i = refl
 get-none (suc n) zero = refl
 get-none (suc n) (suc i) = get-none n i
 
-pub post-new : (p : ℕ) (pool : Stock) (xs : List Parcels) → 0 < p → p ≤ 8 → xs ≡ no_parcels → IsPost p 0 pool xs
-post-new p pool xs some limit e =
+pub post-new : (p : ℕ) (pool : Stock) (xs : List Parcels) → 0 < p → p ≤ 8 → IsRoomy pool → xs ≡ no_parcels → IsPost p 0 pool xs
+post-new p pool xs some limit roomy e =
     subst (λ z. IsPost p 0 pool z) (sym e) record {
       processor_limit = limit;
       turn = some;
@@ -247,6 +253,7 @@ post-new p pool xs some limit e =
       once = λ n. let w = none-waits n in omega (arith, w);
       out = λ n h. absurd (let w = none-waits n in omega (arith, w, h));
       whole = λ i. rw (get-none 88 i) (All-nil _);
+      roomy = roomy;
     }
   where
     none-waits : (n : ℕ) → waits n no_parcels ≡ 0

@@ -4,7 +4,9 @@ use Rattle.std.specs.List.{sum_by}
 use Rattle.bm_law.specs.Stands.{times}
 use Rattle.bm_page.specs.UnitState.{UnitState}
 use Rattle.bm_page.specs.Stock.{Stock, stocked_at, returned}
-use Rattle.bm_post.specs.Rights.{Rights, numbers}
+use Rattle.bm_grace.specs.Rights.{Rights}
+use Rattle.bm_post.specs.HasRoom.{has_room}
+use Rattle.bm_post.specs.Rights.{numbers}
 
 -- The parcels of an inbox, oldest first.
 abbrev pub Parcels : Type 0
@@ -57,11 +59,12 @@ waits n inboxes = sum_by (times_in n) inboxes
 abbrev pub is_mine : PostState → ℕ → Bool
 is_mine state n = (stocked_at state.pool.units n).out && eqb (waits n state.inboxes) 0
 
--- On one thread each unit may be used again as soon as it is there, whatever its lives and its seal.
+-- On one thread each unit with room for one life more may be used again as soon as it is there, whatever its seal.
 abbrev pub rights_in : PostState → Rights
 rights_in state = record {
   mine = is_mine state;
-  settled = λ n life seal. true;
-  due = λ n life seal. true;
-  ripe = λ n life seal. true;
+  settled = λ n life seal. has_room n life;
+  due = λ n life seal. has_room n life;
+  ripe = λ n life seal. has_room n life;
+  since = λ d x n. true;
 }

@@ -1,23 +1,17 @@
--- The right to units, and what calls do to it. (This project's own; the kernel's lists hold their units without it.)
-use Rattle.std.specs.Prelude.{◌≡◌, ◌⊎◌, ◌<◌, ◌≤◌, ℕ, Bool, true, false, List, Option, map}
+-- What calls of a post do to the right to units. (This project's own.)
+use Rattle.std.specs.Prelude.{◌≡◌, ◌⊎◌, ◌<◌, ◌≤◌, ℕ, true, false, List, Option, map}
 use Rattle.std.specs.List.{All}
 use Rattle.bm_law.specs.Stands.{times}
 use Rattle.bm_page.specs.UnitState.{UnitState}
 use Rattle.bm_page.specs.declared.units.Seal.{Seal}
+use Rattle.bm_journal.specs.declared.ids.Domain.{Domain}
+use Rattle.bm_grace.specs.Rights.{Rights}
 
 abbrev pub number_of : UnitState → ℕ
 number_of unit = unit.number
 
 abbrev pub numbers : List UnitState → List ℕ
 numbers units = map number_of units
-
--- Which units are mine, by their numbers; and three tests of a unit by its number, its lives so far and its seal or none:
--- whether it may be used again, whether it waits for a grace period, and whether that period is seen to have passed.
-pub record Rights : Type 0 where
-  pub mine : ℕ → Bool
-  pub settled : ℕ → ℕ → Option Seal → Bool
-  pub due : ℕ → ℕ → Option Seal → Bool
-  pub ripe : ℕ → ℕ → Option Seal → Bool
 
 -- a unit may go to another processor or back to the pool
 abbrev pub MayLeave : Rights → UnitState → Type 0
@@ -48,7 +42,8 @@ pub record Gains (come : List ℕ) (before now : Rights) : Type 0 where
 abbrev pub AreSame : Rights → Rights → Type 0
 AreSame before now = (n : ℕ) → now.mine n ≡ before.mine n
 
--- A unit that was mine and is mine is settled still; and it is due and ripe still where nobody tried to send it.
+-- A unit that was mine and is mine is settled still, and has been mine since the same stamps; and it is due and ripe still
+-- where nobody tried to send it.
 pub record Lasting (tried : List ℕ) (before now : Rights) : Type 0 where
   pub settled : (n life : ℕ) (seal : Option Seal) → before.mine n ≡ true → now.mine n ≡ true →
       before.settled n life seal ≡ true → now.settled n life seal ≡ true
@@ -56,3 +51,4 @@ pub record Lasting (tried : List ℕ) (before now : Rights) : Type 0 where
       before.due n life seal ≡ true → now.due n life seal ≡ true
   pub ripe : (n life : ℕ) (seal : Option Seal) → before.mine n ≡ true → now.mine n ≡ true → times n tried ≡ 0 →
       before.ripe n life seal ≡ true → now.ripe n life seal ≡ true
+  pub since : (d : Domain) (x n : ℕ) → before.mine n ≡ true → now.mine n ≡ true → before.since d x n ≡ true → now.since d x n ≡ true

@@ -1,8 +1,11 @@
 //! The pool and the inboxes for one thread.
 
-ghost use Rattle.std.specs.Prelude.{◌≡◌, ◌+◌, ◌*◌, ◌%◌, ◌<◌, ◌≤◌, ◌∷◌, ◌++◌, [], IfOk, IfErr, IfSome, IfNone, OnOk, OnErr, None, length, reverse, vec_capacity};
+ghost use Rattle.std.specs.Prelude.{◌≡◌, ◌+◌, ◌*◌, ◌%◌, ◌<◌, ◌≤◌, ◌∷◌, ◌++◌, [], IfOk, IfErr, IfSome, IfNone, OnOk, OnErr, None, false, length, reverse, vec_capacity};
 ghost use Rattle.std.specs.List.{All};
 ghost use Rattle.bm_page.specs.Stock.{fetched as stock_fetched, next_unit};
+ghost use Rattle.bm_grace.specs.Known.{no_known};
+ghost use Rattle.bm_post.specs.Kept.{IsRoomy};
+ghost use Rattle.bm_post.specs.HasRoom.{room-of};
 ghost use Rattle.bm_post.specs.Calls.{Fetches, GivesBack, IsOf, KeepsCalls, Receives, TellsCall, fetched, received, returned_call, sent};
 ghost use Rattle.bm_post.specs.PostState.{Parcels, all_returned, inbox, no_parcels, rights_in, sent_to, taken_by};
 ghost use Rattle.bm_post.specs.Rights.{AreSame, Holds, Lasting, MayLeave, numbers};
@@ -11,6 +14,7 @@ use crate::back::put_all_back;
 use crate::inbox::Inbox;
 use crate::post::Post;
 use bm_class::Class;
+use bm_grace::Knows;
 use bm_page::{Pool, Unit};
 use bm_word::NoMemory;
 use std::alloc::Global;
@@ -71,10 +75,11 @@ fn fill_inboxes(alloc: Global, inboxes: &mut Vec<Inbox>)
 
 impl PlainPost {
     /// The pool and empty inboxes, for so many processors, 1 to 8. It is the side of processor 0. Units of the pool that
-    /// are out are mine. Want of memory is the only refusal, and hands the pool back.
+    /// are out are mine. Each unit of the pool has room for one life more, as in a pool that was just made. Want of memory is the only refusal, and hands the pool back.
     pub fn create(alloc: Global, pool: Pool, processors: u8) -> Result<PlainPost, Pool>
         requires some { 0 < processors }
         requires limit { processors ≤ 8 }
+        requires roomy { IsRoomy pool }
         ensures ok { IfOk result (λ post.
             post ≡ record { pool = pool; processors = processors; processor = 0; inboxes = no_parcels }) }
         ensures err { IfErr result (λ back. back ≡ pool) }
@@ -135,10 +140,16 @@ impl PlainPost {
     }
 }
 
-impl Post for PlainPost {
-    ghost processors = { λ post. post.processors };
+impl Knows for PlainPost {
+    ghost known = { λ _. no_known };
+
+    ghost tells = { false };
 
     ghost rights = { rights_in };
+}
+
+impl Post for PlainPost {
+    ghost processors = { λ post. post.processors };
 
     ghost calls = { λ _. None };
 
@@ -197,4 +208,6 @@ impl Post for PlainPost {
         let inbox = &mut self.inboxes[place];
         inbox.pop()
     }
+
+    ghost room = { λ p. room-of };
 }

@@ -1,11 +1,14 @@
 //! The pool and the inboxes, as one processor sees them.
 
-ghost use Rattle.std.specs.Prelude.{◌≡◌, ◌<◌, ◌≤◌, ℕ, List, Option, [], length, IfOk, IfErr, IfSome, IfNone, OnOk, OnErr};
+ghost use Rattle.std.specs.Prelude.{◌≡◌, ◌<◌, ◌≤◌, ◌+◌, ◌^◌, true, ℕ, List, Option, [], length, IfOk, IfErr, IfSome, IfNone, OnOk, OnErr};
 ghost use Rattle.std.specs.List.{All};
-ghost use Rattle.bm_post.specs.Calls.{Fetches, GivesBack, IsOf, KeepsCalls, PostCall, Receives, TellsCall, fetched, received, returned_call, sent};
-ghost use Rattle.bm_post.specs.Rights.{AreSame, Holds, Lasting, MayLeave, Rights, numbers};
+ghost use Rattle.bm_page.specs.declared.units.Seal.{Seal};
+ghost use Rattle.bm_grace.specs.Rights.{Rights};
+ghost use Rattle.bm_post.specs.Calls.{Fetches, GivesBack, IsOf, KeepsCalls, PostCall, Posts, Receives, TellsCall, fetched, received, returned_call, sent};
+ghost use Rattle.bm_post.specs.Rights.{AreSame, Holds, Lasting, MayLeave, numbers};
 
 use bm_class::Class;
+use bm_grace::Knows;
 use bm_page::Unit;
 use bm_word::NoMemory;
 
@@ -14,13 +17,11 @@ use bm_word::NoMemory;
 ///
 /// It tells which units are `mine`: those that it gave this side and hasn't got back. Of a unit with its lives so far
 /// and its seal or none it tells three tests: whether it is *settled*, so that it may be used again; *due*, so that it
-/// waits for a grace period; and *ripe*, so that its grace period is seen to have passed. It may also tell its calls.
-pub trait Post {
+/// waits for a grace period; and *ripe*, so that its grace period is seen to have passed. A settled unit has a number of
+/// its type and room for one life more. It may also tell its calls.
+pub trait Post: Knows {
     /// Among how many processors.
     ghost processors: { Self → ℕ };
-
-    /// Which units are mine, and the three tests.
-    ghost rights: { Self → Rights };
 
     /// The calls that weren't refused, in order, where they are told.
     ghost calls: { Self → Option (List PostCall) };
@@ -28,21 +29,23 @@ pub trait Post {
     /// Appends up to `want` units of a class from the pool, and answers how many. They weren't mine before, and differ
     /// from each other. `NoMemory`, where `out` can't grow, is the only error and changes nothing.
     fn fetch(&mut self, class: Class, want: usize, out: &mut Vec<Unit>) -> Result<usize, NoMemory>
-        ensures ok { IfOk result (λ n. Fetches class want n out.old.items out.new.items (rights self.old) (rights self.new)) }
+        ensures ok { IfOk result (λ n. Fetches class want n out.old.items out.new.items (Self.rights self.old) (Self.rights self.new)) }
         ensures err { OnErr result (out.new.items ≡ out.old.items) }
-        ensures same { OnErr result (AreSame (rights self.old) (rights self.new)) }
-        ensures lasts { Lasting [] (rights self.old) (rights self.new) }
+        ensures same { OnErr result (AreSame (Self.rights self.old) (Self.rights self.new)) }
+        ensures lasts { Lasting [] (Self.rights self.old) (Self.rights self.new) }
         ensures processors { processors self.new ≡ processors self.old }
+        ensures known { Posts Self.tells (Self.known self.old) (Self.known self.new) }
         ensures calls { IfOk result (λ n. TellsCall (fetched class want n out.old.items out.new.items) (calls self.old) (calls self.new)) }
         ensures no_call { OnErr result (KeepsCalls (calls self.old) (calls self.new)) };
 
     /// Gives units back to the pool; none is fine. They are mine, and settled or ripe.
     fn put_back(&mut self, units: Vec<Unit>)
-        requires mine { Holds (rights self.old) units.items }
-        requires fit { All (MayLeave (rights self.old)) units.items }
-        ensures back { GivesBack (numbers units.items) (rights self.old) (rights self.new) }
-        ensures lasts { Lasting (numbers units.items) (rights self.old) (rights self.new) }
+        requires mine { Holds (Self.rights self.old) units.items }
+        requires fit { All (MayLeave (Self.rights self.old)) units.items }
+        ensures back { GivesBack (numbers units.items) (Self.rights self.old) (Self.rights self.new) }
+        ensures lasts { Lasting (numbers units.items) (Self.rights self.old) (Self.rights self.new) }
         ensures processors { processors self.new ≡ processors self.old }
+        ensures known { Posts Self.tells (Self.known self.old) (Self.known self.new) }
         ensures calls { TellsCall (returned_call units.items) (calls self.old) (calls self.new) };
 
     /// Sends units of a class to a processor's inbox, as one parcel; this one's own inbox too. They are mine, and settled
@@ -51,23 +54,28 @@ pub trait Post {
         requires to { to < processors self.old }
         requires some { 0 < length units.items }
         requires class { All (IsOf class) units.items }
-        requires mine { Holds (rights self.old) units.items }
-        requires fit { All (MayLeave (rights self.old)) units.items }
-        ensures sent { OnOk result (GivesBack (numbers units.items) (rights self.old) (rights self.new)) }
+        requires mine { Holds (Self.rights self.old) units.items }
+        requires fit { All (MayLeave (Self.rights self.old)) units.items }
+        ensures sent { OnOk result (GivesBack (numbers units.items) (Self.rights self.old) (Self.rights self.new)) }
         ensures refused { IfErr result (λ back. back.items ≡ units.items) }
-        ensures same { OnErr result (AreSame (rights self.old) (rights self.new)) }
-        ensures lasts { Lasting (numbers units.items) (rights self.old) (rights self.new) }
+        ensures same { OnErr result (AreSame (Self.rights self.old) (Self.rights self.new)) }
+        ensures lasts { Lasting (numbers units.items) (Self.rights self.old) (Self.rights self.new) }
         ensures processors { processors self.new ≡ processors self.old }
+        ensures known { Posts Self.tells (Self.known self.old) (Self.known self.new) }
         ensures calls { OnOk result (TellsCall (sent to class units.items) (calls self.old) (calls self.new)) }
         ensures no_call { OnErr result (KeepsCalls (calls self.old) (calls self.new)) };
 
     /// Takes the oldest parcel out of this processor's inbox of a class, as it was sent; `None` where it found the inbox
     /// empty. The units weren't mine before, and differ from each other.
     fn receive(&mut self, class: Class) -> Option<Vec<Unit>>
-        ensures some { IfSome result (λ units. Receives class units.items (rights self.old) (rights self.new)) }
-        ensures none { IfNone result (AreSame (rights self.old) (rights self.new)) }
-        ensures lasts { Lasting [] (rights self.old) (rights self.new) }
+        ensures some { IfSome result (λ units. Receives class units.items (Self.rights self.old) (Self.rights self.new)) }
+        ensures none { IfNone result (AreSame (Self.rights self.old) (Self.rights self.new)) }
+        ensures lasts { Lasting [] (Self.rights self.old) (Self.rights self.new) }
         ensures processors { processors self.new ≡ processors self.old }
+        ensures known { Posts Self.tells (Self.known self.old) (Self.known self.new) }
         ensures calls { IfSome result (λ units. TellsCall (received class units.items) (calls self.old) (calls self.new)) }
         ensures empty { IfNone result (TellsCall (received class []) (calls self.old) (calls self.new)) };
+
+    // What may be used again can be named, and can begin a life.
+    ghost room: { (p : Self) (n life : ℕ) (seal : Option Seal) → (Self.rights p).settled n life seal ≡ true → (n < 2 ^ 16) × (life + 1 < 2 ^ 32) };
 }

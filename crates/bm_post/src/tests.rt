@@ -3,12 +3,20 @@
 ghost use Rattle.std.specs.Prelude.{◌≡◌, ◌<◌, length};
 ghost use Rattle.std.specs.List.{All};
 ghost use Rattle.bm_post.specs.Calls.{IsOf};
+ghost use Rattle.bm_post.specs.Kept.{IsRoomy};
 ghost use Rattle.bm_post.specs.Rights.{Holds, MayLeave};
 
 use crate::{PlainPost, Post};
 use bm_class::Class;
 use bm_page::{Pool, Unit};
 use std::process::Abort;
+
+/// A pool of one page.
+fn one_page(rt: &(impl Abort + AllocGlobal)) -> Pool
+    ensures { IsRoomy result }
+{
+    Pool::create(rt.alloc(), 1).expect(rt, "memory")
+}
 
 /// Units of a class, as many as are wanted.
 fn fetch_all<P: Post>(
@@ -66,7 +74,7 @@ fn have_numbers(rt: &impl Abort, units: &Vec<Unit>, numbers: &[u16]) {
 #[test]
 fn parcels_come_as_they_were_sent(rt: HostRuntime) {
     let class = Class::new(0).expect(&rt, "an index is a class");
-    let pool = Pool::create(rt.alloc(), 1).expect(&rt, "memory");
+    let pool = one_page(&rt);
     let mut post = match PlainPost::create(rt.alloc(), pool, 2) {
         Ok(post) => post,
         Err(_pool) => panic!(&rt; "there is memory for the inboxes"),
@@ -98,7 +106,7 @@ fn parcels_come_as_they_were_sent(rt: HostRuntime) {
 
 #[test]
 fn the_pool_comes_back(rt: HostRuntime) {
-    let pool = Pool::create(rt.alloc(), 1).expect(&rt, "memory");
+    let pool = one_page(&rt);
     match PlainPost::create(rt.alloc(), pool, 8) {
         Ok(post) => {
             let pool = post.finish();

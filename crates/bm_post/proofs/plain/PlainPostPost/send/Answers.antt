@@ -2,7 +2,7 @@ use Rattle.std.proofs.Common.{◌≡◌, ◌<◌, ◌∷◌, ◌++◌, [], lengt
 use Rattle.std.specs.List.{All}
 use Rattle.std.proofs.lemmas.List.{get_or_default}
 use Rattle.bm_post.specs.Calls.{IsOf}
-use Rattle.bm_post.specs.Rights.{Holds}
+use Rattle.bm_post.specs.Rights.{Holds, MayLeave}
 use Rattle.bm_post.specs.PostState.{Parcels, PostState, rights_in}
 use Rattle.bm_post.proofs.Posts.{post-send, send-same}
 use Rattle.bm_post.proofs.plain.PlainPostPost.send.Goals as goal
@@ -20,7 +20,7 @@ invariant_of-self c =
     let err = subst (λ (z : Parcels). OnErr c.push.result (c.push.new.self ≡ z)) at c.push.ensures.err in
     let class = subst (λ k. All (IsOf k) us) (sym c.place_of.ensures.class) c.requires.class in
     let holds = subst (λ (s : PostState). Holds (rights_in s) us) (sym c.self.view_is) c.requires.mine in
-    post-send c.push.result inside.processors inside.processor place inside.pool xs c.push.new.self us c.place_of.ensures.inside ok err c.requires.some class holds c.self.invariant
+    post-send c.push.result inside.processors inside.processor place inside.pool xs c.push.new.self us c.place_of.ensures.inside ok err c.requires.some class holds (subst (λ (s : PostState). All (MayLeave (rights_in s)) us) (sym c.self.view_is) c.requires.fit) c.self.invariant
 
 pub returns-clause-same : goal.returns-clause-same
 returns-clause-same c =
