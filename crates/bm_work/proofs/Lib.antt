@@ -1,0 +1,4 @@
+pub mod Fits
+pub mod Grown
+pub mod Spans
+pub mod Steps

@@ -1,0 +1,11 @@
+//! What deferred work does to the caches of one processor: units move between the lists and the hand of its level, with
+//! whatever handlers run at the points.
+#![tactic(auto)]
+
+mod add;
+mod bring;
+mod take;
+
+pub use add::add_unit;
+pub use bring::{bring_ready, bring_second};
+pub use take::take_one;
