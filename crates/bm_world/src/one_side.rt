@@ -1,0 +1,226 @@
+//! The world on one thread.
+
+ghost use Rattle.std.specs.Prelude.{◌≡◌, ◌+◌, ◌%◌, ◌^◌, ◌<◌, ◌≤◌, ◌∷◌, ◌++◌, [], None, false, length, reverse, true, IfOk, IfErr, IfSome, IfNone, OnOk, OnErr};
+ghost use Rattle.std.specs.List.{All};
+ghost use Rattle.bm_page.specs.Stock.{fetched as stock_fetched};
+ghost use Rattle.bm_grace.specs.Answers.{Answers, BeganAt, CanFinish, Stamped, Verdict, ended, next, number_in};
+ghost use Rattle.bm_grace.specs.Calls.{began, entered, finished, found_at, left, looked, looks, read};
+ghost use Rattle.bm_grace.specs.Rights.{Ages, MineSince, Ripens};
+ghost use Rattle.bm_grace.specs.Known.{side};
+ghost use Rattle.bm_grace.specs.PlainState.{domain_in, is_processor, known_in, period_begun, period_ended, period_looked, with_domain, word_moved, words_in};
+ghost use Rattle.bm_post.specs.PostState.{all_returned, inbox, rights_in, sent_to, taken_by};
+ghost use Rattle.bm_post.specs.HasRoom.{room-of};
+ghost use Rattle.bm_post.specs.Calls.{Fetches, GivesBack, IsOf, Posts, Receives};
+ghost use Rattle.bm_post.specs.Rights.{AreSame, Holds, Lasting, MayLeave, numbers};
+
+use crate::World;
+use bm_class::Class;
+use bm_grace::{Began, Done, Grace, Knows, Look, PlainGrace};
+use bm_journal::{Domain, Period};
+use bm_page::Unit;
+use bm_post::{PlainPost, Post};
+use bm_word::NoMemory;
+
+/// All that processors share, on one thread: the post and the grace periods of all of them. It is one processor's side at
+/// a time, which `turn` chooses. This project's own.
+pub struct OneSide {
+    /// The pool and all inboxes.
+    pub post: PlainPost,
+    /// The words and numbers of both domains.
+    pub grace: PlainGrace,
+}
+
+impl OneSide {
+    /// Makes it the side of a processor.
+    pub fn turn(&mut self, processor: u8)
+        requires post { processor < self.old.post.processors }
+        requires grace { processor < self.old.grace.processors }
+        ensures { self.new ≡ record {
+          post = record self.old.post { processor = processor };
+          grace = record self.old.grace { processor = processor };
+        } }
+    {
+        self.post.turn(processor);
+        self.grace.turn(processor);
+    }
+}
+
+impl Knows for OneSide {
+    ghost known = { λ world. known_in world.grace };
+
+    ghost tells = { false };
+
+    ghost rights = { λ world. rights_in world.post };
+}
+
+impl Grace for OneSide {
+    fn enter(&mut self, domain: Domain) -> u32
+        requires outside { (side domain (known_in self.old.grace)).word % 2 ≡ 0 }
+        requires room { (side domain (known_in self.old.grace)).word < 2 ^ 28 }
+        ensures post { self.new.post ≡ self.old.post }
+        ensures grace { self.new.grace
+            ≡ with_domain domain (word_moved self.old.grace.processor (domain_in domain self.old.grace)) self.old.grace }
+        ensures word { result ≡ (side domain (known_in self.old.grace)).word + 1 }
+        ensures known { known_in self.new.grace ≡ entered false domain (known_in self.old.grace) }
+        ensures rights { Ages (rights_in self.old.post) (rights_in self.new.post) }
+    {
+        self.grace.enter(domain)
+    }
+
+    fn leave(&mut self, domain: Domain) -> u32
+        requires inside { (side domain (known_in self.old.grace)).word % 2 ≡ 1 }
+        ensures post { self.new.post ≡ self.old.post }
+        ensures grace { self.new.grace
+            ≡ with_domain domain (word_moved self.old.grace.processor (domain_in domain self.old.grace)) self.old.grace }
+        ensures word { result ≡ (side domain (known_in self.old.grace)).word + 1 }
+        ensures known { known_in self.new.grace ≡ left false domain (known_in self.old.grace) }
+        ensures rights { Ages (rights_in self.old.post) (rights_in self.new.post) }
+    {
+        self.grace.leave(domain)
+    }
+
+    fn stamp(&mut self, domain: Domain) -> u32
+        ensures stamp { result ≡ next (domain_in domain self.old.grace).number }
+        ensures state { self.new ≡ self.old }
+        ensures known { Stamped false domain result (known_in self.old.grace) (known_in self.new.grace) }
+        ensures rights { Ages (rights_in self.old.post) (rights_in self.new.post) }
+        ensures since { MineSince domain result (rights_in self.old.post) (rights_in self.new.post) }
+    {
+        self.grace.stamp(domain)
+    }
+
+    fn done(&mut self, domain: Domain, stamp: u32) -> Done
+        ensures number { number_in result ≡ (domain_in domain self.old.grace).number }
+        ensures state { self.new ≡ self.old }
+        ensures answer { Answers result stamp }
+        ensures seen { (side domain (known_in self.old.grace)).seen ≤ number_in result }
+        ensures known { known_in self.new.grace ≡ read false domain (number_in result) (known_in self.old.grace) }
+        ensures rights { Ages (rights_in self.old.post) (rights_in self.new.post) }
+        ensures ripe { Ripens domain stamp result (rights_in self.old.post) (rights_in self.new.post) }
+    {
+        self.grace.done(domain, stamp)
+    }
+
+    fn begin(&mut self, domain: Domain, even: u32) -> Began
+        requires even { even % 2 ≡ 0 }
+        requires idle { (side domain (known_in self.old.grace)).number ≡ 0 }
+        requires room { 0 < (side domain (known_in self.old.grace)).begins }
+        ensures found { found_at even result ≡ (domain_in domain self.old.grace).number }
+        ensures post { self.new.post ≡ self.old.post }
+        ensures grace { self.new.grace
+            ≡ with_domain domain (period_begun self.old.grace.processor result (domain_in domain self.old.grace)) self.old.grace }
+        ensures answer { BeganAt result even }
+        ensures seen { (side domain (known_in self.old.grace)).seen ≤ found_at even result }
+        ensures known { known_in self.new.grace ≡ began false domain result even (known_in self.old.grace) }
+        ensures rights { Ages (rights_in self.old.post) (rights_in self.new.post) }
+    {
+        self.grace.begin(domain, even)
+    }
+
+    fn look(&mut self, domain: Domain) -> Look
+        requires driving { (side domain (known_in self.old.grace)).number % 2 ≡ 1 }
+        ensures post { self.new.post ≡ self.old.post }
+        ensures grace { self.new.grace
+            ≡ with_domain domain (period_looked (words_in domain self.old.grace) (domain_in domain self.old.grace)) self.old.grace }
+        ensures first { length (side domain (known_in self.new.grace)).first ≡ looks domain self.old.grace.processors }
+        ensures later { length (side domain (known_in self.new.grace)).later ≡ looks domain self.old.grace.processors }
+        ensures answer { let s = side domain (known_in self.new.grace) in Verdict result domain s.first s.later }
+        ensures known { known_in self.new.grace ≡ looked false domain (side domain (known_in self.new.grace)).later (known_in self.old.grace) }
+        ensures rights { Ages (rights_in self.old.post) (rights_in self.new.post) }
+    {
+        self.grace.look(domain)
+    }
+
+    fn finish(&mut self, domain: Domain) -> Period
+        requires { CanFinish domain (known_in self.old.grace) }
+        ensures post { self.new.post ≡ self.old.post }
+        ensures grace { self.new.grace ≡ with_domain domain (period_ended (domain_in domain self.old.grace)) self.old.grace }
+        ensures period { result ≡ ended domain (side domain (known_in self.old.grace)) }
+        ensures known { known_in self.new.grace ≡ finished false domain (known_in self.old.grace) }
+        ensures rights { Ages (rights_in self.old.post) (rights_in self.new.post) }
+    {
+        self.grace.finish(domain)
+    }
+
+    fn driving(&self, domain: Domain) -> bool
+        ensures is { result ≡ is_processor self.now.grace.processor (domain_in domain self.now.grace).driver }
+        ensures none { result ≡ false → (side domain (known_in self.now.grace)).number ≡ 0 }
+        ensures odd { result ≡ true → (side domain (known_in self.now.grace)).number % 2 ≡ 1 }
+    {
+        self.grace.driving(domain)
+    }
+}
+
+impl Post for OneSide {
+    ghost processors = { λ world. world.post.processors };
+
+    ghost calls = { λ _. None };
+
+    fn fetch(&mut self, class: Class, want: usize, out: &mut Vec<Unit>) -> Result<usize, NoMemory>
+        ensures count { IfOk result (λ n. n ≡ length (stock_fetched class want self.old.post.pool).units) }
+        ensures units { OnOk result (out.new.items ≡ out.old.items ++ (stock_fetched class want self.old.post.pool).units) }
+        ensures state { OnOk result (self.new.post ≡ record self.old.post { pool = (stock_fetched class want self.old.post.pool).pool }) }
+        ensures err_state { OnErr result (self.new.post ≡ self.old.post) }
+        ensures grace { self.new.grace ≡ self.old.grace }
+        ensures ok { IfOk result (λ n. Fetches class want n out.old.items out.new.items (rights_in self.old.post) (rights_in self.new.post)) }
+        ensures err { OnErr result (out.new.items ≡ out.old.items) }
+        ensures same { OnErr result (AreSame (rights_in self.old.post) (rights_in self.new.post)) }
+        ensures lasts { Lasting [] (rights_in self.old.post) (rights_in self.new.post) }
+        ensures processors { self.new.post.processors ≡ self.old.post.processors }
+        ensures known { Posts false (known_in self.old.grace) (known_in self.new.grace) }
+    {
+        self.post.fetch(class, want, out)
+    }
+
+    fn put_back(&mut self, units: Vec<Unit>)
+        requires mine { Holds (rights_in self.old.post) units.items }
+        requires fit { All (MayLeave (rights_in self.old.post)) units.items }
+        ensures state { self.new.post ≡ record self.old.post { pool = all_returned (reverse units.items) self.old.post.pool } }
+        ensures grace { self.new.grace ≡ self.old.grace }
+        ensures back { GivesBack (numbers units.items) (rights_in self.old.post) (rights_in self.new.post) }
+        ensures lasts { Lasting (numbers units.items) (rights_in self.old.post) (rights_in self.new.post) }
+        ensures processors { self.new.post.processors ≡ self.old.post.processors }
+        ensures known { Posts false (known_in self.old.grace) (known_in self.new.grace) }
+    {
+        self.post.put_back(units);
+    }
+
+    fn send(&mut self, to: u8, class: Class, units: Vec<Unit>) -> Result<(), Vec<Unit>>
+        requires to { to < self.old.post.processors }
+        requires some { 0 < length units.items }
+        requires class { All (IsOf class) units.items }
+        requires mine { Holds (rights_in self.old.post) units.items }
+        requires fit { All (MayLeave (rights_in self.old.post)) units.items }
+        ensures state { OnOk result (self.new.post ≡ sent_to to class units.items self.old.post) }
+        ensures err_state { OnErr result (self.new.post ≡ self.old.post) }
+        ensures grace { self.new.grace ≡ self.old.grace }
+        ensures sent { OnOk result (GivesBack (numbers units.items) (rights_in self.old.post) (rights_in self.new.post)) }
+        ensures refused { IfErr result (λ back. back.items ≡ units.items) }
+        ensures same { OnErr result (AreSame (rights_in self.old.post) (rights_in self.new.post)) }
+        ensures lasts { Lasting (numbers units.items) (rights_in self.old.post) (rights_in self.new.post) }
+        ensures processors { self.new.post.processors ≡ self.old.post.processors }
+        ensures known { Posts false (known_in self.old.grace) (known_in self.new.grace) }
+    {
+        self.post.send(to, class, units)
+    }
+
+    fn receive(&mut self, class: Class) -> Option<Vec<Unit>>
+        ensures oldest { IfSome result (λ units.
+            inbox self.old.post.processor class self.old.post ≡ units.items ∷ inbox self.old.post.processor class self.new.post) }
+        ensures none_waits { IfNone result (inbox self.old.post.processor class self.old.post ≡ []) }
+        ensures state { IfSome result (λ _. self.new.post ≡ taken_by self.old.post.processor class self.old.post) }
+        ensures none_state { IfNone result (self.new.post ≡ self.old.post) }
+        ensures grace { self.new.grace ≡ self.old.grace }
+        ensures some { IfSome result (λ units. Receives class units.items (rights_in self.old.post) (rights_in self.new.post)) }
+        ensures none { IfNone result (AreSame (rights_in self.old.post) (rights_in self.new.post)) }
+        ensures lasts { Lasting [] (rights_in self.old.post) (rights_in self.new.post) }
+        ensures processors { self.new.post.processors ≡ self.old.post.processors }
+        ensures known { Posts false (known_in self.old.grace) (known_in self.new.grace) }
+    {
+        self.post.receive(class)
+    }
+
+    ghost room = { λ world. room-of };
+}
+
+impl World for OneSide {}
