@@ -4,3 +4,5 @@ pub mod Opened
 pub mod Grammar
 pub mod Lawful
 pub mod Worked
+pub mod WorkedJournal
+pub mod WrongJournals

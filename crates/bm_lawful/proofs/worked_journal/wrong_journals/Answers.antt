@@ -1,0 +1,44 @@
+use Rattle.bm_lawful.proofs.Wrong.{two_pages-wrong, other_marks-wrong, one_step_more-wrong, two_logs-wrong, no_log-wrong, null_with_units-wrong, below_the_top-wrong, never_dropped-wrong, object_left-wrong, dropped_twice-wrong, not_counted-wrong, other_order-wrong, one_left_out-wrong, not_swept-wrong}
+use Rattle.bm_lawful.proofs.worked_journal.wrong_journals.Goals as goal
+
+pub returns-clause-pages : goal.returns-clause-pages
+returns-clause-pages c = two_pages-wrong
+
+pub returns-clause-marks : goal.returns-clause-marks
+returns-clause-marks c = other_marks-wrong
+
+pub returns-clause-totals : goal.returns-clause-totals
+returns-clause-totals c = one_step_more-wrong
+
+pub returns-clause-two_logs : goal.returns-clause-two_logs
+returns-clause-two_logs c = two_logs-wrong
+
+pub returns-clause-no_log : goal.returns-clause-no_log
+returns-clause-no_log c = no_log-wrong
+
+pub returns-clause-null : goal.returns-clause-null
+returns-clause-null c = null_with_units-wrong
+
+pub returns-clause-below_the_top : goal.returns-clause-below_the_top
+returns-clause-below_the_top c = below_the_top-wrong
+
+pub returns-clause-never_dropped : goal.returns-clause-never_dropped
+returns-clause-never_dropped c = never_dropped-wrong
+
+pub returns-clause-object_left : goal.returns-clause-object_left
+returns-clause-object_left c = object_left-wrong
+
+pub returns-clause-dropped_twice : goal.returns-clause-dropped_twice
+returns-clause-dropped_twice c = dropped_twice-wrong
+
+pub returns-clause-not_counted : goal.returns-clause-not_counted
+returns-clause-not_counted c = not_counted-wrong
+
+pub returns-clause-other_order : goal.returns-clause-other_order
+returns-clause-other_order c = other_order-wrong
+
+pub returns-clause-one_left_out : goal.returns-clause-one_left_out
+returns-clause-one_left_out c = one_left_out-wrong
+
+pub returns-clause-not_swept : goal.returns-clause-not_swept
+returns-clause-not_swept c = not_swept-wrong

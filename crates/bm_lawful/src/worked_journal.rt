@@ -1,0 +1,34 @@
+//! Worked scenarios with their journals, and wrong journals beside them.
+
+ghost use Rattle.bm_lawful.specs.Lawful.{Lawful};
+ghost use Rattle.bm_lawful.specs.WorkedJournal.{one_object, one_object_journal, no_object, no_object_journal, three_calls, three_calls_journal};
+ghost use Rattle.bm_lawful.specs.WrongJournals.{two_pages, other_marks, one_step_more, two_logs, no_log, never_dropped, object_left, dropped_twice, null_with_units, below_the_top, not_counted, other_order, one_left_out, not_swept};
+
+/// Lawful journals: of a script that makes an object and drops it, where there is a page; of the same script where there
+/// is none, so that nothing is made, dropped or swept; and of two scripts without a page, the second of which runs first
+/// and asks twice.
+pub fn worked_journals()
+    ensures one_object { Lawful one_object one_object_journal }
+    ensures no_object { Lawful no_object no_object_journal }
+    ensures three_calls { Lawful three_calls three_calls_journal }
+{}
+
+/// Journals that aren't lawful, each one step away from the first one above: in the heading; in a total; in the number
+/// of logs; in what the allocation gives; in the drop, which is left out, stands twice or doesn't count; and in the
+/// sweep. The clause `object_left` is of a script that drops nothing, with exactly the log that it would leave.
+pub fn wrong_journals()
+    ensures pages { ¬ Lawful one_object two_pages }
+    ensures marks { ¬ Lawful one_object other_marks }
+    ensures totals { ¬ Lawful one_object one_step_more }
+    ensures two_logs { ¬ Lawful one_object two_logs }
+    ensures no_log { ¬ Lawful one_object no_log }
+    ensures null { ¬ Lawful one_object null_with_units }
+    ensures below_the_top { ¬ Lawful one_object below_the_top }
+    ensures never_dropped { ¬ Lawful one_object never_dropped }
+    ensures object_left { ¬ Lawful object_left never_dropped }
+    ensures dropped_twice { ¬ Lawful one_object dropped_twice }
+    ensures not_counted { ¬ Lawful one_object not_counted }
+    ensures other_order { ¬ Lawful one_object other_order }
+    ensures one_left_out { ¬ Lawful one_object one_left_out }
+    ensures not_swept { ¬ Lawful one_object not_swept }
+{}
