@@ -6,3 +6,4 @@ pub mod OneObject
 pub mod NoObject
 pub mod ThreeCalls
 pub mod Wrong
+pub mod WrongScripts

@@ -44,7 +44,7 @@ pub record IsMade (body : Block) (own : List Entry) : Type 0 where
 joined : (a b c d e f g : Entry) (v w : List Entry) → (a ∷ []) ++ (((b ∷ c ∷ v ++ d ∷ e ∷ []) ++ []) ++ (f ∷ g ∷ w)) ≡ a ∷ b ∷ c ∷ v ++ d ∷ e ∷ f ∷ g ∷ w
 joined a b c d e f g v w = simp append_assoc
 
-same-script : {a b : Script} → Some a ≡ Some b → a ≡ b
+pub same-script : {a b : Script} → Some a ≡ Some b → a ≡ b
 same-script e = cc
 
 made-of : (pages : ℕ) (body : Block) (own : List Entry) → IsLog (scenario_of pages body) 0 own → IsMade body own
@@ -68,8 +68,12 @@ made-of pages body own h =
       owns_nothing = k.owns_nothing;
     }
 
+-- the entries of a lawful log are those that it is made of
+pub own-is : (s : Scenario) (p : ℕ) (log : Log) (h : LawfulLog s p log) → h.own ≡ entries_of log
+own-is s p log h = sym (of-ordinary h.own) ∙ ap entries_of (sym h.log_is)
+
 pub log-made : (pages : ℕ) (body : Block) (log : Log) → LawfulLog (scenario_of pages body) 0 log → IsMade body (entries_of log)
-log-made pages body log h = made-of pages body (entries_of log) (subst (IsLog (scenario_of pages body) 0) (sym (of-ordinary h.own) ∙ ap entries_of (sym h.log_is)) h.is_log)
+log-made pages body log h = made-of pages body (entries_of log) (subst (IsLog (scenario_of pages body) 0) (own-is (scenario_of pages body) 0 log h) h.is_log)
 
 none-some : {A X : Type 0} {a : A} → None ≡ Some a → X
 none-some e = absurd (cc)

@@ -4,6 +4,7 @@ use Rattle.bm_class.specs.Sizes.{class_of_size, size_of_class}
 use Rattle.bm_class.specs.Watermarks.{low_of_size, high_of_size, batch_of_size}
 use Rattle.bm_class.specs.declared.watermarks.Marks.{Marks}
 use Rattle.bm_journal.specs.declared.ids.Domain.TheVariants.{Plain}
+use Rattle.bm_journal.specs.declared.units.Units.{Units}
 use Rattle.bm_journal.specs.declared.units.Units.TheVariants.{Whole}
 use Rattle.bm_journal.specs.declared.entry.Entry.{Entry}
 use Rattle.bm_journal.specs.declared.entry.Entry.TheVariants as entry
@@ -13,7 +14,7 @@ use Rattle.bm_lawful.specs.Held.{Names, no_names, OwnsNothing}
 use Rattle.bm_lawful.specs.Runs.{Run, Done, Then, RunsDrop}
 use Rattle.bm_lawful.specs.Lawful.{Lawful, LawfulLog}
 use Rattle.bm_lawful.specs.WorkedJournal.{vector_of, types, x_name, makes_x, drops_x_unless_null, makes_and_drops, one_object, one_page, asked, took, gave, ended, swept}
-use Rattle.bm_lawful.specs.WrongJournals.{two_pages, other_marks, one_step_more, two_logs, no_log, never_dropped_log, never_dropped, makes_alone, object_left, dropped_twice_log, dropped_twice, null_with_units_log, null_with_units, below_the_top_log, below_the_top, not_counted_log, not_counted, other_order_log, other_order, one_left_out_log, one_left_out, not_swept_log, not_swept}
+use Rattle.bm_lawful.specs.WrongJournals.{two_pages, other_marks, one_step_more, two_logs, no_log, never_dropped_log, never_dropped, makes_alone, object_left, dropped_twice_log, dropped_twice, null_with_units_log, null_with_units, below_the_top_log, below_the_top, not_counted_log, not_counted, other_order_log, other_order, one_left_out_log, one_left_out, not_swept_log, not_swept, not_closed_log, not_closed}
 use Rattle.bm_lawful.proofs.Blocks.{RunsList, block-runs}
 use Rattle.bm_lawful.proofs.Taken.{Stays, holding, new-taken, if-taken, drop-begins, drop-taken, drop-counts}
 use Rattle.bm_lawful.proofs.Told.{entries_of, unlisted, log-made}
@@ -108,6 +109,16 @@ not_counted-wrong h =
     let later : List Entry = ended ++ swept (3 ∷ 2 ∷ 1 ∷ 0 ∷ []) in
     let d = drops not_counted_log (entry.Drop 3 1 ∷ entry.Last ∷ entry.Free 3 0 ∷ entry.Enter 0 1 ∷ entry.Push 0 3 ∷ entry.Leave 0 0 ∷ later) (h.logs 0 not_counted_log refl) refl in
     drop-counts Done holding d.0 (ended ++ d.1) later d.2
+
+no-close : (v w : List Entry) (us : Units) → entry.Out Plain 2 ∷ entry.Done (codes "main") ∷ entry.Ended ∷ entry.Close ∷ v ≡ entry.Out Plain 2 ∷ entry.Done (codes "main") ∷ entry.Ended ∷ entry.Sweep 0 us ∷ w → ⊥
+no-close v w us e = cc
+
+pub not_closed-wrong : Lawful one_object not_closed → ⊥
+not_closed-wrong h =
+    let later : List Entry = entry.Out Plain 2 ∷ entry.Done (codes "main") ∷ entry.Ended ∷ swept (3 ∷ 2 ∷ 1 ∷ 0 ∷ []) in
+    let d = drops not_closed_log (gave 3 4 ++ later) (h.logs 0 not_closed_log refl) refl in
+    let t = drop-taken Done holding d.0 (ended ++ d.1) later d.2 in
+    no-close _ _ _ (ap (λ v. v ++ (ended ++ d.1)) (sym t.2.0) ∙ t.3)
 
 -- ---- a name that owns at the end
 

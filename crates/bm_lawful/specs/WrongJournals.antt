@@ -1,7 +1,10 @@
--- Journals that are each one step away from that of one object made and dropped. Where the step is in the log, the
--- totals are those of the log, and the closing sweeps what stands in the lists then.
-use Rattle.std.specs.Prelude.{IsTrue, refl, List, [], ◌∷◌, ◌++◌}
+-- Journals that are each one step away from a worked one, which is that of one object made and dropped unless something
+-- else is said. Where the step is in the log, the totals are those of the log, and the closing sweeps what stands in the
+-- lists then.
+use Rattle.std.specs.Prelude.{IsTrue, refl, List, [], ◌∷◌, ◌++◌, codes}
 use Rattle.std.proofs.Common.{lit≤}
+use Rattle.bm_journal.specs.declared.ids.Domain.TheVariants.{Plain}
+use Rattle.bm_journal.specs.declared.units.Units.TheVariants.{Whole}
 use Rattle.bm_journal.specs.declared.entry.Entry.{Entry}
 use Rattle.bm_journal.specs.declared.entry.Entry.TheVariants as entry
 use Rattle.bm_journal.specs.declared.journal.Journal.{Journal}
@@ -11,7 +14,7 @@ use Rattle.bm_lang.specs.declared.scenario.Block.{Block}
 use Rattle.bm_lang.specs.declared.scenario.Scenario.{Scenario}
 use Rattle.bm_law.specs.Lists.{Log}
 use Rattle.bm_lawful.specs.Grammar.{ordinary}
-use Rattle.bm_lawful.specs.WorkedJournal.{makes_x, block_of, scenario_of, one_page, asked, took, took_none, gave, ended, swept, journal_of, one_object_log, one_object_journal}
+use Rattle.bm_lawful.specs.WorkedJournal.{makes_x, block_of, scenario_of, one_page, asks, asked, took, took_none, gave, ended, swept, journal_of, one_object_log, one_object_journal, main_part, three_calls_journal}
 
 -- ---- the heading and the totals
 
@@ -108,3 +111,34 @@ not_swept_log = ordinary up_to_the_sweep
 
 abbrev pub not_swept : Journal
 not_swept = telling not_swept_log refl
+
+-- The closing doesn't begin.
+abbrev pub not_closed_log : Log
+not_closed_log = ordinary (asked one_page ++ took 3 ++ gave 3 4 ++ entry.Out Plain 2 ∷ entry.Done (codes "main") ∷ entry.Ended ∷ swept (3 ∷ 2 ∷ 1 ∷ 0 ∷ []))
+
+abbrev pub not_closed : Journal
+not_closed = telling not_closed_log refl
+
+-- ---- two scripts
+
+-- a journal of this log alone, with the heading of the two scripts
+abbrev pub telling_three_calls : (log : Log) → IsTrue (are_whole (log ∷ [])) → Journal
+telling_three_calls log whole = record three_calls_journal { logs = log ∷ []; totals = totals_of (log ∷ []); units_whole = whole }
+
+-- The script that is declared first runs first.
+abbrev pub main_first_log : Log
+main_first_log = ordinary (asked [] ++ took_none ++ entry.Out Plain 2 ∷ entry.Done (codes "main") ∷
+    entry.Script (codes "twice") ∷ entry.In Plain 3 ∷ asks ∷ took_none ++ asks ∷ took_none ++ entry.Out Plain 4 ∷ entry.Done (codes "twice") ∷
+    entry.Ended ∷ entry.Close ∷ [])
+
+abbrev pub main_first : Journal
+main_first = telling_three_calls main_first_log refl
+
+-- The block that is repeated twice runs once.
+abbrev pub repeated_once_log : Log
+repeated_once_log = ordinary (entry.Fill 0 (Whole []) ∷
+    entry.Script (codes "twice") ∷ entry.In Plain 1 ∷ asks ∷ took_none ++ entry.Out Plain 2 ∷ entry.Done (codes "twice") ∷
+    main_part ++ entry.Ended ∷ entry.Close ∷ [])
+
+abbrev pub repeated_once : Journal
+repeated_once = telling_three_calls repeated_once_log refl

@@ -2,7 +2,7 @@
 
 ghost use Rattle.bm_lawful.specs.Lawful.{Lawful};
 ghost use Rattle.bm_lawful.specs.WorkedJournal.{one_object, one_object_journal, no_object, no_object_journal, three_calls, three_calls_journal};
-ghost use Rattle.bm_lawful.specs.WrongJournals.{two_pages, other_marks, one_step_more, two_logs, no_log, never_dropped, object_left, dropped_twice, null_with_units, below_the_top, not_counted, other_order, one_left_out, not_swept};
+ghost use Rattle.bm_lawful.specs.WrongJournals.{two_pages, other_marks, one_step_more, two_logs, no_log, never_dropped, object_left, dropped_twice, null_with_units, below_the_top, not_counted, other_order, one_left_out, not_swept, not_closed, main_first, repeated_once};
 
 /// Lawful journals: of a script that makes an object and drops it, where there is a page; of the same script where there
 /// is none, so that nothing is made, dropped or swept; and of two scripts without a page, the second of which runs first
@@ -31,4 +31,7 @@ pub fn wrong_journals()
     ensures other_order { ¬ Lawful one_object other_order }
     ensures one_left_out { ¬ Lawful one_object one_left_out }
     ensures not_swept { ¬ Lawful one_object not_swept }
+    ensures not_closed { ¬ Lawful one_object not_closed }
+    ensures main_first { ¬ Lawful three_calls main_first }
+    ensures repeated_once { ¬ Lawful three_calls repeated_once }
 {}

@@ -1,4 +1,5 @@
-use Rattle.bm_lawful.proofs.Wrong.{two_pages-wrong, other_marks-wrong, one_step_more-wrong, two_logs-wrong, no_log-wrong, null_with_units-wrong, below_the_top-wrong, never_dropped-wrong, object_left-wrong, dropped_twice-wrong, not_counted-wrong, other_order-wrong, one_left_out-wrong, not_swept-wrong}
+use Rattle.bm_lawful.proofs.Wrong.{two_pages-wrong, other_marks-wrong, one_step_more-wrong, two_logs-wrong, no_log-wrong, null_with_units-wrong, below_the_top-wrong, never_dropped-wrong, object_left-wrong, dropped_twice-wrong, not_counted-wrong, other_order-wrong, one_left_out-wrong, not_swept-wrong, not_closed-wrong}
+use Rattle.bm_lawful.proofs.WrongScripts.{main_first-wrong, repeated_once-wrong}
 use Rattle.bm_lawful.proofs.worked_journal.wrong_journals.Goals as goal
 
 pub returns-clause-pages : goal.returns-clause-pages
@@ -42,3 +43,12 @@ returns-clause-one_left_out c = one_left_out-wrong
 
 pub returns-clause-not_swept : goal.returns-clause-not_swept
 returns-clause-not_swept c = not_swept-wrong
+
+pub returns-clause-not_closed : goal.returns-clause-not_closed
+returns-clause-not_closed c = not_closed-wrong
+
+pub returns-clause-main_first : goal.returns-clause-main_first
+returns-clause-main_first c = main_first-wrong
+
+pub returns-clause-repeated_once : goal.returns-clause-repeated_once
+returns-clause-repeated_once c = repeated_once-wrong
