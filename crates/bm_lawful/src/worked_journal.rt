@@ -13,9 +13,10 @@ pub fn worked_journals()
     ensures three_calls { Lawful three_calls three_calls_journal }
 {}
 
-/// Journals that aren't lawful, each one step away from the first one above: in the heading; in a total; in the number
-/// of logs; in what the allocation gives; in the drop, which is left out, stands twice or doesn't count; and in the
-/// sweep. The clause `object_left` is of a script that drops nothing, with exactly the log that it would leave.
+/// Journals that aren't lawful, each one step away from one above: in the heading; in a total; in the number of logs; in
+/// what the allocation gives; in the drop, which is left out, stands twice or doesn't count; in the sweep; in the close; in
+/// the order of the scripts; and in how often a block runs. The clause `object_left` is of a script that drops nothing, with
+/// exactly the journal that its run would leave.
 pub fn wrong_journals()
     ensures pages { ¬ Lawful one_object two_pages }
     ensures marks { ¬ Lawful one_object other_marks }
