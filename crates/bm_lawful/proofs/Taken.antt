@@ -1,15 +1,18 @@
 -- What is left of a log behind a part of it that a statement of the worked scripts left.
-use Rattle.std.proofs.Common.{◌≡◌, ℕ, inl, inr, List, [], ◌∷◌, ◌++◌, Option, Some, None, sym, ap, subst, ◌∙◌, append_assoc, append-nil}
+use Rattle.std.proofs.Common.{◌≡◌, ℕ, inl, inr, List, [], ◌∷◌, ◌++◌, Option, Some, None, sym, ap, subst, ◌∙◌, append_assoc, append-nil, lit≤}
 use Rattle.bm_journal.specs.declared.entry.Entry.{Entry}
 use Rattle.bm_journal.specs.declared.entry.Entry.TheVariants as entry
-use Rattle.bm_class.specs.Sizes.{size_of_class}
+use Rattle.bm_class.specs.Sizes.{class_of_size, size_of_class}
 use Rattle.bm_class.specs.Watermarks.{low_of_size, high_of_size}
+use Rattle.bm_lang.specs.declared.scenario.TypeDeclaration.{TypeDeclaration}
+use Rattle.bm_lang.specs.declared.scenario.TypeId.{TypeId}
 use Rattle.bm_law.specs.Phrases.{raise_below, raise_above, given, overtaken, alloc_took, alloc_empty, alloc_busy, FreePhrase}
 use Rattle.bm_lawful.specs.Held.{Object, Names, no_names, with_name}
+use Rattle.bm_lawful.specs.Opened.{object_size}
+use Rattle.bm_lawful.specs.Worked.{item}
 use Rattle.bm_lawful.specs.Runs.{Run, Done, Then, Allocates, answered, RunsNew, RunsDrop}
 use Rattle.bm_lawful.specs.WorkedJournal.{types, x_name, item_id, drops_x, drops_x_unless_null, vector_of, asks, took, gave}
 use Rattle.bm_lawful.proofs.Blocks.{RunsList, block-runs}
-use Rattle.std.proofs.Common.{lit≤}
 
 -- these entries stay, which begin with those of this run
 pub record Stays (run : Run) (names after : Names) (tail more : List Entry) : Type 0 where
@@ -68,6 +71,38 @@ new-taken rest part after tail more h e =
     let held : h.middle ≡ holding = n.after_is ∙ ap (λ r. with_name x_name (answered item_id r) no_names) g.0 in
     record { part = h.two; more_is = sym g.1; runs = subst (λ m. rest m h.two after) held h.second_runs }
 
+-- the call has the values of its statement
+pub new-asks : (rest : Run) (names after : Names) (part tail more : List Entry) (name values : List ℕ) → Then (RunsNew types x_name item_id (7 ∷ [])) rest names part after → part ++ tail ≡ entry.New name values ∷ more → values ≡ 7 ∷ []
+new-asks rest names after part tail more name values h e = asked-values _ _ _ _ (sym e ∙ ap (λ p. p ++ tail) (h.part_is ∙ ap (λ o. o ++ h.two) h.first_runs.part_is))
+  where
+    asked-values : (m : List ℕ) (us : List ℕ) (v w : List Entry) → entry.New name values ∷ v ≡ entry.New m us ∷ w → values ≡ us
+    asked-values m us v w q = cc
+
+entered : (c d b : ℕ) (v w : List Entry) → entry.Enter c b ∷ v ≡ entry.Enter d 1 ∷ w → c ≡ d
+entered c d b v w e = cc
+
+-- an allocation that begins so is of this class
+enters : (c d : ℕ) (own : List Entry) (reply : Option (ℕ × ℕ)) (rest more : List Entry) → Allocates c own reply → own ++ rest ≡ entry.Enter d 1 ∷ more → c ≡ d
+enters c d own None rest more (inl y) e = entered c d 1 _ _ (ap (λ v. v ++ rest) (sym y.1) ∙ e)
+enters c d own None rest more (inr y) e = entered c d y.0 _ _ (ap (λ v. v ++ rest) (sym y.3) ∙ e)
+enters c d own (Some object) rest more y e = entered c d 1 _ _ (ap (λ v. v ++ rest) (sym y.3) ∙ e)
+
+-- the call for an item is served from class 0
+pub new-enters : (rest : Run) (names after : Names) (part tail more : List Entry) (call : Entry) (d : ℕ) → Then (RunsNew types x_name item_id (7 ∷ [])) rest names part after → part ++ tail ≡ call ∷ entry.Enter d 1 ∷ more → d ≡ 0
+unfolding class_of_size
+new-enters rest names after part tail more call d h e =
+    let n = h.first_runs in
+    let whole : entry.New n.declared.name (7 ∷ []) ∷ ((n.own ++ h.two) ++ tail) ≡ call ∷ entry.Enter d 1 ∷ more = sym (ap (λ p. p ++ tail) (h.part_is ∙ ap (λ o. o ++ h.two) n.part_is)) ∙ e in
+    let served : n.class ≡ d = enters n.class d n.own n.reply (h.two ++ tail) more n.allocates (sym (append_assoc n.own h.two tail) ∙ behind whole) in
+    let declared : n.declared ≡ record item { line = 5 } = sym (same-type n.of_class.found) in
+    sym served ∙ sym (same-class (ap (λ t. class_of_size (object_size t)) (sym declared) ∙ n.of_class.class))
+  where
+    same-type : {a b : TypeDeclaration} → Some a ≡ Some b → a ≡ b
+    same-type q = cc
+
+    same-class : {a b : ℕ} → Some a ≡ Some b → a ≡ b
+    same-class q = cc
+
 -- ---- the block of the `if`
 
 pub if-taken : (line : ℕ) (after : Names) (tail more : List Entry) → Stays (RunsList types (drops_x_unless_null line ∷ [])) holding after tail more → Stays (Then (RunsDrop types x_name) Done) holding after tail more
@@ -87,6 +122,15 @@ pub drop-begins : (rest : Run) (names after : Names) (tail more : List Entry) �
 drop-begins rest names after tail more h =
     let d = h.runs.first_runs in
     (d.unit, d.life, (d.own ++ h.runs.two) ++ tail, h.more_is ∙ ap (λ p. p ++ tail) (h.runs.part_is ∙ ap (λ o. o ++ h.runs.two) d.part_is))
+
+-- the object that is dropped is the one that x holds
+pub drop-holds : (rest : Run) (after : Names) (tail more : List Entry) (u n : ℕ) → Stays (Then (RunsDrop types x_name) rest) holding after tail (entry.Drop u n ∷ more) → (u ≡ 3) × (n ≡ 1)
+drop-holds rest after tail more u n h =
+    let d = h.runs.first_runs in
+    same-object _ _ _ _ _ d.held (h.more_is ∙ ap (λ p. p ++ tail) (h.runs.part_is ∙ ap (λ o. o ++ h.runs.two) d.part_is))
+  where
+    same-object : (t : TypeId) (unit life : ℕ) (v w : List Entry) → Object item_id 3 1 ≡ Object t unit life → entry.Drop u n ∷ v ≡ entry.Drop unit life ∷ w → (u ≡ 3) × (n ≡ 1)
+    same-object t unit life v w q e = (cc, cc)
 
 put-later : (c u n : ℕ) (lost : List ℕ) (v rest more : List Entry) → (overtaken c lost ++ entry.Look c n ∷ v) ++ rest ≡ entry.Push 0 3 ∷ more → ⊥
 put-later c u n [] v rest more e = cc

@@ -16,15 +16,32 @@ use Rattle.bm_law.specs.Lists.{Log}
 use Rattle.bm_lawful.specs.Grammar.{ordinary}
 use Rattle.bm_lawful.specs.WorkedJournal.{makes_x, block_of, scenario_of, one_page, asks, asked, took, took_none, gave, ended, swept, journal_of, one_object_log, one_object_journal, main_part, three_calls_journal}
 
--- ---- the heading and the totals
+-- ---- the heading, the histories and the totals
 
--- two pages, where there is one
+-- two processors and two pages, where there is one
+abbrev pub two_processors : Journal
+two_processors = record one_object_journal { processors = 2 }
+
 abbrev pub two_pages : Journal
 two_pages = record one_object_journal { pages = 2 }
+
+-- the type has another name, there is a map, and the script has another name
+abbrev pub other_type : Journal
+other_type = record one_object_journal { types = codes "thing" ∷ [] }
+
+abbrev pub one_map : Journal
+one_map = record one_object_journal { maps = codes "slot" ∷ []; maps_differ = refl; owners_named = refl }
+
+abbrev pub other_script : Journal
+other_script = record one_object_journal { scripts = codes "other" ∷ [] }
 
 -- another batch of the class
 abbrev pub other_marks : Journal
 other_marks = record one_object_journal { classes = (0, record { low = 32; high = 96; batch = 47 }) ∷ [] }
+
+-- the history of a list that isn't there
+abbrev pub one_history : Journal
+one_history = record one_object_journal { graphs = (codes "list", []) ∷ []; owners_named = refl }
 
 -- one step more than there are
 abbrev pub one_step_more : Journal
@@ -65,6 +82,27 @@ dropped_twice_log = ordinary (asked one_page ++ took 3 ++ gave 3 4 ++ gave 3 5 +
 
 abbrev pub dropped_twice : Journal
 dropped_twice = telling dropped_twice_log refl
+
+-- Another object is dropped than the one that was given.
+abbrev pub other_dropped_log : Log
+other_dropped_log = ordinary (asked one_page ++ took 3 ++ gave 2 4 ++ ended ++ swept (2 ∷ 2 ∷ 1 ∷ 0 ∷ []))
+
+abbrev pub other_dropped : Journal
+other_dropped = telling other_dropped_log refl
+
+-- The call has another value than the statement.
+abbrev pub other_value_log : Log
+other_value_log = ordinary (entry.Fill 0 (Whole one_page) ∷ entry.Script (codes "main") ∷ entry.In Plain 1 ∷ entry.New (codes "item") (8 ∷ []) ∷ took 3 ++ gave 3 4 ++ ended ++ swept (3 ∷ 2 ∷ 1 ∷ 0 ∷ []))
+
+abbrev pub other_value : Journal
+other_value = telling other_value_log refl
+
+-- The call is served from class 1, where there is no unit.
+abbrev pub other_class_log : Log
+other_class_log = ordinary (asked one_page ++ entry.Enter 1 1 ∷ entry.PopNone 1 ∷ entry.Leave 1 0 ∷ entry.Raise 1 ∷ entry.Empty ∷ ended ++ swept (3 ∷ 2 ∷ 1 ∷ 0 ∷ []))
+
+abbrev pub other_class : Journal
+other_class = telling other_class_log refl
 
 -- The allocation answers null, and the pop `none`, where Free has four units.
 abbrev pub null_with_units_log : Log

@@ -1,4 +1,4 @@
-use Rattle.bm_lawful.proofs.Wrong.{two_pages-wrong, other_marks-wrong, one_step_more-wrong, two_logs-wrong, no_log-wrong, null_with_units-wrong, below_the_top-wrong, never_dropped-wrong, object_left-wrong, dropped_twice-wrong, not_counted-wrong, other_order-wrong, one_left_out-wrong, not_swept-wrong, not_closed-wrong}
+use Rattle.bm_lawful.proofs.Wrong.{two_pages-wrong, other_marks-wrong, one_step_more-wrong, two_logs-wrong, no_log-wrong, null_with_units-wrong, below_the_top-wrong, never_dropped-wrong, object_left-wrong, dropped_twice-wrong, not_counted-wrong, other_order-wrong, one_left_out-wrong, not_swept-wrong, not_closed-wrong, two_processors-wrong, other_type-wrong, other_script-wrong, one_map-wrong, one_history-wrong, other_dropped-wrong, other_value-wrong, other_class-wrong}
 use Rattle.bm_lawful.proofs.WrongScripts.{main_first-wrong, repeated_once-wrong}
 use Rattle.bm_lawful.proofs.worked_journal.wrong_journals.Goals as goal
 
@@ -52,3 +52,27 @@ returns-clause-main_first c = main_first-wrong
 
 pub returns-clause-repeated_once : goal.returns-clause-repeated_once
 returns-clause-repeated_once c = repeated_once-wrong
+
+pub returns-clause-processors : goal.returns-clause-processors
+returns-clause-processors c = two_processors-wrong
+
+pub returns-clause-types : goal.returns-clause-types
+returns-clause-types c = other_type-wrong
+
+pub returns-clause-maps : goal.returns-clause-maps
+returns-clause-maps c = one_map-wrong
+
+pub returns-clause-scripts : goal.returns-clause-scripts
+returns-clause-scripts c = other_script-wrong
+
+pub returns-clause-histories : goal.returns-clause-histories
+returns-clause-histories c = one_history-wrong
+
+pub returns-clause-value : goal.returns-clause-value
+returns-clause-value c = other_value-wrong
+
+pub returns-clause-class : goal.returns-clause-class
+returns-clause-class c = other_class-wrong
+
+pub returns-clause-other_dropped : goal.returns-clause-other_dropped
+returns-clause-other_dropped c = other_dropped-wrong
