@@ -7,3 +7,4 @@ pub mod NoObject
 pub mod ThreeCalls
 pub mod Wrong
 pub mod WrongScripts
+pub mod WrongSweep

@@ -1,5 +1,5 @@
 -- What a lawful journal of a worked scenario tells of its one log.
-use Rattle.std.proofs.Common.{◌≡◌, ℕ, zero, suc, List, [], ◌∷◌, ◌++◌, Option, Some, None, refl, sym, ap, subst, ◌∙◌, append_assoc, codes, map, slice_get}
+use Rattle.std.proofs.Common.{◌≡◌, ℕ, zero, suc, List, [], ◌∷◌, ◌++◌, Option, Some, None, refl, sym, ap, subst, ◌∙◌, append_assoc, append-nil, codes, map, slice_get}
 use Rattle.bm_class.specs.Sizes.{class_of_size}
 use Rattle.bm_journal.specs.declared.ids.Domain.TheVariants.{Plain}
 use Rattle.bm_journal.specs.declared.units.Units.TheVariants.{Whole}
@@ -8,11 +8,12 @@ use Rattle.bm_journal.specs.declared.entry.Entry.TheVariants as entry
 use Rattle.bm_lang.specs.declared.scenario.Block.{Block}
 use Rattle.bm_lang.specs.declared.scenario.Scenario.{Scenario}
 use Rattle.bm_lang.specs.declared.scenario.Script.{Script}
-use Rattle.bm_law.specs.Lists.{Log, lists_of}
+use Rattle.bm_law.specs.State.{State, seven_lists}
+use Rattle.bm_law.specs.Lists.{Log, Leaves, lists_of}
 use Rattle.bm_law.proofs.Agree.{lists-leaves}
 use Rattle.bm_lawful.specs.Held.{Names, no_names, OwnsNothing}
 use Rattle.bm_lawful.specs.Runs.{RunsBlock}
-use Rattle.bm_lawful.specs.Grammar.{IsLog, IsScript, ordinary}
+use Rattle.bm_lawful.specs.Grammar.{IsLog, IsScript, Swept, ordinary}
 use Rattle.bm_lawful.specs.Lawful.{LawfulLog}
 use Rattle.bm_lawful.specs.WorkedJournal.{types, scenario_of}
 
@@ -40,6 +41,9 @@ pub record IsMade (body : Block) (own : List Entry) : Type 0 where
   pub own_is : own ≡ entry.Fill 0 (Whole units) ∷ entry.Script (codes "main") ∷ entry.In Plain 1 ∷ part ++ entry.Out Plain 2 ∷ entry.Done (codes "main") ∷ entry.Ended ∷ entry.Close ∷ sweeps
   pub runs : RunsBlock types body no_names part after
   pub owns_nothing : (x : List ℕ) → OwnsNothing (after x)
+  pub before : State ℕ
+  pub before_is : Leaves 0 (ordinary (entry.Fill 0 (Whole units) ∷ entry.Script (codes "main") ∷ entry.In Plain 1 ∷ part ++ entry.Out Plain 2 ∷ entry.Done (codes "main") ∷ [])) before
+  pub are_sweeps : Swept 0 (seven_lists (before.rows 0)) (λ v. v ≡ []) sweeps
 
 joined : (a b c d e f g : Entry) (v w : List Entry) → (a ∷ []) ++ (((b ∷ c ∷ v ++ d ∷ e ∷ []) ++ []) ++ (f ∷ g ∷ w)) ≡ a ∷ b ∷ c ∷ v ++ d ∷ e ∷ f ∷ g ∷ w
 joined a b c d e f g v w = simp append_assoc
@@ -52,11 +56,11 @@ unfolding class_of_size
 made-of pages body own h =
     let f : (units : List ℕ) × (rest : List Entry) × (h.fills ≡ entry.Fill 0 (Whole units) ∷ rest) × (rest ≡ []) = h.are_fills in
     let r = h.are_scripts in
-    let main : Script = r.0 in
     let P : Script → Type 0 = λ s. IsScript (scenario_of pages body) s 1 r.2.0 in
     let k = subst P (sym (same-script r.1)) r.2.3 in
     let front : h.fills ≡ entry.Fill 0 (Whole f.0) ∷ [] = f.2 ∙ ap (λ v. entry.Fill 0 (Whole f.0) ∷ v) f.3 in
-    let script : h.scripts ≡ (entry.Script (codes "main") ∷ entry.In Plain 1 ∷ k.part ++ entry.Out Plain 2 ∷ entry.Done (codes "main") ∷ []) ++ [] = r.2.2 ∙ ap (λ v. r.2.0 ++ v) r.2.4 ∙ ap (λ v. v ++ []) k.own_is in
+    let ran : List Entry = entry.Script (codes "main") ∷ entry.In Plain 1 ∷ k.part ++ entry.Out Plain 2 ∷ entry.Done (codes "main") ∷ [] in
+    let script : h.scripts ≡ ran ++ [] = r.2.2 ∙ ap (λ v. r.2.0 ++ v) r.2.4 ∙ ap (λ v. v ++ []) k.own_is in
     record {
       units = f.0;
       part = k.part;
@@ -66,6 +70,9 @@ made-of pages body own h =
           ∙ joined (entry.Fill 0 (Whole f.0)) (entry.Script (codes "main")) (entry.In Plain 1) (entry.Out Plain 2) (entry.Done (codes "main")) entry.Ended entry.Close k.part h.sweeps;
       runs = k.runs;
       owns_nothing = k.owns_nothing;
+      before = h.before;
+      before_is = subst (λ v. Leaves 0 (ordinary v) h.before) (ap (λ v. v ++ h.scripts) front ∙ ap (λ v. entry.Fill 0 (Whole f.0) ∷ v) (script ∙ append-nil ran)) h.before_is;
+      are_sweeps = h.are_sweeps;
     }
 
 -- the entries of a lawful log are those that it is made of

@@ -157,6 +157,15 @@ not_closed_log = ordinary (asked one_page ++ took 3 ++ gave 3 4 ++ entry.Out Pla
 abbrev pub not_closed : Journal
 not_closed = telling not_closed_log refl
 
+-- ---- no page
+
+-- The class is swept, though it is empty.
+abbrev pub empty_swept_log : Log
+empty_swept_log = ordinary (asked [] ++ took_none ++ ended ++ swept [])
+
+abbrev pub empty_swept : Journal
+empty_swept = journal_of 0 (empty_swept_log ∷ []) refl (totals_of (empty_swept_log ∷ []))
+
 -- ---- two scripts
 
 -- a journal of this log alone, with the heading of the two scripts

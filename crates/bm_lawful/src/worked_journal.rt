@@ -2,7 +2,7 @@
 
 ghost use Rattle.bm_lawful.specs.Lawful.{Lawful};
 ghost use Rattle.bm_lawful.specs.WorkedJournal.{one_object, one_object_journal, no_object, no_object_journal, three_calls, three_calls_journal};
-ghost use Rattle.bm_lawful.specs.WrongJournals.{two_processors, other_type, other_script, one_map, one_history, other_dropped, other_value, other_class, two_pages, other_marks, one_step_more, two_logs, no_log, never_dropped, object_left, dropped_twice, null_with_units, below_the_top, not_counted, other_order, one_left_out, not_swept, not_closed, main_first, repeated_once};
+ghost use Rattle.bm_lawful.specs.WrongJournals.{two_processors, other_type, other_script, one_map, one_history, other_dropped, other_value, other_class, two_pages, other_marks, one_step_more, two_logs, no_log, never_dropped, object_left, dropped_twice, null_with_units, below_the_top, not_counted, other_order, one_left_out, not_swept, not_closed, empty_swept, main_first, repeated_once};
 
 /// Lawful journals: of a script that makes an object and drops it, where there is a page; of the same script where there
 /// is none, so that nothing is made, dropped or swept; and of two scripts without a page, the second of which runs first
@@ -13,10 +13,10 @@ pub fn worked_journals()
     ensures three_calls { Lawful three_calls three_calls_journal }
 {}
 
-/// Journals that aren't lawful, each one step away from one above: in the heading; in a total; in the number of logs; in
-/// what the allocation gives; in the drop, which is left out, stands twice or doesn't count; in the sweep; in the close; in
-/// the order of the scripts; and in how often a block runs. The clause `object_left` is of a script that drops nothing, with
-/// exactly the journal that its run would leave.
+/// Journals that aren't lawful, each one step away from one above: in the heading, the histories, a total or the number of
+/// logs; in the call and what it gives; in the drop, which is left out, stands twice, is of another object or doesn't count;
+/// in the close and the sweep; in the order of the scripts; and in how often a block runs. The clause `object_left` is of a
+/// script that drops nothing, with exactly the journal that its run would leave.
 pub fn wrong_journals()
     ensures processors { ¬ Lawful one_object two_processors }
     ensures pages { ¬ Lawful one_object two_pages }
@@ -41,6 +41,7 @@ pub fn wrong_journals()
     ensures one_left_out { ¬ Lawful one_object one_left_out }
     ensures not_swept { ¬ Lawful one_object not_swept }
     ensures not_closed { ¬ Lawful one_object not_closed }
+    ensures empty_swept { ¬ Lawful no_object empty_swept }
     ensures main_first { ¬ Lawful three_calls main_first }
     ensures repeated_once { ¬ Lawful three_calls repeated_once }
 {}
