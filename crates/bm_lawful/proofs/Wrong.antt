@@ -107,15 +107,15 @@ begun : (units : List ℕ) (v w : List Entry) → entry.Fill 0 (Whole one_page) 
 begun units v w e = cc
 
 -- the run of the script's statements, and what stands behind them
-record Script (log : Log) (more : List Entry) : Type 0 where
+record Ran (log : Log) (more : List Entry) : Type 0 where
   part : List Entry
   after : Names
   sweeps : List Entry
   runs : RunsList types (makes_x 7 ∷ drops_x_unless_null 8 ∷ []) no_names part after
   more_is : part ++ (ended ++ sweeps) ≡ more
 
-script-of : (log : Log) (more : List Entry) → LawfulLog one_object 0 log → entries_of log ≡ entry.Fill 0 (Whole one_page) ∷ entry.Script (codes "main") ∷ entry.In Plain 1 ∷ more → Script log more
-script-of log more h e =
+ran-of : (log : Log) (more : List Entry) → LawfulLog one_object 0 log → entries_of log ≡ entry.Fill 0 (Whole one_page) ∷ entry.Script (codes "main") ∷ entry.In Plain 1 ∷ more → Ran log more
+ran-of log more h e =
     let k = log-made 1 (makes_and_drops 7 8 9) log h in
     record {
       part = k.part;
@@ -128,7 +128,7 @@ script-of log more h e =
 -- behind the allocation the drop follows, and then the end of the script
 drops : (log : Log) (more : List Entry) → LawfulLog one_object 0 log → entries_of log ≡ asked one_page ++ took 3 ++ more → (after' : Names) × (sweeps : List Entry) × Stays (Then (RunsDrop types x_name) Done) holding after' (ended ++ sweeps) more
 drops log more h e =
-    let s = script-of log (asks ∷ took 3 ++ more) h e in
+    let s = ran-of log (asks ∷ took 3 ++ more) h e in
     (s.after, s.sweeps, if-taken 8 s.after (ended ++ s.sweeps) more (new-taken (RunsList types (drops_x_unless_null 8 ∷ [])) s.part s.after (ended ++ s.sweeps) more s.runs s.more_is))
 
 out-drop : (w u n : ℕ) (v v' : List Entry) → entry.Out Plain w ∷ v ≡ entry.Drop u n ∷ v' → ⊥
@@ -167,7 +167,7 @@ eight-seven e = cc
 pub other_value-wrong : Lawful one_object other_value → ⊥
 other_value-wrong h =
     let later : List Entry = took 3 ++ gave 3 4 ++ ended ++ swept (3 ∷ 2 ∷ 1 ∷ 0 ∷ []) in
-    let s = script-of other_value_log (entry.New (codes "item") (8 ∷ []) ∷ later) (h.logs 0 other_value_log refl) refl in
+    let s = ran-of other_value_log (entry.New (codes "item") (8 ∷ []) ∷ later) (h.logs 0 other_value_log refl) refl in
     eight-seven (new-asks (RunsList types (drops_x_unless_null 8 ∷ [])) no_names s.after s.part (ended ++ s.sweeps) later (codes "item") (8 ∷ []) s.runs s.more_is)
 
 one-none : ◌≡◌ {A = ℕ} 1 0 → ⊥
@@ -176,7 +176,7 @@ one-none e = cc
 pub other_class-wrong : Lawful one_object other_class → ⊥
 other_class-wrong h =
     let later : List Entry = entry.PopNone 1 ∷ entry.Leave 1 0 ∷ entry.Raise 1 ∷ entry.Empty ∷ ended ++ swept (3 ∷ 2 ∷ 1 ∷ 0 ∷ []) in
-    let s = script-of other_class_log (asks ∷ entry.Enter 1 1 ∷ later) (h.logs 0 other_class_log refl) refl in
+    let s = ran-of other_class_log (asks ∷ entry.Enter 1 1 ∷ later) (h.logs 0 other_class_log refl) refl in
     one-none (new-enters (RunsList types (drops_x_unless_null 8 ∷ [])) no_names s.after s.part (ended ++ s.sweeps) later asks 1 s.runs s.more_is)
 
 no-close : (v w : List Entry) (us : Units) → entry.Out Plain 2 ∷ entry.Done (codes "main") ∷ entry.Ended ∷ entry.Close ∷ v ≡ entry.Out Plain 2 ∷ entry.Done (codes "main") ∷ entry.Ended ∷ entry.Sweep 0 us ∷ w → ⊥

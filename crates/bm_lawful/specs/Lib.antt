@@ -6,3 +6,4 @@ pub mod Lawful
 pub mod Worked
 pub mod WorkedJournal
 pub mod WrongJournals
+pub mod WorkedText

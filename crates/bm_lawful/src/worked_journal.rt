@@ -1,14 +1,18 @@
 //! Worked scenarios with their journals, and wrong journals beside them.
 
+ghost use Rattle.std.specs.Prelude.{◌≡◌};
+ghost use Rattle.bm_journal.specs.JournalText.{journal_text};
 ghost use Rattle.bm_lawful.specs.Lawful.{Lawful};
 ghost use Rattle.bm_lawful.specs.WorkedJournal.{one_object, one_object_journal, no_object, no_object_journal, three_calls, three_calls_journal};
+ghost use Rattle.bm_lawful.specs.WorkedText.{lines_text, one_object_lines};
 ghost use Rattle.bm_lawful.specs.WrongJournals.{two_processors, other_type, other_script, one_map, one_history, other_dropped, other_value, other_class, two_pages, other_marks, one_step_more, two_logs, no_log, never_dropped, object_left, dropped_twice, null_with_units, below_the_top, not_counted, other_order, one_left_out, not_swept, not_closed, empty_swept, main_first, repeated_once};
 
-/// Lawful journals: of a script that makes an object and drops it, where there is a page; of the same script where there
-/// is none, so that nothing is made, dropped or swept; and of two scripts without a page, the second of which runs first
-/// and asks twice.
+/// Lawful journals: of a script that makes an object and drops it, where there is a page, with its text; of the same script
+/// where there is none, so that nothing is made, dropped or swept; and of two scripts without a page, the second of which
+/// runs first and asks twice.
 pub fn worked_journals()
     ensures one_object { Lawful one_object one_object_journal }
+    ensures text { journal_text one_object_journal ≡ lines_text one_object_lines }
     ensures no_object { Lawful no_object no_object_journal }
     ensures three_calls { Lawful three_calls three_calls_journal }
 {}
