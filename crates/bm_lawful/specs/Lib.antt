@@ -4,3 +4,6 @@ pub mod Opened
 pub mod Grammar
 pub mod Lawful
 pub mod Worked
+pub mod WorkedJournal
+pub mod WrongJournals
+pub mod WorkedText

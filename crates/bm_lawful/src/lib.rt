@@ -2,5 +2,7 @@
 #![tactic(auto)]
 
 mod worked;
+mod worked_journal;
 
 pub use worked::{worked_classes, worked_names};
+pub use worked_journal::{worked_journals, wrong_journals};

@@ -28,10 +28,13 @@ pub fn worked_names()
 #[cfg(test)]
 mod tests {
     use super::*;
+    use crate::{worked_journals, wrong_journals};
 
     #[test]
     fn laws_take_no_step(_rt: HostRuntime) {
         worked_classes();
         worked_names();
+        worked_journals();
+        wrong_journals();
     }
 }

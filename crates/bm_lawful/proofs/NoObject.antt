@@ -1,0 +1,93 @@
+-- The journal of no object made, where there is no page, is lawful.
+use Rattle.std.proofs.Common.{ℕ, inl, inr, List, [], ◌∷◌, ◌++◌, refl, codes}
+use Rattle.std.proofs.lemmas.Bool.Decides.{eqb_tells}
+use Rattle.bm_class.specs.Sizes.{class_of_size, size_of_class}
+use Rattle.bm_class.specs.Watermarks.{low_of_size, high_of_size, batch_of_size}
+use Rattle.bm_journal.specs.declared.ids.Domain.TheVariants.{Plain}
+use Rattle.bm_journal.specs.declared.units.Units.TheVariants.{Whole}
+use Rattle.bm_journal.specs.declared.entry.Entry.{Entry}
+use Rattle.bm_journal.specs.declared.entry.Entry.TheVariants as entry
+use Rattle.bm_law.specs.State.{State, opening}
+use Rattle.bm_law.specs.Lists.{Log, AllName, Leaves, after}
+use Rattle.bm_law.specs.Null.{Nothing, NullLaw, RepliesFit}
+use Rattle.bm_law.specs.Spans.{own_entries}
+use Rattle.bm_law.specs.Worked.{Emptied}
+use Rattle.bm_law.proofs.Null.{pops-fit}
+use Rattle.bm_law.proofs.Folds.{Leaves-append}
+use Rattle.bm_lawful.specs.Held.{no_names}
+use Rattle.bm_lawful.specs.Grammar.{IsLog, ordinary}
+use Rattle.bm_lawful.specs.Lawful.{HeadingOf, Lawful, LawfulLog}
+use Rattle.bm_lawful.specs.WorkedJournal.{asks, asked, took_none, ended, no_object, no_object_log, no_object_journal}
+use Rattle.bm_lawful.proofs.Ran.{with_null, null-runs, null-owns_nothing}
+use Rattle.bm_lawful.proofs.Told.{one-log}
+
+-- the lists that the log leaves
+abbrev last : State ℕ
+last = after (opening 0) no_object_log
+
+named : AllName (opening 0) no_object_log
+named = (tt, (tt, (tt, (tt, (refl, (refl, (refl, (tt, (tt, (tt, (tt, (tt, (tt, tt)))))))))))))
+
+leaves : Leaves 0 no_object_log last
+leaves = record { named = named; lists = refl }
+
+emptied : Emptied last
+emptied = record {
+  lists = λ c. elim (eqb_tells c 0) [ inl y ↦ rw y.1 refl | inr y ↦ rw y.0 refl ];
+  hands = λ l. elim (eqb_tells l 0) [ inl y ↦ rw y.1 refl | inr y ↦ rw y.0 refl ];
+  active = λ c. elim (eqb_tells c 0) [ inl y ↦ rw y.1 refl | inr y ↦ rw y.0 refl ];
+}
+
+replies : RepliesFit Nothing (own_entries 0 no_object_log)
+replies = (tt, (tt, (tt, (refl, (tt, (tt, (tt, (tt, (refl, (tt, (tt, (tt, (tt, tt)))))))))))))
+
+null : NullLaw 0 no_object_log
+null = record {
+  pops = pops-fit (opening 0) no_object_log named;
+  replies = λ l. elim (eqb_tells 0 l) [ inl y ↦ rw (← y.1) replies | inr y ↦ rw y.0 tt ];
+}
+
+heading : HeadingOf no_object no_object_journal
+unfolding class_of_size size_of_class low_of_size high_of_size batch_of_size
+heading = record { processors = refl; pages = refl; types = refl; maps = refl; scripts = refl; classes = refl }
+
+-- the script's part of the log, and all up to its end
+abbrev part : List Entry
+part = entry.Script (codes "main") ∷ entry.In Plain 1 ∷ asks ∷ took_none ++ entry.Out Plain 2 ∷ entry.Done (codes "main") ∷ []
+
+abbrev front : Log
+front = ordinary (entry.Fill 0 (Whole []) ∷ part)
+
+is-log : IsLog no_object 0 (asked [] ++ took_none ++ ended)
+unfolding class_of_size
+is-log = record {
+  fills = entry.Fill 0 (Whole []) ∷ [];
+  scripts = part;
+  sweeps = [];
+  own_is = refl;
+  are_fills = ([], [], refl, refl);
+  are_scripts = (_, refl, (part, [], refl, record { part = asks ∷ took_none; after = with_null no_names; own_is = refl; runs = null-runs 7 8 9 no_names; owns_nothing = null-owns_nothing }, refl));
+  before = after (opening 0) front;
+  before_is = Leaves-append 0 front (ordinary (entry.Ended ∷ entry.Close ∷ [])) last leaves;
+  are_sweeps = refl;
+}
+
+log-lawful : LawfulLog no_object 0 no_object_log
+log-lawful = record {
+  own = asked [] ++ took_none ++ ended;
+  log_is = refl;
+  is_log = is-log;
+  last = last;
+  lists = leaves;
+  emptied = emptied;
+  null = null;
+}
+
+pub no_object-lawful : Lawful no_object no_object_journal
+no_object-lawful = record {
+  heading = heading;
+  count = refl;
+  logs = one-log no_object no_object_log log-lawful;
+  graphs = refl;
+  totals = refl;
+}
