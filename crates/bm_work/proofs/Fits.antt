@@ -1,10 +1,13 @@
 -- Units in hand that stay fit for Free.
-use Rattle.std.proofs.Common.{ℕ, ◌++◌, List, [], ◌∷◌, ◌∙◌}
+use Rattle.std.proofs.Common.{◌≡◌, ℕ, ◌++◌, List, [], ◌∷◌, ◌∙◌, subst}
 use Rattle.std.specs.List.{All}
 use Rattle.std.proofs.lemmas.List.Elements.{All-head, All-tail, All-cons, All-nil}
 use Rattle.bm_cache.specs.Tokens.{Token}
 use Rattle.bm_cache.specs.Tests.{Tests, Same}
+use Rattle.bm_cache.specs.Shown.{shown}
+use Rattle.bm_cache.specs.declared.caches.Caches.{Caches}
 use Rattle.bm_work.specs.Fit.{Fit}
+use Rattle.bm_work.proofs.Steps.{same-join}
 
 -- the two parts of a list
 pub all-front : (P : Token → Type 0) (us vs : List Token) → All P (us ++ vs) → All P us
@@ -30,3 +33,10 @@ fit-last c a b u us h f = fit-same c a b u (All-head (Same a b) u [] (all-back (
 pub fit-all : (c : ℕ) (a b : Tests) (us : List Token) → All (Same a b) us → All (Fit a c) us → All (Fit b c) us
 fit-all c a b [] h f = All-nil (Fit b c)
 fit-all c a b (u ∷ us) h f = All-cons (Fit b c) u us (fit-same c a b u (All-head (Same a b) u us h) (All-head (Fit a c) u us f)) (fit-all c a b us (All-tail (Same a b) u us h) (All-tail (Fit a c) u us f))
+
+-- the tests of what was in hand first, over one more stretch, while more came in behind
+pub lasts-on : {H R : Type 0} (T : H → Tests) (D : H → Caches R) (a b d : H) (l k : ℕ) (us : List Token) → k ≡ l → ((shown (D b)).sides l).hand ≡ ((shown (D a)).sides l).hand ++ us → All (Same (T a) (T b)) ((shown (D a)).sides l).hand → All (Same (T b) (T d)) ((shown (D b)).sides k).hand → All (Same (T a) (T d)) ((shown (D a)).sides l).hand
+lasts-on T D a b d l k us e q x y =
+    let L : ℕ → Type 0 = λ n. All (Same (T b) (T d)) ((shown (D b)).sides n).hand in
+    let M : List Token → Type 0 = λ ws. All (Same (T b) (T d)) ws in
+    same-join (T a) (T b) (T d) ((shown (D a)).sides l).hand x (all-front (Same (T b) (T d)) ((shown (D a)).sides l).hand us (subst M q (subst L e y)))

@@ -1,4 +1,6 @@
 pub mod Fits
+pub mod FromLists
 pub mod Grown
 pub mod Spans
 pub mod Steps
+pub mod Takes

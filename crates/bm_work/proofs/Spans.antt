@@ -1,5 +1,5 @@
 -- Stretches of deferred work: of plain steps alone, of one that moves a unit, and how they join.
-use Rattle.std.proofs.Common.{◌≡◌, ◌<◌, ℕ, ◌+◌, ◌++◌, true, List, [], ◌∷◌, drop, Option, refl, sym, ◌∙◌, ap, subst, arith, inl, inr, eq-eqb}
+use Rattle.std.proofs.Common.{◌≡◌, ◌<◌, ℕ, ◌+◌, ◌-◌, ◌++◌, true, List, [], ◌∷◌, drop, length, Option, refl, sym, ◌∙◌, ap, subst, arith, inl, inr, eq-eqb}
 use Rattle.std.specs.List.{All}
 use Rattle.std.proofs.lemmas.List.Elements.{All-drop}
 use Rattle.std.proofs.lemmas.Bool.Decides.{eqb_tells}
@@ -19,7 +19,8 @@ use Rattle.bm_cache.specs.Shown.{shown, Took}
 use Rattle.bm_cache.specs.Span.{Came, Span}
 use Rattle.bm_cache.specs.declared.caches.Caches.{Caches}
 use Rattle.bm_cache.proofs.Moments.{took-at}
-use Rattle.bm_cache.proofs.Stretch.{walk-still, walk-join, lasting-below}
+use Rattle.bm_cache.proofs.Stretch.{walk-still, walk-join, lasting-below, lasting-join}
+use Rattle.bm_work.specs.FromLists.{less}
 use Rattle.bm_work.specs.WorkSpan.{WorkSpan}
 
 -- active numbers over a whole stretch
@@ -178,3 +179,19 @@ module _ (l c : ℕ) (s : State Token) where
 
   pub side-second : (n : ℕ) (u : Token) (rest : List Token) → (s.sides l).hand ≡ [] → (s.rows c).deferred.second ≡ u ∷ rest → (effect l (entry.Second c n) [] s).sides l ≡ record { hand = u ∷ []; mark = mark.Quiet }
   side-second n u rest e h = rw (eq-eqb l l refl, e, h) refl
+
+-- handlers came twice
+pub came-join : {R : Type 0} (log : R → Option Log) (l : ℕ) (a b d : Tests) (x y z : Caches R) → Came log l a b x y → Came log l b d y z → Came log l a d x z
+came-join log l a b d x y z s t = record {
+  kept = between.Kept-join l (shown x) (shown y) (shown z) s.kept t.kept;
+  above = spans.Above-join l (log x.recorder) (log y.recorder) (log z.recorder) s.above t.above;
+  lasting = lasting-join l (shown x) (shown y) a b d s.kept.sides (λ c. (s.kept.rows c).deferred) s.lasting t.lasting;
+  processor = t.processor ∙ s.processor;
+}
+
+-- the top of one of the two lists is gone
+pub less-of-second : (d e : Deferred Token) (u : Token) (rest : List Token) → d.second ≡ u ∷ rest → e ≡ record d { second = rest } → Less d e
+less-of-second d e u rest h q = record { first = ap (λ x. x.first) q; gone = 0; ready = ap (λ x. x.ready) q; gone_second = 1; second = ap (λ x. x.second) q ∙ ap (λ (us : List Token). drop 1 us) (sym h) }
+
+pub less-of : (n : ℕ) (d e : Deferred Token) → e ≡ less n d → Less d e
+less-of n d e q = record { first = ap (λ x. x.first) q; gone = n; ready = ap (λ x. x.ready) q; gone_second = n - length d.ready; second = ap (λ x. x.second) q }

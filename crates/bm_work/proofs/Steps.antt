@@ -4,7 +4,7 @@ use Rattle.std.specs.List.{All}
 use Rattle.std.proofs.lemmas.List.Elements.{All-head, All-tail}
 use Rattle.bm_journal.specs.declared.entry.Entry.TheVariants as entry
 use Rattle.bm_law.specs.declared.mark.Mark.TheVariants as mark
-use Rattle.bm_law.specs.State.{Row, State, seven_lists}
+use Rattle.bm_law.specs.State.{Row, Side, State, seven_lists}
 use Rattle.std.proofs.lemmas.List.{length-append}
 use Rattle.bm_law.specs.Effect.{effect}
 use Rattle.bm_cache.specs.Tokens.{Token}
@@ -55,3 +55,7 @@ hand-room s c l u rest f h =
     let more : List Token = r.extra ++ (r.delayed ++ (r.extra_delayed ++ (r.deferred.first ++ (r.deferred.ready ++ r.deferred.second)))) in
     let n : length (seven_lists r) ≡ length r.free + length more = length-append r.free more in
     omega (arith, h, n, ap (λ (us : List Token). length us) f)
+
+-- a hand by its parts
+pub side-of : (s : Side Token) (h : List Token) → s.hand ≡ h → s.mark ≡ mark.Quiet → s ≡ record { hand = h; mark = mark.Quiet }
+side-of s h p q = ap (λ (z : List Token). let r : Side Token = record { hand = z; mark = s.mark } in r) p ∙ ap (λ m. let r : Side Token = record { hand = h; mark = m } in r) q

@@ -4,8 +4,14 @@
 
 mod add;
 mod bring;
+mod drain;
+mod law;
+mod refill;
 mod take;
 
 pub use add::add_unit;
 pub use bring::{bring_ready, bring_second};
+pub use drain::unload;
+pub use law::whole_refill;
+pub use refill::refill_from_lists;
 pub use take::take_one;
