@@ -8,3 +8,4 @@ pub mod ThreeCalls
 pub mod Wrong
 pub mod WrongScripts
 pub mod WrongSweep
+pub mod Opening

@@ -1,5 +1,5 @@
 -- The journal of no object made, where there is no page, is lawful.
-use Rattle.std.proofs.Common.{ℕ, inl, inr, List, [], ◌∷◌, ◌++◌, refl, codes}
+use Rattle.std.proofs.Common.{ℕ, inl, inr, List, [], ◌∷◌, ◌++◌, refl, sym, ap, codes}
 use Rattle.std.proofs.lemmas.Bool.Decides.{eqb_tells}
 use Rattle.bm_class.specs.Sizes.{class_of_size, size_of_class}
 use Rattle.bm_class.specs.Watermarks.{low_of_size, high_of_size, batch_of_size}
@@ -14,6 +14,7 @@ use Rattle.bm_law.specs.Spans.{own_entries}
 use Rattle.bm_law.specs.Worked.{Emptied}
 use Rattle.bm_law.proofs.Null.{pops-fit}
 use Rattle.bm_law.proofs.Folds.{Leaves-append}
+use Rattle.bm_lawful.proofs.Opening.{no-page}
 use Rattle.bm_lawful.specs.Held.{no_names}
 use Rattle.bm_lawful.specs.Grammar.{IsLog, ordinary}
 use Rattle.bm_lawful.specs.Lawful.{HeadingOf, Lawful, LawfulLog}
@@ -65,7 +66,7 @@ is-log = record {
   scripts = part;
   sweeps = [];
   own_is = refl;
-  are_fills = ([], [], refl, refl);
+  are_fills = ([], ap (λ units. entry.Fill 0 (Whole units) ∷ []) (sym no-page), refl);
   are_scripts = (_, refl, (part, [], refl, record { part = asks ∷ took_none; after = with_null no_names; own_is = refl; runs = null-runs 7 8 9 no_names; owns_nothing = null-owns_nothing }, refl));
   before = after (opening 0) front;
   before_is = Leaves-append 0 front (ordinary (entry.Ended ∷ entry.Close ∷ [])) last leaves;

@@ -1,5 +1,5 @@
 -- The journal of one object made and dropped is lawful.
-use Rattle.std.proofs.Common.{ℕ, inl, inr, List, [], ◌∷◌, ◌++◌, refl, codes}
+use Rattle.std.proofs.Common.{ℕ, inl, inr, List, [], ◌∷◌, ◌++◌, refl, sym, ap, codes}
 use Rattle.std.proofs.lemmas.Bool.Decides.{eqb_tells}
 use Rattle.bm_class.specs.Sizes.{class_of_size, size_of_class}
 use Rattle.bm_class.specs.Watermarks.{low_of_size, high_of_size, batch_of_size}
@@ -15,6 +15,7 @@ use Rattle.bm_law.specs.SweepPhrases.{SweepPhrase}
 use Rattle.bm_law.specs.Worked.{Emptied}
 use Rattle.bm_law.proofs.Null.{pops-fit}
 use Rattle.bm_law.proofs.Folds.{Leaves-append}
+use Rattle.bm_lawful.proofs.Opening.{first-four}
 use Rattle.bm_lawful.specs.Grammar.{IsLog, ordinary}
 use Rattle.bm_lawful.specs.Lawful.{HeadingOf, Lawful, LawfulLog}
 use Rattle.bm_lawful.specs.WorkedJournal.{asks, one_page, asked, took, gave, ended, swept, sweep_period, one_object, one_object_log, one_object_journal}
@@ -76,17 +77,17 @@ abbrev front : Log
 front = ordinary (entry.Fill 0 (Whole one_page) ∷ part)
 
 is-log : IsLog one_object 0 (asked one_page ++ took 3 ++ gave 3 4 ++ ended ++ swept (3 ∷ 2 ∷ 1 ∷ 0 ∷ []))
-unfolding class_of_size
+unfolding class_of_size sweep
 is-log = record {
   fills = entry.Fill 0 (Whole one_page) ∷ [];
   scripts = part;
   sweeps = swept (3 ∷ 2 ∷ 1 ∷ 0 ∷ []);
   own_is = refl;
-  are_fills = (one_page, [], refl, refl);
+  are_fills = ([], ap (λ units. entry.Fill 0 (Whole units) ∷ []) (sym first-four), refl);
   are_scripts = (_, refl, (part, [], refl, record { part = asks ∷ took 3 ++ gave 3 4; after = dropped; own_is = refl; runs = object-runs 7 8 9; owns_nothing = dropped-owns_nothing }, refl));
   before = after (opening 0) front;
   before_is = Leaves-append 0 front (ordinary (entry.Ended ∷ entry.Close ∷ swept (3 ∷ 2 ∷ 1 ∷ 0 ∷ []))) last leaves;
-  are_sweeps = (swept (3 ∷ 2 ∷ 1 ∷ 0 ∷ []), [], refl, sweep, refl);
+  are_sweeps = (swept (3 ∷ 2 ∷ 1 ∷ 0 ∷ []), [], refl, record { phrase = sweep; taken = refl; given = refl }, refl);
 }
 
 log-lawful : LawfulLog one_object 0 one_object_log

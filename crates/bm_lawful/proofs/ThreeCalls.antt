@@ -1,5 +1,5 @@
 -- The journal of two scripts, of which one asks twice, is lawful.
-use Rattle.std.proofs.Common.{ℕ, inl, inr, [], ◌∷◌, ◌++◌, refl}
+use Rattle.std.proofs.Common.{ℕ, inl, inr, [], ◌∷◌, ◌++◌, refl, sym, ap}
 use Rattle.std.proofs.lemmas.Bool.Decides.{eqb_tells}
 use Rattle.bm_class.specs.Sizes.{class_of_size, size_of_class}
 use Rattle.bm_class.specs.Watermarks.{low_of_size, high_of_size, batch_of_size}
@@ -12,6 +12,7 @@ use Rattle.bm_law.specs.Spans.{own_entries}
 use Rattle.bm_law.specs.Worked.{Emptied}
 use Rattle.bm_law.proofs.Null.{pops-fit}
 use Rattle.bm_law.proofs.Folds.{Leaves-append}
+use Rattle.bm_lawful.proofs.Opening.{no-page}
 use Rattle.bm_lawful.specs.Held.{no_names}
 use Rattle.bm_lawful.specs.Grammar.{IsLog, ordinary}
 use Rattle.bm_lawful.specs.Lawful.{HeadingOf, Lawful, LawfulLog}
@@ -60,7 +61,7 @@ is-log = record {
   scripts = twice_part ++ main_part;
   sweeps = [];
   own_is = refl;
-  are_fills = ([], [], refl, refl);
+  are_fills = ([], ap (λ units. entry.Fill 0 (Whole units) ∷ []) (sym no-page), refl);
   are_scripts = (
     _,
     refl,

@@ -13,6 +13,8 @@ use Rattle.bm_law.specs.Lists.{Log, Leaves, lists_of}
 use Rattle.bm_law.proofs.Agree.{lists-leaves}
 use Rattle.bm_lawful.specs.Held.{Names, no_names, OwnsNothing}
 use Rattle.bm_lawful.specs.Runs.{RunsBlock}
+use Rattle.bm_page.specs.Stock.{fetched}
+use Rattle.bm_lawful.specs.Fills.{fresh_stock, numbers_of, prefill}
 use Rattle.bm_lawful.specs.Grammar.{IsLog, IsScript, Swept, ordinary}
 use Rattle.bm_lawful.specs.Lawful.{LawfulLog}
 use Rattle.bm_lawful.specs.WorkedJournal.{types, scenario_of}
@@ -54,24 +56,25 @@ same-script e = cc
 made-of : (pages : ℕ) (body : Block) (own : List Entry) → IsLog (scenario_of pages body) 0 own → IsMade body own
 unfolding class_of_size
 made-of pages body own h =
-    let f : (units : List ℕ) × (rest : List Entry) × (h.fills ≡ entry.Fill 0 (Whole units) ∷ rest) × (rest ≡ []) = h.are_fills in
+    let opened : List ℕ = numbers_of (fetched 0 (prefill 0) (fresh_stock pages)).units in
+    let f : (rest : List Entry) × (h.fills ≡ entry.Fill 0 (Whole opened) ∷ rest) × (rest ≡ []) = h.are_fills in
     let r = h.are_scripts in
     let P : Script → Type 0 = λ s. IsScript (scenario_of pages body) s 1 r.2.0 in
     let k = subst P (sym (same-script r.1)) r.2.3 in
-    let front : h.fills ≡ entry.Fill 0 (Whole f.0) ∷ [] = f.2 ∙ ap (λ v. entry.Fill 0 (Whole f.0) ∷ v) f.3 in
+    let front : h.fills ≡ entry.Fill 0 (Whole opened) ∷ [] = f.1 ∙ ap (λ v. entry.Fill 0 (Whole opened) ∷ v) f.2 in
     let ran : List Entry = entry.Script (codes "main") ∷ entry.In Plain 1 ∷ k.part ++ entry.Out Plain 2 ∷ entry.Done (codes "main") ∷ [] in
     let script : h.scripts ≡ ran ++ [] = r.2.2 ∙ ap (λ v. r.2.0 ++ v) r.2.4 ∙ ap (λ v. v ++ []) k.own_is in
     record {
-      units = f.0;
+      units = opened;
       part = k.part;
       after = k.after;
       sweeps = h.sweeps;
-      own_is = h.own_is ∙ ap (λ v. v ++ (h.scripts ++ (entry.Ended ∷ entry.Close ∷ h.sweeps))) front ∙ ap (λ v. (entry.Fill 0 (Whole f.0) ∷ []) ++ (v ++ (entry.Ended ∷ entry.Close ∷ h.sweeps))) script
-          ∙ joined (entry.Fill 0 (Whole f.0)) (entry.Script (codes "main")) (entry.In Plain 1) (entry.Out Plain 2) (entry.Done (codes "main")) entry.Ended entry.Close k.part h.sweeps;
+      own_is = h.own_is ∙ ap (λ v. v ++ (h.scripts ++ (entry.Ended ∷ entry.Close ∷ h.sweeps))) front ∙ ap (λ v. (entry.Fill 0 (Whole opened) ∷ []) ++ (v ++ (entry.Ended ∷ entry.Close ∷ h.sweeps))) script
+          ∙ joined (entry.Fill 0 (Whole opened)) (entry.Script (codes "main")) (entry.In Plain 1) (entry.Out Plain 2) (entry.Done (codes "main")) entry.Ended entry.Close k.part h.sweeps;
       runs = k.runs;
       owns_nothing = k.owns_nothing;
       before = h.before;
-      before_is = subst (λ v. Leaves 0 (ordinary v) h.before) (ap (λ v. v ++ h.scripts) front ∙ ap (λ v. entry.Fill 0 (Whole f.0) ∷ v) (script ∙ append-nil ran)) h.before_is;
+      before_is = subst (λ v. Leaves 0 (ordinary v) h.before) (ap (λ v. v ++ h.scripts) front ∙ ap (λ v. entry.Fill 0 (Whole opened) ∷ v) (script ∙ append-nil ran)) h.before_is;
       are_sweeps = h.are_sweeps;
     }
 

@@ -7,6 +7,8 @@ use Rattle.bm_journal.specs.declared.entry.Entry.{Entry}
 use Rattle.bm_journal.specs.declared.entry.Entry.TheVariants as entry
 use Rattle.bm_lang.specs.declared.scenario.Action.{Repeat}
 use Rattle.bm_lang.specs.declared.scenario.Script.{Script}
+use Rattle.bm_page.specs.Stock.{fetched}
+use Rattle.bm_lawful.specs.Fills.{fresh_stock, numbers_of, prefill}
 use Rattle.bm_lawful.specs.Held.{Names, no_names}
 use Rattle.bm_lawful.specs.Runs.{Run, Done, Then, RunsBlock}
 use Rattle.bm_lawful.specs.Grammar.{IsLog, IsScript}
@@ -29,20 +31,21 @@ record AreMade (own : List Entry) : Type 0 where
 made-of : (own : List Entry) → IsLog three_calls 0 own → AreMade own
 unfolding class_of_size
 made-of own h =
-    let f : (units : List ℕ) × (rest : List Entry) × (h.fills ≡ entry.Fill 0 (Whole units) ∷ rest) × (rest ≡ []) = h.are_fills in
+    let opened : List ℕ = numbers_of (fetched 0 (prefill 0) (fresh_stock 0)).units in
+    let f : (rest : List Entry) × (h.fills ≡ entry.Fill 0 (Whole opened) ∷ rest) × (rest ≡ []) = h.are_fills in
     let r = h.are_scripts in
     let q = r.2.4 in
     let rest : List Entry = entry.Ended ∷ entry.Close ∷ h.sweeps in
     let P : Script → Type 0 = λ s. IsScript three_calls s 1 r.2.0 in
     let Q : Script → Type 0 = λ s. IsScript three_calls s 3 q.2.0 in
-    let front : h.fills ≡ entry.Fill 0 (Whole f.0) ∷ [] = f.2 ∙ ap (λ v. entry.Fill 0 (Whole f.0) ∷ v) f.3 in
+    let front : h.fills ≡ entry.Fill 0 (Whole opened) ∷ [] = f.1 ∙ ap (λ v. entry.Fill 0 (Whole opened) ∷ v) f.2 in
     let scripts : h.scripts ≡ r.2.0 ++ (q.2.0 ++ []) = r.2.2 ∙ ap (λ v. r.2.0 ++ v) (q.2.2 ∙ ap (λ v. q.2.0 ++ v) q.2.4) in
     record {
-      units = f.0;
+      units = opened;
       one = r.2.0;
       two = q.2.0 ++ [];
       rest = rest;
-      own_is = h.own_is ∙ ap (λ v. v ++ (h.scripts ++ rest)) front ∙ ap (λ v. (entry.Fill 0 (Whole f.0) ∷ []) ++ (v ++ rest)) scripts;
+      own_is = h.own_is ∙ ap (λ v. v ++ (h.scripts ++ rest)) front ∙ ap (λ v. (entry.Fill 0 (Whole opened) ∷ []) ++ (v ++ rest)) scripts;
       first = subst P (sym (same-script r.1)) r.2.3;
       second = rw (append-nil q.2.0) (subst Q (sym (same-script q.1)) q.2.3);
     }

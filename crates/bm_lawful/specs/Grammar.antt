@@ -13,17 +13,13 @@ use Rattle.bm_law.specs.Alone.{at_level}
 use Rattle.bm_law.specs.Lists.{Log, Leaves}
 use Rattle.bm_law.specs.SweepPhrases.{SweepPhrase}
 use Rattle.bm_lawful.specs.Held.{Names, no_names, OwnsNothing}
+use Rattle.bm_lawful.specs.Fills.{AreFills, fresh_stock}
 use Rattle.bm_lawful.specs.Opened.{opened_classes}
 use Rattle.bm_lawful.specs.Runs.{RunsBlock}
 
 -- entries of ordinary code, which is level 0
 abbrev pub ordinary : List Entry → Log
 ordinary own = at_level 0 own
-
--- the opening: a cache of each class is filled
-abbrev pub AreFills : List ℕ → List Entry → Type 0
-AreFills [] own = own ≡ []
-AreFills (c ∷ cs) own = (units : List ℕ) × (rest : List Entry) × (own ≡ entry.Fill c (Whole units) ∷ rest) × AreFills cs rest
 
 -- A script in its plain section, whose word is w inside: its block runs from names that hold nothing to names that
 -- own nothing.
@@ -45,10 +41,16 @@ AreScripts s (r ∷ rs) w own =
 abbrev pub lines_of : ℕ → List RunLine → List RunLine
 lines_of p runs = filter (λ r. nat_eq r.processor p) runs
 
+-- a sweep that takes exactly these units, and gives exactly these back to the stock
+pub record SweepOf (c : ℕ) (units : List ℕ) (own : List Entry) : Type 0 where
+  pub phrase : SweepPhrase c own
+  pub taken : phrase.swept ≡ units
+  pub given : phrase.returned ≡ units
+
 -- a sweep where these units stand in the class's lists, and what follows
 abbrev pub Swept : ℕ → List ℕ → (List Entry → Type 0) → List Entry → Type 0
 Swept c [] Rest own = Rest own
-Swept c (u ∷ us) Rest own = (one two : List Entry) × (own ≡ one ++ two) × SweepPhrase c one × Rest two
+Swept c (u ∷ us) Rest own = (one two : List Entry) × (own ≡ one ++ two) × SweepOf c (u ∷ us) one × Rest two
 
 -- the end of a processor whose lists are these: a sweep of each class that holds a unit
 abbrev pub AreSweeps : State ℕ → List ℕ → List Entry → Type 0
@@ -60,13 +62,14 @@ abbrev pub close_of : ℕ → List Entry
 close_of zero = entry.Close ∷ []
 close_of (suc p) = []
 
--- The log of processor p: the opening, its scripts, and the closing, which sweeps what stands in the lists by then.
+-- The log of processor p, while there is one: the opening from a fresh stock, its scripts, and the closing, which sweeps what
+-- stands in the lists by then.
 pub record IsLog (s : Scenario) (p : ℕ) (own : List Entry) : Type 0 where
   pub fills : List Entry
   pub scripts : List Entry
   pub sweeps : List Entry
   pub own_is : own ≡ fills ++ (scripts ++ (entry.Ended ∷ close_of p ++ sweeps))
-  pub are_fills : AreFills (opened_classes s.types) fills
+  pub are_fills : AreFills (opened_classes s.types) (fresh_stock s.pages) fills
   pub are_scripts : AreScripts s (lines_of p s.runs) 0 scripts
   pub before : State ℕ
   pub before_is : Leaves p (ordinary (fills ++ scripts)) before

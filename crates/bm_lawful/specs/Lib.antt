@@ -1,6 +1,7 @@
 pub mod Held
 pub mod Runs
 pub mod Opened
+pub mod Fills
 pub mod Grammar
 pub mod Lawful
 pub mod Worked

@@ -12,7 +12,8 @@ use Rattle.bm_page.proofs.FetchLemmas.{fetched-zero, fetched-none, fetched-next}
 use Rattle.bm_page.proofs.StockLemmas.{out_inside}
 use Rattle.bm_cache.specs.Each.{Sits}
 use Rattle.bm_cache.specs.Opening.{FillsSit}
-use Rattle.bm_run.specs.Filling.{prefill, Filling, behind, filling, units_in, IsUnborn}
+use Rattle.bm_lawful.specs.Fills.{prefill}
+use Rattle.bm_run.specs.Filling.{Filling, behind, filling, units_in, IsUnborn}
 
 pub filling-step : (fs : List (ℕ × List UnitState)) (c : ℕ) (cs : List ℕ) (pool : Stock) → behind fs (filling (c ∷ cs) pool) ≡ behind (fs ++ (c, (fetched c (prefill c) pool).units) ∷ []) (filling cs (fetched c (prefill c) pool).pool)
 filling-step fs c cs pool =

@@ -1,5 +1,5 @@
 -- One class is swept.
-use Rattle.std.proofs.Common.{◌≡◌, ◌≢◌, ◌≤◌, ◌<◌, ℕ, ◌+◌, true, List, [], ◌∷◌, ◌++◌, map, reverse, refl, sym, ap, subst, ◌∙◌, Option, Some, None, IsTrue, IsSome, arith, inl, inr, eqb, eq-eqb, ne_eqb, is_some}
+use Rattle.std.proofs.Common.{◌≡◌, ◌≢◌, ◌≤◌, ◌<◌, ℕ, ◌+◌, true, List, [], ◌∷◌, ◌++◌, append-nil, map, reverse, refl, sym, ap, subst, ◌∙◌, Option, Some, None, IsTrue, IsSome, arith, inl, inr, eqb, eq-eqb, ne_eqb, is_some}
 use Rattle.std.proofs.lemmas.Bool.Decides.{Decides-eqb}
 use Rattle.std.proofs.Math.Path.{fun_ext}
 use Rattle.std.specs.List.{All}
@@ -50,16 +50,17 @@ swept-unstamped c us xs s = rw (eq-eqb c c refl) refl
 pub stamped-progress : (c x : ℕ) (s : State Token) → IsTrue (is_some ((effect 0 (entry.Stamp c Tracing x) [] s).rows c).deferred.tracing)
 stamped-progress c x s = rw (eq-eqb c c refl) refl
 
-pub gathered : (class number : ℕ) (p : Period) (xs : List ℕ) (c0 c1 c2 c3 c4 c5 : Caches Recorded) → p.domain ≡ Tracing →
+pub gathered : (class number : ℕ) (p : Period) (xs : List ℕ) (c0 c1 c2 c3 c4 c5 : Caches Recorded) → xs ≡ map number_of (seven_lists ((shown c0).rows class)) → p.domain ≡ Tracing →
     Gained (entry.Sweep class (Whole xs) ∷ []) c0.recorder.told c1.recorder.told → Gained (entry.Stamp class Tracing (number + 2) ∷ []) c1.recorder.told c2.recorder.told →
     Gained (entry.Begin Tracing (number + 1) ∷ []) c2.recorder.told c3.recorder.told → Gained (entry.Finish p ∷ []) c3.recorder.told c4.recorder.told → Gained (entry.Pass class Tracing (number + 2) ∷ []) c4.recorder.told c5.recorder.told →
     shown c1 ≡ effect 0 (entry.Sweep class (Whole xs)) [] (shown c0) → shown c2 ≡ effect 0 (entry.Stamp class Tracing (number + 2)) [] (shown c1) → shown c3 ≡ shown c2 → shown c4 ≡ shown c3 → shown c5 ≡ shown c4 →
     c1.processor ≡ c0.processor → c2.processor ≡ c1.processor → c3.processor ≡ c2.processor → c4.processor ≡ c3.processor → c5.processor ≡ c4.processor →
     Gathered class number c0 c5
-gathered class number p xs c0 c1 c2 c3 c4 c5 d g1 g2 g3 g4 g5 s1 s2 s3 s4 s5 p1 p2 p3 p4 p5 = record {
+gathered class number p xs c0 c1 c2 c3 c4 c5 q d g1 g2 g3 g4 g5 s1 s2 s3 s4 s5 p1 p2 p3 p4 p5 = record {
   period = p;
   tracing = d;
   swept = xs;
+  all = q;
   gained = gained-join (entry.Sweep class (Whole xs) ∷ []) (entry.Stamp class Tracing (number + 2) ∷ entry.Begin Tracing (number + 1) ∷ entry.Finish p ∷ entry.Pass class Tracing (number + 2) ∷ []) c0.recorder.told c1.recorder.told c5.recorder.told g1
       (gained-join (entry.Stamp class Tracing (number + 2) ∷ []) (entry.Begin Tracing (number + 1) ∷ entry.Finish p ∷ entry.Pass class Tracing (number + 2) ∷ []) c1.recorder.told c2.recorder.told c5.recorder.told g2
       (gained-join (entry.Begin Tracing (number + 1) ∷ []) (entry.Finish p ∷ entry.Pass class Tracing (number + 2) ∷ []) c2.recorder.told c3.recorder.told c5.recorder.told g3
@@ -143,6 +144,10 @@ swept-phrase class number p swept returned d = record {
 swept-row : (c x : ℕ) (xs ns : List ℕ) (s : State Token) → seven_lists ((effect 0 (entry.Return c (Whole ns)) [] (effect 0 (entry.Stamp c Tracing x) [] (effect 0 (entry.Sweep c (Whole xs)) [] s))).rows c) ≡ []
 swept-row c x xs ns s = rw (eq-eqb c c refl) refl
 
+-- a sweep makes all lists of a class its tracing batch
+swept-second : (c x : ℕ) (xs : List ℕ) (s : State Token) → map number_of (((effect 0 (entry.Stamp c Tracing x) [] (effect 0 (entry.Sweep c (Whole xs)) [] s)).rows c).deferred.second) ≡ map number_of (seven_lists (s.rows c))
+swept-second c x xs s = rw (eq-eqb c c refl) (ap (map number_of) (append-nil (seven_lists (s.rows c))))
+
 swept-other : (c x k : ℕ) (xs ns : List ℕ) (s : State Token) → k ≢ c → ((effect 0 (entry.Return c (Whole ns)) [] (effect 0 (entry.Stamp c Tracing x) [] (effect 0 (entry.Sweep c (Whole xs)) [] s))).rows k) ≡ s.rows k
 swept-other c x k xs ns s ne = rw (ne_eqb k c ne) refl
 
@@ -159,13 +164,18 @@ pub swept-lists : (class number : ℕ) (c0 c5 c6 : Caches Recorded) → (g : Gat
 swept-lists class number c0 c5 c6 g b = b.lists ∙ ap (effect 0 (entry.Return class (Whole b.returned)) []) g.lists
 
 pub swept-class : (class number : ℕ) (c0 c5 c6 : Caches Recorded) → Gathered class number c0 c5 → SentBack class c5 c6 → SweptClass class c0 c6
+unfolding swept-phrase
 swept-class class number c0 c5 c6 g b =
     let lists = swept-lists class number c0 c5 c6 g b in
     let front = entry.Sweep class (Whole g.swept) ∷ entry.Stamp class Tracing (number + 2) ∷ entry.Begin Tracing (number + 1) ∷ entry.Finish g.period ∷ entry.Pass class Tracing (number + 2) ∷ [] in
     record {
       own = front ++ entry.Return class (Whole b.returned) ∷ [];
       gained = gained-join front (entry.Return class (Whole b.returned) ∷ []) c0.recorder.told c5.recorder.told c6.recorder.told g.gained b.gained;
-      phrase = swept-phrase class number g.period g.swept b.returned g.tracing;
+      sweep = record {
+        phrase = swept-phrase class number g.period g.swept b.returned g.tracing;
+        taken = g.all;
+        given = b.all ∙ ap (λ (x : State Token). map number_of (x.rows class).deferred.second) g.lists ∙ swept-second class (number + 2) g.swept (shown c0);
+      };
       empty = ap (λ (x : State Token). seven_lists (x.rows class)) lists ∙ swept-row class (number + 2) g.swept b.returned (shown c0);
       others = λ k ne. ap (λ (x : State Token). x.rows k) lists ∙ swept-other class (number + 2) k g.swept b.returned (shown c0) ne;
       processor = b.processor ∙ g.processor;

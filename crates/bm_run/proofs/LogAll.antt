@@ -12,7 +12,9 @@ use Rattle.bm_lang.specs.declared.scenario.Script.{Script}
 use Rattle.bm_law.specs.SweepPhrases.{MayFinish, MayBegin, SweepPhrase}
 use Rattle.bm_law.specs.State.{State, seven_lists}
 use Rattle.bm_lawful.specs.Held.{no_names}
-use Rattle.bm_lawful.specs.Grammar.{AreFills, IsScript, AreScripts, Swept, AreSweeps, close_of}
+use Rattle.bm_page.specs.Stock.{Stock, fetched}
+use Rattle.bm_lawful.specs.Fills.{AreFills, numbers_of, prefill}
+use Rattle.bm_lawful.specs.Grammar.{IsScript, AreScripts, Swept, AreSweeps, close_of}
 use Rattle.bm_run.proofs.RunsAll.{Closed, block-all}
 
 -- a property of stretches that all parts of such a log have, where the classes of the sweeps and fills are of these
@@ -37,9 +39,11 @@ abbrev pub Each_of : (ℕ → Type 0) → List ℕ → Type 0
 Each_of Of [] = Unit {0}
 Each_of Of (c ∷ cs) = Of c × Each_of Of cs
 
-pub fills-all : (s : Scenario) (Of : ℕ → Type 0) (P : List Entry → Type 0) (k : Covers s Of P) (cs : List ℕ) (own : List Entry) → Each_of Of cs → AreFills cs own → P own
-fills-all s Of P k [] own o e = subst P (sym e) k.closed.none
-fills-all s Of P k (c ∷ cs) own o f = subst P (sym f.2) (k.closed.join (entry.Fill c (Whole f.0) ∷ []) f.1 (k.fill c f.0 o.0) (fills-all s Of P k cs f.1 o.1 f.3))
+pub fills-all : (s : Scenario) (Of : ℕ → Type 0) (P : List Entry → Type 0) (k : Covers s Of P) (cs : List ℕ) (pool : Stock) (own : List Entry) → Each_of Of cs → AreFills cs pool own → P own
+fills-all s Of P k [] pool own o e = subst P (sym e) k.closed.none
+fills-all s Of P k (c ∷ cs) pool own o f =
+    let units = numbers_of (fetched c (prefill c) pool).units in
+    subst P (sym f.1) (k.closed.join (entry.Fill c (Whole units) ∷ []) f.0 (k.fill c units o.0) (fills-all s Of P k cs (fetched c (prefill c) pool).pool f.0 o.1 f.2))
 
 script-all : (s : Scenario) (Of : ℕ → Type 0) (P : List Entry → Type 0) (k : Covers s Of P) (x : Script) (w : ℕ) (own : List Entry) → IsScript s x w own → P own
 script-all s Of P k x w own i =
@@ -70,7 +74,7 @@ sweep-all s Of P k c own o p =
 
 swept-all : (s : Scenario) (Of : ℕ → Type 0) (P : List Entry → Type 0) (k : Covers s Of P) (c : ℕ) (us : List ℕ) (Rest : List Entry → Type 0) (own : List Entry) → Of c → ((o : List Entry) → Rest o → P o) → Swept c us Rest own → P own
 swept-all s Of P k c [] Rest own o f x = f own x
-swept-all s Of P k c (u ∷ us) Rest own o f x = subst P (sym x.2) (k.closed.join x.0 x.1 (sweep-all s Of P k c x.0 o x.3) (f x.1 x.4))
+swept-all s Of P k c (u ∷ us) Rest own o f x = subst P (sym x.2) (k.closed.join x.0 x.1 (sweep-all s Of P k c x.0 o x.3.phrase) (f x.1 x.4))
 
 pub sweeps-all : (s : Scenario) (Of : ℕ → Type 0) (P : List Entry → Type 0) (k : Covers s Of P) (t : State ℕ) (cs : List ℕ) (own : List Entry) → Each_of Of cs → AreSweeps t cs own → P own
 sweeps-all s Of P k t [] own o e = subst P (sym e) k.closed.none

@@ -20,10 +20,11 @@ use Rattle.bm_cache.specs.Shown.{shown}
 use Rattle.bm_cache.specs.Tokens.{Token, number_of}
 use Rattle.bm_cache.specs.declared.caches.Caches.{Caches}
 use Rattle.bm_lawful.specs.Opened.{uses_class, opened_classes}
-use Rattle.bm_lawful.specs.Grammar.{ordinary, AreFills, AreSweeps, close_of, lines_of}
+use Rattle.bm_lawful.specs.Fills.{AreFills, fresh_stock, prefill}
+use Rattle.bm_lawful.specs.Grammar.{ordinary, AreSweeps, close_of, lines_of}
 use Rattle.bm_lawful.specs.Lawful.{LawfulLog}
 use Rattle.bm_run.proofs.Basics.{is_or_not}
-use Rattle.bm_run.specs.Filling.{filling, prefill}
+use Rattle.bm_run.specs.Filling.{filling}
 use Rattle.bm_run.specs.Gained.{Gained}
 use Rattle.bm_run.specs.Lines.{Wrote}
 use Rattle.bm_run.specs.Closing.{Closing, SweptAll}
@@ -43,9 +44,9 @@ fill-ordinary : (fs : Fills) → fill_log fs ≡ ordinary (fill_entries fs)
 fill-ordinary [] = refl
 fill-ordinary (f ∷ fs) = ap (λ l. (0, entry.Fill f.0 (named f.1)) ∷ l) (fill-ordinary fs)
 
-are-fills : (cs : List ℕ) (pool : Stock) → AreFills cs (fill_entries (filling cs pool).fills)
+are-fills : (cs : List ℕ) (pool : Stock) → AreFills cs pool (fill_entries (filling cs pool).fills)
 are-fills [] pool = refl
-are-fills (c ∷ cs) pool = let f = fetched c (prefill c) pool in (map number_of f.units, fill_entries (filling cs f.pool).fills, refl, are-fills cs f.pool)
+are-fills (c ∷ cs) pool = let f = fetched c (prefill c) pool in (fill_entries (filling cs f.pool).fills, refl, are-fills cs f.pool)
 
 each-any : (cs : List ℕ) → Each_of (λ c. Unit {0}) cs
 each-any [] = tt
@@ -97,7 +98,7 @@ spared-rows s pool c c0 c2 l told opened wrote placed home never =
     (let w = subst (λ (o : Option Log). IfSome o (λ es. Leaves c2.processor es (seen number_of (shown c2)))) told placed.told in
     subst (λ p. Leaves p l (seen number_of (shown c2))) home w) in
     let spare = spare-join c fills wrote.own
-    (fills-all s (λ d. list_any (uses_class d) s.types ≡ true) (AllSpare c) (spare-covers s c never) classes fills (opened-each s.types) (are-fills classes pool))
+    (fills-all s (λ d. list_any (uses_class d) s.types ≡ true) (AllSpare c) (spare-covers s c never) classes pool fills (opened-each s.types) (are-fills classes pool))
     (scripts-all s (λ d. list_any (uses_class d) s.types ≡ true) (AllSpare c) (spare-covers s c never) (lines_of 0 s.runs) 0 wrote.own wrote.are) in
     let row : (seen number_of (shown c2)).rows c ≡ (opening {A = ℕ} 0).rows c =
     ap (λ (t : State ℕ). t.rows c) (sym leaves.lists) ∙ (ap (λ (k : Log). (after (opening 0) k).rows c) whole ∙ spared c (fills ++ wrote.own) (opening 0) spare) in
@@ -120,12 +121,12 @@ unused-rows s pool c0 c2 c3 told1 opened wrote g1 g2 same placed home some c non
 pub told-before : (own : List Entry) (a b : Option Log) → Gained own a b → IsSome b → IsSome a
 told-before own a b g some = let t = told-some b some in let z = told-by own a b t.0 t.1 g in subst (λ (o : Option Log). IsSome o) (sym z.told) refl
 
-pub lawful-log : (s : Scenario) (pool : Stock) (stock : List Stocked) (c0 c2 c3 c4 : Caches Recorded) (told1 : Option Log) (final : Log) →
+pub lawful-log : (s : Scenario) (pool : Stock) → pool ≡ fresh_stock s.pages → (stock : List Stocked) (c0 c2 c3 c4 : Caches Recorded) (told1 : Option Log) (final : Log) →
     IfSome c0.recorder.told (λ es. es ≡ fill_log (filling (opened_classes s.types) pool).fills) → Wrote s c0.recorder.told c2.recorder.told →
     Gained (entry.Ended ∷ []) c2.recorder.told told1 → Gained (entry.Close ∷ []) told1 c3.recorder.told → shown c3 ≡ shown c2 →
     SweptAll (seen number_of (shown c3)) (opened_classes s.types) c3 c4 →
     Placed (λ (k : Recorded). k.told) (λ k. k.counted) c2 → c2.processor ≡ 0 → Closing stock c4 → c4.processor ≡ 0 → c4.recorder.told ≡ Some final → LawfulLog s 0 final
-lawful-log s pool stock c0 c2 c3 c4 told1 final opened wrote g1 g2 same swept placed2 home2 closing4 home4 last =
+lawful-log s pool fresh stock c0 c2 c3 c4 told1 final opened wrote g1 g2 same swept placed2 home2 closing4 home4 last =
     let classes = opened_classes s.types in
     let fills = fill_entries (filling classes pool).fills in
     let scripts = wrote.own in
@@ -148,7 +149,7 @@ lawful-log s pool stock c0 c2 c3 c4 told1 final opened wrote g1 g2 same swept pl
     subst (λ p. Leaves p final (seen number_of (shown c4))) home4 w) in
     let are_sweeps = subst (λ (t : State Token). AreSweeps (seen number_of t) classes sweeps) same swept.are in
     let fits : Fits own = log-all s (λ c. Unit {0}) Fits (fits-covers s) fills scripts sweeps
-    (fills-all s (λ c. Unit {0}) Fits (fits-covers s) classes fills (each-any classes) (are-fills classes pool))
+    (fills-all s (λ c. Unit {0}) Fits (fits-covers s) classes pool fills (each-any classes) (are-fills classes pool))
     (scripts-all s (λ c. Unit {0}) Fits (fits-covers s) (lines_of 0 s.runs) 0 scripts wrote.are)
     (sweeps-all s (λ c. Unit {0}) Fits (fits-covers s) (seen number_of (shown c2)) classes sweeps (each-any classes) are_sweeps) in
     record {
@@ -159,7 +160,7 @@ lawful-log s pool stock c0 c2 c3 c4 told1 final opened wrote g1 g2 same swept pl
         scripts = scripts;
         sweeps = sweeps;
         own_is = refl;
-        are_fills = are-fills classes pool;
+        are_fills = subst (λ (z : Stock). AreFills classes z fills) fresh (are-fills classes pool);
         are_scripts = wrote.are;
         before = seen number_of (shown c2);
         before_is = leaves2;
@@ -172,7 +173,7 @@ lawful-log s pool stock c0 c2 c3 c4 told1 final opened wrote g1 g2 same swept pl
           | inl present ↦ sym (map-seven number_of ((shown c4).rows c)) ∙ no-seen (seven_lists ((shown c4).rows c)) (swept.empty c (opened-has s.types c present))
           | inr never ↦ unused c never own whole leaves
               (log-all s (λ d. list_any (uses_class d) s.types ≡ true) (AllSpare c) (spare-covers s c never) fills scripts sweeps
-              (fills-all s (λ d. list_any (uses_class d) s.types ≡ true) (AllSpare c) (spare-covers s c never) classes fills (opened-each s.types) (are-fills classes pool))
+              (fills-all s (λ d. list_any (uses_class d) s.types ≡ true) (AllSpare c) (spare-covers s c never) classes pool fills (opened-each s.types) (are-fills classes pool))
               (scripts-all s (λ d. list_any (uses_class d) s.types ≡ true) (AllSpare c) (spare-covers s c never) (lines_of 0 s.runs) 0 scripts wrote.are)
               (sweeps-all s (λ d. list_any (uses_class d) s.types ≡ true) (AllSpare c) (spare-covers s c never) (seen number_of (shown c2)) classes sweeps (opened-each s.types) are_sweeps))
         ];

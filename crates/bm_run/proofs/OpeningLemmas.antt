@@ -12,8 +12,10 @@ use Rattle.bm_cache.specs.Tests.{Reusable, Tests}
 use Rattle.bm_cache.specs.Tokens.{Token, number_of}
 use Rattle.bm_exec.specs.Slots.{AllEmpty, Kept, living_of, lives_of, tests_of, unit_at}
 use Rattle.bm_run.proofs.Basics.{nat_same}
-use Rattle.bm_run.specs.Filling.{prefill, filling, units_in}
-use Rattle.bm_run.specs.Opened.{ascends, new_pool}
+use Rattle.bm_lawful.specs.Fills.{prefill}
+use Rattle.bm_run.specs.Filling.{filling, units_in}
+use Rattle.bm_run.specs.Opened.{ascends}
+use Rattle.bm_lawful.specs.Fills.{fresh_stock}
 
 pub ascending : (cs : List ℕ) (pool : Stock) → ascends cs ≡ true → Ascending (filling cs pool).fills
 ascending [] pool h = tt
@@ -99,5 +101,5 @@ kept-empty slots stock size e = record {
 pub none-live : (slots : List (Option Token)) → AllEmpty slots → (u : ℕ) → lives_of slots u ≡ None
 none-live slots e u = ap living_of (e u)
 
-pub opened-pool : (pool : Stock) (pages : ℕ) → pool.classes ≡ replicate pages None → pool.units ≡ replicate (256 * pages) unborn → pool ≡ new_pool pages
+pub opened-pool : (pool : Stock) (pages : ℕ) → pool.classes ≡ replicate pages None → pool.units ≡ replicate (256 * pages) unborn → pool ≡ fresh_stock pages
 opened-pool pool pages e f = ap (λ l. let s : Stock = record { classes = l; units = pool.units } in s) e ∙ ap (λ l. let s : Stock = record { classes = replicate pages None; units = l } in s) f

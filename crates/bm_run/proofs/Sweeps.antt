@@ -4,14 +4,13 @@ use Rattle.std.proofs.lemmas.Bool.Decides.{nat_tests}
 use Rattle.std.proofs.lemmas.List.{length-append, drop_more}
 use Rattle.bm_journal.specs.declared.entry.Entry.{Entry}
 use Rattle.bm_journal.specs.Recording.{Kept as Recorded}
-use Rattle.bm_law.specs.State.{State, Row, seen, seven_lists}
+use Rattle.bm_law.specs.State.{State, Row, seen, seen_row, seven_lists}
 use Rattle.bm_law.specs.Stands.{times}
-use Rattle.bm_law.specs.SweepPhrases.{SweepPhrase}
 use Rattle.bm_law.proofs.Seen.{map-seven}
 use Rattle.bm_cache.specs.Tokens.{Token, number_of}
 use Rattle.bm_cache.specs.Shown.{shown}
 use Rattle.bm_cache.specs.declared.caches.Caches.{Caches}
-use Rattle.bm_lawful.specs.Grammar.{Swept, AreSweeps}
+use Rattle.bm_lawful.specs.Grammar.{Swept, AreSweeps, SweepOf}
 use Rattle.bm_run.proofs.Basics.{nat_same}
 use Rattle.bm_run.specs.Gained.{Gained}
 use Rattle.bm_run.specs.Closing.{SweptClass, SweptAll}
@@ -49,7 +48,7 @@ swept-start s classes c g = record {
   processor = refl;
 }
 
-swept-some : (c : ℕ) (us : List ℕ) (Rest : List Entry → Type 0) (one two : List Entry) → 0 < length us → SweepPhrase c one → Rest two → Swept c us Rest (one ++ two)
+swept-some : (c : ℕ) (us : List ℕ) (Rest : List Entry → Type 0) (one two : List Entry) → 0 < length us → SweepOf c us one → Rest two → Swept c us Rest (one ++ two)
 swept-some c [] Rest one two lt p r = absurd (omega arith)
 swept-some c (u ∷ us) Rest one two lt p r = (one, two, refl, p, r)
 
@@ -89,7 +88,7 @@ swept-one classes rest d before middle now once some w x =
     record {
       own = w.own ++ x.own;
       gained = gained-join w.own x.own before.recorder.told middle.recorder.told now.recorder.told w.gained x.gained;
-      are = λ more y. rw (append_assoc w.own x.own more) (w.are (x.own ++ more) (swept-some d (seven_lists ((seen number_of (shown before)).rows d)) (AreSweeps (seen number_of (shown before)) rest) x.own more lt x.phrase y));
+      are = λ more y. rw (append_assoc w.own x.own more) (w.are (x.own ++ more) (swept-some d (seven_lists ((seen number_of (shown before)).rows d)) (AreSweeps (seen number_of (shown before)) rest) x.own more lt (subst (λ (us : List ℕ). SweepOf d us x.own) (map-seven number_of ((shown middle).rows d) ∙ ap (λ (r : Row Token). seven_lists (seen_row number_of r)) row) x.sweep) y));
       empty = λ c lt. elim (nat_same c d) [
         | inl same ↦ rw same x.empty
         | inr other ↦ ap (λ (r : Row Token). seven_lists r) (x.others c other) ∙ w.empty c (let t = times-head c d rest other in omega (arith, lt, t))

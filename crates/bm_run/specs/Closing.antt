@@ -1,5 +1,5 @@
 -- The closing of the one processor.
-use Rattle.std.specs.Prelude.{◌≡◌, ◌≢◌, ◌<◌, ℕ, ◌+◌, true, List, [], ◌∷◌}
+use Rattle.std.specs.Prelude.{◌≡◌, ◌≢◌, ◌<◌, ℕ, ◌+◌, true, List, [], ◌∷◌, map}
 use Rattle.bm_journal.specs.declared.ids.Domain.TheVariants.{Tracing}
 use Rattle.bm_journal.specs.declared.period.Period.{Period}
 use Rattle.bm_journal.specs.declared.units.Units.TheVariants.{Whole}
@@ -12,13 +12,12 @@ use Rattle.bm_law.specs.State.{State, seven_lists}
 use Rattle.bm_law.specs.Effect.{effect}
 use Rattle.bm_law.specs.Kept.{Ready}
 use Rattle.bm_law.specs.Stands.{times}
-use Rattle.bm_law.specs.SweepPhrases.{SweepPhrase}
 use Rattle.bm_cache.specs.Each.{Each}
-use Rattle.bm_cache.specs.Tokens.{Token}
+use Rattle.bm_cache.specs.Tokens.{Token, number_of}
 use Rattle.bm_cache.specs.Shown.{shown}
 use Rattle.bm_cache.specs.Placed.{Placed}
 use Rattle.bm_cache.specs.declared.caches.Caches.{Caches}
-use Rattle.bm_lawful.specs.Grammar.{AreSweeps}
+use Rattle.bm_lawful.specs.Grammar.{AreSweeps, SweepOf}
 use Rattle.bm_run.specs.Gained.{Gained}
 
 -- the unit is out of the stock
@@ -36,11 +35,11 @@ pub record Closing (stock : List Stocked) (c : Caches Recorded) : Type 0 where
   pub ready : Ready 0 (shown c)
   pub out : AllOut stock (shown c)
 
--- A class was swept: no unit of it is left, and the other classes are as before.
+-- A class was swept: all units of its lists went back to the stock, and the other classes are as before.
 pub record SweptClass (class : ℕ) (before now : Caches Recorded) : Type 0 where
   pub own : List Entry
   pub gained : Gained own before.recorder.told now.recorder.told
-  pub phrase : SweepPhrase class own
+  pub sweep : SweepOf class (map number_of (seven_lists ((shown before).rows class))) own
   pub empty : seven_lists ((shown now).rows class) ≡ []
   pub others : (k : ℕ) → k ≢ class → (shown now).rows k ≡ (shown before).rows k
   pub processor : now.processor ≡ before.processor
@@ -59,6 +58,7 @@ pub record Gathered (class number : ℕ) (before now : Caches Recorded) : Type 0
   pub period : Period
   pub tracing : period.domain ≡ Tracing
   pub swept : List ℕ
+  pub all : swept ≡ map number_of (seven_lists ((shown before).rows class))
   pub gained : Gained (entry.Sweep class (Whole swept) ∷ entry.Stamp class Tracing (number + 2) ∷ entry.Begin Tracing (number + 1) ∷ entry.Finish period ∷ entry.Pass class Tracing (number + 2) ∷ []) before.recorder.told now.recorder.told
   pub lists : shown now ≡ effect 0 (entry.Stamp class Tracing (number + 2)) [] (effect 0 (entry.Sweep class (Whole swept)) [] (shown before))
   pub processor : now.processor ≡ before.processor
@@ -66,6 +66,7 @@ pub record Gathered (class number : ℕ) (before now : Caches Recorded) : Type 0
 -- The tracing batch of a class went back to the stock.
 pub record SentBack (class : ℕ) (before now : Caches Recorded) : Type 0 where
   pub returned : List ℕ
+  pub all : returned ≡ map number_of ((shown before).rows class).deferred.second
   pub gained : Gained (entry.Return class (Whole returned) ∷ []) before.recorder.told now.recorder.told
   pub lists : shown now ≡ effect 0 (entry.Return class (Whole returned)) [] (shown before)
   pub processor : now.processor ≡ before.processor

@@ -1,13 +1,9 @@
--- The units that caches begin with. (prefill_mem_cache in kernel/bpf/memalloc.c; the numbers are this project's own.)
-use Rattle.std.specs.Prelude.{◌≡◌, ◌≤◌, ℕ, List, [], ◌∷◌, ◌++◌, length, nat_le, if◌then◌else◌}
-use Rattle.bm_class.specs.Sizes.{size_of_class}
+-- The units that caches begin with, as a run brings them. (prefill_mem_cache in kernel/bpf/memalloc.c.)
+use Rattle.std.specs.Prelude.{◌≡◌, ◌≤◌, ℕ, List, [], ◌∷◌, ◌++◌, length}
+use Rattle.bm_lawful.specs.Fills.{prefill}
 use Rattle.bm_page.specs.declared.units.Stocked.{Stocked}
 use Rattle.bm_page.specs.UnitState.{UnitState}
 use Rattle.bm_page.specs.Stock.{Stock, stocked_at, fetched}
-
--- a cache begins with 4 units of at most 256 bytes, or with 1 greater one
-abbrev pub prefill : ℕ → ℕ
-prefill c = if nat_le (size_of_class c) 256 then 4 else 1
 
 -- units for classes, and the stock that they leave
 pub record Filling : Type 0 where

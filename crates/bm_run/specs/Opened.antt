@@ -1,15 +1,10 @@
 -- The one processor after its opening.
-use Rattle.std.specs.Prelude.{◌≡◌, ℕ, ◌*◌, Bool, true, ◌&&◌, List, [], ◌∷◌, None, IfSome, replicate, nat_lt}
-use Rattle.bm_page.specs.Stock.{Stock, unborn}
+use Rattle.std.specs.Prelude.{◌≡◌, ℕ, Bool, true, ◌&&◌, List, [], ◌∷◌, None, IfSome, nat_lt}
 use Rattle.bm_cache.specs.Opening.{fill_log}
 use Rattle.bm_exec.specs.declared.level0.Machine0.{Machine0}
 use Rattle.bm_exec.specs.Slots.{lives_of}
 use Rattle.bm_exec.specs.Sound.{Sound}
 use Rattle.bm_run.specs.Filling.{Filling}
-
--- a stock of so many pages, none with a class, all of whose units are in it
-abbrev pub new_pool : ℕ → Stock
-new_pool pages = record { classes = replicate pages None; units = replicate (256 * pages) unborn }
 
 -- some of the eleven classes, ascending
 abbrev pub ascends : List ℕ → Bool

@@ -5,7 +5,8 @@ ghost use Rattle.std.specs.List.{All};
 ghost use Rattle.bm_page.specs.Out.{AreOut};
 ghost use Rattle.bm_page.specs.UnitState.{UnitState};
 ghost use Rattle.bm_cache.specs.Opening.{FillsSit};
-ghost use Rattle.bm_run.specs.Filling.{prefill, filling, units_in, IsUnborn};
+ghost use Rattle.bm_lawful.specs.Fills.{prefill};
+ghost use Rattle.bm_run.specs.Filling.{filling, units_in, IsUnborn};
 
 use bm_class::Class;
 use bm_page::{Pool, Unit};

@@ -2,7 +2,8 @@
 
 ghost use Rattle.std.specs.Prelude.{◌≡◌, ◌≤◌, IfOk, true};
 ghost use Rattle.bm_run.specs.Filling.{filling};
-ghost use Rattle.bm_run.specs.Opened.{IsOpen, ascends, new_pool};
+ghost use Rattle.bm_run.specs.Opened.{IsOpen, ascends};
+ghost use Rattle.bm_lawful.specs.Fills.{fresh_stock};
 
 use crate::filling::{fill, give_up_fills};
 use bm_cache::Caches;
@@ -18,7 +19,7 @@ use std::alloc::Global;
 pub(crate) fn open(alloc: Global, pages: u16, classes: &[Class]) -> Result<Machine0, NoMemory>
     requires pages { pages ≤ 256 }
     requires ascend { ascends classes.now ≡ true }
-    ensures { IfOk result (IsOpen (filling classes.now (new_pool pages))) }
+    ensures { IfOk result (IsOpen (filling classes.now (fresh_stock pages))) }
 {
     let mut pool = Pool::create(alloc, pages)?;
     let Ok(fills) = fill(alloc, &mut pool, classes) else {

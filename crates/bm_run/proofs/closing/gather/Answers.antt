@@ -1,4 +1,7 @@
-use Rattle.std.proofs.Common.{ap, ◌+◌}
+use Rattle.std.proofs.Common.{ap, ◌+◌, map, append-nil}
+use Rattle.bm_law.specs.State.{seven_lists}
+use Rattle.bm_cache.specs.Shown.{shown}
+use Rattle.bm_cache.specs.Tokens.{number_of}
 use Rattle.bm_journal.specs.declared.ids.Domain.TheVariants.{Tracing}
 use Rattle.bm_journal.specs.declared.period.Period.{Period}
 use Rattle.bm_journal.specs.declared.entry.Entry.TheVariants as entry
@@ -22,7 +25,7 @@ returns-clause-gathered c =
     let t3 = rw c.ordinary-level.ensures at c.note.ensures.step in
     let t4 = rw c.ordinary-level.ensures at c.note-2.ensures.step in
     let t5 = rw c.ordinary-level.ensures at c.passed.ensures.step in
-    gathered class number p _ c0 c1 c2 c3 c4 c5 (ap (λ (x : Period). x.domain) c.period.ensures)
+    gathered class number p _ c0 c1 c2 c3 c4 c5 (ap (map number_of) (append-nil (seven_lists ((shown c0).rows class)))) (ap (λ (x : Period). x.domain) c.period.ensures)
     (gained-listed (entry.Sweep class) t1.units _ c0.recorder.told c1.recorder.told t1.records t1.told t1.whole)
     (gained-one (entry.Stamp class Tracing (number + 2)) c1.recorder.told c2.recorder.told t2.records)
     (gained-one (entry.Begin Tracing (number + 1)) c2.recorder.told c3.recorder.told t3.records)

@@ -3,7 +3,8 @@ use Rattle.std.proofs.lemmas.List.{drop_more, map-append}
 use Rattle.bm_page.specs.Stock.{Stock, fetched}
 use Rattle.bm_page.specs.UnitState.{UnitState}
 use Rattle.bm_run.proofs.Results.{not-err}
-use Rattle.bm_run.specs.Filling.{prefill, filling, units_in, IsUnborn}
+use Rattle.bm_lawful.specs.Fills.{prefill}
+use Rattle.bm_run.specs.Filling.{filling, units_in, IsUnborn}
 use Rattle.bm_run.proofs.Fillings.{unborn-fetched, Filled_so_far, filled-more}
 use Rattle.bm_run.proofs.filling.fill.Goals as goal
 

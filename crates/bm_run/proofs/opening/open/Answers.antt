@@ -5,7 +5,7 @@ use Rattle.bm_cache.specs.Opening.{Fills}
 use Rattle.bm_cache.proofs.Opened.{fine-opened}
 use Rattle.bm_exec.specs.Slots.{tests_of}
 use Rattle.bm_run.specs.Filling.{filling}
-use Rattle.bm_run.specs.Opened.{new_pool}
+use Rattle.bm_lawful.specs.Fills.{fresh_stock}
 use Rattle.bm_run.proofs.OpeningLemmas.{ascending, fills-once, fills-suit, kept-empty, none-live, opened-pool}
 use Rattle.bm_run.proofs.OpeningLemmas.{ascending, fills-once, fills-suit, kept-empty, none-live, opened-pool}
 use Rattle.bm_run.proofs.opening.open.Goals as goal
@@ -24,8 +24,8 @@ returns-in-Ok-create c =
     let fs : Fills = map (λ f. (f.0, f.1.items)) c.in-Ok.fills.items in
     let slots = c.in-Ok-new.slots.slots.items in
     let o = c.in-Ok-create.ensures.opened in
-    let first : c.in_ok-pool.pool ≡ new_pool c.args.pages = opened-pool c.in_ok-pool.pool c.args.pages c.in_ok-pool.ensures.classes c.in_ok-pool.ensures.units in
-    let named : fs ≡ (filling c.args.classes.now (new_pool c.args.pages)).fills = v.fills ∙ ap (λ (s : Stock). (filling c.args.classes.now s).fills) first in
+    let first : c.in_ok-pool.pool ≡ fresh_stock c.args.pages = opened-pool c.in_ok-pool.pool c.args.pages c.in_ok-pool.ensures.classes c.in_ok-pool.ensures.units in
+    let named : fs ≡ (filling c.args.classes.now (fresh_stock c.args.pages)).fills = v.fills ∙ ap (λ (s : Stock). (filling c.args.classes.now s).fills) first in
     record {
       sound = record {
         one = refl;
