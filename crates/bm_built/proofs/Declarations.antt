@@ -3,7 +3,7 @@ use Rattle.std.proofs.Common.{◌≡◌, ℕ, zero, suc, Bool, true, false, not,
 use Rattle.std.specs.List.{list_all, flat_map}
 use Rattle.std.proofs.lemmas.Bool.Decides.{nat_tests}
 use Rattle.bm_lang.specs.declared.bounds.Limit.{Limit}
-use Rattle.bm_lang.specs.declared.scenario.Scenario.{Scenario}
+use Rattle.bm_lang.specs.declared.scenario.Parts.{Parts}
 use Rattle.bm_lang.specs.declared.scenario.TypeDeclaration.{TypeDeclaration}
 use Rattle.bm_lang.specs.declared.scenario.MapDeclaration.{MapDeclaration}
 use Rattle.bm_lang.specs.declared.scenario.MapKind.{MapKind}
@@ -108,7 +108,7 @@ few_fields false false false true l m n k later h = cc
 few_fields false false false false l m n k later h = refl
 
 -- The parts of a scenario's words, from the front: what stands behind each is in parentheses, as `along` gives it.
-pub words_run : (s : Scenario) → HasConditions s → first_limit s ≡ None → built false (spell_scenario s ++ any End ∷ []) ≡ true → RunsYet s
+pub words_run : (s : Parts) → HasConditions s → first_limit s ≡ None → built false (spell_scenario s ++ any End ∷ []) ≡ true → RunsYet s
 words_run s fine limits b =
     let d = declared s in
     let end = any End ∷ [] in
@@ -136,5 +136,5 @@ words_run s fine limits b =
       scripts = λ i x e. (plain.0 i x e).1;
     }
 
-pub built_runs : (bytes : List ℕ) (s : Scenario) → Reads bytes s → unbuilt_before None false (tokens start bytes) ≡ None → first_limit s ≡ None → RunsYet s
+pub built_runs : (bytes : List ℕ) (s : Parts) → Reads bytes s → unbuilt_before None false (tokens start bytes) ≡ None → first_limit s ≡ None → RunsYet s
 built_runs bytes s reads none limits = words_run s reads.conditions limits (spelled false (tokens start bytes) (spell_scenario s ++ any End ∷ []) [] reads.spelled none)

@@ -4,11 +4,11 @@ ghost use Rattle.std.specs.Prelude.{◌≡◌, ℕ, List, None, false};
 ghost use Rattle.bm_lang.specs.Limits.{first_limit};
 ghost use Rattle.bm_lang.specs.Scenarios.{Reads};
 ghost use Rattle.bm_lang.specs.Tokens.{tokens, start};
-ghost use Rattle.bm_lang.specs.declared.scenario.Scenario.{Scenario};
+ghost use Rattle.bm_lang.specs.declared.scenario.Parts.{Parts};
 ghost use Rattle.bm_built.specs.Unbuilt.{unbuilt_before};
 ghost use Rattle.bm_built.specs.Yet.{RunsYet};
 
 /// A scenario within the limits whose text has no form that can't be run yet is one that runs by now.
 pub fn built_scenarios_run()
-    ensures { (bytes : List ℕ) (s : Scenario) → Reads bytes s → unbuilt_before None false (tokens start bytes) ≡ None → first_limit s ≡ None → RunsYet s }
+    ensures { (bytes : List ℕ) (s : Parts) → Reads bytes s → unbuilt_before None false (tokens start bytes) ≡ None → first_limit s ≡ None → RunsYet s }
 {}

@@ -6,7 +6,7 @@ use Rattle.bm_check.specs.declared.name_state.NameState.{NameState}
 use Rattle.bm_check.specs.declared.name_state.HeldLock.{HeldLock}
 use Rattle.bm_check.specs.declared.stop.Stop.{Stop}
 use Rattle.bm_check.specs.declared.stop.Stop.TheVariants as stop
-use Rattle.bm_lang.specs.declared.scenario.Scenario.{Scenario}
+use Rattle.bm_lang.specs.declared.scenario.Parts.{Parts}
 use Rattle.bm_lang.specs.declared.scenario.Script.{Script}
 use Rattle.bm_check.specs.declared.checker.CheckFault.{CheckFault}
 use Rattle.bm_check.specs.declared.checker.CheckFault.TheVariants as fault
@@ -42,17 +42,17 @@ IsBound (Err (stop.Broken l rule)) old new line b = (bound_free old b ≡ Some r
 IsBound (Err stop.NoMemory) old new line b = Unit {0}
 
 -- the first broken rule of a script
-abbrev pub IsScriptJudged : Result (Unit {0}) Stop → Scenario → Script → Type 0
+abbrev pub IsScriptJudged : Result (Unit {0}) Stop → Parts → Script → Type 0
 IsScriptJudged (Ok done) scenario script = Accepted scenario script
 IsScriptJudged (Err (stop.Broken line rule)) scenario script = first_broken_rule scenario script ≡ Some (record { line = line; rule = rule })
 IsScriptJudged (Err stop.NoMemory) scenario script = Unit {0}
 
 -- why a scenario isn't checked
-abbrev pub IsFault : CheckFault → Scenario → Type 0
+abbrev pub IsFault : CheckFault → Parts → Type 0
 IsFault (fault.Rejected script line rule) scenario = IsRejected scenario script.0 line rule
 IsFault fault.NoMemory scenario = Unit {0}
 
 -- the answer on a whole scenario
-abbrev pub IsAnswer : Result (Unit {0}) CheckFault → Scenario → Type 0
+abbrev pub IsAnswer : Result (Unit {0}) CheckFault → Parts → Type 0
 IsAnswer (Ok done) scenario = AllAccepted scenario
 IsAnswer (Err f) scenario = IsFault f scenario

@@ -7,7 +7,7 @@ use Rattle.std.specs.Option.{option_or, option_map, option_map_or}
 use Rattle.std.specs.List.{list_any}
 use Rattle.std.specs.Str.{bytes_eq}
 use Rattle.bm_lang.specs.declared.scenario.Action.{Action, New, Drop, Acquire, Get, Exchange, If', Repeat, Section, Lock, Unlock, Yield, PushFront, PushBack, PopFront, PopBack, Add, First, Remove}
-use Rattle.bm_lang.specs.declared.scenario.Scenario.{Scenario}
+use Rattle.bm_lang.specs.declared.scenario.Parts.{Parts}
 use Rattle.bm_lang.specs.declared.scenario.TypeDeclaration.{TypeDeclaration}
 use Rattle.bm_lang.specs.declared.scenario.MapDeclaration.{MapDeclaration}
 use Rattle.bm_lang.specs.declared.scenario.ScriptKind.{ScriptKind}
@@ -29,7 +29,7 @@ pub record Setting : Type 0 where
   pub maps : List MapDeclaration
   pub kind : ScriptKind
 
-abbrev pub setting_of : Scenario → ScriptKind → Setting
+abbrev pub setting_of : Parts → ScriptKind → Setting
 setting_of s k = record { types = s.types; maps = s.maps; kind = k }
 
 -- the type of the objects that a map holds

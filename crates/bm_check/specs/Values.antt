@@ -4,7 +4,7 @@ use Rattle.std.specs.Prelude.{◌≡◌, ℕ, suc, zero, Bool, true, false, List
 use Rattle.std.specs.Str.{bytes_eq}
 use Rattle.bm_lang.specs.declared.scenario.Action.{Action, New, Drop, Acquire, Get, Exchange, If', Repeat, Section, Lock, Unlock, Yield, PushFront, PushBack, PopFront, PopBack, Add, First, Remove, Held-Action-If-2, None', Some'}
 use Rattle.bm_lang.specs.declared.scenario.Block.{Block, Block', Row_of-Statement, end_of-Statement, more_of-Statement}
-use Rattle.bm_lang.specs.declared.scenario.Scenario.{Scenario}
+use Rattle.bm_lang.specs.declared.scenario.Parts.{Parts}
 use Rattle.bm_lang.specs.declared.scenario.Script.{Script}
 use Rattle.bm_lang.specs.declared.scenario.TypeId.{TypeId}
 use Rattle.bm_lang.specs.declared.scenario.MapId.{MapId}
@@ -140,7 +140,7 @@ pub record OwnsNothing (s : Store) : Type 0 where
 
 -- THE LAW: along an accepted script, whatever the replies, each statement finds what it needs, and at the end nothing is owned
 abbrev pub AcceptedIsSafe : Type 0
-AcceptedIsSafe = (scenario : Scenario) (script : Script) → Accepted scenario script → SafeBlock (setting_of scenario script.kind) empty_store script.body OwnsNothing
+AcceptedIsSafe = (scenario : Parts) (script : Script) → Accepted scenario script → SafeBlock (setting_of scenario script.kind) empty_store script.body OwnsNothing
 
 -- .. and for a single statement: begun with values that are what the states say, it finds what it needs, and leaves such values
 abbrev pub StatesAreRight : Type 0

@@ -6,20 +6,20 @@ ghost use Rattle.bm_check.specs.Scripts.{IsChecked};
 use bm_lang::Scenario;
 use std::marker::Model;
 
-/// A scenario all of whose scripts are accepted, and which exceeds no limit. Contracts see the scenario. Only `check`
-/// makes one.
+/// A scenario all of whose scripts are accepted, and which exceeds no limit. Contracts see the scenario's parts. Only
+/// `check` makes one.
 #[derive(Debug, Drop)]
 pub struct Checked {
     scenario: Scenario,
 }
 
 impl Model for Checked {
-    ghost use Rattle.bm_lang.specs.declared.scenario.Scenario.{Scenario};
+    ghost use Rattle.bm_lang.specs.declared.scenario.Parts.{Parts};
     ghost use Rattle.bm_lang.specs.contracts.scenario.Block as block;
     ghost use Rattle.std.specs.Coded.{codes};
     ghost use Rattle.bm_check.specs.Scripts.{IsChecked};
 
-    ghost Value = { Scenario };
+    ghost Value = { Parts };
 
     ghost coded = { Prim.hlevel (codes, block.the_row.coded) };
 

@@ -13,7 +13,7 @@ use crate::rule::Rule;
 use crate::setting::Setting;
 use crate::stop::Stop;
 use crate::table::NameTable;
-use bm_lang::{Scenario, Script, ScriptId};
+use bm_lang::{Parts, Scenario, Script, ScriptId};
 use std::alloc::Global;
 use thiserror::Error;
 
@@ -34,7 +34,7 @@ pub enum CheckFault {
 }
 
 // One script: its first broken rule.
-fn judge_script(alloc: Global, scenario: &Scenario, script: &Script) -> Result<(), Stop>
+fn judge_script(alloc: Global, scenario: &Parts, script: &Script) -> Result<(), Stop>
     ensures { IsScriptJudged result scenario.now script.now }
 {
     let setting = Setting {
@@ -53,7 +53,7 @@ fn judge_script(alloc: Global, scenario: &Scenario, script: &Script) -> Result<(
 }
 
 /// Whether all scripts of a scenario are accepted, and if not, the first one that isn't.
-pub(crate) fn check_scripts(alloc: Global, scenario: &Scenario) -> Result<(), CheckFault>
+pub(crate) fn check_scripts(alloc: Global, scenario: &Parts) -> Result<(), CheckFault>
     ensures { IsAnswer result scenario.now }
 {
     for (place, script) in scenario.scripts.as_slice().iter().enumerate() {
@@ -92,7 +92,7 @@ pub fn check(alloc: Global, scenario: Scenario) -> Result<Checked, (CheckFault, 
     // So where all its scripts are accepted, only memory can be wanting.
     ensures only { AllAccepted scenario → IfErr result (λ refusal. refusal.0 ≡ NoMemory) }
 {
-    match check_scripts(alloc, &scenario) {
+    match check_scripts(alloc, scenario.parts()) {
         Ok(()) => Ok(Checked::new(scenario)),
         Err(fault) => Err((fault, scenario)),
     }

@@ -8,13 +8,13 @@ ghost use Rattle.bm_check.specs.NameStates.{type_in, graph_in};
 ghost use Rattle.bm_check.specs.Statements as spec;
 
 use crate::name_state::NameState;
-use bm_lang::{MapId, Scenario, ScriptKind, TypeId};
+use bm_lang::{MapId, Parts, ScriptKind, TypeId};
 use bm_word::Name;
 
-/// The scenario, and the kind of the script that is checked.
+/// The scenario's parts, and the kind of the script that is checked.
 #[derive(Clone, Copy)]
 pub struct Setting<'a> {
-    pub scenario: &'a Scenario,
+    pub scenario: &'a Parts,
     pub kind: ScriptKind,
 }
 

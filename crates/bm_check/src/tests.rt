@@ -521,7 +521,7 @@ fn the_first_script_is_named(rt: HostRuntime) -> Result<(), Fail> {
     assert!(rt; found == (1, 6, 4), "{found:?}");
     match checked(alloc, text)? {
         Err((CheckFault::Rejected { .. }, scenario)) => {
-            assert_eq!(rt; scenario.scripts.as_slice().len(), 3);
+            assert_eq!(rt; scenario.parts().scripts.as_slice().len(), 3);
         }
         _ => Err("a rejected scenario")?,
     }
@@ -535,8 +535,8 @@ fn a_checked_scenario_is_given_back(rt: HostRuntime) -> Result<(), Fail> {
     let text = text_of(alloc, &ITEMS, b"plain", b"new x item 1 if x { drop x }")?;
     match checked(alloc, text.as_slice())? {
         Ok(checked) => {
-            assert_eq!(rt; checked.scenario().scripts.as_slice().len(), 1);
-            assert_eq!(rt; checked.into_scenario().types.as_slice().len(), 1);
+            assert_eq!(rt; checked.scenario().parts().scripts.as_slice().len(), 1);
+            assert_eq!(rt; checked.into_scenario().parts().types.as_slice().len(), 1);
         }
         Err(_) => Err("an accepted scenario")?,
     }

@@ -25,7 +25,7 @@ use crate::names::NameTable;
 use bm_check::accepted_scripts_are_safe;
 use bm_class::Class;
 use bm_journal::Values;
-use bm_lang::{Action, Items, Scenario, Script, Statement, TypeDeclaration, TypeId};
+use bm_lang::{Action, Items, Parts, Script, Statement, TypeDeclaration, TypeId};
 use bm_word::{Name, NoMemory};
 use std::alloc::Global;
 
@@ -183,7 +183,7 @@ pub fn run_script<'s, M: Machine>(
     alloc: Global,
     machine: &mut M,
     types: &Types<'s>,
-    scenario: &Scenario,
+    scenario: &Parts,
     script: &'s Script,
 ) -> Stopped
     requires sound { M.sound machine.old }

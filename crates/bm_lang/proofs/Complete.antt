@@ -7,7 +7,7 @@ use Rattle.std.proofs.lemmas.Bool.Decides.{nat_tests}
 use Rattle.bm_lang.specs.declared.keyword.Keyword.TheVariants as word
 use Rattle.bm_lang.specs.declared.fault.LangFault.{LangFault}
 use Rattle.bm_lang.specs.declared.fault.LangFault.TheVariants.{Bad, NoMemory}
-use Rattle.bm_lang.specs.declared.scenario.Scenario.{Scenario}
+use Rattle.bm_lang.specs.declared.scenario.Parts.{Parts}
 use Rattle.bm_lang.specs.declared.scenario.TypeDeclaration.{TypeDeclaration}
 use Rattle.bm_lang.specs.declared.scenario.MapDeclaration.{MapDeclaration}
 use Rattle.bm_lang.specs.declared.scenario.MapKind.{MapKind}
@@ -194,7 +194,7 @@ unfolding parse
 at_end a names q = rw q.it refl
 
 -- a scenario's words, and behind them the end of the text
-scenario_through : (s : Scenario) (a : List Mark) → HasConditions s → Said a (spell_scenario s ++ any End ∷ []) [] → Through no_names scenario (declared s) [] a [] []
+scenario_through : (s : Parts) (a : List Mark) → HasConditions s → Said a (spell_scenario s ++ any End ∷ []) [] → Through no_names scenario (declared s) [] a [] []
 scenario_through s a f q =
     let n = s.processors in
     let ts = map type_form s.types in let ms = map map_form s.maps in let ss = map script_form s.scripts in
@@ -228,28 +228,28 @@ scenario_through s a f q =
     take_word EndOfText [] [] (any End) q refl (λ m q. stay (declared s) [] q))))))))))))))))
 
 -- what a text says, line numbers apart, has no fault
-pub says_parse : (bytes : List ℕ) (s : Scenario) → ReadsButLines bytes s → fault_of bytes ≡ None
+pub says_parse : (bytes : List ℕ) (s : Parts) → ReadsButLines bytes s → fault_of bytes ≡ None
 says_parse bytes s h =
     let t = scenario_through s (tokens start bytes) h.conditions (record { it = h.said }) in
     t.runs [] ∙ at_end t.middle (declared s) t.says
 
-pub without_lines : (bytes : List ℕ) (s : Scenario) → Reads bytes s → ReadsButLines bytes s
+pub without_lines : (bytes : List ℕ) (s : Parts) → Reads bytes s → ReadsButLines bytes s
 without_lines bytes s h = record { said = spells_says (spell_scenario s ++ any End ∷ []) (tokens start bytes) [] h.spelled; conditions = h.conditions }
 
-pub bad_fault : (r : Result Scenario LangFault) (bytes : List ℕ) → Reading r no_names scenario declared (λ s. spell_scenario s ++ any End ∷ []) HasConditions (tokens start bytes) [] → IfBad r (λ f. fault_of bytes ≡ Some f)
+pub bad_fault : (r : Result Parts LangFault) (bytes : List ℕ) → Reading r no_names scenario declared (λ s. spell_scenario s ++ any End ∷ []) HasConditions (tokens start bytes) [] → IfBad r (λ f. fault_of bytes ≡ Some f)
 bad_fault (Ok s) bytes h = tt
 bad_fault (Err NoMemory) bytes h = tt
 bad_fault (Err (Bad f)) bytes h = h []
 
-pub reads_only : (r : Result Scenario LangFault) (bytes : List ℕ) (s : Scenario) → Reading r no_names scenario declared (λ s. spell_scenario s ++ any End ∷ []) HasConditions (tokens start bytes) [] → Reads bytes s → IsOkUnlessMemory r
+pub reads_only : (r : Result Parts LangFault) (bytes : List ℕ) (s : Parts) → Reading r no_names scenario declared (λ s. spell_scenario s ++ any End ∷ []) HasConditions (tokens start bytes) [] → Reads bytes s → IsOkUnlessMemory r
 reads_only (Ok x) bytes s g h = tt
 reads_only (Err NoMemory) bytes s g h = tt
 reads_only (Err (Bad f)) bytes s g h = let e = says_parse bytes s (without_lines bytes s h) in let d = g [] in cc
 
-pub fine_found : (r : Result Scenario LangFault) (bytes : List ℕ) → IfOk r (Reads bytes) → IfOk r IsFine
+pub fine_found : (r : Result Parts LangFault) (bytes : List ℕ) → IfOk r (Reads bytes) → IfOk r IsFine
 fine_found (Ok s) bytes h = (bytes, without_lines bytes s h)
 fine_found (Err e) bytes h = tt
 
-pub found_read : (r : Result Scenario LangFault) (bytes : List ℕ) → Reading r no_names scenario declared (λ s. spell_scenario s ++ any End ∷ []) HasConditions (tokens start bytes) [] → IfOk r (Reads bytes)
+pub found_read : (r : Result Parts LangFault) (bytes : List ℕ) → Reading r no_names scenario declared (λ s. spell_scenario s ++ any End ∷ []) HasConditions (tokens start bytes) [] → IfOk r (Reads bytes)
 found_read (Ok s) bytes h = record { spelled = h.spelled; conditions = h.fine }
 found_read (Err e) bytes h = tt

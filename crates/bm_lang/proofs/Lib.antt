@@ -1,7 +1,7 @@
 pub mod Scanning
 pub mod Taking
 pub mod Legal
-pub mod Parts
+pub mod TextParts
 pub mod Places
 pub mod Spelled
 pub mod Steps

@@ -10,7 +10,7 @@ use Rattle.bm_lang.specs.declared.scenario.Node.{Node}
 use Rattle.bm_lang.specs.declared.scenario.Node.TheVariants as node
 use Rattle.bm_lang.specs.declared.scenario.ScriptKind.{ScriptKind}
 use Rattle.bm_lang.specs.declared.scenario.ScriptKind.TheVariants as script
-use Rattle.bm_lang.specs.declared.scenario.Scenario.{Scenario}
+use Rattle.bm_lang.specs.declared.scenario.Parts.{Parts}
 use Rattle.bm_lang.specs.Keywords.{keyword_text}
 use Rattle.bm_lang.specs.Names.{TypeForm, MapForm}
 use Rattle.bm_lang.specs.Tokens.{Open, Close, Reserved}
@@ -107,7 +107,7 @@ turns_begin None = refl
 turns_begin (Some ns) = refl
 
 -- a whole scenario
-pub scenario_printed : (s : Scenario) (o1 o2 o3 o4 o5 o6 o7 o8 : List ℕ) → o1 ≡ [] ++ printed (spell_header s.processors s.pages s.deferred) → o2 ≡ o1 ++ printed (flat_map spell_type s.types) → o3 ≡ o2 ++ printed (flat_map (spell_map (map type_form s.types)) s.maps)
+pub scenario_printed : (s : Parts) (o1 o2 o3 o4 o5 o6 o7 o8 : List ℕ) → o1 ≡ [] ++ printed (spell_header s.processors s.pages s.deferred) → o2 ≡ o1 ++ printed (flat_map spell_type s.types) → o3 ≡ o2 ++ printed (flat_map (spell_map (map type_form s.types)) s.maps)
     → o4 ≡ o3 ++ printed (flat_map (spell_script (map type_form s.types) (map map_form s.maps)) s.scripts) → o5 ≡ o4 ++ printed (flat_map (spell_run (map script_form s.scripts)) s.runs) → o6 ≡ o5 ++ printed (flat_map (spell_at (map script_form s.scripts)) s.ats)
     → o7 ≡ o6 ++ printed (spell_turns s.turns) → o8 ≡ o7 ++ 125 ∷ 10 ∷ [] → o8 ≡ printed (spell_scenario s)
 scenario_printed s o1 o2 o3 o4 o5 o6 o7 o8 e1 e2 e3 e4 e5 e6 e7 e8 =

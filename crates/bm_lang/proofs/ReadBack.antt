@@ -4,7 +4,7 @@ use Rattle.std.specs.Prelude.{map}
 use Rattle.std.specs.List.{flat_map}
 use Rattle.bm_lang.specs.declared.scenario.Action.{Action, New, Drop, Acquire, Get, Exchange, If', Repeat, Section, Lock, Unlock, Yield, PushFront, PushBack, PopFront, PopBack, Add, First, Remove, Held-Action-If-2, None', Some'}
 use Rattle.bm_lang.specs.declared.scenario.Block.{Block, Block', Row_of-Statement, end_of-Statement, more_of-Statement}
-use Rattle.bm_lang.specs.declared.scenario.Scenario.{Scenario}
+use Rattle.bm_lang.specs.declared.scenario.Parts.{Parts}
 use Rattle.bm_lang.specs.declared.scenario.TypeDeclaration.{TypeDeclaration}
 use Rattle.bm_lang.specs.Names.{TypeForm, MapForm}
 use Rattle.bm_lang.specs.Tokens.{Sort, Close, End, Mark, tokens, start, IsLegal}
@@ -99,7 +99,7 @@ turns_clean : (o : Option (List ℕ)) → clean (spell_turns o ++ any Close ∷ 
 turns_clean None = refl
 turns_clean (Some ns) = clean-append (map number ns ++ any Close ∷ []) (any Close ∷ []) (clean-append (map number ns) (any Close ∷ []) (clean-numbers ns) refl) refl
 
-scenario_clean : (s : Scenario) → clean (spell_scenario s) ≡ true
+scenario_clean : (s : Parts) → clean (spell_scenario s) ≡ true
 scenario_clean s =
     let ts = map type_form s.types in let ms = map map_form s.maps in let ss = map script_form s.scripts in
     clean-append (flat_map spell_type s.types) _ (clean-lines spell_type s.types type_clean)
@@ -128,11 +128,11 @@ says_of (w ∷ ws) (m ∷ ms) h =
     let r : sorts ms ≡ word_sorts ws = cc in
     (m.place, ms, ap (λ (t : Sort). let x : Mark = record { sort = t; place = m.place } in x ∷ ms) e, says_of ws ms r)
 
-pub reads_back : (s : Scenario) → IsFine s → ReadsButLines (printed (spell_scenario s)) s
+pub reads_back : (s : Parts) → IsFine s → ReadsButLines (printed (spell_scenario s)) s
 reads_back s f =
     let ws = spell_scenario s in
     let p = words_printed ws (any End ∷ []) (tokens start f.0) [] (legal_tokens f.0 start) (scenario_clean s) f.1.said in
     record { said = says_of (ws ++ any End ∷ []) (tokens start (printed ws)) (printed_tokens ws start p); conditions = f.1.conditions }
 
-pub reads_back_as : (s : Scenario) (bytes : List ℕ) → IsFine s → bytes ≡ printed (spell_scenario s) → ReadsButLines bytes s
+pub reads_back_as : (s : Parts) (bytes : List ℕ) → IsFine s → bytes ≡ printed (spell_scenario s) → ReadsButLines bytes s
 reads_back_as s bytes f e = let P : List ℕ → Type 0 = λ b. ReadsButLines b s in subst P (sym e) (reads_back s f)

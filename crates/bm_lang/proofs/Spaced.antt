@@ -19,7 +19,7 @@ use Rattle.bm_lang.specs.Spelling.{Word, any}
 use Rattle.bm_lang.specs.Printing.{token_text, gap, printed, begins_line}
 use Rattle.bm_lang.specs.Grammar.{is_open}
 use Rattle.bm_lang.proofs.Scanning.{first_piece, cut_at, moved}
-use Rattle.bm_lang.proofs.Parts.{no_run, through, clear, has_some, take_front, drop_front}
+use Rattle.bm_lang.proofs.TextParts.{no_run, through, clear, has_some, take_front, drop_front}
 use Rattle.bm_lang.proofs.Spelled.{found}
 
 -- a word whose text is its token

@@ -2,7 +2,7 @@
 use Rattle.std.specs.Prelude.{◌≡◌, ℕ, ◌-◌, ◌<◌, ◌≤◌, ◌%◌, true, false, ◌==◌, List, [], ◌∷◌, ◌++◌, length, All, IsSomeAnd, is_some, IfSome, slice_get}
 use Rattle.bm_lang.specs.declared.scenario.Action.{Action, New, Drop, Acquire, Get, Exchange, If', Repeat, Section, Lock, Unlock, Yield, PushFront, PushBack, PopFront, PopBack, Add, First, Remove, Held-Action-If-2, None', Some'}
 use Rattle.bm_lang.specs.declared.scenario.Block.{Block, Block', Row_of-Statement, end_of-Statement, more_of-Statement}
-use Rattle.bm_lang.specs.declared.scenario.Scenario.{Scenario}
+use Rattle.bm_lang.specs.declared.scenario.Parts.{Parts}
 use Rattle.bm_lang.specs.declared.scenario.TypeDeclaration.{TypeDeclaration}
 use Rattle.bm_lang.specs.declared.scenario.MapDeclaration.{MapDeclaration}
 use Rattle.bm_lang.specs.declared.names.MapNeed.{MapNeed}
@@ -86,7 +86,7 @@ pub record FineAt (processors : ℕ) (scripts : List ScriptForm) (a : AtLine) : 
   pub script : IsSomeAnd (slice_get scripts a.script.0) (λ s. runs_as true s.kind ≡ true)
 
 -- the conditions on a whole scenario under what it declares
-pub record FineUnder (d : Names) (s : Scenario) : Type 0 where
+pub record FineUnder (d : Names) (s : Parts) : Type 0 where
   pub processors : 0 < s.processors
   pub types : FineTypes [] s.types
   pub maps : FineMaps d.types [] s.maps
@@ -95,5 +95,5 @@ pub record FineUnder (d : Names) (s : Scenario) : Type 0 where
   pub ats : All (FineAt s.processors d.scripts) s.ats
   pub turns : IfSome s.turns (All (λ p. p < s.processors))
 
-abbrev pub HasConditions : Scenario → Type 0
+abbrev pub HasConditions : Parts → Type 0
 HasConditions s = FineUnder (declared s) s

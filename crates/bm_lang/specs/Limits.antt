@@ -5,7 +5,7 @@ use Rattle.bm_lang.specs.declared.bounds.Limit.{Limit}
 use Rattle.bm_lang.specs.declared.bounds.Limit.TheVariants as limit
 use Rattle.bm_lang.specs.declared.scenario.Action.{Action, New, Drop, Acquire, Get, Exchange, If', Repeat, Section, Lock, Unlock, Yield, PushFront, PushBack, PopFront, PopBack, Add, First, Remove, Held-Action-If-2, None', Some'}
 use Rattle.bm_lang.specs.declared.scenario.Block.{Block, Block', Row_of-Statement, end_of-Statement, more_of-Statement}
-use Rattle.bm_lang.specs.declared.scenario.Scenario.{Scenario}
+use Rattle.bm_lang.specs.declared.scenario.Parts.{Parts}
 use Rattle.bm_lang.specs.declared.scenario.Script.{Script}
 
 -- the word for a limit
@@ -64,7 +64,7 @@ abbrev pub cost_on : ℕ → ℕ → ℕ → ℕ
 cost_on processor at cost = if processor == at then cost else 0
 
 -- the statements of a processor: those of its `run` lines and of its `at` lines
-abbrev pub statements_of : Scenario → ℕ → ℕ
+abbrev pub statements_of : Parts → ℕ → ℕ
 statements_of s p =
     sum_by (λ r. cost_on p r.processor (script_cost (slice_get s.scripts r.script.0))) s.runs
     + sum_by (λ a. cost_on p a.processor (script_cost (slice_get s.scripts a.script.0))) s.ats
@@ -79,7 +79,7 @@ turns_length None = 0
 turns_length (Some turns) = length turns
 
 -- The first limit after that of the input that is exceeded, in the order of the table.
-abbrev pub first_limit : Scenario → Option Limit
+abbrev pub first_limit : Parts → Option Limit
 first_limit s =
     if nat_lt 8 s.processors then Some limit.Processors
     else (if nat_lt 256 s.pages then Some limit.Pages

@@ -5,7 +5,7 @@ use Rattle.bm_lang.specs.declared.keyword.Keyword.{Keyword}
 use Rattle.bm_lang.specs.declared.keyword.Keyword.TheVariants as word
 use Rattle.bm_lang.specs.declared.scenario.Action.{Action, New, Drop, Acquire, Get, Exchange, If', Repeat, Section, Lock, Unlock, Yield, PushFront, PushBack, PopFront, PopBack, Add, First, Remove, Held-Action-If-2, None', Some'}
 use Rattle.bm_lang.specs.declared.scenario.Block.{Block, Block', Row_of-Statement, end_of-Statement, more_of-Statement}
-use Rattle.bm_lang.specs.declared.scenario.Scenario.{Scenario}
+use Rattle.bm_lang.specs.declared.scenario.Parts.{Parts}
 use Rattle.bm_lang.specs.declared.scenario.TypeDeclaration.{TypeDeclaration}
 use Rattle.bm_lang.specs.declared.scenario.MapDeclaration.{MapDeclaration}
 use Rattle.bm_lang.specs.declared.scenario.Script.{Script}
@@ -30,7 +30,7 @@ map_form m = record { name = m.name; kind = m.kind }
 abbrev pub script_form : Script → ScriptForm
 script_form s = record { name = s.name; kind = s.kind }
 
-abbrev pub declared : Scenario → Names
+abbrev pub declared : Parts → Names
 declared s = record { processors = s.processors; types = map type_form s.types; maps = map map_form s.maps; scripts = map script_form s.scripts; draft = no_draft }
 
 -- the names under which declared things are spelled
@@ -174,10 +174,10 @@ spell_header processors pages deferred =
     reserved word.Scenario ∷ any Open ∷ reserved word.Processors ∷ number processors ∷ reserved word.Pages ∷ number pages ∷ reserved word.Deferred ∷ reserved (on_or_off deferred) ∷ []
 
 -- the words of a scenario under what it declares, up to its last brace
-abbrev pub spell_under : Names → Scenario → List Word
+abbrev pub spell_under : Names → Parts → List Word
 spell_under d s =
     spell_header s.processors s.pages s.deferred ++ (flat_map spell_type s.types ++ (flat_map (spell_map d.types) s.maps ++ (flat_map (spell_script d.types d.maps) s.scripts
     ++ (flat_map (spell_run d.scripts) s.runs ++ (flat_map (spell_at d.scripts) s.ats ++ (spell_turns s.turns ++ any Close ∷ []))))))
 
-abbrev pub spell_scenario : Scenario → List Word
+abbrev pub spell_scenario : Parts → List Word
 spell_scenario s = spell_under (declared s) s

@@ -14,31 +14,32 @@ use std::fmt;
 pub fn limits(scenario: &Scenario) -> Option<Limit>
     ensures { result ≡ first_limit scenario.now }
 {
-    if scenario.processors > 8 {
+    let parts = scenario.parts();
+    if parts.processors > 8 {
         return Some(Limit::Processors);
     }
-    if scenario.pages > 256 {
+    if parts.pages > 256 {
         return Some(Limit::Pages);
     }
-    if scenario.types.as_slice().len() > 32 {
+    if parts.types.as_slice().len() > 32 {
         return Some(Limit::Types);
     }
-    if has_too_many_fields(scenario.types.as_slice()) {
+    if has_too_many_fields(parts.types.as_slice()) {
         return Some(Limit::Fields);
     }
-    if scenario.maps.as_slice().len() > 64 {
+    if parts.maps.as_slice().len() > 64 {
         return Some(Limit::Maps);
     }
-    if scenario.scripts.as_slice().len() > 256 {
+    if parts.scripts.as_slice().len() > 256 {
         return Some(Limit::Scripts);
     }
-    if scenario.ats.as_slice().len() > 1000 {
+    if parts.ats.as_slice().len() > 1000 {
         return Some(Limit::Handlers);
     }
-    if turns_len(&scenario.turns) > 100_000 {
+    if turns_len(&parts.turns) > 100_000 {
         return Some(Limit::Turns);
     }
-    if has_too_many_statements(scenario) {
+    if has_too_many_statements(parts) {
         return Some(Limit::Statements);
     }
     None

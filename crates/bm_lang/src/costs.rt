@@ -4,13 +4,13 @@ ghost use Rattle.std.specs.Prelude.{◌≡◌, ◌+◌, ◌*◌, ◌≤◌, ◌<
 ghost use Rattle.bm_lang.specs.Limits.{action_cost, block_cost, script_cost, cost_on, statements_of, some_below};
 ghost use Rattle.bm_lang.specs.Costs.{option_cost};
 
-use crate::scenario::{Action, AtLine, Block, RunLine, Scenario, Script, ScriptId};
+use crate::scenario::{Action, AtLine, Block, Parts, RunLine, Script, ScriptId};
 
 // The least number of statements that is above the limit. Whatever is greater counts as this.
 const MANY: u64 = 20_001;
 
 /// Whether some processor has more than 20,000 statements.
-pub fn has_too_many_statements(scenario: &Scenario) -> bool
+pub fn has_too_many_statements(scenario: &Parts) -> bool
     ensures { result ≡ some_below scenario.now.processors (λ p. nat_lt 20000 (statements_of scenario.now p)) }
 {
     for processor in 0..scenario.processors {

@@ -47,7 +47,7 @@ pub use place::Place;
 pub use reader::Tokens;
 pub use reading::read_scenario;
 pub use scenario::{
-    Action, AtLine, Block, MapDeclaration, MapId, MapKind, Node, RunLine, Scenario, Script,
+    Action, AtLine, Block, MapDeclaration, MapId, MapKind, Node, Parts, RunLine, Scenario, Script,
     ScriptId, ScriptKind, Statement, TypeDeclaration, TypeId,
 };
 pub use token::{Placed, Token, TokenFault};

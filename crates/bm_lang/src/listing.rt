@@ -4,7 +4,7 @@ ghost use Rattle.std.specs.Prelude.{◌≡◌, ℕ, List, [], ◌∷◌, ◌++�
 ghost use Rattle.std.specs.List.{flat_map};
 ghost use Rattle.bm_lang.specs.Spelling.{type_form, map_form, script_form, node_word, map_word, script_word, on_or_off, spell_header, spell_type, spell_map, spell_script, spell_run, spell_at, spell_turns, spell_scenario};
 ghost use Rattle.bm_lang.specs.Printing.{printed, type_front, fields_text, counted_text, node_text};
-ghost use Rattle.bm_lang.specs.Scenarios.{IsFine, ReadsButLines};
+ghost use Rattle.bm_lang.specs.Scenarios.{ReadsButLines};
 
 use crate::items::Items;
 use crate::keyword::Keyword;
@@ -21,28 +21,23 @@ use std::alloc::Global;
 /// The text of a scenario. Tokens of a line are separated by a space. A line ends behind each brace and behind the
 /// last token of an item, of a row of fields or numbers, and of a statement without a block.
 pub fn print_scenario(alloc: Global, scenario: &Scenario) -> Result<Vec<u8>, NoMemory>
-    requires { IsFine scenario.now }
     // The words of the scenario, each with the space or the line feed behind it.
     ensures text { IfOk result (λ v. v.items ≡ printed (spell_scenario scenario.now)) }
     // What is printed reads back as the same scenario, line numbers apart.
     ensures back { IfOk result (λ v. ReadsButLines v.items scenario.now) }
 {
+    let parts = scenario.parts();
     let mut out = Vec::new(alloc);
-    let types = scenario.types.as_slice();
-    let maps = scenario.maps.as_slice();
-    let scripts = scenario.scripts.as_slice();
-    put_header(
-        &mut out,
-        scenario.processors,
-        scenario.pages,
-        scenario.deferred,
-    )?;
+    let types = parts.types.as_slice();
+    let maps = parts.maps.as_slice();
+    let scripts = parts.scripts.as_slice();
+    put_header(&mut out, parts.processors, parts.pages, parts.deferred)?;
     put_types(&mut out, types)?;
     put_maps(&mut out, types, maps)?;
     put_scripts(&mut out, types, maps, scripts)?;
-    put_runs(&mut out, scripts, scenario.runs.as_slice())?;
-    put_ats(&mut out, scripts, scenario.ats.as_slice())?;
-    put_turns(&mut out, &scenario.turns)?;
+    put_runs(&mut out, scripts, parts.runs.as_slice())?;
+    put_ats(&mut out, scripts, parts.ats.as_slice())?;
+    put_turns(&mut out, &parts.turns)?;
     put(&mut out, b"}", LINE_FEED)?;
     Ok(out)
 }

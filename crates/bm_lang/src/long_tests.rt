@@ -33,7 +33,7 @@ fn a_text_of_the_greatest_length(rt: HostRuntime) -> Result<(), Fail> {
     }
     match read_scenario(rt.alloc(), text.as_bytes()) {
         Ok(scenario) => {
-            assert!(rt; scenario.types.as_slice().len() > 40_000);
+            assert!(rt; scenario.parts().types.as_slice().len() > 40_000);
             assert!(rt; limits(&scenario) == Some(Limit::Types));
             Ok(())
         }

@@ -12,7 +12,7 @@ ghost use Rattle.bm_lang.specs.Spelling.{any, number, reserved, on_or_off, spell
 ghost use Rattle.bm_lang.specs.Fine.{HasConditions};
 ghost use Rattle.bm_lang.specs.Reads.{Reading};
 ghost use Rattle.bm_lang.specs.Scenarios.{Reads, IsFine, IfBad, IsOkUnlessMemory};
-ghost use Rattle.bm_lang.specs.declared.scenario.Scenario.{Scenario};
+ghost use Rattle.bm_lang.specs.declared.scenario.Parts.{Parts};
 
 use crate::expect::{any_number, close, fault, open, placed_number, refused, word};
 use crate::fault::{BadKind, LangFault};
@@ -21,7 +21,7 @@ use crate::keyword::Keyword;
 use crate::lines::{ats, runs, turns};
 use crate::maps::maps;
 use crate::reader::Tokens;
-use crate::scenario::Scenario;
+use crate::scenario::{Parts, Scenario};
 use crate::scripts::scripts;
 use crate::tables::{MapTable, ScriptTable, TypeTable};
 use crate::token::Token;
@@ -38,15 +38,16 @@ pub fn read_scenario(alloc: Global, bytes: &[u8]) -> Result<Scenario, LangFault>
     // So some text has it as its reading.
     ensures fine { IfOk result IsFine }
     // No text that says something is refused.
-    ensures only { (s : Scenario) → Reads bytes.now s → IsOkUnlessMemory result }
+    ensures only { (s : Parts) → Reads bytes.now s → IsOkUnlessMemory result }
     // The fault is the text's.
     ensures fault { IfBad result (λ f. fault_of bytes.now ≡ Some f) }
 {
-    whole(alloc, bytes)
+    let parts = whole(alloc, bytes)?;
+    Ok(Scenario::new(parts))
 }
 
-// The same, as the machine does it.
-fn whole(alloc: Global, bytes: &[u8]) -> Result<Scenario, LangFault>
+// Its parts, as the machine reads them.
+fn whole(alloc: Global, bytes: &[u8]) -> Result<Parts, LangFault>
     requires { length bytes.now < 2 ^ 32 - 1 }
     ensures { Reading result no_names scenario declared (λ s. spell_scenario s ++ any End ∷ []) HasConditions (tokens start bytes.now) [] }
 {
@@ -71,7 +72,7 @@ fn whole(alloc: Global, bytes: &[u8]) -> Result<Scenario, LangFault>
     let ats = ats(alloc, &mut tokens, header.processors, known_scripts)?;
     let turns = turns(alloc, &mut tokens, header.processors)?;
     end(&mut tokens)?;
-    Ok(Scenario {
+    Ok(Parts {
         processors: header.processors,
         pages: header.pages,
         deferred: header.deferred,

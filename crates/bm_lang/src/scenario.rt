@@ -2,6 +2,7 @@
 
 use crate::items::Items;
 use bm_word::Name;
+use std::marker::Model;
 
 /// One of the declared types, by its place in the order of their declarations, from 0.
 #[derive(Clone, Copy, Debug, PartialEq, Eq)]
@@ -15,10 +16,53 @@ pub struct MapId(pub usize);
 #[derive(Clone, Copy, Debug, PartialEq, Eq)]
 pub struct ScriptId(pub usize);
 
-/// A scenario: what a machine has, what its objects are, and what its processors do. The language is this project's
-/// own.
+/// A scenario: what a machine has, what its objects are, and what its processors do. Line numbers apart, some text has
+/// it as its reading. Contracts see its parts. Only `read_scenario` makes one. The language is this project's own.
 #[derive(Debug, Drop)]
 pub struct Scenario {
+    parts: Parts,
+}
+
+impl Model for Scenario {
+    ghost use Rattle.std.specs.Coded.{codes};
+    ghost use Rattle.bm_lang.specs.contracts.scenario.Block as block;
+    ghost use Rattle.bm_lang.specs.declared.scenario.Parts.{Parts};
+    ghost use Rattle.bm_lang.specs.Scenarios.{IsFine};
+
+    ghost Value = { Parts };
+
+    ghost coded = { Prim.hlevel (codes, block.the_row.coded) };
+
+    ghost view = { λ s. s.parts };
+
+    ghost invariant = { λ s. IsFine s.parts };
+}
+
+impl Scenario {
+    ghost use Rattle.std.specs.Prelude.{◌≡◌};
+    ghost use Rattle.bm_lang.specs.Scenarios.{IsFine};
+
+    // The scenario of what was read.
+    pub(crate) fn new(parts: Parts) -> Scenario
+        requires { IsFine parts }
+        ensures { result ≡ parts }
+    {
+        Scenario { parts }
+    }
+
+    /// Its parts.
+    pub fn parts(&self) -> &Parts
+        ensures value { result.now ≡ self.now }
+        // Line numbers apart, some text has them as its reading.
+        ensures fine { IsFine self.now }
+    {
+        &self.parts
+    }
+}
+
+/// The parts of a scenario, in the order of its text.
+#[derive(Debug, Drop)]
+pub struct Parts {
     /// How many processors there are, at least 1.
     pub processors: u32,
     /// How many pages of memory the stock begins with.

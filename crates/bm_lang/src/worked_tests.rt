@@ -1,7 +1,7 @@
 //! Worked scenarios: each text is read, printed, and read again.
 
 use super::*;
-use std::alloc::Global;
+use std::alloc::{AllocError, Global};
 use std::test::Fail;
 
 // Texts with every form of the language.
@@ -267,5 +267,168 @@ fn worked_scenarios_are_printed_and_read_again(rt: HostRuntime) -> Result<(), Fa
         let twice = printed(rt.alloc(), &once)?;
         assert!(rt; once == twice, "{text}");
     }
+    Ok(())
+}
+
+// A piece of a generated script: its text, with so many numbers below a bound between its two halves.
+struct Piece {
+    before: &'static str,
+    numbers: u32,
+    below: u64,
+    after: &'static str,
+}
+
+// The six pieces that a generated script is made of.
+const PIECES: [Piece; 6] = [
+    Piece {
+        before: "new x job",
+        numbers: 2,
+        below: 100,
+        after: "\nif x {\nlock q\npush_back q x\nunlock\n}\n",
+    },
+    Piece {
+        before: "lock q\npop_front x q\nunlock\nif x {\ndrop x\n}\n",
+        numbers: 0,
+        below: 1,
+        after: "",
+    },
+    Piece {
+        before: "new x node",
+        numbers: 1,
+        below: 50,
+        after: "\nif x {\nlock t\nadd t x\nunlock\n}\n",
+    },
+    Piece {
+        before: "lock t\nfirst f t\nremove g t f\nunlock\nif g {\ndrop g\n}\n",
+        numbers: 0,
+        below: 1,
+        after: "",
+    },
+    Piece {
+        before: "new x part",
+        numbers: 1,
+        below: 100,
+        after: "\nif x {\nxchg o spare x\nif o {\ndrop o\n}\n}\n",
+    },
+    Piece {
+        before: "yield\n",
+        numbers: 0,
+        below: 1,
+        after: "",
+    },
+];
+
+// What stands before the scripts of a generated scenario.
+const FRONT: &str = "\
+scenario {
+processors 4
+pages 64
+deferred on
+type job counted list {
+a b
+}
+type node tree {
+k
+}
+type part counted {
+v
+}
+slot spare part
+list q job
+tree t node
+";
+
+// What stands behind the scripts, up to the first four turns.
+const BACK: &str = "\
+script h handler {
+new x part 7
+if x {
+xchg o spare x
+if o {
+drop o
+}
+}
+}
+run 0 p0
+run 1 p1
+run 2 p2
+run 3 p3
+at 0 100 1 h
+at 1 200 2 h
+turns {
+0 1 2 3";
+
+// The next number below a bound, drawn from a state.
+fn draw(state: &mut u64, below: u64) -> u64 {
+    *state = state
+        .wrapping_mul(6_364_136_223_846_793_005)
+        .wrapping_add(1_442_695_040_888_963_407);
+    (*state >> 33).checked_rem(below).unwrap_or(0)
+}
+
+// A piece with its numbers drawn.
+fn put_piece(
+    alloc: Global,
+    text: &mut String,
+    state: &mut u64,
+    piece: &Piece,
+) -> Result<(), AllocError> {
+    text.push_str(piece.before)?;
+    for _ in 0..piece.numbers {
+        let number = draw(state, piece.below);
+        let word = format!(in alloc; " {number}")?;
+        text.push_str(word.as_str())?;
+    }
+    text.push_str(piece.after)?;
+    Ok(())
+}
+
+// A script of 400 pieces, each drawn from the six.
+fn put_pieces(alloc: Global, text: &mut String, state: &mut u64) -> Result<(), AllocError> {
+    for _ in 0..400 {
+        if let Some(piece) = PIECES.get(draw(state, 6) as usize) {
+            put_piece(alloc, text, state, piece)?;
+        }
+    }
+    text.push_str("}\n")?;
+    Ok(())
+}
+
+// A scenario with a script of drawn pieces for each of four processors, in the layout of what is printed.
+fn generated(alloc: Global) -> Result<String, AllocError> {
+    let mut text = String::from_str(alloc, FRONT)?;
+    let mut state = 7;
+    for processor in 0..4u32 {
+        let line = format!(in alloc; "script p{processor} plain {{\n")?;
+        text.push_str(line.as_str())?;
+        put_pieces(alloc, &mut text, &mut state)?;
+    }
+    text.push_str(BACK)?;
+    for _ in 1..400 {
+        text.push_str(" 0 1 2 3")?;
+    }
+    text.push_str("\n}\n}\n")?;
+    Ok(text)
+}
+
+// The checksum of a text by FNV-1a, in 64 bits.
+fn checksum(text: &[u8]) -> u64 {
+    let mut sum: u64 = 14_695_981_039_346_656_037;
+    for byte in text {
+        sum = (sum ^ *byte as u64).wrapping_mul(1_099_511_628_211);
+    }
+    sum
+}
+
+// The length and the checksum of the generated scenario were computed outside, from a text that was made elsewhere.
+#[test]
+fn a_generated_scenario_is_printed_and_read_again(rt: HostRuntime) -> Result<(), Fail> {
+    let text = generated(rt.alloc())?;
+    assert_eq!(rt; text.len(), 70_643);
+    assert_eq!(rt; checksum(text.as_bytes()), 15_285_005_330_595_055_371);
+    let once = printed(rt.alloc(), text.as_bytes())?;
+    assert!(rt; once.as_slice() == text.as_bytes());
+    let twice = printed(rt.alloc(), &once)?;
+    assert!(rt; twice == once);
     Ok(())
 }

@@ -9,3 +9,4 @@ pub mod Wrong
 pub mod WrongScripts
 pub mod WrongSweep
 pub mod Opening
+pub mod WrongOpening

@@ -1,5 +1,5 @@
 -- What the caches of the least class begin with, computed.
-use Rattle.std.proofs.Common.{◌≡◌, ℕ, List, [], ◌∷◌, refl}
+use Rattle.std.proofs.Common.{◌≡◌, [], ◌∷◌, refl}
 use Rattle.bm_class.specs.Sizes.{size_of_class}
 use Rattle.bm_page.specs.Stock.{fetched, given, is_stock_of, least_below, next_unit, unit_given}
 use Rattle.bm_lawful.specs.Fills.{fresh_stock, numbers_of, prefill}

@@ -6,7 +6,7 @@ use Rattle.bm_journal.specs.declared.units.Units.TheVariants.{Whole}
 use Rattle.bm_journal.specs.declared.entry.Entry.{Entry}
 use Rattle.bm_journal.specs.declared.entry.Entry.TheVariants as entry
 use Rattle.bm_lang.specs.declared.scenario.Block.{Block}
-use Rattle.bm_lang.specs.declared.scenario.Scenario.{Scenario}
+use Rattle.bm_lang.specs.declared.scenario.Parts.{Parts}
 use Rattle.bm_lang.specs.declared.scenario.Script.{Script}
 use Rattle.bm_law.specs.State.{State, seven_lists}
 use Rattle.bm_law.specs.Lists.{Log, Leaves, lists_of}
@@ -28,7 +28,7 @@ of-ordinary [] = refl
 of-ordinary (e ∷ own) = ap (λ v. e ∷ v) (of-ordinary own)
 
 -- a log whose entries don't all name what is there
-pub unlisted : (s : Scenario) (log : Log) → lists_of 0 log ≡ None → LawfulLog s 0 log → ⊥
+pub unlisted : (s : Parts) (log : Log) → lists_of 0 log ≡ None → LawfulLog s 0 log → ⊥
 unlisted s log e h = apart e (lists-leaves 0 log h.last h.lists)
   where
     apart : {A : Type 0} {a : Option A} {b : A} → a ≡ None → a ≡ Some b → ⊥
@@ -79,7 +79,7 @@ made-of pages body own h =
     }
 
 -- the entries of a lawful log are those that it is made of
-pub own-is : (s : Scenario) (p : ℕ) (log : Log) (h : LawfulLog s p log) → h.own ≡ entries_of log
+pub own-is : (s : Parts) (p : ℕ) (log : Log) (h : LawfulLog s p log) → h.own ≡ entries_of log
 own-is s p log h = sym (of-ordinary h.own) ∙ ap entries_of (sym h.log_is)
 
 pub log-made : (pages : ℕ) (body : Block) (log : Log) → LawfulLog (scenario_of pages body) 0 log → IsMade body (entries_of log)
@@ -92,6 +92,6 @@ same-log : {a b : Log} → Some a ≡ Some b → a ≡ b
 same-log e = cc
 
 -- one log is the only one
-pub one-log : (s : Scenario) (log : Log) → LawfulLog s 0 log → (p : ℕ) (other : Log) → slice_get (log ∷ []) p ≡ Some other → LawfulLog s p other
+pub one-log : (s : Parts) (log : Log) → LawfulLog s 0 log → (p : ℕ) (other : Log) → slice_get (log ∷ []) p ≡ Some other → LawfulLog s p other
 one-log s log h zero other e = subst (LawfulLog s 0) (same-log e) h
 one-log s log h (suc p) other e = none-some e

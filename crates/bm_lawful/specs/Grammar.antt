@@ -2,11 +2,10 @@
 use Rattle.std.specs.Prelude.{◌≡◌, ℕ, zero, suc, ◌+◌, List, [], ◌∷◌, ◌++◌, Some, nat_eq, slice_get}
 use Rattle.std.specs.List.{filter}
 use Rattle.bm_journal.specs.declared.ids.Domain.TheVariants.{Plain}
-use Rattle.bm_journal.specs.declared.units.Units.TheVariants.{Whole}
 use Rattle.bm_journal.specs.declared.entry.Entry.{Entry}
 use Rattle.bm_journal.specs.declared.entry.Entry.TheVariants as entry
 use Rattle.bm_lang.specs.declared.scenario.RunLine.{RunLine}
-use Rattle.bm_lang.specs.declared.scenario.Scenario.{Scenario}
+use Rattle.bm_lang.specs.declared.scenario.Parts.{Parts}
 use Rattle.bm_lang.specs.declared.scenario.Script.{Script}
 use Rattle.bm_law.specs.State.{State, seven_lists}
 use Rattle.bm_law.specs.Alone.{at_level}
@@ -23,7 +22,7 @@ ordinary own = at_level 0 own
 
 -- A script in its plain section, whose word is w inside: its block runs from names that hold nothing to names that
 -- own nothing.
-pub record IsScript (s : Scenario) (script : Script) (w : ℕ) (own : List Entry) : Type 0 where
+pub record IsScript (s : Parts) (script : Script) (w : ℕ) (own : List Entry) : Type 0 where
   pub part : List Entry
   pub after : Names
   pub own_is : own ≡ entry.Script script.name ∷ entry.In Plain w ∷ part ++ entry.Out Plain (w + 1) ∷ entry.Done script.name ∷ []
@@ -31,7 +30,7 @@ pub record IsScript (s : Scenario) (script : Script) (w : ℕ) (own : List Entry
   pub owns_nothing : (x : List ℕ) → OwnsNothing (after x)
 
 -- the scripts that these lines run, in order, where the plain section's word was w before
-abbrev pub AreScripts : Scenario → List RunLine → ℕ → List Entry → Type 0
+abbrev pub AreScripts : Parts → List RunLine → ℕ → List Entry → Type 0
 AreScripts s [] w own = own ≡ []
 AreScripts s (r ∷ rs) w own =
     (script : Script) × (slice_get s.scripts r.script.0 ≡ Some script) ×
@@ -64,7 +63,7 @@ close_of (suc p) = []
 
 -- The log of processor p, while there is one: the opening from a fresh stock, its scripts, and the closing, which sweeps what
 -- stands in the lists by then.
-pub record IsLog (s : Scenario) (p : ℕ) (own : List Entry) : Type 0 where
+pub record IsLog (s : Parts) (p : ℕ) (own : List Entry) : Type 0 where
   pub fills : List Entry
   pub scripts : List Entry
   pub sweeps : List Entry

@@ -3,7 +3,7 @@ use Rattle.std.specs.Prelude.{◌≡◌, ℕ, List, [], Some, length, map, slice
 use Rattle.bm_journal.specs.declared.entry.Entry.{Entry}
 use Rattle.bm_journal.specs.declared.journal.Journal.{Journal}
 use Rattle.bm_journal.specs.Totals.{totals_of}
-use Rattle.bm_lang.specs.declared.scenario.Scenario.{Scenario}
+use Rattle.bm_lang.specs.declared.scenario.Parts.{Parts}
 use Rattle.bm_lang.specs.declared.scenario.Script.{Script}
 use Rattle.bm_lang.specs.declared.scenario.MapDeclaration.{MapDeclaration}
 use Rattle.bm_lang.specs.declared.scenario.TypeDeclaration.{TypeDeclaration}
@@ -15,7 +15,7 @@ use Rattle.bm_lawful.specs.Opened.{opened}
 use Rattle.bm_lawful.specs.Grammar.{IsLog, ordinary}
 
 -- The heading names what the scenario declares.
-pub record HeadingOf (s : Scenario) (j : Journal) : Type 0 where
+pub record HeadingOf (s : Parts) (j : Journal) : Type 0 where
   pub processors : j.processors ≡ s.processors
   pub pages : j.pages ≡ s.pages
   pub types : j.types ≡ map (λ (t : TypeDeclaration). t.name) s.types
@@ -25,7 +25,7 @@ pub record HeadingOf (s : Scenario) (j : Journal) : Type 0 where
 
 -- A log of processor p: what it is made of, the lists that it leaves, in which nothing stands at its end, and when its
 -- allocations answer null.
-pub record LawfulLog (s : Scenario) (p : ℕ) (log : Log) : Type 0 where
+pub record LawfulLog (s : Parts) (p : ℕ) (log : Log) : Type 0 where
   pub own : List Entry
   pub log_is : log ≡ ordinary own
   pub is_log : IsLog s p own
@@ -34,7 +34,7 @@ pub record LawfulLog (s : Scenario) (p : ℕ) (log : Log) : Type 0 where
   pub emptied : Emptied last
   pub null : NullLaw p log
 
-pub record Lawful (s : Scenario) (j : Journal) : Type 0 where
+pub record Lawful (s : Parts) (j : Journal) : Type 0 where
   pub heading : HeadingOf s j
   pub count : length j.logs ≡ s.processors
   pub logs : (p : ℕ) (log : Log) → slice_get j.logs p ≡ Some log → LawfulLog s p log

@@ -13,7 +13,7 @@ use Rattle.bm_journal.specs.declared.journal.Journal.{Journal}
 use Rattle.bm_journal.specs.WellFormed.{are_whole}
 use Rattle.bm_lang.specs.declared.scenario.Action.{New, Drop, If', None', Repeat}
 use Rattle.bm_lang.specs.declared.scenario.Block.{Block, roll-Block}
-use Rattle.bm_lang.specs.declared.scenario.Scenario.{Scenario}
+use Rattle.bm_lang.specs.declared.scenario.Parts.{Parts}
 use Rattle.bm_lang.specs.declared.scenario.Script.{Script}
 use Rattle.bm_lang.specs.declared.scenario.ScriptKind.TheVariants as kind
 use Rattle.bm_lang.specs.declared.scenario.Statement.{Statement}
@@ -70,7 +70,7 @@ script_of line name body = record { line = line; name = name; kind = kind.Plain;
 -- ---- the scenarios
 
 -- one processor with so many pages, which runs one plain script with this body
-abbrev pub scenario_of : ℕ → Block → Scenario
+abbrev pub scenario_of : ℕ → Block → Parts
 scenario_of pages body = record {
   processors = 1;
   pages = pages;
@@ -84,14 +84,14 @@ scenario_of pages body = record {
 }
 
 -- an object is made and dropped: with one page, and with none
-abbrev pub one_object : Scenario
+abbrev pub one_object : Parts
 one_object = scenario_of 1 (makes_and_drops 7 8 9)
 
-abbrev pub no_object : Scenario
+abbrev pub no_object : Parts
 no_object = scenario_of 0 (makes_and_drops 7 8 9)
 
 -- Two scripts, of which the second one runs first. There is no page.
-abbrev pub three_calls : Scenario
+abbrev pub three_calls : Parts
 three_calls = record no_object {
   scripts = script_of 6 (codes "main") (makes_and_drops 7 8 9) ∷ script_of 10 (codes "twice") (makes_and_drops_twice 11 12) ∷ [];
   runs = record { line = 13; processor = 0; script = record { 0 = 1 } } ∷ record { line = 14; processor = 0; script = record { 0 = 0 } } ∷ [];

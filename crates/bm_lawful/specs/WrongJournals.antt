@@ -11,7 +11,7 @@ use Rattle.bm_journal.specs.declared.journal.Journal.{Journal}
 use Rattle.bm_journal.specs.Totals.{totals_of}
 use Rattle.bm_journal.specs.WellFormed.{are_whole}
 use Rattle.bm_lang.specs.declared.scenario.Block.{Block}
-use Rattle.bm_lang.specs.declared.scenario.Scenario.{Scenario}
+use Rattle.bm_lang.specs.declared.scenario.Parts.{Parts}
 use Rattle.bm_law.specs.Lists.{Log}
 use Rattle.bm_lawful.specs.Grammar.{ordinary}
 use Rattle.bm_lawful.specs.WorkedJournal.{makes_x, block_of, scenario_of, one_page, asks, asked, took, took_none, gave, ended, swept, journal_of, one_object_log, one_object_journal, main_part, three_calls_journal}
@@ -73,7 +73,7 @@ never_dropped = telling never_dropped_log refl
 abbrev pub makes_alone : Block
 makes_alone = block_of (makes_x 7 ∷ []) (lit≤ tt) 9
 
-abbrev pub object_left : Scenario
+abbrev pub object_left : Parts
 object_left = scenario_of 1 makes_alone
 
 -- The object is dropped twice.
@@ -110,6 +110,13 @@ null_with_units_log = ordinary (asked one_page ++ took_none ++ ended ++ swept (3
 
 abbrev pub null_with_units : Journal
 null_with_units = telling null_with_units_log refl
+
+-- Nothing is brought at the opening, though there is a page, and the call answers null.
+abbrev pub not_opened_log : Log
+not_opened_log = ordinary (asked [] ++ took_none ++ ended)
+
+abbrev pub not_opened : Journal
+not_opened = telling not_opened_log refl
 
 -- The unit below the top is given.
 abbrev pub below_the_top_log : Log

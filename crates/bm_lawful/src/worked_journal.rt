@@ -5,7 +5,7 @@ ghost use Rattle.bm_journal.specs.JournalText.{journal_text};
 ghost use Rattle.bm_lawful.specs.Lawful.{Lawful};
 ghost use Rattle.bm_lawful.specs.WorkedJournal.{one_object, one_object_journal, no_object, no_object_journal, three_calls, three_calls_journal};
 ghost use Rattle.bm_lawful.specs.WorkedText.{lines_text, one_object_lines};
-ghost use Rattle.bm_lawful.specs.WrongJournals.{two_processors, other_type, other_script, one_map, one_history, other_dropped, other_value, other_class, two_pages, other_marks, one_step_more, two_logs, no_log, never_dropped, object_left, dropped_twice, null_with_units, below_the_top, not_counted, other_order, one_left_out, not_swept, not_closed, empty_swept, main_first, repeated_once};
+ghost use Rattle.bm_lawful.specs.WrongJournals.{not_opened, two_processors, other_type, other_script, one_map, one_history, other_dropped, other_value, other_class, two_pages, other_marks, one_step_more, two_logs, no_log, never_dropped, object_left, dropped_twice, null_with_units, below_the_top, not_counted, other_order, one_left_out, not_swept, not_closed, empty_swept, main_first, repeated_once};
 
 /// Lawful journals: of a script that makes an object and drops it, where there is a page, with its text; of the same script
 /// where there is none, so that nothing is made, dropped or swept; and of two scripts without a page, the second of which
@@ -18,7 +18,7 @@ pub fn worked_journals()
 {}
 
 /// Journals that aren't lawful, each one step away from one above: in the heading, the histories, a total or the number of
-/// logs; in the call and what it gives; in the drop, which is left out, stands twice, is of another object or doesn't count;
+/// logs; in the opening; in the call and what it gives; in the drop, which is left out, stands twice, is of another object or doesn't count;
 /// in the close and the sweep; in the order of the scripts; and in how often a block runs. The clause `object_left` is of a
 /// script that drops nothing, with exactly the journal that its run would leave.
 pub fn wrong_journals()
@@ -30,6 +30,7 @@ pub fn wrong_journals()
     ensures marks { ¬ Lawful one_object other_marks }
     ensures histories { ¬ Lawful one_object one_history }
     ensures totals { ¬ Lawful one_object one_step_more }
+    ensures opening { ¬ Lawful one_object not_opened }
     ensures two_logs { ¬ Lawful one_object two_logs }
     ensures no_log { ¬ Lawful one_object no_log }
     ensures value { ¬ Lawful one_object other_value }

@@ -6,7 +6,7 @@ use Rattle.bm_class.specs.Sizes.{class_of_size, size_of_class}
 use Rattle.bm_class.specs.Watermarks.{low_of_size, high_of_size}
 use Rattle.bm_journal.specs.declared.entry.Entry.{Entry}
 use Rattle.bm_journal.specs.declared.entry.Entry.TheVariants as entry
-use Rattle.bm_lang.specs.declared.scenario.Scenario.{Scenario}
+use Rattle.bm_lang.specs.declared.scenario.Parts.{Parts}
 use Rattle.bm_lang.specs.declared.scenario.TypeDeclaration.{TypeDeclaration}
 use Rattle.bm_law.specs.State.{State, Row, with_row}
 use Rattle.bm_law.specs.Effect.{effect}
@@ -146,7 +146,7 @@ spare-closed types c e = record {
   dropped = λ x names part after r. subst (AllSpare c) (sym r.part_is) (λ us s. refl, (λ us s. refl, spare-free c r.class r.unit r.home r.own (not-used types c r.class e (used types r.type.0 r.class r.declared r.of_class)) r.frees));
 }
 
-pub spare-covers : (s : Scenario) (c : ℕ) → list_any (uses_class c) s.types ≡ false → Covers s (λ d. list_any (uses_class d) s.types ≡ true) (AllSpare c)
+pub spare-covers : (s : Parts) (c : ℕ) → list_any (uses_class c) s.types ≡ false → Covers s (λ d. list_any (uses_class d) s.types ≡ true) (AllSpare c)
 spare-covers s c e = record {
   closed = spare-closed s.types c e;
   fill = λ d us o. (λ vs t. other-row c d _ t (not-used s.types c d e o), tt);

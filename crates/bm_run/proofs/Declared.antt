@@ -2,7 +2,7 @@
 use Rattle.std.proofs.Common.{◌≡◌, ℕ, suc, zero, Bool, true, false, ◌&&◌, List, [], ◌∷◌, ◌++◌, map, get_or, refl, IsSome, slice_get}
 use Rattle.std.specs.List.{list_all}
 use Rattle.std.specs.Option.{IsSomeAnd}
-use Rattle.bm_lang.specs.declared.scenario.Scenario.{Scenario}
+use Rattle.bm_lang.specs.declared.scenario.Parts.{Parts}
 use Rattle.bm_lang.specs.declared.scenario.TypeDeclaration.{TypeDeclaration}
 use Rattle.bm_lang.specs.Fine.{FineTypes, HasConditions}
 use Rattle.bm_lang.specs.Names.{TypeForm, has_size, runs_as}
@@ -22,5 +22,5 @@ found f [] i P h = absurd h
 found f (x ∷ xs) zero P h = refl
 found f (x ∷ xs) (suc i) P h = found f xs i P h
 
-pub all-declared : (s : Scenario) → HasConditions s → AllDeclared s
+pub all-declared : (s : Parts) → HasConditions s → AllDeclared s
 all-declared s h i d lt = found script_form s.scripts (get_or s.runs i d).script.0 (λ x. runs_as false x.kind ≡ true) (h.runs i d lt).script

@@ -6,7 +6,7 @@ use Rattle.bm_journal.specs.declared.entry.Entry.TheVariants as entry
 use Rattle.bm_journal.specs.Recording.{Kept as Recorded}
 use Rattle.bm_page.specs.declared.units.Stocked.{Stocked}
 use Rattle.bm_page.specs.Stock.{Stock, fetched}
-use Rattle.bm_lang.specs.declared.scenario.Scenario.{Scenario}
+use Rattle.bm_lang.specs.declared.scenario.Parts.{Parts}
 use Rattle.bm_law.specs.State.{State, Row, Side, seen, seven_lists, opening}
 use Rattle.bm_law.specs.Lists.{Log, Leaves, after}
 use Rattle.bm_law.specs.Null.{Nothing, RepliesFit}
@@ -82,11 +82,11 @@ no-tokens : (us : List Token) → map number_of us ≡ [] → us ≡ []
 no-tokens [] e = refl
 no-tokens (u ∷ us) e = cc
 
-never-used : (s : Scenario) (c : ℕ) → times c (opened_classes s.types) ≡ 0 → (b : Bool) → list_any (uses_class c) s.types ≡ b → list_any (uses_class c) s.types ≡ false
+never-used : (s : Parts) (c : ℕ) → times c (opened_classes s.types) ≡ 0 → (b : Bool) → list_any (uses_class c) s.types ≡ b → list_any (uses_class c) s.types ≡ false
 never-used s c none true e = absurd (let h = opened-has s.types c e in omega (arith, h, none))
 never-used s c none false e = e
 
-spared-rows : (s : Scenario) (pool : Stock) (c : ℕ) (c0 c2 : Caches Recorded) (l : Log) → c2.recorder.told ≡ Some l → IfSome c0.recorder.told (λ es. es ≡ fill_log (filling (opened_classes s.types) pool).fills) → Wrote s c0.recorder.told c2.recorder.told →
+spared-rows : (s : Parts) (pool : Stock) (c : ℕ) (c0 c2 : Caches Recorded) (l : Log) → c2.recorder.told ≡ Some l → IfSome c0.recorder.told (λ es. es ≡ fill_log (filling (opened_classes s.types) pool).fills) → Wrote s c0.recorder.told c2.recorder.told →
     Placed (λ (k : Recorded). k.told) (λ k. k.counted) c2 → c2.processor ≡ 0 → list_any (uses_class c) s.types ≡ false → seven_lists ((shown c2).rows c) ≡ []
 spared-rows s pool c c0 c2 l told opened wrote placed home never =
     let classes = opened_classes s.types in
@@ -108,7 +108,7 @@ told-some : (o : Option Log) → IsSome o → (l : Log) × (o ≡ Some l)
 told-some None h = cc
 told-some (Some l) h = (l, refl)
 
-pub unused-rows : (s : Scenario) (pool : Stock) (c0 c2 c3 : Caches Recorded) (told1 : Option Log) → IfSome c0.recorder.told (λ es. es ≡ fill_log (filling (opened_classes s.types) pool).fills) → Wrote s c0.recorder.told c2.recorder.told →
+pub unused-rows : (s : Parts) (pool : Stock) (c0 c2 c3 : Caches Recorded) (told1 : Option Log) → IfSome c0.recorder.told (λ es. es ≡ fill_log (filling (opened_classes s.types) pool).fills) → Wrote s c0.recorder.told c2.recorder.told →
     Gained (entry.Ended ∷ []) c2.recorder.told told1 → Gained (entry.Close ∷ []) told1 c3.recorder.told → shown c3 ≡ shown c2 →
     Placed (λ (k : Recorded). k.told) (λ k. k.counted) c2 → c2.processor ≡ 0 → IsSome c3.recorder.told → (c : ℕ) → times c (opened_classes s.types) ≡ 0 → seven_lists ((shown c3).rows c) ≡ []
 unused-rows s pool c0 c2 c3 told1 opened wrote g1 g2 same placed home some c none =
@@ -121,7 +121,7 @@ unused-rows s pool c0 c2 c3 told1 opened wrote g1 g2 same placed home some c non
 pub told-before : (own : List Entry) (a b : Option Log) → Gained own a b → IsSome b → IsSome a
 told-before own a b g some = let t = told-some b some in let z = told-by own a b t.0 t.1 g in subst (λ (o : Option Log). IsSome o) (sym z.told) refl
 
-pub lawful-log : (s : Scenario) (pool : Stock) → pool ≡ fresh_stock s.pages → (stock : List Stocked) (c0 c2 c3 c4 : Caches Recorded) (told1 : Option Log) (final : Log) →
+pub lawful-log : (s : Parts) (pool : Stock) → pool ≡ fresh_stock s.pages → (stock : List Stocked) (c0 c2 c3 c4 : Caches Recorded) (told1 : Option Log) (final : Log) →
     IfSome c0.recorder.told (λ es. es ≡ fill_log (filling (opened_classes s.types) pool).fills) → Wrote s c0.recorder.told c2.recorder.told →
     Gained (entry.Ended ∷ []) c2.recorder.told told1 → Gained (entry.Close ∷ []) told1 c3.recorder.told → shown c3 ≡ shown c2 →
     SweptAll (seen number_of (shown c3)) (opened_classes s.types) c3 c4 →

@@ -2,7 +2,7 @@
 use Rattle.std.proofs.Common.{◌≡◌, ℕ, true, List, [], ◌∷◌, ◌++◌, refl, sym, ap, subst, ◌∙◌, Option, Some, None, inl, inr}
 use Rattle.bm_journal.specs.declared.entry.Entry.{Entry}
 use Rattle.bm_journal.specs.declared.entry.Entry.TheVariants as entry
-use Rattle.bm_lang.specs.declared.scenario.Scenario.{Scenario}
+use Rattle.bm_lang.specs.declared.scenario.Parts.{Parts}
 use Rattle.bm_lang.specs.declared.scenario.TypeDeclaration.{TypeDeclaration}
 use Rattle.bm_law.specs.Null.{Asked, Nothing, RepliesFit, asked_at_end, all_apart}
 use Rattle.bm_law.specs.Phrases.{AllocPhrase}
@@ -44,7 +44,7 @@ fits-closed types = record {
   dropped = λ x names part after r. subst Fits (sym r.part_is) (fits-apart (entry.Drop r.unit r.life ∷ entry.Last ∷ r.own) (apart-free r.class r.unit r.home r.own r.frees));
 }
 
-pub fits-covers : (s : Scenario) → Covers s (λ c. Unit {0}) Fits
+pub fits-covers : (s : Parts) → Covers s (λ c. Unit {0}) Fits
 fits-covers s = record {
   closed = fits-closed s.types;
   fill = λ c us o. fits-apart _ refl;

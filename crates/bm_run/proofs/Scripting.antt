@@ -7,7 +7,7 @@ use Rattle.bm_journal.specs.declared.entry.Entry.{Entry}
 use Rattle.bm_journal.specs.declared.entry.Entry.TheVariants as entry
 use Rattle.bm_journal.specs.declared.counts.Counts.{Counts}
 use Rattle.bm_lang.specs.declared.scenario.RunLine.{RunLine}
-use Rattle.bm_lang.specs.declared.scenario.Scenario.{Scenario}
+use Rattle.bm_lang.specs.declared.scenario.Parts.{Parts}
 use Rattle.bm_lang.specs.declared.scenario.Script.{Script}
 use Rattle.bm_lang.specs.Limits.{cost_on, script_cost, block_cost}
 use Rattle.bm_law.specs.Lists.{Log}
@@ -37,7 +37,7 @@ fine-noted log counts t n l before now same p placed f = record {
   };
 }
 
-pub script-wrote : (s : Scenario) (script : Script) (word : ℕ) (part : List Entry) (after : Names) (log0 log1 log2 log3 log4 log5 : Option Log) →
+pub script-wrote : (s : Parts) (script : Script) (word : ℕ) (part : List Entry) (after : Names) (log0 log1 log2 log3 log4 log5 : Option Log) →
     Gained (entry.Script script.name ∷ []) log0 log1 → Gained (entry.In Plain (word + 1) ∷ []) log1 log2 → Gained part log2 log3 → Gained (entry.Out Plain (word + 2) ∷ []) log3 log4 → Gained (entry.Done script.name ∷ []) log4 log5 →
     RunsBlock s.types script.body no_names part after → ((x : List ℕ) → OwnsNothing (after x)) → (own : List Entry) × IsScript s script (word + 1) own × Gained own log0 log5
 script-wrote s script word part after log0 log1 log2 log3 log4 log5 a b c d e runs owns =
@@ -59,16 +59,16 @@ script-wrote s script word part after log0 log1 log2 log3 log4 log5 a b c d e ru
     )
 
 -- What the lines so far have left, and what all of them leave with what the others will.
-pub record Wrote_so_far (s : Scenario) (rest : List RunLine) (word : ℕ) (before now : Option Log) : Type 0 where
+pub record Wrote_so_far (s : Parts) (rest : List RunLine) (word : ℕ) (before now : Option Log) : Type 0 where
   pub own : List Entry
   pub gained : Gained own before now
   pub are : (more : List Entry) → AreScripts s (lines_of 0 rest) word more → AreScripts s (lines_of 0 s.runs) 0 (own ++ more)
 
-pub wrote-none : (s : Scenario) (log : Option Log) (g : Gained [] log log) → Wrote_so_far s s.runs 0 log log
+pub wrote-none : (s : Parts) (log : Option Log) (g : Gained [] log log) → Wrote_so_far s s.runs 0 log log
 wrote-none s log g = record { own = []; gained = g; are = λ more x. x }
 
 -- one line more
-pub wrote-line : (s : Scenario) (r : RunLine) (rest : List RunLine) (script : Script) (word : ℕ) (before middle now : Option Log) → r.processor ≡ 0 → slice_get s.scripts r.script.0 ≡ Some script →
+pub wrote-line : (s : Parts) (r : RunLine) (rest : List RunLine) (script : Script) (word : ℕ) (before middle now : Option Log) → r.processor ≡ 0 → slice_get s.scripts r.script.0 ≡ Some script →
     Wrote_so_far s (r ∷ rest) word before middle → (own : List Entry) × IsScript s script (word + 1) own × Gained own middle now → Wrote_so_far s rest (word + 2) before now
 wrote-line s r rest script word before middle now here e w x = record {
   own = w.own ++ x.0;
@@ -76,7 +76,7 @@ wrote-line s r rest script word before middle now here e w x = record {
   are = λ more y. rw (append_assoc w.own x.0 more) (w.are (x.0 ++ more) (rw (ap (λ p. nat_eq p 0) here) (script, e, (x.0, more, refl, x.1, y))));
 }
 
-pub wrote-other : (s : Scenario) (r : RunLine) (rest : List RunLine) (word : ℕ) (before now : Option Log) → nat_eq r.processor 0 ≡ false → Wrote_so_far s (r ∷ rest) word before now → Wrote_so_far s rest word before now
+pub wrote-other : (s : Parts) (r : RunLine) (rest : List RunLine) (word : ℕ) (before now : Option Log) → nat_eq r.processor 0 ≡ false → Wrote_so_far s (r ∷ rest) word before now → Wrote_so_far s rest word before now
 wrote-other s r rest word before now there w = record {
   own = w.own;
   gained = w.gained;
@@ -112,16 +112,16 @@ other-room scripts runs i d asked word lt le =
     let cost = cost-other scripts (get_or runs i d) (drop (i + 1) runs) in
     omega (arith, le, more, cost)
 
-pub lines-line : (s : Scenario) (i : ℕ) (d : RunLine) (script : Script) (word : ℕ) (before middle now : Option Log) → i < length s.runs → (get_or s.runs i d).processor ≡ 0 → slice_get s.scripts (get_or s.runs i d).script.0 ≡ Some script →
+pub lines-line : (s : Parts) (i : ℕ) (d : RunLine) (script : Script) (word : ℕ) (before middle now : Option Log) → i < length s.runs → (get_or s.runs i d).processor ≡ 0 → slice_get s.scripts (get_or s.runs i d).script.0 ≡ Some script →
     Wrote_so_far s (drop i s.runs) word before middle → (own : List Entry) × IsScript s script (word + 1) own × Gained own middle now → Wrote_so_far s (drop (i + 1) s.runs) (word + 2) before now
 lines-line s i d script word before middle now lt here e w x =
     wrote-line s (get_or s.runs i d) (drop (i + 1) s.runs) script word before middle now here e (subst (λ l. Wrote_so_far s l word before middle) (drop_more s.runs i d lt) w) x
 
-pub lines-other : (s : Scenario) (i : ℕ) (d : RunLine) (word : ℕ) (before now : Option Log) → i < length s.runs → (get_or s.runs i d).processor ≢ 0 → Wrote_so_far s (drop i s.runs) word before now → Wrote_so_far s (drop (i + 1) s.runs) word before now
+pub lines-other : (s : Parts) (i : ℕ) (d : RunLine) (word : ℕ) (before now : Option Log) → i < length s.runs → (get_or s.runs i d).processor ≢ 0 → Wrote_so_far s (drop i s.runs) word before now → Wrote_so_far s (drop (i + 1) s.runs) word before now
 lines-other s i d word before now lt there w =
     wrote-other s (get_or s.runs i d) (drop (i + 1) s.runs) word before now (ne_eqb (get_or s.runs i d).processor 0 there) (subst (λ l. Wrote_so_far s l word before now) (drop_more s.runs i d lt) w)
 
-pub lines-all : (s : Scenario) (i word : ℕ) (before now : Option Log) → drop i s.runs ≡ [] → Wrote_so_far s (drop i s.runs) word before now → Wrote s before now
+pub lines-all : (s : Parts) (i word : ℕ) (before now : Option Log) → drop i s.runs ≡ [] → Wrote_so_far s (drop i s.runs) word before now → Wrote s before now
 lines-all s i word before now none w =
     let v = subst (λ l. Wrote_so_far s l word before now) none w in
     record { own = v.own; gained = v.gained; are = subst (λ l. AreScripts s (lines_of 0 s.runs) 0 l) (append-nil v.own) (v.are [] refl) }

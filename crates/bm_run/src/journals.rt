@@ -28,7 +28,7 @@ use bm_check::Checked;
 use bm_class::Class;
 use bm_exec::{Machine0, Types};
 use bm_journal::{Entry, Histories, Journal, Log, Logs, Names, Opened, Recorder, totals_of};
-use bm_lang::{Scenario, Script, TypeDeclaration};
+use bm_lang::{Parts, Script, TypeDeclaration};
 use bm_word::NoMemory;
 use std::alloc::Global;
 
@@ -66,7 +66,7 @@ fn one_log(alloc: Global, log: Log) -> Result<Logs, NoMemory>
 // The journal of a log.
 fn journal_of(
     alloc: Global,
-    scenario: &Scenario,
+    scenario: &Parts,
     classes: &[Class],
     log: Log,
 ) -> Result<Journal, NoMemory>
@@ -139,7 +139,7 @@ fn close(alloc: Global, machine: Machine0, classes: &[Class], word: u32) -> Resu
 // The log of a run.
 fn log_of(
     alloc: Global,
-    scenario: &Scenario,
+    scenario: &Parts,
     classes: &[Class],
     opened: &[Class],
 ) -> Result<Log, NoMemory>
@@ -168,11 +168,10 @@ fn log_of(
 /// Runs a checked scenario of the forms that run by now, and gives its journal, which is lawful. Its time grows with the
 /// statements run. Want of memory is the only refusal.
 pub fn replay(alloc: Global, checked: &Checked) -> Result<Journal, NoMemory>
-    requires fine { HasConditions checked.now }
-    requires yet { RunsYet checked.now }
+    requires { RunsYet checked.now }
     ensures { IfOk result (Lawful checked.now) }
 {
-    let scenario = checked.scenario();
+    let scenario = checked.scenario().parts();
     let types = scenario.types.as_slice();
     let classes = type_classes(alloc, types)?;
     let opened = opened_classes(alloc, types, classes.as_slice())?;

@@ -18,7 +18,7 @@ ghost use Rattle.bm_built.specs.Yet.{RunsYet};
 
 use bm_exec::{Machine0, Stopped, Types, run_script};
 use bm_journal::{Domain, Entry, Level};
-use bm_lang::{Scenario, Script};
+use bm_lang::{Parts, Script};
 use bm_word::NoMemory;
 use std::alloc::Global;
 
@@ -40,7 +40,7 @@ fn run_line<'s>(
     alloc: Global,
     machine: &mut Machine0,
     types: &Types<'s>,
-    scenario: &Scenario,
+    scenario: &Parts,
     script: &'s Script,
     word: u32,
 ) -> Stopped
@@ -75,7 +75,7 @@ pub(crate) fn run_lines<'s>(
     alloc: Global,
     machine: &mut Machine0,
     types: &Types<'s>,
-    scenario: &'s Scenario,
+    scenario: &'s Parts,
 ) -> Result<u32, NoMemory>
     requires sound { Sound machine.old }
     requires classes { Classes types.now.declared.now types.now.classes.now }

@@ -1,7 +1,7 @@
 -- Causes of refusals.
 use Rattle.std.proofs.Common.{◌≡◌, ℕ, ◌≤◌, Bool, false, List, Option, Some, None, Result, Ok, Err, length, IfSome, IsSomeAnd, IfErr, slice_get, refl, subst, ◌∙◌}
 use Rattle.bm_lang.specs.declared.place.Place.{Place}
-use Rattle.bm_lang.specs.declared.scenario.Scenario.{Scenario}
+use Rattle.bm_lang.specs.declared.scenario.Parts.{Parts}
 use Rattle.bm_lang.specs.declared.scenario.Script.{Script}
 use Rattle.bm_lang.specs.Limits.{first_limit}
 use Rattle.bm_lang.specs.Scenarios.{Reads}
@@ -46,7 +46,7 @@ named scripts place name h = found (slice_get scripts place) refl h
     found None e h = absurd h
 
 -- scripts that aren't accepted
-pub rejected : (c : Command) (bytes : List ℕ) (s : Scenario) (r : Refusal) → length bytes ≤ input_limit → Reads bytes s → IsBuilt c bytes → first_limit s ≡ None → IsRejection s r → (before after : ℕ) → InputCause c (Some bytes) before after r
+pub rejected : (c : Command) (bytes : List ℕ) (s : Parts) (r : Refusal) → length bytes ≤ input_limit → Reads bytes s → IsBuilt c bytes → first_limit s ≡ None → IsRejection s r → (before after : ℕ) → InputCause c (Some bytes) before after r
 rejected c bytes s refusal.Usage short reads built within h before after = absurd h
 rejected c bytes s refusal.ReadFailed short reads built within h before after = absurd h
 rejected c bytes s refusal.WriteFailed short reads built within h before after = absurd h
@@ -57,8 +57,8 @@ rejected c bytes s (refusal.Rejected name line rule) short reads built within h 
     record { within = short; scenario = s; reads = reads; built = built; limits = within; place = h.0; rejected = h.1; script = n.0; here = n.1; name_is = n.2 }
 rejected c bytes s (refusal.Limit l) short reads built within h before after = absurd h
 
-pub as_given : (s given : Scenario) (r : Refusal) → given ≡ s → IsRejection given r → IsRejection s r
-as_given s given r e h = subst (λ (s : Scenario). IsRejection s r) e h
+pub as_given : (s given : Parts) (r : Refusal) → given ≡ s → IsRejection given r → IsRejection s r
+as_given s given r e h = subst (λ (s : Parts). IsRejection s r) e h
 
 first_none : (p : Option Place) → earlier p None ≡ None → p ≡ None
 first_none None h = refl

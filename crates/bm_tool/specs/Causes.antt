@@ -6,7 +6,7 @@ use Rattle.bm_lang.specs.declared.bounds.Limit.{Limit}
 use Rattle.bm_lang.specs.declared.bounds.Limit.TheVariants.{Input}
 use Rattle.bm_lang.specs.declared.fault.BadText.{BadText}
 use Rattle.bm_lang.specs.declared.place.Place.{Place}
-use Rattle.bm_lang.specs.declared.scenario.Scenario.{Scenario}
+use Rattle.bm_lang.specs.declared.scenario.Parts.{Parts}
 use Rattle.bm_lang.specs.declared.scenario.Script.{Script}
 use Rattle.bm_lang.specs.Limits.{first_limit}
 use Rattle.bm_lang.specs.Machine.{fault_of}
@@ -34,14 +34,14 @@ command_fault (Replay totals) fault bytes = earlier (unbuilt_before fault false 
 
 -- a text without a reading, with its fault by the whole language
 pub record IsUnread (bytes : List ℕ) (fault : BadText) : Type 0 where
-  pub none : (s : Scenario) → Reads bytes s → ⊥
+  pub none : (s : Parts) → Reads bytes s → ⊥
   pub first : fault_of bytes ≡ Some fault
 
 -- The fault of a text that is refused: it has no reading, or a form that can't be run yet.
 abbrev pub IsRefused : Command → List ℕ → BadText → Type 0
 IsRefused c bytes bad =
     ((fault : BadText) × IsUnread bytes fault × (command_fault c (Some fault) bytes ≡ Some bad))
-    ⊎ ((s : Scenario) × Reads bytes s × (command_fault c None bytes ≡ Some bad))
+    ⊎ ((s : Parts) × Reads bytes s × (command_fault c None bytes ≡ Some bad))
 
 -- all forms of a text can be run
 abbrev pub IsBuilt : Command → List ℕ → Type 0
@@ -51,13 +51,13 @@ IsBuilt c bytes = command_fault c None bytes ≡ None
 abbrev pub IsExceeded : Command → List ℕ → Limit → Type 0
 IsExceeded c bytes l =
     ((l ≡ Input) × (input_limit < length bytes))
-    ⊎ ((length bytes ≤ input_limit) × IsBuilt c bytes × ((s : Scenario) × Reads bytes s × (first_limit s ≡ Some l)))
+    ⊎ ((length bytes ≤ input_limit) × IsBuilt c bytes × ((s : Parts) × Reads bytes s × (first_limit s ≡ Some l)))
 
 -- The script of this name is the first that isn't accepted, with its first broken rule and that rule's line. The text
 -- isn't refused before.
 pub record IsScriptRejected (c : Command) (bytes name : List ℕ) (line : ℕ) (rule : Rule) : Type 0 where
   pub within : length bytes ≤ input_limit
-  pub scenario : Scenario
+  pub scenario : Parts
   pub reads : Reads bytes scenario
   pub built : IsBuilt c bytes
   pub limits : first_limit scenario ≡ None
@@ -68,7 +68,7 @@ pub record IsScriptRejected (c : Command) (bytes name : List ℕ) (line : ℕ) (
   pub name_is : script.name ≡ name
 
 -- the refusal of a scenario not all of whose scripts are accepted, where memory didn't run out
-abbrev pub IsRejection : Scenario → Refusal → Type 0
+abbrev pub IsRejection : Parts → Refusal → Type 0
 IsRejection s refusal.OutOfMemory = ⊤
 IsRejection s (refusal.Rejected name line rule) = (place : ℕ) × IsRejected s place line rule × IsSomeAnd (slice_get s.scripts place) (λ (x : Script). x.name ≡ name)
 IsRejection s refusal.Usage = ⊥

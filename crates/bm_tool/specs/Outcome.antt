@@ -5,7 +5,7 @@ use Rattle.bm_text.specs.Faults.{Rose}
 use Rattle.bm_text.specs.Sink.{AllFlushed}
 use Rattle.bm_journal.specs.declared.journal.Journal.{Journal}
 use Rattle.bm_journal.specs.JournalText.{journal_text, totals_text}
-use Rattle.bm_lang.specs.declared.scenario.Scenario.{Scenario}
+use Rattle.bm_lang.specs.declared.scenario.Parts.{Parts}
 use Rattle.bm_lang.specs.Limits.{first_limit}
 use Rattle.bm_lang.specs.Scenarios.{Reads}
 use Rattle.bm_check.specs.Scripts.{AllAccepted}
@@ -17,7 +17,7 @@ use Rattle.bm_tool.specs.Causes.{IsBuilt, Cause}
 use Rattle.bm_tool.specs.Refusals.{input_limit, status_of, line_of, Told}
 
 -- the bytes are read as this scenario, which is within the limits, and whose scripts are accepted
-pub record IsPrepared (c : Command) (bytes : List ℕ) (s : Scenario) : Type 0 where
+pub record IsPrepared (c : Command) (bytes : List ℕ) (s : Parts) : Type 0 where
   pub within : length bytes ≤ input_limit
   pub reads : Reads bytes s
   pub built : IsBuilt c bytes
@@ -27,17 +27,17 @@ pub record IsPrepared (c : Command) (bytes : List ℕ) (s : Scenario) : Type 0 w
 -- what a command asks of its input: a reading, in forms that it can serve, within the limits, with accepted scripts
 pub record IsServable (c : Command) (bytes : List ℕ) : Type 0 where
   pub within : length bytes ≤ input_limit
-  pub reading : Scenario
+  pub reading : Parts
   pub reads : Reads bytes reading
   pub built : IsBuilt c bytes
-  pub limits : (s : Scenario) → Reads bytes s → first_limit s ≡ None
-  pub accepted : (s : Scenario) → Reads bytes s → AllAccepted s
+  pub limits : (s : Parts) → Reads bytes s → first_limit s ≡ None
+  pub accepted : (s : Parts) → Reads bytes s → AllAccepted s
 
 -- What a command answers of the bytes that were left in the source: `replay` a lawful journal, `check` none.
 abbrev pub Serves : Command → Option (List ℕ) → Option Journal → Type 0
-Serves Check left journal = (journal ≡ None) × IfSome left (λ bytes. (s : Scenario) × IsPrepared Check bytes s)
+Serves Check left journal = (journal ≡ None) × IfSome left (λ bytes. (s : Parts) × IsPrepared Check bytes s)
 Serves (Replay totals) left None = ⊥
-Serves (Replay totals) left (Some journal) = IfSome left (λ bytes. (s : Scenario) × IsPrepared (Replay totals) bytes s × Lawful s journal)
+Serves (Replay totals) left (Some journal) = IfSome left (λ bytes. (s : Parts) × IsPrepared (Replay totals) bytes s × Lawful s journal)
 
 -- what a command writes: the text of the journal, or its lines of totals alone, or that the scripts are accepted
 abbrev pub out_text : Command → Option Journal → List ℕ

@@ -14,7 +14,7 @@ use bm_built::{built_scenarios_run, first_unbuilt};
 use bm_check::{CheckFault, Checked, check};
 use bm_command::Command;
 use bm_journal::{Journal, Totals, put_totals, text_of};
-use bm_lang::{BadKind, BadText, LangFault, Scenario, limits, read_scenario};
+use bm_lang::{BadKind, BadText, LangFault, Parts, Scenario, limits, read_scenario};
 use bm_run::replay;
 use bm_word::NoMemory;
 use std::alloc::Global;
@@ -65,7 +65,7 @@ fn read(alloc: Global, command: Command, bytes: &[u8]) -> Result<Scenario, Refus
 }
 
 // The refusal of a scenario that isn't checked.
-fn rejection(fault: CheckFault, scenario: &Scenario) -> Refusal
+fn rejection(fault: CheckFault, scenario: &Parts) -> Refusal
     requires { IsFault fault scenario.now }
     ensures { IsRejection scenario.now result }
 {
@@ -96,7 +96,7 @@ pub(crate) fn prepare(alloc: Global, command: Command, bytes: &[u8]) -> Result<C
     }
     match check(alloc, scenario) {
         Ok(checked) => Ok(checked),
-        Err((fault, scenario)) => Err(rejection(fault, &scenario)),
+        Err((fault, scenario)) => Err(rejection(fault, scenario.parts())),
     }
 }
 

@@ -1,4 +1,4 @@
-use Rattle.bm_lang.proofs.Parts.{parts_have_tokens}
+use Rattle.bm_lang.proofs.TextParts.{parts_have_tokens}
 use Rattle.bm_lang.proofs.law.parts_are_tokens.Goals as goal
 
 pub returns : goal.returns

@@ -1,4 +1,5 @@
 use Rattle.bm_lawful.proofs.Wrong.{two_pages-wrong, other_marks-wrong, one_step_more-wrong, two_logs-wrong, no_log-wrong, null_with_units-wrong, below_the_top-wrong, never_dropped-wrong, object_left-wrong, dropped_twice-wrong, not_counted-wrong, other_order-wrong, one_left_out-wrong, not_swept-wrong, not_closed-wrong, two_processors-wrong, other_type-wrong, other_script-wrong, one_map-wrong, one_history-wrong, other_dropped-wrong, other_value-wrong, other_class-wrong}
+use Rattle.bm_lawful.proofs.WrongOpening.{not_opened-wrong}
 use Rattle.bm_lawful.proofs.WrongSweep.{empty_swept-wrong}
 use Rattle.bm_lawful.proofs.WrongScripts.{main_first-wrong, repeated_once-wrong}
 use Rattle.bm_lawful.proofs.worked_journal.wrong_journals.Goals as goal
@@ -80,3 +81,6 @@ returns-clause-other_dropped c = other_dropped-wrong
 
 pub returns-clause-empty_swept : goal.returns-clause-empty_swept
 returns-clause-empty_swept c = empty_swept-wrong
+
+pub returns-clause-opening : goal.returns-clause-opening
+returns-clause-opening c = not_opened-wrong
