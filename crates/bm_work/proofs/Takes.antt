@@ -8,7 +8,7 @@ use Rattle.bm_journal.specs.declared.entry.Entry.{Entry}
 use Rattle.bm_law.specs.Plain.{all_plain}
 use Rattle.bm_cache.specs.Tokens.{Token, number_of}
 use Rattle.bm_deferred.specs.WorkPhrases.{Moved, take_of, takes}
-use Rattle.bm_work.specs.Popped.{popped}
+use Rattle.bm_work.specs.Takes.{popped}
 
 -- one more
 pub takes-more : (c : ℕ) (xs : List Moved) (x : Moved) → takes c xs ++ take_of c x ≡ takes c (xs ++ x ∷ [])

@@ -2,4 +2,4 @@ pub mod Grown
 pub mod Fit
 pub mod WorkSpan
 pub mod FromLists
-pub mod Popped
+pub mod Takes

@@ -13,7 +13,7 @@ ghost use Rattle.bm_deferred.specs.Parts.{Say};
 ghost use Rattle.bm_deferred.specs.WorkPhrases.{Unloads};
 ghost use Rattle.bm_work.specs.Fit.{Fit};
 ghost use Rattle.bm_work.specs.Grown.{GrewBy};
-ghost use Rattle.bm_work.specs.Popped.{popped};
+ghost use Rattle.bm_work.specs.Takes.{popped};
 
 use crate::take::take_one;
 use bm_cache::Host;

@@ -8,6 +8,8 @@ mod drain;
 mod law;
 mod refill;
 mod take;
+#[cfg(test)]
+mod tests;
 
 pub use add::add_unit;
 pub use bring::{bring_ready, bring_second};

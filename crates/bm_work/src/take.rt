@@ -10,10 +10,11 @@ ghost use Rattle.bm_cache.specs.Tokens.{Token, number_of};
 ghost use Rattle.bm_cache.specs.Tests.{Same};
 ghost use Rattle.bm_cache.specs.Shown.{shown, waiting};
 ghost use Rattle.bm_cache.specs.Span.{Fine, Goes, Span, Unbroken};
-ghost use Rattle.bm_deferred.specs.Parts.{Stand};
+ghost use Rattle.bm_deferred.specs.Parts.{Say};
 ghost use Rattle.bm_deferred.specs.WorkPhrases.{Moved, take_of, empty_take};
 ghost use Rattle.bm_work.specs.Fit.{Fit};
 ghost use Rattle.bm_work.specs.Grown.{GrewBy};
+ghost use Rattle.bm_work.specs.Takes.{IsTake};
 
 use bm_cache::{Host, count_taken, lower_active, raise_active};
 use bm_class::Class;
@@ -47,8 +48,9 @@ pub fn take_one<R: Recorder, H: Host<R>>(host: &mut H, class: Class) -> Option<u
     requires fine { Fine R.log R.counts (H.tests host.old) (H.face host.old).processors ((H.face host.old).level + 1) (H.held host.old) }
     requires idle { ((shown (H.held host.old)).rows class).active ≡ 0 }
     requires quiet { ((shown (H.held host.old)).sides (H.face host.old).level).mark ≡ mark.Quiet }
-    ensures some { IfSome result (λ k. (u : Token) × (a : ℕ) × ((shown (H.held host.new)).sides (H.face host.old).level ≡ record { hand = ((shown (H.held host.old)).sides (H.face host.old).level).hand ++ u ∷ []; mark = mark.Quiet }) × Fit (H.tests host.new) class u × (length ((shown (H.held host.old)).sides (H.face host.old).level).hand < 65536) × Span R.log (H.face host.old).level class 0 0 (take_of class (record { unit = u.number; count = k; active = a })) (H.tests host.old) (H.tests host.new) (H.held host.old) (H.held host.new) × GrewBy (Stand (H.face host.old).level (take_of class (record { unit = u.number; count = k; active = a }))) (seen number_of (shown (H.held host.old))) (R.log (H.held host.old).recorder) (R.log (H.held host.new).recorder)) }
-    ensures none { result ≡ None → (a : ℕ) × ((shown (H.held host.new)).sides (H.face host.old).level ≡ (shown (H.held host.old)).sides (H.face host.old).level) × Span R.log (H.face host.old).level class 0 0 (empty_take class a) (H.tests host.old) (H.tests host.new) (H.held host.old) (H.held host.new) × GrewBy (Stand (H.face host.old).level (empty_take class a)) (seen number_of (shown (H.held host.old))) (R.log (H.held host.old).recorder) (R.log (H.held host.new).recorder) }
+    ensures phrase { GrewBy (Say (H.face host.old).level (IsTake class result)) (seen number_of (shown (H.held host.old))) (R.log (H.held host.old).recorder) (R.log (H.held host.new).recorder) }
+    ensures some { IfSome result (λ k. (u : Token) × (a : ℕ) × ((shown (H.held host.new)).sides (H.face host.old).level ≡ record { hand = ((shown (H.held host.old)).sides (H.face host.old).level).hand ++ u ∷ []; mark = mark.Quiet }) × Fit (H.tests host.new) class u × (length ((shown (H.held host.old)).sides (H.face host.old).level).hand < 65536) × Span R.log (H.face host.old).level class 0 0 (take_of class (record { unit = u.number; count = k; active = a })) (H.tests host.old) (H.tests host.new) (H.held host.old) (H.held host.new)) }
+    ensures none { result ≡ None → (a : ℕ) × ((shown (H.held host.new)).sides (H.face host.old).level ≡ (shown (H.held host.old)).sides (H.face host.old).level) × Span R.log (H.face host.old).level class 0 0 (empty_take class a) (H.tests host.old) (H.tests host.new) (H.held host.old) (H.held host.new) }
     ensures lasts { All (Same (H.tests host.old) (H.tests host.new)) ((shown (H.held host.old)).sides (H.face host.old).level).hand }
     ensures active { (k : ℕ) → ((shown (H.held host.new)).rows k).active ≡ ((shown (H.held host.old)).rows k).active }
     ensures kept { (k : ℕ) → ((shown (H.held host.new)).rows k).deferred ≡ ((shown (H.held host.old)).rows k).deferred }

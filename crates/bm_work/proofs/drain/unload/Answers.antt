@@ -13,7 +13,7 @@ use Rattle.bm_cache.proofs.Moments.{span-at, goes-join, goes-back}
 use Rattle.bm_cache.proofs.Unbroken.{unbroken-join, unbroken-same}
 use Rattle.bm_deferred.specs.WorkPhrases.{Moved, take_of, takes, empty_take, Unloads}
 use Rattle.bm_work.specs.Fit.{Fit}
-use Rattle.bm_work.specs.Popped.{popped}
+use Rattle.bm_work.specs.Takes.{popped}
 use Rattle.bm_work.proofs.Fits.{all-front, all-back, fit-all, lasts-on}
 use Rattle.bm_work.proofs.Grown.{grew-say}
 use Rattle.bm_work.proofs.Spans.{span-active, span-still}

@@ -7,7 +7,7 @@ use Rattle.bm_cache.specs.Shown.{shown}
 use Rattle.bm_cache.specs.Span.{Fine, Goes, Span, Unbroken}
 use Rattle.bm_deferred.specs.WorkPhrases.{Moved, takes}
 use Rattle.bm_work.specs.Fit.{Fit}
-use Rattle.bm_work.specs.Popped.{popped}
+use Rattle.bm_work.specs.Takes.{popped}
 use Rattle.bm_work.proofs.drain.unload.Given as goal
 
 -- each take so far left more than the middle, and the hand has gained what they took

@@ -1,9 +1,9 @@
-use Rattle.std.proofs.Common.{◌≡◌, ◌++◌, ◌<◌, ℕ, List, [], ◌∷◌, length, refl, ap, ◌∙◌, sym, subst, arith}
+use Rattle.std.proofs.Common.{◌≡◌, ◌++◌, ◌<◌, ℕ, List, [], ◌∷◌, length, Some, None, refl, ap, ◌∙◌, sym, subst, arith}
 use Rattle.std.specs.List.{All}
 use Rattle.bm_journal.specs.declared.entry.Entry.TheVariants as entry
 use Rattle.bm_law.specs.declared.mark.Mark.TheVariants as mark
-use Rattle.bm_law.specs.State.{Side, seen}
-use Rattle.bm_cache.specs.Tokens.{Token, number_of}
+use Rattle.bm_law.specs.State.{Side}
+use Rattle.bm_cache.specs.Tokens.{Token}
 use Rattle.bm_cache.specs.Tests.{Same}
 use Rattle.bm_cache.specs.Shown.{shown}
 use Rattle.bm_cache.specs.Span.{Face, Span}
@@ -12,8 +12,9 @@ use Rattle.bm_cache.proofs.Moments.{span-at, goes-join}
 use Rattle.bm_cache.proofs.Unbroken.{unbroken-join}
 use Rattle.bm_deferred.specs.WorkPhrases.{Moved, take_of, empty_take}
 use Rattle.bm_work.specs.Fit.{Fit}
-use Rattle.bm_work.proofs.Grown.{grew-stand}
+use Rattle.bm_work.proofs.Grown.{grew-say}
 use Rattle.bm_work.proofs.Spans.{span-active, span-still}
+use Rattle.bm_work.specs.Takes.{IsTake}
 use Rattle.bm_work.proofs.Fits.{fit-last, same-front}
 use Rattle.bm_work.proofs.Steps.{same-join}
 use Rattle.bm_work.proofs.take.take_one.Goals as goal
@@ -61,8 +62,7 @@ returns-then-pop_more-clause-some g c =
     let fit : Fit td i u = fit-last i tz td u h (same-join tz tw td (h ++ u ∷ []) r3 r4) q.4 in
     let N : ℕ → Type 0 = λ n. length ((shown y).sides n).hand < 65536 in
     let L : List Token → Type 0 = λ us. length us < 65536 in
-    let m : Moved = record { unit = u.number; count = k; active = a } in
-    (u, a, e3 ∙ sw, fit, subst L hy (subst N ly q.5), all, grew-stand l (take_of i m) (seen number_of (shown x)) _ _ all.records)
+    (u, a, e3 ∙ sw, fit, subst L hy (subst N ly q.5), all)
 
 pub returns-else-pop_more-clause-none : goal.returns-else-pop_more-clause-none
 returns-else-pop_more-clause-none g c _ =
@@ -87,7 +87,7 @@ returns-else-pop_more-clause-none g c _ =
     let ex : (shown y).sides l ≡ (shown x).sides l = c.raise_active.ensures.side ∙ ap (λ m. let r : Side Token = record ((shown x).sides l) { mark = m } in r) (sym c.requires.quiet) in
     let e1 : (shown z).sides l ≡ (shown y).sides l = (let F : ℕ → Type 0 = λ n. (shown z).sides n ≡ (shown y).sides n in subst F ly q.1) in
     let e3 : (shown d).sides l ≡ (shown z).sides l = (let F : ℕ → Type 0 = λ n. (shown d).sides n ≡ (shown z).sides n in subst F lz c.lower_active-else-pop_more.ensures.side) in
-    (a, e3 ∙ e1 ∙ ex, all, grew-stand l (empty_take i a) (seen number_of (shown x)) _ _ all.records)
+    (a, e3 ∙ e1 ∙ ex, all)
 
 pub returns-then-pop_more-clause-lasts : goal.returns-then-pop_more-clause-lasts
 returns-then-pop_more-clause-lasts g c =
@@ -163,3 +163,15 @@ pub returns-else-pop_more-clause-alone : goal.returns-else-pop_more-clause-alone
 returns-else-pop_more-clause-alone g c =
     let r2 = goes-join g.met.H.Host.keeps_join c.pop_more.ensures.goes c.lower_active-else-pop_more.ensures.goes in
     unbroken-join c.raise_active.ensures.goes r2 c.raise_active.ensures.alone (unbroken-join c.pop_more.ensures.goes c.lower_active-else-pop_more.ensures.goes c.pop_more.ensures.alone c.lower_active-else-pop_more.ensures.alone)
+
+pub returns-then-pop_more-clause-phrase : goal.returns-then-pop_more-clause-phrase
+returns-then-pop_more-clause-phrase g c =
+    let s = returns-then-pop_more-clause-some g c in
+    let k : ℕ = c.count_taken-count.result in
+    let m : Moved = record { unit = s.0.number; count = k; active = s.1 } in
+    grew-say (g.H.Host.face c.args.host.now).level (IsTake c.args.class (Some k)) (take_of c.args.class m) _ _ _ s.5.records (m, refl, refl)
+
+pub returns-else-pop_more-clause-phrase : goal.returns-else-pop_more-clause-phrase
+returns-else-pop_more-clause-phrase g c =
+    let s = returns-else-pop_more-clause-none g c refl in
+    grew-say (g.H.Host.face c.args.host.now).level (IsTake c.args.class None) (empty_take c.args.class s.0) _ _ _ s.2.records (s.0, refl)
