@@ -14,8 +14,11 @@ ghost use Rattle.bm_cache.specs.Span.{Fine};
 ghost use Rattle.bm_cache.specs.Tests.{Aimed};
 ghost use Rattle.bm_cache.specs.Tokens.{Token, number_of};
 
-use crate::{refill_from_lists, unload, whole_refill};
-use bm_cache::{Caches, Host};
+use crate::{
+    begin_second, begin_work, drain_to_hand, gather_delayed, read_count, refill_from_lists,
+    whole_refill,
+};
+use bm_cache::{Caches, Given, Host, alloc, free_delayed};
 use bm_class::Class;
 use bm_journal::{Domain, Level, Recorder, Tally};
 use bm_page::{Pool, Unit};
@@ -205,7 +208,7 @@ fn receive<R: Recorder>(caches: &mut Caches<R>, class: Class, units: Vec<Unit>)
 }
 
 /// All of Ready becomes the tracing batch, if there is any.
-fn begin_second<R: Recorder>(rt: &impl Abort, caches: &mut Caches<R>, class: Class)
+fn set_second<R: Recorder>(rt: &impl Abort, caches: &mut Caches<R>, class: Class)
     requires placed { Placed R.log R.counts caches.old }
     requires ready { Ready 0 (shown caches.old) }
     requires aimed { Aimed 1 caches.old }
@@ -241,7 +244,7 @@ fn set_up<R: Recorder>(rt: &(impl Abort + AllocGlobal), recorder: R, case: Case)
     units.destroy_empty();
     let mut caches = opened(rt, recorder, free);
     receive(&mut caches, class, second);
-    begin_second(rt, &mut caches, class);
+    set_second(rt, &mut caches, class);
     receive(&mut caches, class, ready);
     Alone { caches }
 }
@@ -272,13 +275,50 @@ fn units_come_and_go_in_order(rt: HostRuntime) {
         assert!(rt; case.free <= 256 && case.second <= 256 && case.ready <= 256);
         assert!(rt; case.free + case.second + case.ready <= 256);
         let mut host = set_up(&rt, Tally::new(), case);
+        begin_work(&mut host, class);
+        assert_eq!(rt; read_count(&mut host, class), case.free as u32);
         assert_eq!(rt; refill_from_lists(&mut host, class, case.want), case.left);
         assert_eq!(rt; host.caches.counts(class).ready, 0);
         assert_eq!(rt; host.caches.counts(class).second, 0);
-        unload(&mut host, class, case.middle);
+        drain_to_hand(&mut host, class, case.middle);
         assert_eq!(rt; host.caches.counts(class).free, case.free_then);
         assert_eq!(rt; end(&rt, host).as_slice(), case.hand);
     }
+}
+
+/// Two units on Free, and two on Ready.
+const BATCHES: Case = Case {
+    free: 2,
+    second: 0,
+    ready: 2,
+    want: 0,
+    left: 0,
+    middle: 0,
+    hand: &[],
+    free_then: 1,
+};
+
+#[test]
+fn batches_begin_one_at_a_time(rt: HostRuntime) {
+    let class = class(&rt);
+    let mut host = set_up(&rt, Tally::new(), BATCHES);
+    match alloc(&mut host, class) {
+        Given::Unit(unit) => free_delayed(&mut host, unit),
+        Given::Empty => panic!(&rt; "Free holds units"),
+        Given::Busy(_) => panic!(&rt; "no other call is in the cache"),
+    }
+    assert_eq!(rt; host.caches.counts(class).delayed, 1);
+    assert!(rt; gather_delayed(&mut host, class));
+    assert_eq!(rt; host.caches.counts(class).delayed, 0);
+    assert_eq!(rt; host.caches.counts(class).first, 1);
+    assert!(rt; !gather_delayed(&mut host, class));
+    assert!(rt; begin_second(&mut host, class));
+    assert_eq!(rt; host.caches.counts(class).ready, 0);
+    assert_eq!(rt; host.caches.counts(class).second, 2);
+    assert!(rt; !begin_second(&mut host, class));
+    let Alone { caches } = host;
+    assert_eq!(rt; caches.counts(class).free, BATCHES.free_then);
+    caches.give_up();
 }
 
 #[test]

@@ -25,4 +25,4 @@ receive-requires-2-clause-fresh g c n =
     let d : All (λ (u : Token). c.args.case.ready ≤ u.number) c.between-second.result.items = λ i u k. (c.between-second.ensures.within i u k).0 in
     let e : All (λ (u : Token). u.number < c.args.case.ready) c.between-ready.result.items = λ i u k. (c.between-ready.ensures.within i u k).1 in
     let m : c.args.case.ready ≤ lent = omega arith in
-    omega (arith, s, c.receive.ensures.stands n, c.begin_second.ensures.stands n, three-apart n c.args.case.ready lent c.between-free.result.items c.between-second.result.items c.between-ready.result.items m a b d e (c.between-free.ensures.once n) (c.between-second.ensures.once n) (c.between-ready.ensures.once n))
+    omega (arith, s, c.receive.ensures.stands n, c.set_second.ensures.stands n, three-apart n c.args.case.ready lent c.between-free.result.items c.between-second.result.items c.between-ready.result.items m a b d e (c.between-free.ensures.once n) (c.between-second.ensures.once n) (c.between-ready.ensures.once n))

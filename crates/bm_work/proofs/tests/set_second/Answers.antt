@@ -12,7 +12,7 @@ use Rattle.bm_cache.specs.Shown.{shown}
 use Rattle.bm_cache.specs.Tokens.{Token, number_of}
 use Rattle.bm_cache.proofs.Stretch.{targets-effect}
 use Rattle.bm_work.proofs.Ranges.{ready-row}
-use Rattle.bm_work.proofs.tests.begin_second.Goals as goal
+use Rattle.bm_work.proofs.tests.set_second.Goals as goal
 
 pub returns-clause-ready : goal.returns-clause-ready
 returns-clause-ready g c =
