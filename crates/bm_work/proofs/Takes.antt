@@ -1,5 +1,5 @@
 -- The takes of a drain, one after the other.
-use Rattle.std.proofs.Common.{◌≡◌, ℕ, ◌++◌, true, List, [], ◌∷◌, map, refl, sym, ◌∙◌, ap, arith}
+use Rattle.std.proofs.Common.{◌≡◌, ℕ, ◌++◌, true, List, [], ◌∷◌, map, refl, sym, subst, inl, inr, ◌∙◌, ap, arith}
 use Rattle.std.specs.List.{All}
 use Rattle.std.proofs.lemmas.List.Elements.{All-cons, All-nil, All-append}
 use Rattle.std.proofs.lemmas.List.{map-append}
@@ -7,7 +7,7 @@ use Rattle.std.proofs.lemmas.Grind.{common_steps}
 use Rattle.bm_journal.specs.declared.entry.Entry.{Entry}
 use Rattle.bm_law.specs.Plain.{all_plain}
 use Rattle.bm_cache.specs.Tokens.{Token, number_of}
-use Rattle.bm_deferred.specs.WorkPhrases.{Moved, take_of, takes}
+use Rattle.bm_deferred.specs.WorkPhrases.{IsLastTake, Moved, Unloads, take_of, takes}
 use Rattle.bm_work.specs.Takes.{popped}
 
 -- one more
@@ -41,3 +41,17 @@ popped-none c xs es us h k = popped-more c xs es ∙ ap (λ ns. popped (takes c 
   where
     numbers-end : (ns : List ℕ) → ns ≡ ns ++ []
     numbers-end ns = grind (arith, common_steps)
+
+-- and so are the entries of a whole drain of Free
+takes-plain-then : (c : ℕ) (xs : List Moved) (last : List Entry) → all_plain last ≡ true → all_plain (takes c xs ++ last) ≡ true
+takes-plain-then c [] last h = h
+takes-plain-then c (x ∷ xs) last h = takes-plain-then c xs last h
+
+last-plain : (c middle : ℕ) (own : List Entry) → IsLastTake c middle own → all_plain own ≡ true
+last-plain c middle own (inl h) = (let P : List Entry → Type 0 = λ es. all_plain es ≡ true in subst P (sym h.2) refl)
+last-plain c middle own (inr h) = (let P : List Entry → Type 0 = λ es. all_plain es ≡ true in subst P (sym h.1) refl)
+
+pub unloads-plain : (c middle : ℕ) (own : List Entry) → Unloads c middle own → all_plain own ≡ true
+unloads-plain c middle own h =
+    let P : List Entry → Type 0 = λ es. all_plain es ≡ true in
+    subst P (sym h.own_is) (takes-plain-then c h.over h.last (last-plain c middle h.last h.is_last))

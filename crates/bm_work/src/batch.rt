@@ -6,7 +6,7 @@ ghost use Rattle.bm_journal.specs.declared.units.Units.TheVariants.{Whole};
 ghost use Rattle.bm_journal.specs.declared.entry.Entry.TheVariants as entry;
 ghost use Rattle.bm_law.specs.declared.mark.Mark.TheVariants as mark;
 ghost use Rattle.bm_law.specs.State.{seen};
-ghost use Rattle.bm_cache.specs.Tokens.{number_of};
+ghost use Rattle.bm_cache.specs.Tokens.{Token, number_of};
 ghost use Rattle.bm_cache.specs.Tests.{Same};
 ghost use Rattle.bm_cache.specs.Shown.{shown, waiting};
 ghost use Rattle.bm_cache.specs.Span.{Fine, Goes, Span, Unbroken};
@@ -118,7 +118,7 @@ pub fn gather_delayed<R: Recorder, H: Host<R>>(host: &mut H, class: Class) -> bo
     requires idle { ((shown (H.held host.old)).rows class).active ≡ 0 }
     requires quiet { ((shown (H.held host.old)).sides (H.face host.old).level).mark ≡ mark.Quiet }
     ensures phrase { GrewBy (Then (Say (H.face host.old).level (IsGathering class)) (Then (When (may_batch class) (Say (H.face host.old).level (IsBatch class))) (Say (H.face host.old).level (IsLeave class)))) (seen number_of (shown (H.held host.old))) (R.log (H.held host.old).recorder) (R.log (H.held host.new).recorder) }
-    ensures begun { result ≡ true → ((shown (H.held host.new)).rows class).deferred.plain ≡ Some 0 }
+    ensures begun { result ≡ true → (units : List Token) × (((shown (H.held host.new)).rows class).deferred ≡ record ((shown (H.held host.old)).rows class).deferred { first = units ++ ((shown (H.held host.old)).rows class).deferred.first; plain = Some 0 }) × (((shown (H.held host.old)).rows class).deferred.plain ≡ None) × (0 < length units) }
     ensures waits { result ≡ false → ((shown (H.held host.new)).rows class).deferred ≡ ((shown (H.held host.old)).rows class).deferred }
     ensures side { (shown (H.held host.new)).sides (H.face host.old).level ≡ (shown (H.held host.old)).sides (H.face host.old).level }
     ensures lasts { All (Same (H.tests host.old) (H.tests host.new)) ((shown (H.held host.old)).sides (H.face host.old).level).hand }

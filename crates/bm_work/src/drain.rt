@@ -1,8 +1,10 @@
 //! A drain of Free.
 
-ghost use Rattle.std.specs.Prelude.{◌≡◌, ◌+◌, ◌++◌, [], ℕ, List, Option, map, true, false};
+ghost use Rattle.std.specs.Prelude.{◌≡◌, ◌+◌, ◌++◌, ◌∷◌, [], ℕ, List, Option, map, true, false};
 ghost use Rattle.std.specs.List.{All};
+ghost use Rattle.bm_journal.specs.declared.units.Units.TheVariants.{Whole};
 ghost use Rattle.bm_journal.specs.declared.entry.Entry.{Entry as AnEntry};
+ghost use Rattle.bm_journal.specs.declared.entry.Entry.TheVariants as entry;
 ghost use Rattle.bm_law.specs.declared.mark.Mark.TheVariants as mark;
 ghost use Rattle.bm_law.specs.State.{seen};
 ghost use Rattle.bm_cache.specs.Tokens.{Token, number_of};
@@ -58,7 +60,7 @@ pub fn drain_to_hand<R: Recorder, H: Host<R>>(host: &mut H, class: Class, middle
     requires idle { ((shown (H.held host.old)).rows class).active ≡ 0 }
     requires quiet { ((shown (H.held host.old)).sides (H.face host.old).level).mark ≡ mark.Quiet }
     ensures phrase { GrewBy (Then (Say (H.face host.old).level (Unloads class middle)) (Say (H.face host.old).level (IsTakeExtra class))) (seen number_of (shown (H.held host.old))) (R.log (H.held host.old).recorder) (R.log (H.held host.new).recorder) }
-    ensures side { (units : List Token) × ((shown (H.held host.new)).sides (H.face host.old).level ≡ record { hand = ((shown (H.held host.old)).sides (H.face host.old).level).hand ++ units; mark = mark.Quiet }) × All (Fit (H.tests host.new) class) units }
+    ensures side { (units more : List Token) × (own : List AnEntry) × ((shown (H.held host.new)).sides (H.face host.old).level ≡ record { hand = ((shown (H.held host.old)).sides (H.face host.old).level).hand ++ (units ++ more); mark = mark.Quiet }) × All (Fit (H.tests host.new) class) (units ++ more) × (popped own ≡ map number_of units) × Unloads class middle own × Span R.log (H.face host.old).level class 0 0 (own ++ entry.TakeExtra class (Whole (map number_of more)) ∷ []) (H.tests host.old) (H.tests host.new) (H.held host.old) (H.held host.new) }
     ensures empty { ((shown (H.held host.new)).rows class).extra ≡ [] }
     ensures lasts { All (Same (H.tests host.old) (H.tests host.new)) ((shown (H.held host.old)).sides (H.face host.old).level).hand }
     ensures active { (k : ℕ) → ((shown (H.held host.new)).rows k).active ≡ ((shown (H.held host.old)).rows k).active }

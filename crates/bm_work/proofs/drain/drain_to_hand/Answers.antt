@@ -1,12 +1,17 @@
-use Rattle.std.proofs.Common.{◌≡◌, ◌++◌, ◌∙◌, ℕ, List, ap, subst, append_assoc}
+use Rattle.std.proofs.Common.{◌≡◌, ◌++◌, ◌∷◌, ◌∙◌, [], ℕ, List, map, ap, subst, append_assoc}
 use Rattle.std.specs.List.{All}
 use Rattle.std.proofs.lemmas.List.Elements.{All-append}
+use Rattle.bm_journal.specs.declared.units.Units.TheVariants.{Whole}
+use Rattle.bm_journal.specs.declared.entry.Entry.{Entry}
+use Rattle.bm_journal.specs.declared.entry.Entry.TheVariants as entry
 use Rattle.bm_law.specs.declared.mark.Mark.TheVariants as mark
 use Rattle.bm_law.specs.State.{Side, seen}
 use Rattle.bm_cache.specs.Tokens.{Token, number_of}
 use Rattle.bm_cache.specs.Tests.{Same}
 use Rattle.bm_cache.specs.Shown.{shown}
-use Rattle.bm_cache.specs.Span.{Face}
+use Rattle.bm_cache.specs.Span.{Face, Span}
+use Rattle.bm_cache.proofs.Moments.{span-at}
+use Rattle.bm_cache.proofs.Stretch.{span-join}
 use Rattle.bm_cache.proofs.Unbroken.{unbroken-join}
 use Rattle.bm_deferred.specs.Parts.{Say}
 use Rattle.bm_deferred.specs.WorkPhrases.{IsTakeExtra, Unloads}
@@ -14,6 +19,7 @@ use Rattle.bm_work.specs.Fit.{Fit}
 use Rattle.bm_work.specs.Grown.{GrewBy}
 use Rattle.bm_work.proofs.Fits.{all-back, fit-all, lasts-on}
 use Rattle.bm_work.proofs.Grown.{grew-then}
+use Rattle.bm_work.proofs.Takes.{unloads-plain}
 use Rattle.bm_work.proofs.drain.drain_to_hand.Goals as goal
 
 pub returns-clause-phrase : goal.returns-clause-phrase
@@ -42,10 +48,17 @@ returns-clause-side g c =
     let hy : ((shown y).sides l).hand ≡ h ++ a.0 = ap (λ (s : Side Token). s.hand) a.2 in
     let sz : (shown z).sides l ≡ record { hand = ((shown y).sides l).hand ++ b.0; mark = mark.Quiet } = (let F : ℕ → Type 0 = λ n. (shown z).sides n ≡ record { hand = ((shown y).sides n).hand ++ b.0; mark = mark.Quiet } in subst F ly b.2) in
     let s : All (Same ty tz) (h ++ a.0) = (let F : List Token → Type 0 = λ us. All (Same ty tz) us in subst F hy (let G : ℕ → Type 0 = λ n. All (Same ty tz) ((shown y).sides n).hand in subst G ly c.take_all_extra.ensures.lasts)) in
-    let W : List Token → Side Token = λ us. record { hand = us; mark = mark.Quiet } in (
-      a.0 ++ b.0,
+    let W : List Token → Side Token = λ us. record { hand = us; mark = mark.Quiet } in
+    let e : List Entry = entry.TakeExtra i (Whole (map number_of b.0)) ∷ [] in
+    let t : Span g.R.Recorder.log l i 0 0 e ty tz y z = span-at g.R.Recorder.log l (g.H.Host.face c.unload.new.host).level i 0 0 e ty tz y z ly b.4 in (
+      a.0,
+      b.0,
+      a.1,
       sz ∙ ap W (ap (λ us. us ++ b.0) hy ∙ append_assoc h a.0 b.0),
       All-append (Fit tz i) a.0 b.0 (fit-all i ty tz a.0 (all-back (Same ty tz) h a.0 s) a.3) b.3,
+      a.4,
+      a.5,
+      span-join g.R.Recorder.log l i 0 0 0 a.1 e (g.H.Host.tests c.args.host.now) ty tz x y z (unloads-plain i c.args.middle a.1 a.5) a.6 t,
     )
 
 pub returns-clause-lasts : goal.returns-clause-lasts
