@@ -6,7 +6,7 @@ use std::process::Abort;
 use std::test::Fail;
 
 // What stands before a text of the table.
-#[derive(Clone, Copy, Debug)]
+#[derive(Clone, Copy)]
 enum Behind {
     // nothing: the text begins on line 1
     Nothing,
@@ -513,11 +513,20 @@ fn depths(rt: HostRuntime) -> Result<(), Fail> {
     )
 }
 
+fn accepted(rt: &impl Abort, alloc: Global, rows: &[(Behind, &[u8])]) -> Result<(), Fail> {
+    for (behind, text) in rows {
+        let text = whole(alloc, *behind, text)?;
+        let found = fault_in(alloc, &text)?;
+        assert!(rt; found == None, "{found:?} in {text:?}");
+    }
+    Ok(())
+}
+
 // Texts that have a reading, near those that have none.
 #[test]
 fn readings(rt: HostRuntime) -> Result<(), Fail> {
     use Behind::*;
-    let rows: [(Behind, &[u8]); 8] = [
+    let rows: &[(Behind, &[u8])] = &[
         (Header, b"type x { pad 4088 } }"),
         (Header, b"type x counted tree { k pad 4040 } }\n\t \r"),
         (
@@ -545,10 +554,5 @@ fn readings(rt: HostRuntime) -> Result<(), Fail> {
             b"drop group drop get_ drop abcdefghijklmnopqrstuvwxyz_1234 } }",
         ),
     ];
-    for (behind, text) in rows {
-        let text = whole(rt.alloc(), behind, text)?;
-        let found = fault_in(rt.alloc(), &text)?;
-        assert!(rt; found == None, "{found:?} in {text:?}");
-    }
-    Ok(())
+    accepted(&rt, rt.alloc(), rows)
 }

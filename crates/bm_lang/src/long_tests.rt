@@ -31,12 +31,8 @@ fn a_text_of_the_greatest_length(rt: HostRuntime) -> Result<(), Fail> {
     if text.len() != LENGTH {
         return Err(Fail::from("a text of another length"));
     }
-    match read_scenario(rt.alloc(), text.as_bytes()) {
-        Ok(scenario) => {
-            assert!(rt; scenario.parts().types.as_slice().len() > 40_000);
-            assert!(rt; limits(&scenario) == Some(Limit::Types));
-            Ok(())
-        }
-        Err(_) => Err(Fail::from("a text without a reading")),
-    }
+    let scenario = read_scenario(rt.alloc(), text.as_bytes())?;
+    assert!(rt; scenario.parts().types.as_slice().len() > 40_000);
+    assert!(rt; limits(&scenario) == Some(Limit::Types));
+    Ok(())
 }

@@ -1,4 +1,5 @@
 use super::*;
+use std::alloc::Global;
 use std::process::Abort;
 use std::test::Fail;
 
@@ -16,9 +17,8 @@ fn expect(rt: &impl Abort, text: &[u8], tokens: &[Expected<'_>]) {
         };
         let ahead = left.peek();
         let next = left.take();
-        assert!(rt; next.token == *token, "in {text:?} at {line}:{column}");
-        assert!(rt; next.place == place, "in {text:?} at {line}:{column}");
-        assert!(rt; ahead == next, "in {text:?} at {line}:{column}");
+        let agrees = next.token == *token && next.place == place && ahead == next;
+        assert!(rt; agrees, "in {text:?} at {line}:{column}");
     }
 }
 
@@ -52,39 +52,47 @@ fn places(rt: HostRuntime) {
     );
 }
 
+// Each text begins with a token.
+fn expect_each(rt: &impl Abort, rows: &[(&[u8], Token<'_>)]) {
+    for (text, token) in rows {
+        expect(rt, text, &[(*token, 1, 1)]);
+    }
+}
+
+const NUMBER: Token<'static> = Token::Wrong(TokenFault::Number);
+
+const NUMBERS_AND_WORDS: &[(&[u8], Token<'static>)] = &[
+    (b"0", Token::Number(0)),
+    (b"10", Token::Number(10)),
+    (b"4294967295", Token::Number(4294967295)),
+    (b"4294967296", NUMBER),
+    (b"18446744073709551616", NUMBER),
+    (b"00", NUMBER),
+    (b"01", NUMBER),
+    (b"7x", NUMBER),
+    (b"7_", NUMBER),
+    (b"_x", Token::Name(b"_x")),
+    (b"_", Token::Name(b"_")),
+    (b"x7", Token::Name(b"x7")),
+    (b"Scenario", Token::Name(b"Scenario")),
+    (b"scenari", Token::Name(b"scenari")),
+    (b"group", Token::Name(b"group")),
+    (b"push_front", Token::Keyword(Keyword::PushFront)),
+    (b"peek", Token::Keyword(Keyword::Peek)),
+    (b"weak", Token::Keyword(Keyword::Weak)),
+    (
+        b"abcdefghijklmnopqrstuvwxyz_1234",
+        Token::Name(b"abcdefghijklmnopqrstuvwxyz_1234"),
+    ),
+    (
+        b"abcdefghijklmnopqrstuvwxyz_12345",
+        Token::Wrong(TokenFault::Name),
+    ),
+];
+
 #[test]
 fn numbers_and_words(rt: HostRuntime) {
-    let number = Token::Wrong(TokenFault::Number);
-    for (text, token) in [
-        (b"0".as_slice(), Token::Number(0)),
-        (b"10", Token::Number(10)),
-        (b"4294967295", Token::Number(4294967295)),
-        (b"4294967296", number),
-        (b"18446744073709551616", number),
-        (b"00", number),
-        (b"01", number),
-        (b"7x", number),
-        (b"7_", number),
-        (b"_x", Token::Name(b"_x")),
-        (b"_", Token::Name(b"_")),
-        (b"x7", Token::Name(b"x7")),
-        (b"Scenario", Token::Name(b"Scenario")),
-        (b"scenari", Token::Name(b"scenari")),
-        (b"group", Token::Name(b"group")),
-        (b"push_front", Token::Keyword(Keyword::PushFront)),
-        (b"peek", Token::Keyword(Keyword::Peek)),
-        (b"weak", Token::Keyword(Keyword::Weak)),
-        (
-            b"abcdefghijklmnopqrstuvwxyz_1234",
-            Token::Name(b"abcdefghijklmnopqrstuvwxyz_1234"),
-        ),
-        (
-            b"abcdefghijklmnopqrstuvwxyz_12345",
-            Token::Wrong(TokenFault::Name),
-        ),
-    ] {
-        expect(&rt, text, &[(token, 1, 1)]);
-    }
+    expect_each(&rt, NUMBERS_AND_WORDS);
 }
 
 #[test]
@@ -122,19 +130,27 @@ fn reserved_words(rt: HostRuntime) {
     }
 }
 
-#[test]
-fn words_for_kinds(rt: HostRuntime) -> Result<(), Fail> {
-    for (kind, text) in [
-        (BadKind::Byte, "byte"),
-        (BadKind::NotYet, "not_yet"),
-        (BadKind::TypeSize, "type_size"),
-        (BadKind::Depth, "depth"),
-    ] {
-        assert_eq!(rt; kind.text(), text.as_bytes());
-        let printed = format!(in rt.alloc(); "{kind}")?;
-        assert_eq!(rt; printed.as_str(), text);
+fn are_words(rt: &impl Abort, alloc: Global, rows: &[(BadKind, &str)]) -> Result<(), Fail> {
+    for (kind, word) in rows {
+        assert_eq!(rt; kind.text(), word.as_bytes());
+        let printed = format!(in alloc; "{kind}")?;
+        assert_eq!(rt; printed.as_str(), *word);
     }
     Ok(())
+}
+
+#[test]
+fn words_for_kinds(rt: HostRuntime) -> Result<(), Fail> {
+    are_words(
+        &rt,
+        rt.alloc(),
+        &[
+            (BadKind::Byte, "byte"),
+            (BadKind::NotYet, "not_yet"),
+            (BadKind::TypeSize, "type_size"),
+            (BadKind::Depth, "depth"),
+        ],
+    )
 }
 
 #[test]

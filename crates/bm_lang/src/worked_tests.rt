@@ -2,129 +2,130 @@
 
 use super::*;
 use std::alloc::{AllocError, Global};
+use std::process::Abort;
 use std::test::Fail;
 
 // Texts with every form of the language.
-const TEXTS: [&str; 54] = [
-    "scenario { processors 1 pages 1 deferred off type item { a } script main plain { new x item 7 if \
+const TEXTS: &[&[u8]] = &[
+    b"scenario { processors 1 pages 1 deferred off type item { a } script main plain { new x item 7 if \
      x { drop x } } run 0 main }",
-    "scenario { processors 1 pages 0 deferred off type item { a } script main plain { new x item 7 if \
+    b"scenario { processors 1 pages 0 deferred off type item { a } script main plain { new x item 7 if \
      x { drop x } } run 0 main }",
-    "scenario { processors 1 pages 1 deferred on type t { pad 4088 } }",
-    "scenario { processors 1 pages 0 deferred on type a { pad 88 } type b { pad 96 } type c { pad 504 \
+    b"scenario { processors 1 pages 1 deferred on type t { pad 4088 } }",
+    b"scenario { processors 1 pages 0 deferred on type a { pad 88 } type b { pad 96 } type c { pad 504 \
      } type d { pad 1016 } type e { pad 2040 } }",
-    "scenario { processors 1 pages 3 deferred on type job list { a } list q job script main plain { \
+    b"scenario { processors 1 pages 3 deferred on type job list { a } list q job script main plain { \
      repeat 100 { new x job 1 if x { lock q push_back q x unlock } } repeat 100 { lock q pop_front y \
      q unlock if y { drop y } } } run 0 main }",
-    "scenario { processors 1 pages 1 deferred off type item { a } script main plain { new x item 7 if \
+    b"scenario { processors 1 pages 1 deferred off type item { a } script main plain { new x item 7 if \
      x { drop x } } script h handler { new y item 9 if y { drop y } } run 0 main at 0 3 1 h }",
-    "scenario { processors 1 pages 2 deferred off type item { a } type wide { a b } script main plain \
+    b"scenario { processors 1 pages 2 deferred off type item { a } type wide { a b } script main plain \
      { new x item 7 if x { drop x } } script h handler { new y wide 1 2 if y { drop y } } run 0 main \
      at 0 3 1 h }",
-    "scenario { processors 1 pages 1 deferred off type item { a } slot s1 item slot s2 item script \
+    b"scenario { processors 1 pages 1 deferred off type item { a } slot s1 item slot s2 item script \
      main plain { new x item 1 if x { xchg o s1 x if o { drop o } } new x item 2 if x { xchg o s2 x \
      if o { drop o } } new x item 3 if x { drop x } } script h1 handler { xchg x s1 null if x { drop \
      x } } script h2 handler { xchg x s2 null if x { drop x } } run 0 main at 0 13 1 h1 at 0 15 2 h2 \
      }",
-    "scenario { processors 2 pages 1 deferred on type obj counted { a } script main plain { new x obj \
+    b"scenario { processors 2 pages 1 deferred on type obj counted { a } script main plain { new x obj \
      5 if x { drop x } } script again plain { yield new y obj 6 if y { drop y } } script hold plain { \
      yield } run 0 main run 0 again run 1 hold turns { 1 0 1 0 } }",
-    "scenario { processors 2 pages 1 deferred on type obj counted { a } script main plain { new x obj \
+    b"scenario { processors 2 pages 1 deferred on type obj counted { a } script main plain { new x obj \
      5 if x { drop x } } script idle plain { } script hold sleepable { yield } run 0 main run 0 idle \
      run 0 idle run 1 hold turns { 1 0 1 } }",
-    "scenario { processors 1 pages 1 deferred off type item { a } slot s item script main plain { \
+    b"scenario { processors 1 pages 1 deferred off type item { a } slot s item script main plain { \
      xchg a s null if a { drop a } xchg b s null if b { drop b } new x item 1 if x { xchg c s x if c \
      { drop c } } new y item 2 if y { xchg d s y if d { drop d } } } run 0 main }",
-    "scenario { processors 2 pages 1 deferred off type job counted list { a } slot s job list q job \
+    b"scenario { processors 2 pages 1 deferred off type job counted list { a } slot s job list q job \
      list r job script main plain { new x job 9 if x { acquire y x xchg o s y if o { drop o } yield \
      lock q push_back q x unlock } } script other plain { xchg z s null if z { lock r push_back r z \
      unlock } } run 0 main run 1 other turns { 0 1 0 } }",
-    "scenario { processors 1 pages 1 deferred off type node tree { k } tree t node script main plain \
+    b"scenario { processors 1 pages 1 deferred off type node tree { k } tree t node script main plain \
      { new a node 5 if a { get a k new b node 5 if b { new c node 3 if c { lock t add t a add t b add \
      t c first f t remove g t f unlock if g { drop g } } else { drop b drop a } } else { drop a } } } \
      run 0 main }",
-    "scenario { processors 1 pages 1 deferred off type job list { a } slot s job list q job script \
+    b"scenario { processors 1 pages 1 deferred off type job list { a } slot s job list q job script \
      main plain { drop x } run 0 main }",
-    "scenario { processors 1 pages 1 deferred off type job list { a } slot s job list q job script \
+    b"scenario { processors 1 pages 1 deferred off type job list { a } slot s job list q job script \
      main plain { new x job 1 drop x } run 0 main }",
-    "scenario { processors 1 pages 1 deferred off type job list { a } slot s job list q job script \
+    b"scenario { processors 1 pages 1 deferred off type job list { a } slot s job list q job script \
      main plain { new x job 1 if x { lock q push_back q x unlock drop x } } run 0 main }",
-    "scenario { processors 1 pages 1 deferred off type job list { a } slot s job list q job script \
+    b"scenario { processors 1 pages 1 deferred off type job list { a } slot s job list q job script \
      main plain { new x job 1 } run 0 main }",
-    "scenario { processors 1 pages 1 deferred off type job list { a } slot s job list q job script \
+    b"scenario { processors 1 pages 1 deferred off type job list { a } slot s job list q job script \
      main plain { new x job 1 if x { } } run 0 main }",
-    "scenario { processors 1 pages 1 deferred off type job list { a } slot s job list q job script \
+    b"scenario { processors 1 pages 1 deferred off type job list { a } slot s job list q job script \
      main plain { repeat 2 { new x job 1 } } run 0 main }",
-    "scenario { processors 1 pages 1 deferred off type job list { a } slot s job list q job script \
+    b"scenario { processors 1 pages 1 deferred off type job list { a } slot s job list q job script \
      main plain { push_back q x } run 0 main }",
-    "scenario { processors 1 pages 1 deferred off type job list { a } slot s job list q job script \
+    b"scenario { processors 1 pages 1 deferred off type job list { a } slot s job list q job script \
      main plain { lock q lock q } run 0 main }",
-    "scenario { processors 1 pages 1 deferred off type job list { a } slot s job list q job script \
+    b"scenario { processors 1 pages 1 deferred off type job list { a } slot s job list q job script \
      main plain { lock q new x job 1 } run 0 main }",
-    "scenario { processors 1 pages 1 deferred off type job list { a } slot s job list q job script \
+    b"scenario { processors 1 pages 1 deferred off type job list { a } slot s job list q job script \
      main plain { lock q } run 0 main }",
-    "scenario { processors 1 pages 1 deferred off type job list { a } slot s job list q job script \
+    b"scenario { processors 1 pages 1 deferred off type job list { a } slot s job list q job script \
      main handler { lock q } at 0 1 1 main }",
-    "scenario { processors 1 pages 1 deferred off type job list { a } slot s job list q job script \
+    b"scenario { processors 1 pages 1 deferred off type job list { a } slot s job list q job script \
      main plain { xchg x s null if x { acquire y x drop y drop x } } run 0 main }",
-    "scenario { processors 1 pages 257 deferred off type item { a } script main plain { new x item 7 \
+    b"scenario { processors 1 pages 257 deferred off type item { a } script main plain { new x item 7 \
      if x { drop x } } run 0 main }",
-    "scenario { processors 1 pages 1 deferred off type item { a } script main plain { repeat 19990 { \
+    b"scenario { processors 1 pages 1 deferred off type item { a } script main plain { repeat 19990 { \
      } } run 0 main }",
-    "scenario { processors 1 pages 1 deferred off type item { a } script main plain { repeat 19989 { \
+    b"scenario { processors 1 pages 1 deferred off type item { a } script main plain { repeat 19989 { \
      } } run 0 main }",
-    "scenario { processors 1 pages 1 deferred off type item { a } script main plain { if x { if x { \
+    b"scenario { processors 1 pages 1 deferred off type item { a } script main plain { if x { if x { \
      if x { if x { if x { if x { if x { if x { if x { if x { if x { if x { if x { if x { if x { } } } \
      } } } } } } } } } } } } } run 0 main }",
-    "scenario { processors 1 pages 1 deferred off type item { a } script main plain { new x item 7 if \
+    b"scenario { processors 1 pages 1 deferred off type item { a } script main plain { new x item 7 if \
      x { drop x } } script h handler { new y item 9 if y { drop y } } run 0 main at 0 1 1 h }",
-    "scenario { processors 1 pages 1 deferred off type item { a } script main plain { new x item 7 if \
+    b"scenario { processors 1 pages 1 deferred off type item { a } script main plain { new x item 7 if \
      x { drop x } } script h handler { new y item 9 if y { drop y } } run 0 main at 0 2 1 h }",
-    "scenario { processors 1 pages 1 deferred off type item { a } script main plain { new x item 7 if \
+    b"scenario { processors 1 pages 1 deferred off type item { a } script main plain { new x item 7 if \
      x { drop x } } script h handler { new y item 9 if y { drop y } } run 0 main at 0 4 1 h }",
-    "scenario { processors 1 pages 1 deferred off type item { a } script main plain { new x item 7 if \
+    b"scenario { processors 1 pages 1 deferred off type item { a } script main plain { new x item 7 if \
      x { drop x } } script h handler { new y item 9 if y { drop y } } run 0 main at 0 5 1 h }",
-    "scenario { processors 1 pages 1 deferred off type item { a } script main plain { new x item 7 if \
+    b"scenario { processors 1 pages 1 deferred off type item { a } script main plain { new x item 7 if \
      x { drop x } } script h handler { new y item 9 if y { drop y } } run 0 main at 0 6 1 h }",
-    "scenario { processors 1 pages 1 deferred off type item { a } script main plain { new x item 7 if \
+    b"scenario { processors 1 pages 1 deferred off type item { a } script main plain { new x item 7 if \
      x { drop x } } script h handler { new y item 9 if y { drop y } } run 0 main at 0 7 1 h }",
-    "scenario { processors 1 pages 1 deferred off type item { a } script main plain { new x item 7 if \
+    b"scenario { processors 1 pages 1 deferred off type item { a } script main plain { new x item 7 if \
      x { drop x } } script h handler { new y item 9 if y { drop y } } run 0 main at 0 8 1 h }",
-    "scenario { processors 1 pages 1 deferred off type item { a } script main plain { new x item 7 if \
+    b"scenario { processors 1 pages 1 deferred off type item { a } script main plain { new x item 7 if \
      x { drop x } } script h handler { new y item 9 if y { drop y } } run 0 main at 0 9 1 h }",
-    "scenario { processors 1 pages 1 deferred off type item { a } script main plain { new x item 7 if \
+    b"scenario { processors 1 pages 1 deferred off type item { a } script main plain { new x item 7 if \
      x { drop x } } script h handler { new y item 9 if y { drop y } } run 0 main at 0 10 1 h }",
-    "scenario { processors 1 pages 1 deferred off type item { a } script main plain { new x item 7 if \
+    b"scenario { processors 1 pages 1 deferred off type item { a } script main plain { new x item 7 if \
      x { drop x } } script h handler { new y item 9 if y { drop y } } run 0 main at 0 11 1 h }",
-    "scenario { processors 1 pages 1 deferred off type item { a } script main plain { new x item 7 if \
+    b"scenario { processors 1 pages 1 deferred off type item { a } script main plain { new x item 7 if \
      x { drop x } } script h handler { new y item 9 if y { drop y } } run 0 main at 0 12 1 h }",
-    "scenario { processors 1 pages 0 deferred on type big { pad 4088 } script main plain { new a big \
+    b"scenario { processors 1 pages 0 deferred on type big { pad 4088 } script main plain { new a big \
      new b big new c big new d big if a { drop a } if b { drop b } if c { drop c } if d { drop d } } \
      run 0 main }",
-    "scenario { processors 1 pages 1 deferred on type big { pad 4088 } script main plain { new a big \
+    b"scenario { processors 1 pages 1 deferred on type big { pad 4088 } script main plain { new a big \
      new b big new c big new d big if a { drop a } if b { drop b } if c { drop c } if d { drop d } } \
      run 0 main }",
-    "scenario { processors 1 pages 2 deferred on type big { pad 4088 } script main plain { new a big \
+    b"scenario { processors 1 pages 2 deferred on type big { pad 4088 } script main plain { new a big \
      new b big new c big new d big if a { drop a } if b { drop b } if c { drop c } if d { drop d } } \
      run 0 main }",
-    "scenario { processors 1 pages 3 deferred on type big { pad 4088 } script main plain { new a big \
+    b"scenario { processors 1 pages 3 deferred on type big { pad 4088 } script main plain { new a big \
      new b big new c big new d big if a { drop a } if b { drop b } if c { drop c } if d { drop d } } \
      run 0 main }",
-    "scenario { processors 1 pages 1 deferred off type item { a } script main plain { drop x } run 0 \
+    b"scenario { processors 1 pages 1 deferred off type item { a } script main plain { drop x } run 0 \
      main }",
-    "scenario { processors 1 pages 1 deferred off type item { a } script main plain { new x item 1 \
+    b"scenario { processors 1 pages 1 deferred off type item { a } script main plain { new x item 1 \
      drop x } run 0 main }",
-    "scenario { processors 1 pages 1 deferred off type item { a } script main plain { new x item 1 if \
+    b"scenario { processors 1 pages 1 deferred off type item { a } script main plain { new x item 1 if \
      x { drop x drop x } } run 0 main }",
-    "scenario { processors 1 pages 1 deferred off type item { a } script main plain { new x item 1 } \
+    b"scenario { processors 1 pages 1 deferred off type item { a } script main plain { new x item 1 } \
      run 0 main }",
-    "scenario { processors 1 pages 1 deferred off type item { a } script main plain { new x item 1 if \
+    b"scenario { processors 1 pages 1 deferred off type item { a } script main plain { new x item 1 if \
      x { } } run 0 main }",
-    "scenario { processors 1 pages 1 deferred off type item { a } script main plain { repeat 2 { new \
+    b"scenario { processors 1 pages 1 deferred off type item { a } script main plain { repeat 2 { new \
      x item 1 } } run 0 main }",
-    "scenario { processors 1 pages 1 deferred off type item { a } script main plain { new x item 1 if \
+    b"scenario { processors 1 pages 1 deferred off type item { a } script main plain { new x item 1 if \
      x { if x { drop x } else { drop x } } } run 0 main }",
-    "scenario { processors 1 pages 1 deferred on type item { a } script main plain { new x1 item 1 \
+    b"scenario { processors 1 pages 1 deferred on type item { a } script main plain { new x1 item 1 \
      new x2 item 1 new x3 item 1 new x4 item 1 new x5 item 1 new x6 item 1 new x7 item 1 new x8 item \
      1 new x9 item 1 new x10 item 1 new x11 item 1 new x12 item 1 new x13 item 1 new x14 item 1 new \
      x15 item 1 new x16 item 1 new x17 item 1 new x18 item 1 new x19 item 1 new x20 item 1 new x21 \
@@ -140,9 +141,9 @@ const TEXTS: [&str; 54] = [
      x30 { drop x30 } if x31 { drop x31 } if x32 { drop x32 } if x33 { drop x33 } if x34 { drop x34 } \
      if x35 { drop x35 } if x36 { drop x36 } if x37 { drop x37 } if x38 { drop x38 } if x39 { drop \
      x39 } if x40 { drop x40 } } run 0 main }",
-    "scenario { processors 1 pages 1 deferred off type item counted { a } script main plain { new x \
+    b"scenario { processors 1 pages 1 deferred off type item counted { a } script main plain { new x \
      item 7 if x { get x a acquire y x drop x drop y } } run 0 main }",
-    "scenario { processors 4 pages 64 deferred on type job counted list { a b } type node tree { k } \
+    b"scenario { processors 4 pages 64 deferred on type job counted list { a b } type node tree { k } \
      type part counted { v } slot spare part list q job tree t node script p0 plain { yield } script \
      p1 plain { new x job 37 36 if x { lock q push_back q x unlock } } script p2 plain { yield } \
      script p3 plain { yield } script h handler { new x part 7 if x { xchg o spare x if o { drop o } \
@@ -230,14 +231,8 @@ fn printed(alloc: Global, text: &[u8]) -> Result<Vec<u8>, Fail> {
     if text.len() > 2_000_000 {
         return Err(Fail::from("a long text"));
     }
-    match read_scenario(alloc, text) {
-        Ok(scenario) => match print_scenario(alloc, &scenario) {
-            Ok(printed) => Ok(printed),
-            Err(_) => Err(Fail::from("out of memory")),
-        },
-        Err(LangFault::Bad(_)) => Err(Fail::from("a text without a reading")),
-        Err(LangFault::NoMemory) => Err(Fail::from("out of memory")),
-    }
+    let scenario = read_scenario(alloc, text)?;
+    Ok(print_scenario(alloc, &scenario)?)
 }
 
 #[test]
@@ -260,14 +255,19 @@ fn what_is_empty_is_printed(rt: HostRuntime) -> Result<(), Fail> {
     Ok(())
 }
 
-#[test]
-fn worked_scenarios_are_printed_and_read_again(rt: HostRuntime) -> Result<(), Fail> {
-    for text in TEXTS {
-        let once = printed(rt.alloc(), text.as_bytes())?;
-        let twice = printed(rt.alloc(), &once)?;
-        assert!(rt; once == twice, "{text}");
+fn are_printed_and_read_again(rt: &impl Abort, alloc: Global, texts: &[&[u8]]) -> Result<(), Fail> {
+    for text in texts {
+        let once = printed(alloc, text)?;
+        let twice = printed(alloc, &once)?;
+        assert!(rt; once == twice, "{text:?}");
     }
     Ok(())
+}
+
+#[test]
+fn worked_scenarios_are_printed_and_read_again(rt: HostRuntime) -> Result<(), Fail> {
+    assert_eq!(rt; TEXTS.len(), 54);
+    are_printed_and_read_again(&rt, rt.alloc(), TEXTS)
 }
 
 // A piece of a generated script: its text, with so many numbers below a bound between its two halves.
