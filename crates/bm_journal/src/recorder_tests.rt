@@ -1,6 +1,7 @@
 use super::*;
 use bm_class::Class;
 use std::alloc::Global;
+use std::process::Abort;
 use std::test::Fail;
 
 fn whole(alloc: Global, numbers: &[u16]) -> Result<Units, Fail> {
@@ -152,81 +153,95 @@ fn totals_go_over_all_logs(rt: HostRuntime) -> Result<(), Fail> {
     Ok(())
 }
 
-#[test]
-fn recorders_count_units(rt: HostRuntime) -> Result<(), Fail> {
+// After so many entries: the lengths of the lists of the first class, and how many units are in hand.
+type Row = (usize, Lengths, u64);
+
+const NONE: Lengths = Lengths::NONE;
+
+const OF_ONE_OBJECT: &[Row] = &[
+    (1, Lengths { free: 4, ..NONE }, 0),
+    (6, Lengths { free: 3, ..NONE }, 1),
+    (10, Lengths { free: 3, ..NONE }, 0),
+    (13, Lengths { free: 3, ..NONE }, 1),
+    (21, Lengths { free: 4, ..NONE }, 0),
+    (22, Lengths { second: 4, ..NONE }, 0),
+    (27, NONE, 0),
+];
+
+fn are_counted(rt: &impl Abort, counts: &Counts, lengths: Lengths, hand: u64, number: usize) {
     let [class, ..] = Class::all();
-    let none = Lengths::NONE;
-    let table = [
-        (1, Lengths { free: 4, ..none }, 0),
-        (6, Lengths { free: 3, ..none }, 1),
-        (10, Lengths { free: 3, ..none }, 0),
-        (13, Lengths { free: 3, ..none }, 1),
-        (21, Lengths { free: 4, ..none }, 0),
-        (22, Lengths { second: 4, ..none }, 0),
-        (27, none, 0),
-    ];
-    for (number, lengths, hand) in table {
-        let mut entries = one_object(rt.alloc())?;
-        entries.truncate(number);
+    assert_eq!(rt; counts.lengths(class), lengths, "after {number} entries");
+    assert_eq!(rt;
+        counts.hand(Level::ordinary()),
+        hand,
+        "after {number} entries"
+    );
+}
+
+fn are_tallied(rt: &impl Abort, alloc: Global, rows: &[Row]) -> Result<(), Fail> {
+    for (number, lengths, hand) in rows {
+        let mut entries = one_object(alloc)?;
+        entries.truncate(*number);
         let mut tally = Tally::new();
         put_all(&mut tally, entries);
         let counts = tally.counts();
-        assert_eq!(rt; counts.lengths(class), lengths, "after {number} entries");
-        assert_eq!(rt;
-            counts.hand(Level::ordinary()),
-            hand,
-            "after {number} entries"
-        );
+        are_counted(rt, &counts, *lengths, *hand, *number);
         assert!(rt; !tally.failed());
     }
     Ok(())
 }
 
 #[test]
-fn units_go_round_the_lists(rt: HostRuntime) -> Result<(), Fail> {
-    let [class, ..] = Class::all();
-    let one = Lengths {
-        free: 1,
-        delayed: 1,
-        ..Lengths::NONE
-    };
-    let taken = Lengths { delayed: 0, ..one };
-    let table = [
-        (1, Lengths::NONE, 3),
-        (4, Lengths { extra: 1, ..one }, 0),
-        (5, one, 1),
-        (6, one, 0),
-        (7, Lengths { first: 1, ..taken }, 0),
-        (8, taken, 0),
-        (9, Lengths { ready: 1, ..taken }, 0),
-        (10, Lengths { second: 1, ..taken }, 0),
-        (11, taken, 1),
-        (
-            12,
-            Lengths {
-                extra_delayed: 1,
-                ..taken
-            },
-            0,
-        ),
-        (13, one, 0),
-    ];
-    for (number, lengths, hand) in table {
-        let mut entries = moves(rt.alloc())?;
-        entries.truncate(number);
-        let mut keep = Keep::new(rt.alloc());
+fn recorders_count_units(rt: HostRuntime) -> Result<(), Fail> {
+    are_tallied(&rt, rt.alloc(), OF_ONE_OBJECT)
+}
+
+const ONE: Lengths = Lengths {
+    free: 1,
+    delayed: 1,
+    ..NONE
+};
+
+const TAKEN: Lengths = Lengths { delayed: 0, ..ONE };
+
+const OF_MOVES: &[Row] = &[
+    (1, NONE, 3),
+    (4, Lengths { extra: 1, ..ONE }, 0),
+    (5, ONE, 1),
+    (6, ONE, 0),
+    (7, Lengths { first: 1, ..TAKEN }, 0),
+    (8, TAKEN, 0),
+    (9, Lengths { ready: 1, ..TAKEN }, 0),
+    (10, Lengths { second: 1, ..TAKEN }, 0),
+    (11, TAKEN, 1),
+    (
+        12,
+        Lengths {
+            extra_delayed: 1,
+            ..TAKEN
+        },
+        0,
+    ),
+    (13, ONE, 0),
+];
+
+fn are_kept(rt: &impl Abort, alloc: Global, rows: &[Row]) -> Result<(), Fail> {
+    for (number, lengths, hand) in rows {
+        let mut entries = moves(alloc)?;
+        entries.truncate(*number);
+        let mut keep = Keep::new(alloc);
         put_all(&mut keep, entries);
         let counts = keep.counts();
-        assert_eq!(rt; counts.lengths(class), lengths, "after {number} entries");
-        assert_eq!(rt;
-            counts.hand(Level::ordinary()),
-            hand,
-            "after {number} entries"
-        );
+        are_counted(rt, &counts, *lengths, *hand, *number);
         let log = keep.into_log().ok_or("a log")?;
-        assert_eq!(rt; log.as_slice().len(), number);
+        assert_eq!(rt; log.as_slice().len(), *number);
     }
     Ok(())
+}
+
+#[test]
+fn units_go_round_the_lists(rt: HostRuntime) -> Result<(), Fail> {
+    are_kept(&rt, rt.alloc(), OF_MOVES)
 }
 
 #[test]

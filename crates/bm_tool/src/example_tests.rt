@@ -1,8 +1,7 @@
 //! The scenarios of examples/ and their journals, as they stand there. The journals are worked out by hand from the rules.
 
 use crate::nested_example::{NESTED_BLOCKS, NESTED_BLOCKS_JOURNAL};
-use crate::tests::{agrees, call};
-use std::process::Abort;
+use crate::tests::give_their_journals;
 use std::test::Fail;
 
 // Five objects of a class whose cache begins with four units, and a sixth request in the `else` of the fifth.
@@ -371,18 +370,14 @@ total tracing 1
 total handlers 0
 ";
 
+const EXAMPLES: &[(&str, &str)] = &[
+    (EMPTY_STOCK, EMPTY_STOCK_JOURNAL),
+    (NESTED_BLOCKS, NESTED_BLOCKS_JOURNAL),
+    (TWO_CLASSES, TWO_CLASSES_JOURNAL),
+    (TWO_SCRIPTS, TWO_SCRIPTS_JOURNAL),
+];
+
 #[test]
 fn examples_give_their_journals(rt: HostRuntime) -> Result<(), Fail> {
-    let table = [
-        (EMPTY_STOCK, EMPTY_STOCK_JOURNAL),
-        (NESTED_BLOCKS, NESTED_BLOCKS_JOURNAL),
-        (TWO_CLASSES, TWO_CLASSES_JOURNAL),
-        (TWO_SCRIPTS, TWO_SCRIPTS_JOURNAL),
-    ];
-    for (text, journal) in table {
-        let called = call(rt.alloc(), &["replay"], text.as_bytes())?;
-        let done = agrees(&rt, &called, 0, journal, "", text);
-        assert_eq!(rt; called.answered, done, "{text}");
-    }
-    Ok(())
+    give_their_journals(&rt, rt.alloc(), EXAMPLES)
 }

@@ -175,6 +175,22 @@ pub(crate) struct Called {
     pub(crate) err: Vec<u8>,
 }
 
+// A source of a text; these of its calls fail.
+fn source(alloc: Global, text: &[u8], fails: &[u32]) -> Result<MemSource, Fail> {
+    let bytes = Vec::from_slice(alloc, text)?;
+    let fails = Vec::from_slice(alloc, fails)?;
+    Ok(MemSource::new(bytes, PIECE, fails))
+}
+
+// A sink; these of its calls fail.
+fn sink(alloc: Global, fails: &[u32]) -> Result<MemSink, Fail> {
+    let fails = Vec::from_slice(alloc, fails)?;
+    Ok(MemSink::new(alloc, 4096, PIECE, fails)?)
+}
+
+// How many bytes a device moves at a time.
+const PIECE: usize = 10;
+
 // Calls the program over memory; the calls of the source and of the two sinks whose numbers are given fail.
 fn call_over(
     alloc: Global,
@@ -184,21 +200,29 @@ fn call_over(
     out_fails: &[u32],
     err_fails: &[u32],
 ) -> Result<Called, Fail> {
-    let piece = 10;
-    let mut source = MemSource::new(
-        Vec::from_slice(alloc, text)?,
-        piece,
-        Vec::from_slice(alloc, source_fails)?,
-    );
-    let mut out = MemSink::new(alloc, 4096, piece, Vec::from_slice(alloc, out_fails)?)?;
-    let mut err = MemSink::new(alloc, 4096, piece, Vec::from_slice(alloc, err_fails)?)?;
+    let source = source(alloc, text, source_fails)?;
+    let out = sink(alloc, out_fails)?;
+    let err = sink(alloc, err_fails)?;
+    Ok(call_with(alloc, words, source, out, err))
+}
+
+fn call_with(
+    alloc: Global,
+    words: &[&str],
+    source: MemSource,
+    out: MemSink,
+    err: MemSink,
+) -> Called {
+    let mut source = source;
+    let mut out = out;
+    let mut err = err;
     let answer = bpfmem(alloc, words, &mut source, &mut out, &mut err);
-    Ok(Called {
+    Called {
         status: answer.status,
         answered: answer.journal.is_some(),
         out: out.into_bytes(),
         err: err.into_bytes(),
-    })
+    }
 }
 
 pub(crate) fn call(alloc: Global, words: &[&str], text: &[u8]) -> Result<Called, Fail> {
@@ -231,33 +255,61 @@ pub(crate) fn agrees(
     true
 }
 
-#[test]
-fn journals_and_their_totals_alone(rt: HostRuntime) -> Result<(), Fail> {
-    let table = [
-        (SCENARIO, JOURNAL),
-        (NO_PAGE, NO_PAGE_JOURNAL),
-        (NO_SCRIPT, NO_SCRIPT_JOURNAL),
-    ];
-    for (text, journal) in table {
-        let called = call(rt.alloc(), &["replay"], text.as_bytes())?;
-        let done = agrees(&rt, &called, 0, journal, "", text);
-        assert_eq!(rt; called.answered, done, "{text}");
+// `replay` prints and answers the journal of a text.
+fn gives_its_journal(
+    rt: &impl Abort,
+    alloc: Global,
+    text: &str,
+    journal: &str,
+) -> Result<(), Fail> {
+    let called = call(alloc, &["replay"], text.as_bytes())?;
+    let done = agrees(rt, &called, 0, journal, "", text);
+    assert_eq!(rt; called.answered, done, "{text}");
+    Ok(())
+}
 
+pub(crate) fn give_their_journals(
+    rt: &impl Abort,
+    alloc: Global,
+    rows: &[(&str, &str)],
+) -> Result<(), Fail> {
+    for (text, journal) in rows {
+        gives_its_journal(rt, alloc, text, journal)?;
+    }
+    Ok(())
+}
+
+// `replay --totals` prints the lines of totals alone, which end the journal.
+fn give_their_totals(rt: &impl Abort, alloc: Global, rows: &[(&str, &str)]) -> Result<(), Fail> {
+    for (text, journal) in rows {
         let (_, totals) = journal
             .split_once("total steps")
-            .expect(&rt, "a journal has totals");
-        let called = call(rt.alloc(), &["replay", "--totals"], text.as_bytes())?;
-        let lines = format!(in rt.alloc(); "total steps{totals}")?;
-        let done = agrees(&rt, &called, 0, lines.as_str(), "", text);
+            .expect(rt, "a journal has totals");
+        let called = call(alloc, &["replay", "--totals"], text.as_bytes())?;
+        let lines = format!(in alloc; "total steps{totals}")?;
+        let done = agrees(rt, &called, 0, lines.as_str(), "", text);
         assert_eq!(rt; called.answered, done, "{text}");
     }
     Ok(())
 }
 
+const JOURNALS: &[(&str, &str)] = &[
+    (SCENARIO, JOURNAL),
+    (NO_PAGE, NO_PAGE_JOURNAL),
+    (NO_SCRIPT, NO_SCRIPT_JOURNAL),
+];
+
+#[test]
+fn journals_and_their_totals_alone(rt: HostRuntime) -> Result<(), Fail> {
+    give_their_journals(&rt, rt.alloc(), JOURNALS)?;
+    give_their_totals(&rt, rt.alloc(), JOURNALS)
+}
+
+const COMMANDS: &[&[&str]] = &[&["replay"], &["replay", "--totals"], &["check"]];
+
 #[test]
 fn memory_is_there_for_each_command(rt: HostRuntime) -> Result<(), Fail> {
-    let table: [&[&str]; 3] = [&["replay"], &["replay", "--totals"], &["check"]];
-    for words in table {
+    for words in COMMANDS {
         assert_eq!(rt; call(rt.alloc(), words, SCENARIO.as_bytes())?.status, 0);
     }
     Ok(())
@@ -353,90 +405,150 @@ total handlers 0
 //
 // Two pages: the `big` is given in 5 steps; three times another is asked for in vain in 4 and two items come and go in 9
 // each; and the `big` goes back in 4. That is 75 steps, twice, and 4 for the closing of each class.
+const NESTED_ON_PAGES: &[(&str, &str)] = &[
+    ("0", NESTED_ON_NO_PAGE),
+    ("1", NESTED_ON_ONE_PAGE),
+    ("2", NESTED_ON_TWO_PAGES),
+];
+
+fn have_totals(rt: &impl Abort, alloc: Global, rows: &[(&str, &str)]) -> Result<(), Fail> {
+    for (pages, totals) in rows {
+        let text = format!(in alloc; "scenario {{ processors 1 pages {pages} {NESTED}")?;
+        let called = call(alloc, &["replay", "--totals"], text.as_bytes())?;
+        agrees(rt, &called, 0, totals, "", pages);
+    }
+    Ok(())
+}
+
 #[test]
 fn nested_blocks(rt: HostRuntime) -> Result<(), Fail> {
-    let table = [
-        ("0", NESTED_ON_NO_PAGE),
-        ("1", NESTED_ON_ONE_PAGE),
-        ("2", NESTED_ON_TWO_PAGES),
-    ];
-    for (pages, totals) in table {
-        let text = format!(in rt.alloc(); "scenario {{ processors 1 pages {pages} {NESTED}")?;
-        let called = call(rt.alloc(), &["replay", "--totals"], text.as_bytes())?;
-        agrees(&rt, &called, 0, totals, "", pages);
+    have_totals(&rt, rt.alloc(), NESTED_ON_PAGES)
+}
+
+// A call whose devices fail at these calls: the words, the calls of the source and of the sink that fail, and then the
+// status, whether a journal is answered, what the two sinks got, and which failure it is.
+type Failing<'a> = (
+    &'a [&'a str],
+    &'a [u32],
+    &'a [u32],
+    u8,
+    bool,
+    &'a str,
+    &'a str,
+    &'a str,
+);
+
+const FAILING: &[Failing<'static>] = &[
+    // the source in mid-stream, and at its first call; where the words are no command it isn't read
+    (
+        &["replay"],
+        &[2],
+        &[],
+        2,
+        false,
+        "",
+        "bpfmem: read failed\n",
+        "second read",
+    ),
+    (
+        &["check"],
+        &[1],
+        &[],
+        2,
+        false,
+        "",
+        "bpfmem: read failed\n",
+        "first read",
+    ),
+    (
+        &["checks"],
+        &[1],
+        &[],
+        1,
+        false,
+        "",
+        "bpfmem: usage\n",
+        "no read",
+    ),
+    // the sink: a front of the text was written, and a journal is answered by `replay` alone
+    (
+        &["replay"],
+        &[],
+        &[2],
+        3,
+        true,
+        "processors",
+        "bpfmem: write failed\n",
+        "second write",
+    ),
+    (
+        &["check"],
+        &[],
+        &[1],
+        3,
+        false,
+        "",
+        "bpfmem: write failed\n",
+        "first write",
+    ),
+    // the flush behind the last byte of `accepted`
+    (
+        &["check"],
+        &[],
+        &[2],
+        3,
+        false,
+        "accepted\n",
+        "bpfmem: write failed\n",
+        "flush",
+    ),
+];
+
+fn are_failures(rt: &impl Abort, alloc: Global, rows: &[Failing<'_>]) -> Result<(), Fail> {
+    for (words, source, sink, status, answered, out, err, note) in rows {
+        let called = call_over(alloc, words, SCENARIO.as_bytes(), source, sink, &[])?;
+        let done = agrees(rt, &called, *status, out, err, note);
+        assert_eq!(rt; called.answered, *answered && done, "{note}");
     }
     Ok(())
 }
 
 #[test]
 fn devices_that_fail(rt: HostRuntime) -> Result<(), Fail> {
-    let text = SCENARIO.as_bytes();
-
-    // the source in mid-stream, and at its first call; where the words are no command it isn't read
-    let called = call_over(rt.alloc(), &["replay"], text, &[2], &[], &[])?;
-    agrees(&rt, &called, 2, "", "bpfmem: read failed\n", "second read");
-    let called = call_over(rt.alloc(), &["check"], text, &[1], &[], &[])?;
-    agrees(&rt, &called, 2, "", "bpfmem: read failed\n", "first read");
-    let called = call_over(rt.alloc(), &["checks"], text, &[1], &[], &[])?;
-    agrees(&rt, &called, 1, "", "bpfmem: usage\n", "no read");
-
-    // the sink: a front of the text was written, and a journal is answered by `replay` alone
-    let called = call_over(rt.alloc(), &["replay"], text, &[], &[2], &[])?;
-    let done = agrees(
-        &rt,
-        &called,
-        3,
-        "processors",
-        "bpfmem: write failed\n",
-        "second write",
-    );
-    assert_eq!(rt; called.answered, done);
-    let called = call_over(rt.alloc(), &["check"], text, &[], &[1], &[])?;
-    agrees(&rt, &called, 3, "", "bpfmem: write failed\n", "first write");
-    assert!(rt; !called.answered);
-
-    // the flush behind the last byte of `accepted`
-    let called = call_over(rt.alloc(), &["check"], text, &[], &[2], &[])?;
-    agrees(
-        &rt,
-        &called,
-        3,
-        "accepted\n",
-        "bpfmem: write failed\n",
-        "flush",
-    );
+    are_failures(&rt, rt.alloc(), FAILING)?;
 
     // the sink for refusals: the status stays
-    let called = call_over(rt.alloc(), &[], text, &[], &[], &[2])?;
+    let called = call_over(rt.alloc(), &[], SCENARIO.as_bytes(), &[], &[], &[2])?;
     assert_eq!(rt; called.status, 1);
     assert_eq!(rt; called.err.as_slice(), b"bpfmem: us".as_slice());
     Ok(())
 }
 
+// So many spaces, and what they are refused with.
+fn spaces_are_refused(
+    rt: &impl Abort,
+    alloc: Global,
+    words: &[&str],
+    spaces: usize,
+    status: u8,
+    line: &str,
+) -> Result<(), Fail> {
+    let source = MemSource::new(vec![in alloc; b' '; spaces]?, 65536, Vec::new(alloc));
+    let out = MemSink::new(alloc, 64, 64, Vec::new(alloc))?;
+    let err = MemSink::new(alloc, 64, 64, Vec::new(alloc))?;
+    let called = call_with(alloc, words, source, out, err);
+    agrees(rt, &called, status, "", line, line);
+    Ok(())
+}
+
 #[test]
 fn the_input_has_a_limit(rt: HostRuntime) -> Result<(), Fail> {
-    let words: [&[&str]; 2] = [&["replay"], &["check"]];
+    let words: &[&[&str]] = &[&["replay"], &["check"]];
     for words in words {
-        for (spaces, status, line) in [
-            (1_048_577, 7, "bpfmem: limit input\n"),
-            (1_048_576, 5, "bpfmem: line 1 column 1048577: end\n"),
-        ] {
-            let mut source = MemSource::new(
-                vec![in rt.alloc(); b' '; spaces]?,
-                65536,
-                Vec::new(rt.alloc()),
-            );
-            let mut out = MemSink::new(rt.alloc(), 64, 64, Vec::new(rt.alloc()))?;
-            let mut err = MemSink::new(rt.alloc(), 64, 64, Vec::new(rt.alloc()))?;
-            let answer = bpfmem(rt.alloc(), words, &mut source, &mut out, &mut err);
-            let called = Called {
-                status: answer.status,
-                answered: answer.journal.is_some(),
-                out: out.into_bytes(),
-                err: err.into_bytes(),
-            };
-            agrees(&rt, &called, status, "", line, line);
-        }
+        let over = "bpfmem: limit input\n";
+        spaces_are_refused(&rt, rt.alloc(), words, 1_048_577, 7, over)?;
+        let within = "bpfmem: line 1 column 1048577: end\n";
+        spaces_are_refused(&rt, rt.alloc(), words, 1_048_576, 5, within)?;
     }
     Ok(())
 }
