@@ -7,18 +7,12 @@ mod bounds;
 mod costs;
 mod expect;
 mod fault;
-#[cfg(test)]
-mod fault_tests;
 mod index;
 mod items;
 mod keyword;
 mod law;
-#[cfg(test)]
-mod limit_tests;
 mod lines;
 mod listing;
-#[cfg(test)]
-mod long_tests;
 mod maps;
 mod names;
 mod place;
@@ -30,12 +24,8 @@ mod scenario;
 mod scripts;
 mod statements;
 mod tables;
-#[cfg(test)]
-mod tests;
 mod token;
 mod types;
-#[cfg(test)]
-mod worked_tests;
 
 pub use bounds::{Limit, limits};
 pub use fault::{BadKind, BadText, LangFault};

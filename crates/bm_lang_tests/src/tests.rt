@@ -1,4 +1,4 @@
-use super::*;
+use bm_lang::*;
 use std::alloc::Global;
 use std::process::Abort;
 use std::test::Fail;

@@ -1,6 +1,6 @@
 //! Worked scenarios: each text is read, printed, and read again.
 
-use super::*;
+use bm_lang::*;
 use std::alloc::{AllocError, Global};
 use std::process::Abort;
 use std::test::Fail;

@@ -1,6 +1,6 @@
 //! A text of the greatest length.
 
-use super::*;
+use bm_lang::*;
 use std::alloc::{AllocError, Global};
 use std::test::Fail;
 

@@ -1,6 +1,6 @@
 //! Scenarios at each limit, and one above it.
 
-use super::*;
+use bm_lang::*;
 use std::alloc::{AllocError, Global};
 use std::process::Abort;
 use std::test::Fail;

@@ -1,6 +1,6 @@
 //! Texts that have no reading, with the place and the kind of their fault.
 
-use super::*;
+use bm_lang::*;
 use std::alloc::Global;
 use std::process::Abort;
 use std::test::Fail;
