@@ -1,0 +1,5 @@
+pub mod Due
+pub mod Standing
+pub mod Plan
+pub mod Told
+pub mod Worked

@@ -1,0 +1,9 @@
+//! Which planned handler is due: the definition, a store that answers it, and when the handlers of a log stand where they
+//! are due.
+#![tactic(auto)]
+
+mod planned;
+mod worked;
+
+pub use planned::{Due, Planned};
+pub use worked::{worked_due, worked_standing, wrong_standing};
