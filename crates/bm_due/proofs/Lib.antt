@@ -1,2 +1,4 @@
 pub mod Foremost
 pub mod Plans
+pub mod Standings
+pub mod Askings

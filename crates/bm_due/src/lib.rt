@@ -2,8 +2,10 @@
 //! are due.
 #![tactic(auto)]
 
+mod laws;
 mod planned;
 mod worked;
 
+pub use laws::asking_law;
 pub use planned::{Due, Planned};
 pub use worked::{worked_due, worked_standing, wrong_standing};
