@@ -29,7 +29,7 @@ highest-le p [] m h = omega arith
 highest-le p (x ∷ xs) m h = pick-le (p x) x (filter p xs) m (λ e. h 0 x (omega arith) e) (highest-le p xs m (λ k d l e. h (suc k) d (omega arith) e))
 
 -- one that passes is at most the highest
-highest-ge : (p : AtLine → Bool) (xs : List AtLine) (i : ℕ) (d : AtLine) → i < length xs → p (get_or xs i d) ≡ true → (get_or xs i d).level ≤ highest_level (filter p xs)
+pub highest-ge : (p : AtLine → Bool) (xs : List AtLine) (i : ℕ) (d : AtLine) → i < length xs → p (get_or xs i d) ≡ true → (get_or xs i d).level ≤ highest_level (filter p xs)
 highest-ge p [] i d h e = absurd (omega arith)
 highest-ge p (x ∷ xs) zero d h e = pick-here (p x) x (filter p xs) e
 highest-ge p (x ∷ xs) (suc i) d h e = pick-rest (p x) x (filter p xs) _ (highest-ge p xs i d (omega arith) e)
@@ -66,7 +66,7 @@ due-at n l xs i d e h = find_at (is_foremost n l xs) xs ∙ ap (slice_get xs) e 
 -- ---- none may interrupt
 
 -- some line, where a default is asked for
-nobody : AtLine
+pub nobody : AtLine
 nobody = record { line = 0; processor = 0; step = 0; level = 0; script = record { 0 = 0 } }
 
 pub position-none : (n l : ℕ) (xs : List AtLine) → ((k : ℕ) (d : AtLine) → k < length xs → may_interrupt n l (get_or xs k d) ≡ false) → position_or_len (is_foremost n l xs) xs ≡ length xs
@@ -173,6 +173,18 @@ position-at p xs i e h = rw e (cond-true _ _ _ (lt-ltb i (length xs) h))
 pub position-past : (p : AtLine → Bool) (xs : List AtLine) → position_or_len p xs ≡ length xs → position p xs ≡ None
 position-past p xs e = rw e (cond-false _ _ _ (le-ltb (length xs) (length xs) (omega arith)))
 
+pub scan-position : (n l : ℕ) (xs : List AtLine) (i highest b : ℕ) → Scan n l xs i highest (Some b) → i ≡ length xs → position_or_len (is_foremost n l xs) xs ≡ b
+scan-position n l xs i highest b s e =
+    let f : Found n l xs i highest b = s.is_place in
+    let here : b < i = f.within in
+    let best : IsBest n l xs b = record {
+      within = omega arith;
+      may = λ d. may-true n l (get_or xs b d) (f.reached d) (let q : (get_or xs b d).level ≡ highest = f.level d in let a : l < highest = f.above in omega arith);
+      above = λ k d h m. let q : (get_or xs b d).level ≡ highest = f.level d in let u : (get_or xs k d).level ≤ highest = s.at_most k d (omega arith) m in omega arith;
+      first = λ k d h m. let q : (get_or xs b d).level ≡ highest = f.level d in let u : (get_or xs k d).level < highest = f.first k d h m in omega arith;
+    } in
+    position-best n l xs b nobody best
+
 pub scan-end : (n l : ℕ) (xs : List AtLine) (i highest : ℕ) (place : Option ℕ) → Scan n l xs i highest place → i ≡ length xs → place ≡ position (is_foremost n l xs) xs
 scan-end n l xs i highest None s e =
     let none : (k : ℕ) (d : AtLine) → k < length xs → may_interrupt n l (get_or xs k d) ≡ false =
@@ -186,10 +198,4 @@ scan-end n l xs i highest None s e =
 scan-end n l xs i highest (Some b) s e =
     let f : Found n l xs i highest b = s.is_place in
     let here : b < i = f.within in
-    let best : IsBest n l xs b = record {
-      within = omega arith;
-      may = λ d. may-true n l (get_or xs b d) (f.reached d) (let q : (get_or xs b d).level ≡ highest = f.level d in let a : l < highest = f.above in omega arith);
-      above = λ k d h m. let q : (get_or xs b d).level ≡ highest = f.level d in let u : (get_or xs k d).level ≤ highest = s.at_most k d (omega arith) m in omega arith;
-      first = λ k d h m. let q : (get_or xs b d).level ≡ highest = f.level d in let u : (get_or xs k d).level < highest = f.first k d h m in omega arith;
-    } in
-    sym (position-at _ xs b (position-best n l xs b nobody best) best.within)
+    sym (position-at _ xs b (scan-position n l xs i highest b s e) (omega arith))

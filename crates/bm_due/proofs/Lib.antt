@@ -1,4 +1,5 @@
 pub mod Foremost
+pub mod Selected
 pub mod Plans
 pub mod Standings
 pub mod Askings

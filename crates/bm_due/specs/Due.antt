@@ -1,6 +1,6 @@
 -- Which planned handler is due: of the handlers that a scenario plans for a processor by `at` lines, the one that
 -- interrupts it before a step. (This project's own; a planned handler stands for an interrupt of the kernel.)
-use Rattle.std.specs.Prelude.{ℕ, Bool, true, false, ◌&&◌, ◌==◌, nat_le, nat_lt, max, List, [], ◌∷◌, ◌++◌, Option, None, filter, find}
+use Rattle.std.specs.Prelude.{◌≡◌, ◌<◌, ◌≤◌, ℕ, Bool, true, false, ◌&&◌, ◌==◌, nat_le, nat_lt, max, List, [], ◌∷◌, ◌++◌, Option, None, All, filter, find}
 use Rattle.std.specs.List.{before_first, after_first}
 use Rattle.bm_lang.specs.declared.scenario.AtLine.{AtLine}
 use Rattle.bm_lang.specs.declared.scenario.Parts.{Parts}
@@ -33,3 +33,18 @@ due_handler false n l left = find (is_foremost n l left) left
 abbrev pub left_after : Bool → ℕ → ℕ → List AtLine → List AtLine
 left_after true n l left = left
 left_after false n l left = before_first (is_foremost n l left) left ++ after_first (is_foremost n l left) left
+
+-- The same in other words: a line whose step has come, of a level above the code's. Of those whose step has come, each one
+-- before it is of a lower level, and none behind it of a higher one.
+pub record IsDue (n l : ℕ) (left : List AtLine) (line : AtLine) : Type 0 where
+  pub before : List AtLine
+  pub behind : List AtLine
+  pub left_is : left ≡ before ++ line ∷ behind
+  pub reached : line.step ≤ n
+  pub above : l < line.level
+  pub first : All (λ other. other.step ≤ n → other.level < line.level) before
+  pub highest : All (λ other. other.step ≤ n → other.level ≤ line.level) behind
+
+-- each line whose step has come is of the code's level or a lower one
+abbrev pub NoneIsDue : ℕ → ℕ → List AtLine → Type 0
+NoneIsDue n l left = All (λ line. line.step ≤ n → line.level ≤ l) left
