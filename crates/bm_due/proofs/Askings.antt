@@ -1,5 +1,5 @@
 -- Code that asks leaves a log in which the handlers stand where they are due.
-use Rattle.std.proofs.Common.{◌≡◌, ◌∙◌, ℕ, ◌+◌, Bool, true, false, List, [], ◌∷◌, ◌++◌, Option, Some, None, refl, sym, ap, subst}
+use Rattle.std.proofs.Common.{◌≡◌, ◌∙◌, ℕ, ◌+◌, ◌<◌, ◌≤◌, Bool, true, false, List, [], ◌∷◌, ◌++◌, Option, Some, None, refl, sym, ap, subst, arith, append_assoc}
 use Rattle.bm_journal.specs.declared.entry.Entry.{Entry}
 use Rattle.bm_journal.specs.declared.entry.Entry.TheVariants as entry
 use Rattle.bm_lang.specs.declared.scenario.AtLine.{AtLine}
@@ -8,6 +8,8 @@ use Rattle.std.specs.List.{slice_get}
 use Rattle.bm_due.specs.Due.{due_handler, left_after}
 use Rattle.bm_due.specs.Standing.{due_in, left_in, Kind, Steps, Stays, Standing, after_kind, at_first, handlers_stand, is_ordinary, kind_of, level_of, standing_after, stepped}
 use Rattle.bm_due.specs.Asking.{Asks, Progress, Runs, done, handler, next_due, nothing, once_begun, once_stepped, stays, steps}
+use Rattle.bm_law.specs.Spans.{AllFrom}
+use Rattle.bm_due.proofs.Selected.{due-above}
 use Rattle.bm_due.proofs.Standings.{after-append, begun-is, returned-is, stayed-is, stepped-is}
 
 -- where a processor is that has come so far, while these handlers run
@@ -74,3 +76,33 @@ ends-ordinary names lines log closing a b r q =
     ap is_ordinary
         (append-then names log ((0, entry.Ended) ∷ closing) (at_first lines) (standing false false [] a) (runs-stand r [] refl)
         ∙ runs-stand q [] refl)
+
+-- ---- stretches, and their levels
+
+-- what follows a stretch
+pub runs-join : {names : List (List ℕ)} {ended : Bool} {l : ℕ} {a : Progress} {one : Log} {b : Progress} → Runs names ended l a one b → (two : Log) (c : Progress) → Runs names ended l b two c → Runs names ended l a (one ++ two) c
+runs-join done two c q = q
+runs-join (stays e k r) two c q = stays e k (runs-join r two c q)
+runs-join (steps e k h r) two c q = rw append_assoc (steps e k h (runs-join r two c q))
+
+from-append : (l : ℕ) (one two : Log) → AllFrom l one → AllFrom l two → AllFrom l (one ++ two)
+from-append l [] two f g = g
+from-append l (e ∷ es) two f g = (f.0, from-append l es two f.1 g)
+
+from-less : (k l : ℕ) (log : Log) → k ≤ l → AllFrom l log → AllFrom k log
+from-less k l [] h f = tt
+from-less k l (e ∷ es) h f = (let u : l ≤ e.0 = f.0 in omega arith, from-less k l es h f.1)
+
+mutual
+  pub runs-from : {names : List (List ℕ)} {ended : Bool} {l : ℕ} {a : Progress} {log : Log} {b : Progress} → Runs names ended l a log b → AllFrom l log
+  runs-from done = tt
+  runs-from (stays e k r) = (omega arith, runs-from r)
+  runs-from {l = l} (steps {handlers = handlers} {log = log} e k h r) = from-append l handlers ((l, e) ∷ log) (from-less l (l + 1) handlers (omega arith) (asks-above h)) (omega arith, runs-from r)
+
+  pub asks-above : {names : List (List ℕ)} {ended : Bool} {l : ℕ} {a : Progress} {log : Log} {b : Progress} → Asks names ended l a log b → AllFrom (l + 1) log
+  asks-above (nothing d) = tt
+  asks-above {ended = ended} {l = l} (handler {a = a} {body = body} {more = more} line name d n r q) =
+      let up : l < line.level = due-above ended (a.steps + 1) l a.left line d in
+      from-append (l + 1) ((line.level, entry.Handler name) ∷ body) ((line.level, entry.Back name) ∷ more)
+          (omega arith, from-less (l + 1) line.level body (omega arith) (runs-from r))
+          (omega arith, asks-above q)

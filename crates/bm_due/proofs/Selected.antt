@@ -182,3 +182,27 @@ capped n l left line h d =
 pub capped-due : (n : ℕ) (l : ℕ) (left : List AtLine) → All (λ (line : AtLine). line.step < 2 ^ 32) left → (o : Option AtLine) → due_handler false n l left ≡ o → due_handler false (min n (2 ^ 64 - 1)) l left ≡ o
 capped-due n l left h None e = none-from _ l left (λ k d u s. none-to n l left e k d u (omega arith))
 capped-due n l left h (Some line) e = due-from _ l left line (capped n l left line h (due-to n l left line e))
+
+pub capped-all : (ended : Bool) (n l : ℕ) (left : List AtLine) → All (λ (line : AtLine). line.step < 2 ^ 32) left → due_handler ended (min n (2 ^ 64 - 1)) l left ≡ due_handler ended n l left
+capped-all true n l left h = refl
+capped-all false n l left h = capped-due n l left h (due_handler false n l left) refl
+
+pub kept-none : (ended : Bool) (n l : ℕ) (left : List AtLine) → due_handler ended n l left ≡ None → left_after ended n l left ≡ left
+kept-none true n l left e = refl
+kept-none false n l left e =
+    left-none false n l left (λ k d u. may-not n l (get_or left k d) (λ s up. let w : (get_or left k d).level ≤ l = none-to n l left e k d u s in absurd (omega arith)))
+
+capped-same : (n l : ℕ) (left : List AtLine) → All (λ (line : AtLine). line.step < 2 ^ 32) left → (o : Option AtLine) → due_handler false n l left ≡ o → left_after false (min n (2 ^ 64 - 1)) l left ≡ left_after false n l left
+unfolding capped
+capped-same n l left h None e = kept-none false _ l left (capped-due n l left h None e) ∙ sym (kept-none false n l left e)
+capped-same n l left h (Some line) e =
+    let d : IsDue n l left line = due-to n l left line e in
+    others-from _ l left line (capped n l left line h d) ∙ sym (others-from n l left line d)
+
+pub capped-left : (ended : Bool) (n l : ℕ) (left : List AtLine) → All (λ (line : AtLine). line.step < 2 ^ 32) left → left_after ended (min n (2 ^ 64 - 1)) l left ≡ left_after ended n l left
+capped-left true n l left h = refl
+capped-left false n l left h = capped-same n l left h (due_handler false n l left) refl
+
+pub due-above : (ended : Bool) (n l : ℕ) (left : List AtLine) (line : AtLine) → due_handler ended n l left ≡ Some line → l < line.level
+due-above true n l left line e = absurd cc
+due-above false n l left line e = (due-to n l left line e).above

@@ -6,6 +6,6 @@ mod laws;
 mod planned;
 mod worked;
 
-pub use laws::asking_law;
+pub use laws::{asking_law, due_law, entry_law, kind_law, standing_law};
 pub use planned::{Due, Planned};
 pub use worked::{worked_due, worked_standing, wrong_standing};
