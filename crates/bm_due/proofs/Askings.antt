@@ -62,7 +62,7 @@ mutual
         resumes = v.resumes;
         stands =
             append-then names ((line.level, entry.Handler name) ∷ body) ((line.level, entry.Back name) ∷ more) (standing ended resumes running a) (standing ended false (line ∷ running) m)
-                (begin-then names line name body (standing ended resumes running a) e n ∙ left-same names body ended line running a l h ∙ runs-stand r (line ∷ running) refl)
+            (begin-then names line name body (standing ended resumes running a) e n ∙ left-same names body ended line running a l h ∙ runs-stand r (line ∷ running) refl)
             ∙ return-then names line name more ended running m n
             ∙ v.stands;
         none = v.none;
@@ -74,8 +74,8 @@ runs-ordinary names lines log a r = ap is_ordinary (runs-stand r [] refl)
 pub ends-ordinary : (names : List (List ℕ)) (lines : List AtLine) (log closing : Log) (a b : Progress) → Runs names false 0 (record { steps = 0; left = lines }) log a → Runs names true 0 a closing b → handlers_stand names lines (log ++ (0, entry.Ended) ∷ closing) ≡ true
 ends-ordinary names lines log closing a b r q =
     ap is_ordinary
-        (append-then names log ((0, entry.Ended) ∷ closing) (at_first lines) (standing false false [] a) (runs-stand r [] refl)
-        ∙ runs-stand q [] refl)
+    (append-then names log ((0, entry.Ended) ∷ closing) (at_first lines) (standing false false [] a) (runs-stand r [] refl)
+    ∙ runs-stand q [] refl)
 
 -- ---- stretches, and their levels
 
@@ -104,5 +104,5 @@ mutual
   asks-above {ended = ended} {l = l} (handler {a = a} {body = body} {more = more} line name d n r q) =
       let up : l < line.level = due-above ended (a.steps + 1) l a.left line d in
       from-append (l + 1) ((line.level, entry.Handler name) ∷ body) ((line.level, entry.Back name) ∷ more)
-          (omega arith, from-less (l + 1) line.level body (omega arith) (runs-from r))
-          (omega arith, asks-above q)
+      (omega arith, from-less (l + 1) line.level body (omega arith) (runs-from r))
+      (omega arith, asks-above q)

@@ -9,7 +9,7 @@ use Rattle.bm_journal.specs.declared.total.Total.TheVariants as total
 use Rattle.bm_journal.specs.Totals.{counts_of, finished, looked_up, popped, share_of, total_in}
 use Rattle.bm_law.specs.Lists.{Log}
 use Rattle.bm_due.specs.Standing.{Begins, Ends, Kind, Returns, Standing, Stays, Steps, after_kind, kind_of, standing_after, step_or_not}
-use Rattle.bm_due.proofs.Standings.{after-none, begun-tells, returned-tells, stayed-tells, stepped-tells, stopped-tells}
+use Rattle.bm_due.proofs.Standings.{begun-tells, returned-tells, split-first, stayed-tells, stepped-tells, stopped-tells}
 
 -- how many steps an entry of a kind is
 abbrev pub steps_of : Kind → ℕ
@@ -54,11 +54,6 @@ taken names l (Returns name) s t e = let w = returned-tells names l name _ s t e
 taken names l Ends s t e = let w = stopped-tells l _ s t e in ap (λ (z : Standing). z.steps) w.3 ∙ omega arith
 taken names l Steps s t e = let w = stepped-tells l s t e in ap (λ (z : Standing). z.steps) w.2
 taken names l Stays s t e = let w = stayed-tells l s t e in ap (λ (z : Standing). z.steps) w.2 ∙ omega arith
-
--- a log of one more entry
-split-first : (names : List (List ℕ)) (es : Log) (o : Option Standing) (t : Standing) → standing_after names es o ≡ Some t → (s : Standing) × (o ≡ Some s)
-split-first names es None t e = let q : None ≡ Some t = sym (after-none names es) ∙ e in absurd cc
-split-first names es (Some s) t e = (s, refl)
 
 pub steps-counted : (names : List (List ℕ)) (log : Log) (s t : Standing) → standing_after names log (Some s) ≡ Some t → t.steps ≡ s.steps + total_in total.Steps log
 steps-counted names [] s t h = let q : t ≡ s = cc in ap (λ (z : Standing). z.steps) q ∙ omega arith

@@ -4,3 +4,4 @@ pub mod Plans
 pub mod Standings
 pub mod Counting
 pub mod Askings
+pub mod Made

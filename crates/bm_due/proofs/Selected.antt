@@ -29,9 +29,9 @@ is-best n l left line h =
     let xs : List AtLine = h.before ++ line ∷ h.behind in
     let at : (d : AtLine) → get_or xs (length h.before) d ≡ line = λ (d : AtLine). get_or_at h.before line h.behind d (length h.before) refl in
     let lower : (k : ℕ) (d : AtLine) → k < length h.before → may_interrupt n l (get_or xs k d) ≡ true → (get_or xs k d).level < line.level =
-        λ (k : ℕ) (d : AtLine) (u : k < length h.before) (m : may_interrupt n l (get_or xs k d) ≡ true).
-            let e : get_or xs k d ≡ get_or h.before k d = get_or_append_left h.before (line ∷ h.behind) d k u in
-            subst (λ (z : AtLine). z.level < line.level) (sym e) (h.first k d u (may-says n l (get_or h.before k d) (subst (λ (z : AtLine). may_interrupt n l z ≡ true) e m)).0) in
+    λ (k : ℕ) (d : AtLine) (u : k < length h.before) (m : may_interrupt n l (get_or xs k d) ≡ true).
+    let e : get_or xs k d ≡ get_or h.before k d = get_or_append_left h.before (line ∷ h.behind) d k u in
+    subst (λ (z : AtLine). z.level < line.level) (sym e) (h.first k d u (may-says n l (get_or h.before k d) (subst (λ (z : AtLine). may_interrupt n l z ≡ true) e m)).0) in
     record {
       within = length-within h.before line h.behind;
       may = λ d. subst (λ (z : AtLine). may_interrupt n l z ≡ true) (sym (at d)) (may-true n l line h.reached h.above);
@@ -65,13 +65,13 @@ pub due-from : (n l : ℕ) (left : List AtLine) (line : AtLine) → IsDue n l le
 due-from n l left line h =
     let b : IsBest n l (h.before ++ line ∷ h.behind) (length h.before) = is-best n l left line h in
     subst (λ (xs : List AtLine). due_handler false n l xs ≡ Some line) (sym h.left_is)
-        (due-at n l _ (length h.before) line (position-best n l _ _ line b) b.within ∙ ap (λ (z : AtLine). Some z) (get_or_at h.before line h.behind line (length h.before) refl))
+    (due-at n l _ (length h.before) line (position-best n l _ _ line b) b.within ∙ ap (λ (z : AtLine). Some z) (get_or_at h.before line h.behind line (length h.before) refl))
 
 pub others-from : (n l : ℕ) (left : List AtLine) (line : AtLine) → (h : IsDue n l left line) → left_after false n l left ≡ h.before ++ h.behind
 others-from n l left line h =
     let b : IsBest n l (h.before ++ line ∷ h.behind) (length h.before) = is-best n l left line h in
     subst (λ (xs : List AtLine). left_after false n l xs ≡ h.before ++ h.behind) (sym h.left_is)
-        (ap (λ k. take k (h.before ++ line ∷ h.behind) ++ drop (k + 1) (h.before ++ line ∷ h.behind)) (position-best n l _ _ line b) ∙ without h.before line h.behind)
+    (ap (λ k. take k (h.before ++ line ∷ h.behind) ++ drop (k + 1) (h.before ++ line ∷ h.behind)) (position-best n l _ _ line b) ∙ without h.before line h.behind)
 
 -- ---- of the due line the words hold
 
@@ -108,9 +108,9 @@ due-to n l left line e =
           let w : get_or (before_first p left) k d ≡ get_or left k d = get_or-take i left k d short in
           let t : (get_or left k d).step ≤ n = subst (λ (z : AtLine). z.step ≤ n) w s in
           subst (λ (z : AtLine). z.level < line.level) (sym w) (lower-or-late n l line.level (get_or left k d) says.1 (λ m.
-              let y : (get_or left k d).level ≤ top = highest-ge (may_interrupt n l) left k d (omega arith) m in
-              let z : (get_or left k d).level ≢ top = below-top _ _ _ (fails_before_first p left k d short) m in
-              omega arith) t);
+          let y : (get_or left k d).level ≤ top = highest-ge (may_interrupt n l) left k d (omega arith) m in
+          let z : (get_or left k d).level ≢ top = below-top _ _ _ (fails_before_first p left k d short) m in
+          omega arith) t);
       highest = λ k d u s.
           let w : get_or (after_first p left) k d ≡ get_or left (i + 1 + k) d = get_or-drop (i + 1) left k d in
           let t : (get_or left (i + 1 + k) d).step ≤ n = subst (λ (z : AtLine). z.step ≤ n) w s in
@@ -149,9 +149,9 @@ scanned n l left (suc i) h =
 
 none-scanned : (n l : ℕ) (left : List AtLine) (highest : ℕ) (place : Option ℕ) → Scan n l left (length left) highest place → due_handler false n l left ≡ None → NoneIsDue n l left
 none-scanned n l left highest None s e = λ k d u t. elim (cases_lt l (get_or left k d).level) [
-    | inl v ↦ let w : (get_or left k d).level ≤ highest = s.at_most k d u (may-true n l (get_or left k d) t v) in let q : highest ≡ l = s.is_place in omega arith
-    | inr v ↦ v
-  ]
+  | inl v ↦ let w : (get_or left k d).level ≤ highest = s.at_most k d u (may-true n l (get_or left k d) t v) in let q : highest ≡ l = s.is_place in omega arith
+  | inr v ↦ v
+]
 none-scanned n l left highest (Some b) s e =
     let f : Found n l left (length left) highest b = s.is_place in
     let q : position_or_len (is_foremost n l left) left ≡ b = scan-position n l left (length left) highest b s refl in

@@ -23,6 +23,11 @@ after-append names [] two s = refl
 after-append names (e ∷ es) two None = sym (after-none names two)
 after-append names (e ∷ es) two (Some s) = after-append names es two (after_kind names e.0 (kind_of e.1) s)
 
+-- a log that goes on has a state
+pub split-first : (names : List (List ℕ)) (es : Log) (o : Option Standing) (t : Standing) → standing_after names es o ≡ Some t → (s : Standing) × (o ≡ Some s)
+split-first names es None t e = let q : None ≡ Some t = sym (after-none names es) ∙ e in absurd cc
+split-first names es (Some s) t e = (s, refl)
+
 -- ---- one entry
 
 called : (names : List (List ℕ)) (l : ℕ) (name : List ℕ) (line : AtLine) → l ≡ line.level → slice_get names line.script.0 ≡ Some name → is_called names l name line ≡ true

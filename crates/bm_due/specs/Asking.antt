@@ -1,12 +1,12 @@
 -- What code leaves in a log that asks before each of its steps which handler is due. (This project's own: it is how a
 -- machine goes.)
-use Rattle.std.specs.Prelude.{◌≡◌, ℕ, ◌+◌, Bool, List, [], ◌∷◌, ◌++◌, Option, Some, None, slice_get}
+use Rattle.std.specs.Prelude.{◌≡◌, ◌≢◌, ℕ, ◌+◌, Bool, List, [], ◌∷◌, ◌++◌, Option, Some, None, slice_get}
 use Rattle.bm_journal.specs.declared.entry.Entry.{Entry}
 use Rattle.bm_journal.specs.declared.entry.Entry.TheVariants as entry
 use Rattle.bm_lang.specs.declared.scenario.AtLine.{AtLine}
 use Rattle.bm_law.specs.Lists.{Log}
 use Rattle.bm_due.specs.Due.{due_handler, left_after}
-use Rattle.bm_due.specs.Standing.{Kind, Steps, Stays, kind_of}
+use Rattle.bm_due.specs.Standing.{Ends, Kind, Steps, Stays, kind_of}
 
 -- how far a processor has come: how many steps it took, and the handlers that haven't run
 pub record Progress : Type 0 where
@@ -36,3 +36,8 @@ mutual
   pub data Asks (names : List (List ℕ)) (ended : Bool) : ℕ → Progress → Log → Progress → Type 0 where
     nothing : {l : ℕ} {a : Progress} → next_due ended l a ≡ None → Asks names ended l a [] a
     handler : {l : ℕ} {a m b : Progress} {body more : Log} (line : AtLine) (name : List ℕ) → next_due ended l a ≡ Some line → slice_get names line.script.0 ≡ Some name → Runs names ended line.level (once_begun ended l a) body m → Asks names ended l m more b → Asks names ended l a ((line.level, entry.Handler name) ∷ body ++ (line.level, entry.Back name) ∷ more) b
+
+-- the processor doesn't end in these entries
+abbrev pub NoneEnds : Log → Type 0
+NoneEnds [] = Unit {0}
+NoneEnds (e ∷ es) = (kind_of e.1 ≢ Ends) × NoneEnds es

@@ -12,7 +12,7 @@ ghost use Rattle.bm_law.specs.Lists.{Log};
 ghost use Rattle.bm_law.specs.Spans.{AllFrom};
 ghost use Rattle.bm_due.specs.Due.{IsDue, NoneIsDue, due_handler, left_after};
 ghost use Rattle.bm_due.specs.Standing.{Begins, Ends, Returns, Standing, Stays, Steps, due_in, handlers_stand, kind_of, left_in, level_of, standing_after};
-ghost use Rattle.bm_due.specs.Asking.{Asks, Progress, Runs};
+ghost use Rattle.bm_due.specs.Asking.{Asks, NoneEnds, Progress, Runs};
 
 /// The due handler in other words. It is used up when it begins, and where none is due none is. The number of the step may
 /// stay at the greatest one of its type, since the steps of planned handlers are smaller.
@@ -49,12 +49,12 @@ pub fn entry_law()
     ensures begins { (names : List (List ℕ)) (l : ℕ) (name : List ℕ) (s t : Standing) →
         (standing_after names ((l, entry.Handler name) ∷ []) (Some s) ≡ Some t)
         ↔ ((line : AtLine) × (due_in s ≡ Some line) × (l ≡ line.level) × (slice_get names line.script.0 ≡ Some name)
-            × (t ≡ record s { running = line ∷ s.running; left = left_in s; resumes = false })) }
+        × (t ≡ record s { running = line ∷ s.running; left = left_in s; resumes = false })) }
     ensures returns { (names : List (List ℕ)) (l : ℕ) (name : List ℕ) (s t : Standing) →
         (standing_after names ((l, entry.Back name) ∷ []) (Some s) ≡ Some t)
         ↔ ((line : AtLine) × (lines : List AtLine) × (s.running ≡ line ∷ lines) × (l ≡ line.level)
-            × (slice_get names line.script.0 ≡ Some name) × (s.resumes ≡ false)
-            × (t ≡ record s { running = lines; resumes = true })) }
+        × (slice_get names line.script.0 ≡ Some name) × (s.resumes ≡ false)
+        × (t ≡ record s { running = lines; resumes = true })) }
     ensures ends { (names : List (List ℕ)) (l : ℕ) (s t : Standing) →
         (standing_after names ((l, entry.Ended) ∷ []) (Some s) ≡ Some t)
         ↔ ((l ≡ 0) × (s.running ≡ []) × (s.resumes ≡ false) × (t ≡ record s { ended = true })) }
@@ -72,7 +72,7 @@ pub fn kind_law()
 
 /// Code that asks before each of its steps which handler is due, and lets it run, until none is, leaves a log in which the
 /// handlers stand where they are due; and so does what is left after the processor has ended, where none is due any more.
-/// What one stretch of code leaves and then another one leaves, is what one leaves. Code leaves entries of its own level and
+/// And only such code does: a log in which they stand, and no handler runs at its end, is one that it leaves. What one stretch of code leaves and then another one leaves, is what one leaves. Code leaves entries of its own level and
 /// above, and the handlers that it lets run leave entries above it.
 pub fn asking_law()
     ensures runs { (names : List (List ℕ)) (lines : List AtLine) (log : Log) (a : Progress) →
@@ -80,6 +80,10 @@ pub fn asking_law()
     ensures ends { (names : List (List ℕ)) (lines : List AtLine) (log closing : Log) (a b : Progress) →
         Runs names false 0 (record { steps = 0; left = lines }) log a → Runs names true 0 a closing b →
         handlers_stand names lines (log ++ (0, entry.Ended) ∷ closing) ≡ true }
+    ensures only { (names : List (List ℕ)) (ended : Bool) (a : Progress) (log : Log) (s t : Standing) → NoneEnds log →
+        s ≡ record { steps = a.steps; running = []; left = a.left; ended = ended; resumes = false } →
+        standing_after names log (Some s) ≡ Some t → t.running ≡ [] → t.resumes ≡ false →
+        Runs names ended 0 a log (record { steps = t.steps; left = t.left }) }
     ensures stretches { (names : List (List ℕ)) (ended : Bool) (l : ℕ) (a b c : Progress) (one two : Log) →
         Runs names ended l a one b → Runs names ended l b two c → Runs names ended l a (one ++ two) c }
     ensures from { (names : List (List ℕ)) (ended : Bool) (l : ℕ) (a b : Progress) (log : Log) →

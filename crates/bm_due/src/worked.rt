@@ -1,7 +1,7 @@
 //! Worked values of what is due, and worked logs.
 
-ghost use Rattle.std.specs.Prelude.{◌≡◌, ◌∷◌, ◌++◌, [], Some, None, true, false};
-ghost use Rattle.bm_law.specs.Worked.{made_and_dropped, nested_busy};
+ghost use Rattle.std.specs.Prelude.{◌≡◌, ◌∷◌, [], Some, None, true, false, codes};
+ghost use Rattle.bm_law.specs.Worked.{made_and_dropped, nested_busy, nested_frees};
 ghost use Rattle.bm_due.specs.Due.{due_handler, left_after};
 ghost use Rattle.bm_due.specs.Standing.{handlers_stand};
 ghost use Rattle.bm_due.specs.Worked.{at_step, four_planned, script_names, between, twelve_steps, three_levels, three_in_turn, four_at_once, read_anew, held_back, before_a_call, lowest_first, last_first, own_level, twice, read_once, after_the_end, another_script, never_back, back_as_another, amid};
@@ -28,12 +28,14 @@ pub fn worked_due()
 {}
 
 /// Logs whose handlers stand where they are due, computed: one between the take of a unit and its count; one that takes
-/// nine steps; three, each at the second step of the one below; four before one step; one that is due because the one before it took steps; one that isn't reached.
+/// nine steps; three, each at the second step of the one below; three frees, each within the one
+/// below; four before one step; one that is due because the one before it took steps; one that isn't reached.
 pub fn worked_standing()
     ensures between { handlers_stand script_names (at_step 3 1 1 ∷ []) between ≡ true }
     ensures busy { handlers_stand script_names (at_step 3 1 1 ∷ []) nested_busy ≡ true }
     ensures twelve { handlers_stand script_names (at_step 3 1 1 ∷ []) twelve_steps ≡ true }
     ensures in_turn { handlers_stand script_names (at_step 3 1 1 ∷ at_step 4 2 2 ∷ at_step 5 3 3 ∷ []) three_in_turn ≡ true }
+    ensures three_frees { handlers_stand (codes "main" ∷ codes "h1" ∷ codes "h2" ∷ []) (at_step 13 1 1 ∷ at_step 15 2 2 ∷ []) nested_frees ≡ true }
     ensures four { handlers_stand script_names (at_step 3 1 1 ∷ at_step 3 2 2 ∷ at_step 3 3 3 ∷ at_step 3 2 4 ∷ []) four_at_once ≡ true }
     ensures anew { handlers_stand script_names (at_step 3 1 1 ∷ at_step 5 1 2 ∷ []) read_anew ≡ true }
     ensures not_reached { handlers_stand script_names (at_step 10 1 1 ∷ []) made_and_dropped ≡ true }

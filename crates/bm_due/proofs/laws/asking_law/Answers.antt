@@ -1,4 +1,7 @@
 use Rattle.bm_due.proofs.Askings.{asks-above, ends-ordinary, runs-from, runs-join, runs-ordinary}
+use Rattle.std.proofs.Common.{◌≡◌, ◌∙◌, ap, sym, Some}
+use Rattle.bm_due.specs.Standing.{Standing, standing_after}
+use Rattle.bm_due.proofs.Made.{made}
 use Rattle.bm_due.proofs.laws.asking_law.Goals as goal
 
 pub returns-clause-runs : goal.returns-clause-runs
@@ -15,3 +18,7 @@ returns-clause-from c names ended l a b log r = runs-from r
 
 pub returns-clause-above : goal.returns-clause-above
 returns-clause-above c names ended l a b log r = asks-above r
+
+pub returns-clause-only : goal.returns-clause-only
+returns-clause-only d names ended a log s t no_end e h r q =
+    made names ended a log t no_end (ap (λ (z : Standing). standing_after names log (Some z)) (sym e) ∙ h) r q
