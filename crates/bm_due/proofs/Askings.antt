@@ -1,13 +1,13 @@
 -- Code that asks leaves a log in which the handlers stand where they are due.
-use Rattle.std.proofs.Common.{◌≡◌, ◌∙◌, ℕ, ◌+◌, ◌<◌, ◌≤◌, Bool, true, false, List, [], ◌∷◌, ◌++◌, Option, Some, None, refl, sym, ap, subst, arith, append_assoc}
+use Rattle.std.proofs.Common.{◌≡◌, ◌∙◌, ℕ, ◌+◌, ◌<◌, ◌≤◌, Bool, true, false, List, [], ◌∷◌, ◌++◌, Some, None, refl, sym, ap, subst, arith, append_assoc}
 use Rattle.bm_journal.specs.declared.entry.Entry.{Entry}
 use Rattle.bm_journal.specs.declared.entry.Entry.TheVariants as entry
 use Rattle.bm_lang.specs.declared.scenario.AtLine.{AtLine}
 use Rattle.bm_law.specs.Lists.{Log}
 use Rattle.std.specs.List.{slice_get}
 use Rattle.bm_due.specs.Due.{due_handler, left_after}
-use Rattle.bm_due.specs.Standing.{due_in, left_in, Kind, Steps, Stays, Standing, after_kind, at_first, handlers_stand, is_ordinary, kind_of, level_of, standing_after, stepped}
-use Rattle.bm_due.specs.Asking.{Asks, Progress, Runs, done, handler, next_due, nothing, once_begun, once_stepped, stays, steps}
+use Rattle.bm_due.specs.Standing.{due_in, left_in, Steps, Stays, Standing, after_kind, at_first, handlers_stand, is_ordinary, kind_of, level_of, standing_after}
+use Rattle.bm_due.specs.Asking.{Asks, Progress, Runs, done, handler, next_due, nothing, once_begun, stays, steps}
 use Rattle.bm_law.specs.Spans.{AllFrom}
 use Rattle.bm_due.proofs.Selected.{due-above}
 use Rattle.bm_due.proofs.Standings.{after-append, begun-is, returned-is, stayed-is, stepped-is}

@@ -1,7 +1,7 @@
 -- What the selection of the due handler finds: by the place of a line, where it has one.
 use Rattle.std.proofs.Common.{◌≡◌, ◌∙◌, ℕ, zero, suc, ◌+◌, ◌<◌, ◌≤◌, Bool, true, false, cond, ◌&&◌, eqb, ltb, leb, List, [], ◌∷◌, ◌++◌, Option, Some, None, length, get_or, take, drop, refl, sym, ap, subst, inl, inr, arith}
-use Rattle.std.specs.List.{filter, find, position, position_or_len, slice_get}
-use Rattle.std.proofs.lemmas.Bool.{le-ltb, cond-true, cond-false, cases_eq, cases_lt, false_from_ne_true, lt-ltb, ltb-true, leb-true, le-leb, eq-eqb, ne_eqb, and_from, and_left, and_right, and_parts, cases_Bool, both_ways, ltb-false}
+use Rattle.std.specs.List.{filter, position, position_or_len, slice_get}
+use Rattle.std.proofs.lemmas.Bool.{le-ltb, cond-true, cond-false, cases_eq, cases_lt, false_from_ne_true, lt-ltb, ltb-true, leb-true, le-leb, eq-eqb, ne_eqb, and_from, and_left, and_parts, both_ways}
 use Rattle.std.proofs.lemmas.List.{take_all, append-nil, drop_all, get_or_default}
 use Rattle.std.proofs.lemmas.List.Folds.{find_at}
 use Rattle.std.proofs.lemmas.List.Sums.{position_or_len_is}
@@ -86,15 +86,19 @@ pub due-none : (ended : Bool) (n l : ℕ) (xs : List AtLine) → ((k : ℕ) (d :
 due-none true n l xs h = refl
 due-none false n l xs h = let e : position_or_len (is_foremost n l xs) xs ≡ length xs = position-none n l xs h in past-due false n l xs (omega arith)
 
-left-all : (xs : List AtLine) (k : ℕ) → k ≡ length xs → take k xs ++ drop (k + 1) xs ≡ xs
-left-all xs k e =
+left-past : (xs : List AtLine) (k : ℕ) → length xs ≤ k → take k xs ++ drop (k + 1) xs ≡ xs
+left-past xs k e =
     let u : take k xs ≡ xs = take_all k xs (omega arith) in
     let v : drop (k + 1) xs ≡ [] = drop_all (k + 1) xs (omega arith) in
     rw (u, v) (append-nil xs)
 
+pub past-left : (ended : Bool) (n l : ℕ) (xs : List AtLine) → length xs ≤ position_or_len (is_foremost n l xs) xs → left_after ended n l xs ≡ xs
+past-left true n l xs h = refl
+past-left false n l xs h = left-past xs _ h
+
 pub left-none : (ended : Bool) (n l : ℕ) (xs : List AtLine) → ((k : ℕ) (d : AtLine) → k < length xs → may_interrupt n l (get_or xs k d) ≡ false) → left_after ended n l xs ≡ xs
 left-none true n l xs h = refl
-left-none false n l xs h = left-all xs _ (position-none n l xs h)
+left-none false n l xs h = let e : position_or_len (is_foremost n l xs) xs ≡ length xs = position-none n l xs h in past-left false n l xs (omega arith)
 
 -- ---- one line's test
 

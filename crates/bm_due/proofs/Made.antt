@@ -1,5 +1,5 @@
 -- A log in which the handlers stand where they are due is one that code leaves which asks.
-use Rattle.std.proofs.Common.{◌≡◌, ◌≢◌, ◌∙◌, ℕ, zero, suc, ◌+◌, Bool, true, false, List, [], ◌∷◌, ◌++◌, Option, Some, None, eqb, inl, inr, refl, sym, ap, subst, append_assoc}
+use Rattle.std.proofs.Common.{◌≡◌, ◌≢◌, ◌∙◌, ℕ, Bool, true, false, List, [], ◌∷◌, ◌++◌, Option, Some, None, eqb, inl, inr, refl, sym, ap, subst, append_assoc}
 use Rattle.std.specs.List.{slice_get}
 use Rattle.std.proofs.lemmas.Bool.{cases_Bool, cond-true, cond-false}
 use Rattle.bm_journal.specs.declared.entry.Entry.{Entry}
@@ -8,7 +8,7 @@ use Rattle.bm_journal.specs.declared.total.Total.TheVariants as total
 use Rattle.bm_journal.specs.Totals.{counts_of, share_of}
 use Rattle.bm_lang.specs.declared.scenario.AtLine.{AtLine}
 use Rattle.bm_law.specs.Lists.{Log}
-use Rattle.bm_due.specs.Standing.{Ends, Kind, Standing, Stays, Steps, after_kind, kind_of, level_of, standing_after, step_or_not}
+use Rattle.bm_due.specs.Standing.{Ends, Standing, Stays, Steps, after_kind, kind_of, level_of, standing_after, step_or_not}
 use Rattle.bm_due.specs.Asking.{Asks, NoneEnds, Progress, Runs, done, handler, next_due, nothing, once_begun, once_stepped, stays, steps}
 use Rattle.bm_due.proofs.Standings.{begun-tells, returned-tells, split-first, stayed-tells, stepped-tells}
 use Rattle.bm_due.proofs.Askings.{standing}

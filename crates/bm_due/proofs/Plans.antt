@@ -1,8 +1,7 @@
 -- What the store's least steps tell, and what the store answers and keeps.
-use Rattle.std.proofs.Common.{◌≡◌, ◌∙◌, ℕ, zero, suc, ◌+◌, ◌-◌, ◌^◌, ◌<◌, ◌≤◌, Bool, true, false, cond, ltb, min, List, [], ◌∷◌, ◌++◌, Option, Some, None, length, get_or, refl, sym, ap, subst, inl, inr, arith}
-use Rattle.std.specs.List.{fold, filter, All, position, position_or_len, remove}
-use Rattle.std.proofs.lemmas.Bool.{le-ltb, cond_both, cases_Bool, cond-true, cond-false, ltb-true, ltb-false, lt-ltb, cases_lt, and_parts, both_ways}
-use Rattle.std.proofs.lemmas.List.{get_or_default}
+use Rattle.std.proofs.Common.{◌≡◌, ◌∙◌, ℕ, zero, suc, ◌+◌, ◌-◌, ◌^◌, ◌<◌, ◌≤◌, Bool, true, false, cond, ltb, min, List, [], ◌∷◌, ◌++◌, Some, None, length, get_or, take, drop, add-one, refl, sym, ap, subst, inl, inr, arith}
+use Rattle.std.specs.List.{fold, All, position, position_or_len, remove}
+use Rattle.std.proofs.lemmas.Bool.{le-ltb, cond_both, cond-true, cond-false, lt-ltb, cases_lt, and_parts}
 use Rattle.std.proofs.lemmas.List.Elements.{All-filter}
 use Rattle.std.proofs.lemmas.List.Quantifiers.{position-Some}
 use Rattle.bm_lang.specs.declared.scenario.AtLine.{AtLine}
@@ -10,7 +9,7 @@ use Rattle.bm_lang.specs.declared.scenario.Parts.{Parts}
 use Rattle.bm_lang.specs.Scenarios.{IsFine}
 use Rattle.bm_due.specs.Due.{may_interrupt, is_foremost, due_handler, left_after, planned_for}
 use Rattle.bm_due.specs.Plan.{IsPlan, Plan, due_of, least_above, plan_after}
-use Rattle.bm_due.proofs.Foremost.{may-not, may-says, due-none, left-none, past-due, due-at}
+use Rattle.bm_due.proofs.Foremost.{may-not, may-says, due-none, left-none, past-due, past-left, due-at}
 
 -- ---- the least steps
 
@@ -46,6 +45,14 @@ early n l xs least p h before k d u =
     may-not n l (get_or xs k d) (λ reached up.
     let v : least_above l xs ≤ (get_or xs k d).step = fold-at l xs (2 ^ 64 - 1) k d u up in
     absurd (omega arith))
+
+-- the same for a number of steps that stays at the greatest one
+pub early-any : (n step l : ℕ) (xs : List AtLine) (least : List ℕ) → IsPlan xs least → l ≤ 3 → step < get_or least l 0 → step ≡ min n (2 ^ 64 - 1) → (k : ℕ) (d : AtLine) → k < length xs → may_interrupt n l (get_or xs k d) ≡ false
+early-any n step l xs least p h before e =
+    let u : get_or least l 0 ≡ least_above l xs = ap (λ z. get_or z l 0) p.least_is ∙ least-at xs l h in
+    let v : least_above l xs ≤ 2 ^ 64 - 1 = fold-le l xs (2 ^ 64 - 1) in
+    let same : step ≡ n = omega arith in
+    early n l xs least p h (subst (λ z. z < get_or least l 0) same before)
 
 -- ---- the answers
 
@@ -88,7 +95,7 @@ none-due plan n l xs ended e h = subst (λ (p : Plan). due_of n l p ≡ None) e 
 -- ---- where one is due
 
 -- the place of the first that passes
-place-is : (p : AtLine → Bool) (xs : List AtLine) (i : ℕ) → Some i ≡ position p xs → (position_or_len p xs ≡ i) × (i < length xs)
+pub place-is : (p : AtLine → Bool) (xs : List AtLine) (i : ℕ) → Some i ≡ position p xs → (position_or_len p xs ≡ i) × (i < length xs)
 place-is p xs i e = elim (cases_lt (position_or_len p xs) (length xs)) [
   | inl h ↦
       let q : Some i ≡ Some (position_or_len p xs) = e ∙ cond-true _ _ _ (lt-ltb _ _ h) in
@@ -108,3 +115,14 @@ taken-above n l xs i x h read =
     let q : (i < length xs) × (is_foremost n l xs (get_or xs i x) ≡ true) × ((k : ℕ) → k < i → is_foremost n l xs (get_or xs k x) ≡ false) = position-Some (is_foremost n l xs) xs i x (sym h) in
     let m : may_interrupt n l x ≡ true = subst (λ (z : AtLine). may_interrupt n l z ≡ true) (sym read) (and_parts _ _ q.1).0 in
     (may-says n l x m).1
+
+pub taken-after : (plan : Plan) (n l : ℕ) (xs : List AtLine) (ended : Bool) (i : ℕ) → record { left = xs; ended = ended } ≡ plan → ended ≡ false → Some i ≡ position (is_foremost n l xs) xs → record { left = remove xs i; ended = ended } ≡ plan_after n l plan
+taken-after plan n l xs ended i e live h =
+    let q : (position_or_len (is_foremost n l xs) xs ≡ i) × (i < length xs) = place-is (is_foremost n l xs) xs i h in
+    let u : left_after ended n l xs ≡ remove xs i =
+    ap (λ b. left_after b n l xs) live ∙ ap (λ k. take k xs ++ drop (k + 1) xs) q.0 ∙ ap (λ k. take i xs ++ drop k xs) (add-one i) in
+    subst (λ (p : Plan). record { left = remove xs i; ended = ended } ≡ plan_after n l p) e (ap (λ (z : List AtLine). let p : Plan = record { left = z; ended = ended } in p) (sym u))
+
+pub none-after : (plan : Plan) (n l : ℕ) (xs : List AtLine) (ended : Bool) → record { left = xs; ended = ended } ≡ plan → None ≡ position (is_foremost n l xs) xs → plan ≡ plan_after n l plan
+none-after plan n l xs ended e h =
+    subst (λ (p : Plan). p ≡ plan_after n l p) e (ap (λ (z : List AtLine). let p : Plan = record { left = z; ended = ended } in p) (sym (past-left ended n l xs (no-place (is_foremost n l xs) xs h))))

@@ -1,14 +1,14 @@
 -- The due handler in other words.
 use Rattle.std.proofs.Common.{◌≡◌, ◌∙◌, ℕ, zero, suc, ◌+◌, ◌-◌, ◌^◌, ◌<◌, ◌≤◌, min, Bool, true, false, ◌&&◌, eqb, List, [], ◌∷◌, ◌++◌, Option, Some, None, length, get_or, take, drop, refl, sym, ap, subst, inl, inr, arith, add-one, length-append, length-take, length-drop, ◌≢◌}
-use Rattle.std.specs.List.{All, filter, find, position, position_or_len, slice_get, before_first, after_first}
-use Rattle.std.proofs.lemmas.Bool.{both_ways, eq-eqb, and_from, and_parts, eqb-true, ne_eqb, cases_lt, cases_eq, false_from_ne_true}
-use Rattle.std.proofs.lemmas.List.{get_or_append_left, get_or_at, get_or-append_right, get_or-take, get_or-drop, get_or_default, append-nil}
+use Rattle.std.specs.List.{All, filter, position_or_len, slice_get, before_first, after_first}
+use Rattle.std.proofs.lemmas.Bool.{both_ways, eq-eqb, and_from, and_parts, eqb-true, cases_lt, cases_eq}
+use Rattle.std.proofs.lemmas.List.{get_or_append_left, get_or_at, get_or-append_right, get_or-take, get_or-drop, get_or_default}
 use Rattle.std.proofs.lemmas.List.Folds.{find_at}
 use Rattle.std.proofs.lemmas.List.Sums.{split_at_first, fails_before_first, passes_at_first}
 use Rattle.std.proofs.lemmas.Option.{slice_get-get_or, slice_get_within}
 use Rattle.bm_lang.specs.declared.scenario.AtLine.{AtLine}
 use Rattle.bm_due.specs.Due.{IsDue, NoneIsDue, due_handler, highest_level, is_foremost, left_after, may_interrupt}
-use Rattle.bm_due.proofs.Foremost.{IsBest, Found, Scan, due-at, due-none, highest-ge, left-none, may-not, may-says, may-true, nobody, past-due, position-best, position-none, scan-better, scan-position, scan-same, scan-start}
+use Rattle.bm_due.proofs.Foremost.{IsBest, Found, Scan, due-at, due-none, highest-ge, left-none, may-not, may-says, may-true, nobody, position-best, scan-better, scan-position, scan-same, scan-start}
 
 -- ---- a line of which the words hold is the due one
 

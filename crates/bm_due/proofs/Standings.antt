@@ -1,16 +1,14 @@
 -- What entries make of where a processor is.
-use Rattle.std.proofs.Common.{◌≡◌, ◌↔◌, ◌∙◌, ℕ, ◌+◌, Bool, true, false, cond, not, ◌&&◌, eqb, List, [], ◌∷◌, ◌++◌, Option, Some, None, refl, sym, ap, subst}
+use Rattle.std.proofs.Common.{◌≡◌, ◌↔◌, ◌∙◌, ℕ, ◌+◌, Bool, true, false, cond, not, ◌&&◌, eqb, List, [], ◌∷◌, ◌++◌, Option, Some, None, refl, sym, ap}
 use Rattle.std.specs.List.{slice_get}
-use Rattle.std.specs.Str.{bytes_eq}
 use Rattle.std.specs.Prelude.{is_none}
-use Rattle.std.proofs.lemmas.Bool.{and_from, and_parts, eq-eqb, eqb-true, not_from_false, not-true, cond-true, cond-false, cases_Bool}
+use Rattle.std.proofs.lemmas.Bool.{and_from, and_parts, eq-eqb, eqb-true, not_from_false, not-true, cond-true}
 use Rattle.std.proofs.lemmas.Slice.Eq.{bytes_eq-Decides}
 use Rattle.bm_journal.specs.declared.entry.Entry.{Entry}
 use Rattle.bm_journal.specs.declared.entry.Entry.TheVariants as entry
 use Rattle.bm_lang.specs.declared.scenario.AtLine.{AtLine}
 use Rattle.bm_law.specs.Lists.{Log}
-use Rattle.bm_due.specs.Due.{due_handler, left_after}
-use Rattle.bm_due.specs.Standing.{Kind, Begins, Returns, Ends, Steps, Stays, Standing, after_kind, begun, due_in, is_called, is_name, kind_of, left_in, level_of, returned, standing_after, stayed, stepped, stopped}
+use Rattle.bm_due.specs.Standing.{Steps, Stays, Standing, after_kind, begun, due_in, is_called, is_name, kind_of, left_in, level_of, returned, standing_after, stayed, stepped, stopped}
 
 -- a log that can't stand can't go on
 pub after-none : (names : List (List ℕ)) (log : Log) → standing_after names log None ≡ None

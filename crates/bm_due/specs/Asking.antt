@@ -6,7 +6,7 @@ use Rattle.bm_journal.specs.declared.entry.Entry.TheVariants as entry
 use Rattle.bm_lang.specs.declared.scenario.AtLine.{AtLine}
 use Rattle.bm_law.specs.Lists.{Log}
 use Rattle.bm_due.specs.Due.{due_handler, left_after}
-use Rattle.bm_due.specs.Standing.{Ends, Kind, Steps, Stays, kind_of}
+use Rattle.bm_due.specs.Standing.{Ends, Steps, Stays, kind_of}
 
 -- how far a processor has come: how many steps it took, and the handlers that haven't run
 pub record Progress : Type 0 where

@@ -1,12 +1,15 @@
 -- Worked values: planned handlers, and logs of one processor in which they stand where they are due, or don't. The units
 -- are of 16 bytes, class 0, and of 32 bytes, class 1.
-use Rattle.std.specs.Prelude.{ℕ, ◌+◌, List, [], ◌∷◌, ◌++◌, codes}
+use Rattle.std.specs.Prelude.{ℕ, ◌+◌, false, List, [], ◌∷◌, ◌++◌, None, codes}
 use Rattle.bm_journal.specs.declared.ids.Domain.TheVariants.{Plain}
 use Rattle.bm_journal.specs.declared.units.Units.TheVariants.{Whole}
 use Rattle.bm_journal.specs.declared.entry.Entry.TheVariants as entry
 use Rattle.bm_lang.specs.declared.scenario.AtLine.{AtLine}
+use Rattle.bm_lang.specs.declared.scenario.Block.{Block}
+use Rattle.bm_lang.specs.declared.scenario.Parts.{Parts}
+use Rattle.bm_lang.specs.declared.scenario.ScriptKind.TheVariants as kind
 use Rattle.bm_law.specs.Lists.{Log}
-use Rattle.bm_law.specs.Worked.{made, made_and_dropped, script_ends, swept_back}
+use Rattle.bm_law.specs.Worked.{made, script_ends, swept_back}
 
 -- a line `at 0 STEP LEVEL SCRIPT`
 abbrev pub at_step : ℕ → ℕ → ℕ → AtLine
@@ -15,6 +18,20 @@ at_step step level script = record { line = 1; processor = 0; step = step; level
 -- the names of the scripts 0 to 4
 abbrev pub script_names : List (List ℕ)
 script_names = codes "main" ∷ codes "h" ∷ codes "g" ∷ codes "f" ∷ codes "e" ∷ []
+
+-- A scenario of two processors, for each of which one handler is planned, where all scripts have the same body.
+abbrev pub interrupted : Block → Parts
+interrupted body = record {
+  processors = 2;
+  pages = 1;
+  deferred = false;
+  types = [];
+  maps = [];
+  scripts = record { line = 1; name = codes "main"; kind = kind.Plain; body = body } ∷ record { line = 1; name = codes "h"; kind = kind.Handler; body = body } ∷ [];
+  runs = [];
+  ats = at_step 3 1 1 ∷ record (at_step 1 2 1) { processor = 1 } ∷ [];
+  turns = None;
+}
 
 -- ---- values
 

@@ -10,4 +10,4 @@ mod worked;
 
 pub use laws::{asking_law, due_law, entry_law, kind_law, standing_law};
 pub use planned::{Due, Planned};
-pub use worked::{worked_due, worked_standing, wrong_standing};
+pub use worked::{worked_due, worked_plans, worked_standing, wrong_standing};

@@ -1,6 +1,6 @@
 //! The handlers that are planned for a processor.
 
-ghost use Rattle.std.specs.Prelude.{true, false, ◌≡◌, ◌<◌, ◌≤◌, ◌+◌, IfOk, IfNone, IfSome, OnSome, ◌==◌, ◌∷◌, [], length};
+ghost use Rattle.std.specs.Prelude.{true, false, ◌≡◌, ◌<◌, ◌≤◌, ◌+◌, ◌-◌, ◌^◌, ℕ, min, IfOk, IfNone, IfSome, OnSome, ◌==◌, ◌∷◌, [], length};
 ghost use Rattle.std.specs.List.{filter, position};
 ghost use Rattle.std.specs.Option.{option_map};
 ghost use Rattle.bm_due.specs.Due.{is_foremost, planned_for};
@@ -63,6 +63,9 @@ impl Planned {
         ensures none { IfNone result (self.new ≡ self.old) }
         ensures one { OnSome result (length self.new.left + 1 ≡ length self.old.left) }
         ensures above { IfSome result (λ due. level < due.level) }
+        // The number of the step may stay at the greatest one of its type.
+        ensures greatest { (n : ℕ) → step ≡ min n (2 ^ 64 - 1) →
+            (result ≡ option_map told_of (due_of n level self.old)) × (self.new ≡ plan_after n level self.old) }
     {
         if self.ended || step < self.least[level.number() as usize] {
             return None;
@@ -115,9 +118,9 @@ fn level_of(line: &AtLine) -> Level
     }
 }
 
-// The place of the line that is due.
+// The place of the line that is due, also where the number of the step stays at the greatest one of its type.
 fn foremost(lines: &[AtLine], step: u64, level: Level) -> Option<usize>
-    ensures { result ≡ position (is_foremost step level lines.now) lines.now }
+    ensures { (n : ℕ) → step ≡ min n (2 ^ 64 - 1) → result ≡ position (is_foremost n level lines.now) lines.now }
 {
     let mut place = None;
     let mut highest = level.number() as u32;

@@ -75,6 +75,7 @@ fn laws_take_no_step(_rt: HostRuntime) {
     kind_law();
     asking_law();
     worked_due();
+    worked_plans();
     worked_standing();
     wrong_standing();
 }

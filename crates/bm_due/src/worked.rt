@@ -1,10 +1,11 @@
 //! Worked values of what is due, and worked logs.
 
 ghost use Rattle.std.specs.Prelude.{◌≡◌, ◌∷◌, [], Some, None, true, false, codes};
+ghost use Rattle.bm_lang.specs.declared.scenario.Block.{Block};
 ghost use Rattle.bm_law.specs.Worked.{made_and_dropped, nested_busy, nested_frees};
-ghost use Rattle.bm_due.specs.Due.{due_handler, left_after};
-ghost use Rattle.bm_due.specs.Standing.{handlers_stand};
-ghost use Rattle.bm_due.specs.Worked.{at_step, four_planned, script_names, between, twelve_steps, three_levels, three_in_turn, four_at_once, read_anew, held_back, before_a_call, lowest_first, last_first, own_level, twice, read_once, after_the_end, another_script, never_back, back_as_another, amid};
+ghost use Rattle.bm_due.specs.Due.{due_handler, left_after, planned_for};
+ghost use Rattle.bm_due.specs.Standing.{HandlersStand, handlers_stand};
+ghost use Rattle.bm_due.specs.Worked.{at_step, four_planned, interrupted, script_names, between, twelve_steps, three_levels, three_in_turn, four_at_once, read_anew, held_back, before_a_call, lowest_first, last_first, own_level, twice, read_once, after_the_end, another_script, never_back, back_as_another, amid};
 
 /// Which handler is due, computed: the highest level first, and of one level the first in the text; one whose step has
 /// passed, and one that is planned for step 0; none at a step before, at its own level, above level 3, where none is left,
@@ -39,6 +40,14 @@ pub fn worked_standing()
     ensures four { handlers_stand script_names (at_step 3 1 1 ∷ at_step 3 2 2 ∷ at_step 3 3 3 ∷ at_step 3 2 4 ∷ []) four_at_once ≡ true }
     ensures anew { handlers_stand script_names (at_step 3 1 1 ∷ at_step 5 1 2 ∷ []) read_anew ≡ true }
     ensures not_reached { handlers_stand script_names (at_step 10 1 1 ∷ []) made_and_dropped ≡ true }
+{}
+
+/// The handlers that a scenario plans for each of its two processors, and the same log on both.
+pub fn worked_plans()
+    ensures first { (body : Block) → planned_for 0 (interrupted body) ≡ at_step 3 1 1 ∷ [] }
+    ensures second { (body : Block) → planned_for 1 (interrupted body) ≡ record (at_step 1 2 1) { processor = 1 } ∷ [] }
+    ensures stands { (body : Block) → HandlersStand (interrupted body) 0 between }
+    ensures another { (body : Block) → ¬ HandlersStand (interrupted body) 1 between }
 {}
 
 /// Logs whose handlers don't.

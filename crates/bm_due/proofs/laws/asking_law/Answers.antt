@@ -1,5 +1,5 @@
 use Rattle.bm_due.proofs.Askings.{asks-above, ends-ordinary, runs-from, runs-join, runs-ordinary}
-use Rattle.std.proofs.Common.{◌≡◌, ◌∙◌, ap, sym, Some}
+use Rattle.std.proofs.Common.{◌∙◌, ap, sym, Some}
 use Rattle.bm_due.specs.Standing.{Standing, standing_after}
 use Rattle.bm_due.proofs.Made.{made}
 use Rattle.bm_due.proofs.laws.asking_law.Goals as goal
