@@ -6,6 +6,8 @@ use Rattle.std.proofs.lemmas.List.Elements.{All-filter}
 use Rattle.std.proofs.lemmas.List.Quantifiers.{position-Some}
 use Rattle.bm_lang.specs.declared.scenario.AtLine.{AtLine}
 use Rattle.bm_lang.specs.declared.scenario.Parts.{Parts}
+use Rattle.bm_lang.specs.Fine.{FineAt}
+use Rattle.bm_lang.specs.Spelling.{declared}
 use Rattle.bm_lang.specs.Scenarios.{IsFine}
 use Rattle.bm_due.specs.Due.{may_interrupt, is_foremost, due_handler, left_after, planned_for}
 use Rattle.bm_due.specs.Plan.{IsPlan, Plan, due_of, least_above, plan_after}
@@ -69,6 +71,9 @@ no-place p xs e = elim (cases_lt (position_or_len p xs) (length xs)) [
 ]
 
 -- ---- the levels of planned handlers
+
+pub fine-ats : (s : Parts) (p : ℕ) → IsFine s → All (FineAt s.processors (declared s).scripts) (planned_for p s)
+fine-ats s p f = All-filter _ (FineAt s.processors (declared s).scripts) s.ats f.1.conditions.ats
 
 pub fine-levels : (s : Parts) (p : ℕ) → IsFine s → All (λ (line : AtLine). line.level ≤ 3) (planned_for p s)
 fine-levels s p f = All-filter _ (λ (line : AtLine). line.level ≤ 3) s.ats (λ k d h. (f.1.conditions.ats k d h).highest)

@@ -2,7 +2,8 @@
 use Rattle.std.proofs.Common.{◌≡◌, ◌∙◌, ℕ, zero, suc, ◌+◌, ◌-◌, ◌^◌, ◌<◌, ◌≤◌, min, Bool, true, false, ◌&&◌, eqb, List, [], ◌∷◌, ◌++◌, Option, Some, None, length, get_or, take, drop, refl, sym, ap, subst, inl, inr, arith, add-one, length-append, length-take, length-drop, ◌≢◌}
 use Rattle.std.specs.List.{All, filter, position_or_len, slice_get, before_first, after_first}
 use Rattle.std.proofs.lemmas.Bool.{both_ways, eq-eqb, and_from, and_parts, eqb-true, cases_lt, cases_eq}
-use Rattle.std.proofs.lemmas.List.{get_or_append_left, get_or_at, get_or-append_right, get_or-take, get_or-drop, get_or_default}
+use Rattle.std.proofs.lemmas.List.{get_or_append_left, get_or_at, get_or-append_right, get_or-append-add, get_or-take, get_or-drop, get_or_default}
+use Rattle.std.proofs.lemmas.List.Elements.{All-append}
 use Rattle.std.proofs.lemmas.List.Folds.{find_at}
 use Rattle.std.proofs.lemmas.List.Sums.{split_at_first, fails_before_first, passes_at_first}
 use Rattle.std.proofs.lemmas.Option.{slice_get-get_or, slice_get_within}
@@ -206,3 +207,36 @@ capped-left false n l left h = capped-same n l left h (due_handler false n l lef
 pub due-above : (ended : Bool) (n l : ℕ) (left : List AtLine) (line : AtLine) → due_handler ended n l left ≡ Some line → l < line.level
 due-above true n l left line e = absurd cc
 due-above false n l left line e = (due-to n l left line e).above
+
+-- ---- what all of them meet
+
+-- the due line is one of them
+all-due : (P : AtLine → Type 0) (n l : ℕ) (left : List AtLine) (line : AtLine) → All P left → IsDue n l left line → P line
+all-due P n l left line all d =
+    subst P (get_or_at d.before line d.behind line (length d.before) refl)
+    (subst (λ (xs : List AtLine). All P xs) d.left_is all (length d.before) line (length-within d.before line d.behind))
+
+pub among : (P : AtLine → Type 0) (ended : Bool) (n l : ℕ) (left : List AtLine) (line : AtLine) → All P left → due_handler ended n l left ≡ Some line → P line
+among P true n l left line all e = absurd cc
+among P false n l left line all e = all-due P n l left line all (due-to n l left line e)
+
+front-within : (before : List AtLine) (line : AtLine) (behind : List AtLine) (k : ℕ) → k < length before → k < length (before ++ line ∷ behind)
+front-within before line behind k h = omega (arith, length-append before (line ∷ behind))
+
+back-within : (before : List AtLine) (line : AtLine) (behind : List AtLine) (k : ℕ) → k < length behind → length before + suc k < length (before ++ line ∷ behind)
+back-within before line behind k h = omega (arith, length-append before (line ∷ behind))
+
+-- the others too
+all-others : (P : AtLine → Type 0) (n l : ℕ) (left : List AtLine) → All P left → (o : Option AtLine) → due_handler false n l left ≡ o → All P (left_after false n l left)
+all-others P n l left all None e = subst (λ (xs : List AtLine). All P xs) (sym (kept-none false n l left e)) all
+all-others P n l left all (Some line) e =
+    let d : IsDue n l left line = due-to n l left line e in
+    let parts : All P (d.before ++ line ∷ d.behind) = subst (λ (xs : List AtLine). All P xs) d.left_is all in
+    subst (λ (xs : List AtLine). All P xs) (sym (others-from n l left line d))
+    (All-append P d.before d.behind
+    (λ k e h. subst P (get_or_append_left d.before (line ∷ d.behind) e k h) (parts k e (front-within d.before line d.behind k h)))
+    (λ k e h. subst P (get_or-append-add d.before (line ∷ d.behind) (suc k) e) (parts (length d.before + suc k) e (back-within d.before line d.behind k h))))
+
+pub others : (P : AtLine → Type 0) (ended : Bool) (n l : ℕ) (left : List AtLine) → All P left → All P (left_after ended n l left)
+others P true n l left all = all
+others P false n l left all = all-others P n l left all (due_handler false n l left) refl

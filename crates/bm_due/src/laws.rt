@@ -1,6 +1,7 @@
 //! The laws of due handlers, and of logs in which they stand.
 
 ghost use Rattle.std.specs.Prelude.{◌≡◌, ◌↔◌, ◌<◌, ◌+◌, ◌-◌, ◌^◌, min, All, ◌∷◌, ◌++◌, [], ℕ, List, Bool, Option, Some, None, slice_get, true, false};
+ghost use Rattle.std.specs.List.{AllPass};
 ghost use Rattle.bm_journal.specs.declared.entry.Entry.{Entry};
 ghost use Rattle.bm_journal.specs.declared.entry.Entry.TheVariants as entry;
 ghost use Rattle.bm_journal.specs.declared.ids.ObjId.{ObjId};
@@ -14,7 +15,8 @@ ghost use Rattle.bm_due.specs.Due.{IsDue, NoneIsDue, due_handler, left_after};
 ghost use Rattle.bm_due.specs.Standing.{Begins, Ends, Returns, Standing, Stays, Steps, due_in, handlers_stand, kind_of, left_in, level_of, standing_after};
 ghost use Rattle.bm_due.specs.Asking.{Asks, NoneEnds, Progress, Runs};
 
-/// The due handler in other words. It is used up when it begins, and where none is due none is. The number of the step may
+/// The due handler in other words. It is one of those that haven't run; it is used up when it begins, and where none is due
+/// none is. The number of the step may
 /// stay at the greatest one of its type, since the steps of planned handlers are smaller.
 pub fn due_law()
     ensures due { (n l : ℕ) (left : List AtLine) (line : AtLine) → (due_handler false n l left ≡ Some line) ↔ IsDue n l left line }
@@ -23,6 +25,10 @@ pub fn due_law()
     ensures kept { (ended : Bool) (n l : ℕ) (left : List AtLine) → due_handler ended n l left ≡ None → left_after ended n l left ≡ left }
     ensures ended { (n l : ℕ) (left : List AtLine) → due_handler true n l left ≡ None }
     ensures above { (ended : Bool) (n l : ℕ) (left : List AtLine) (line : AtLine) → due_handler ended n l left ≡ Some line → l < line.level }
+    ensures among { (p : AtLine → Bool) (ended : Bool) (n l : ℕ) (left : List AtLine) (line : AtLine) →
+        AllPass p left → due_handler ended n l left ≡ Some line → p line ≡ true }
+    ensures others { (p : AtLine → Bool) (ended : Bool) (n l : ℕ) (left : List AtLine) →
+        AllPass p left → AllPass p (left_after ended n l left) }
     ensures greatest { (ended : Bool) (n l : ℕ) (left : List AtLine) → All (λ line. line.step < 2 ^ 32) left →
         due_handler ended (min n (2 ^ 64 - 1)) l left ≡ due_handler ended n l left }
     ensures greatest_left { (ended : Bool) (n l : ℕ) (left : List AtLine) → All (λ line. line.step < 2 ^ 32) left →

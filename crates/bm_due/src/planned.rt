@@ -1,8 +1,10 @@
 //! The handlers that are planned for a processor.
 
 ghost use Rattle.std.specs.Prelude.{true, false, ◌≡◌, ◌<◌, ◌≤◌, ◌+◌, ◌-◌, ◌^◌, ℕ, min, IfOk, IfNone, IfSome, OnSome, ◌==◌, ◌∷◌, [], length};
-ghost use Rattle.std.specs.List.{filter, position};
+ghost use Rattle.std.specs.List.{All, filter, position};
 ghost use Rattle.std.specs.Option.{option_map};
+ghost use Rattle.bm_lang.specs.Fine.{FineAt};
+ghost use Rattle.bm_lang.specs.Spelling.{declared};
 ghost use Rattle.bm_due.specs.Due.{is_foremost, planned_for};
 ghost use Rattle.bm_due.specs.Plan.{due_of, least_above, plan_after};
 ghost use Rattle.bm_due.specs.Told.{told_of};
@@ -21,7 +23,7 @@ pub struct Due {
 }
 
 /// The handlers that are planned for a processor and haven't run, in the order of the text. All its memory is taken as it
-/// is made. Where none is due, to ask for one costs a look at one number. Contracts see the lines, and whether the
+/// is made. Where none is due, to ask for one costs a look at one number beside the end. Contracts see the lines, and whether the
 /// processor has ended.
 #[derive(Drop)]
 pub struct Planned {
@@ -44,7 +46,9 @@ impl Model for Planned {
 impl Planned {
     /// The handlers that a scenario plans for a processor, none of which has run. Want of memory is the only refusal.
     pub fn create(alloc: Global, scenario: &Scenario, processor: u32) -> Result<Planned, NoMemory>
-        ensures { IfOk result (λ p. p ≡ record { left = planned_for processor scenario.now; ended = false }) }
+        ensures plan { IfOk result (λ p. p ≡ record { left = planned_for processor scenario.now; ended = false }) }
+        // Each is a handler script of the scenario, at a level from 1 to 3.
+        ensures fine { IfOk result (λ p. All (FineAt scenario.now.processors (declared scenario.now).scripts) p.left) }
     {
         let left = lines_of(alloc, scenario.parts().ats.as_slice(), processor)?;
         let least = least_steps(left.as_slice());

@@ -1,5 +1,5 @@
-use Rattle.std.proofs.Common.{refl}
-use Rattle.bm_due.proofs.Selected.{capped-all, capped-left, due-above, due-from, due-to, kept-none, none-from, none-to, others-from}
+use Rattle.std.proofs.Common.{◌≡◌, true, refl}
+use Rattle.bm_due.proofs.Selected.{among, capped-all, capped-left, due-above, due-from, due-to, kept-none, none-from, none-to, others, others-from}
 use Rattle.bm_due.proofs.laws.due_law.Goals as goal
 
 pub returns-clause-due : goal.returns-clause-due
@@ -25,3 +25,9 @@ returns-clause-greatest c = capped-all
 
 pub returns-clause-greatest_left : goal.returns-clause-greatest_left
 returns-clause-greatest_left c = capped-left
+
+pub returns-clause-among : goal.returns-clause-among
+returns-clause-among c p = among (λ line. p line ≡ true)
+
+pub returns-clause-others : goal.returns-clause-others
+returns-clause-others c p = others (λ line. p line ≡ true)
