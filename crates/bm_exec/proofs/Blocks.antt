@@ -6,7 +6,7 @@ use Rattle.bm_lang.specs.declared.scenario.Block.{Block, Block', Row_of-Statemen
 use Rattle.bm_lang.specs.declared.scenario.TypeDeclaration.{TypeDeclaration}
 use Rattle.bm_lang.specs.Limits.{action_cost, block_cost, row_cost}
 use Rattle.bm_lawful.specs.Held.{Names}
-use Rattle.bm_lawful.specs.Runs.{Then, RunsAction, RunsBlock, RunsRow}
+use Rattle.bm_lawful.specs.OwnRuns.{Then, RunsAction, RunsBlock, RunsRow}
 use Rattle.bm_check.specs.Statements.{Setting}
 use Rattle.bm_check.specs.Values.{Store, SafeAction, SafeBlock, SafeRow}
 use Rattle.bm_exec.specs.Stores.{store_of}

@@ -12,7 +12,8 @@ use Rattle.bm_lang.specs.declared.scenario.TypeId.{TypeId}
 use Rattle.bm_law.specs.Lists.{Log}
 use Rattle.bm_lawful.specs.Held.{Nothing, Null, Object, Names, with_name}
 use Rattle.bm_lawful.specs.Opened.{OfClass}
-use Rattle.bm_lawful.specs.Runs.{Run, Done, Then, Times, answered, RunsAction, RunsBlock}
+use Rattle.bm_lawful.specs.Calls.{answered}
+use Rattle.bm_lawful.specs.OwnRuns.{Run, Done, Then, Times, RunsAction, RunsBlock}
 use Rattle.bm_check.specs.Statements.{Setting}
 use Rattle.bm_check.specs.Values as safe
 use Rattle.bm_exec.specs.declared.frame.Open.{Open}

@@ -5,7 +5,7 @@ use Rattle.bm_lang.specs.declared.scenario.Block.{Block}
 use Rattle.bm_lang.specs.declared.scenario.TypeDeclaration.{TypeDeclaration}
 use Rattle.bm_lang.specs.Limits.{block_cost}
 use Rattle.bm_lawful.specs.Held.{Names, no_names}
-use Rattle.bm_lawful.specs.Runs.{RunsBlock}
+use Rattle.bm_lawful.specs.OwnRuns.{RunsBlock}
 use Rattle.bm_check.specs.Statements.{Setting}
 use Rattle.bm_check.specs.Values as safe
 use Rattle.bm_exec.specs.declared.frame.Open.{Open}

@@ -2,7 +2,7 @@
 use Rattle.std.proofs.Common.{List, [], ◌++◌, refl, sym, ap, ◌∙◌, append_assoc, append-nil}
 use Rattle.bm_journal.specs.declared.entry.Entry.{Entry}
 use Rattle.bm_lawful.specs.Held.{Names}
-use Rattle.bm_lawful.specs.Runs.{Run, Done, Then}
+use Rattle.bm_lawful.specs.OwnRuns.{Run, Done, Then}
 
 pub then-of : (a b : Run) (names middle after : Names) (one two : List Entry) → a names one middle → b middle two after → Then a b names (one ++ two) after
 then-of a b names middle after one two x y = record { middle = middle; one = one; two = two; part_is = refl; first_runs = x; second_runs = y }

@@ -5,7 +5,7 @@ use Rattle.bm_lang.specs.declared.scenario.Statement.{Statement}
 use Rattle.bm_lang.specs.declared.scenario.TypeDeclaration.{TypeDeclaration}
 use Rattle.bm_check.specs.Statements.{Setting}
 use Rattle.bm_check.specs.Values.{Store, SafeAction}
-use Rattle.bm_lawful.specs.Runs.{Run, Done, Then, RunsAction}
+use Rattle.bm_lawful.specs.OwnRuns.{Run, Done, Then, RunsAction}
 
 -- the statements of a block
 abbrev pub block_list : Block → List Statement

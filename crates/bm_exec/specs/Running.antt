@@ -9,7 +9,7 @@ use Rattle.bm_law.specs.Lists.{Log}
 use Rattle.bm_law.specs.Spans.{Records}
 use Rattle.bm_law.specs.Alone.{Adds}
 use Rattle.bm_lawful.specs.Held.{Names, no_names, OwnsNothing}
-use Rattle.bm_lawful.specs.Runs.{Then, RunsAction, RunsBlock}
+use Rattle.bm_lawful.specs.OwnRuns.{Then, RunsAction, RunsBlock}
 use Rattle.bm_check.specs.Statements.{Setting}
 use Rattle.bm_check.specs.Values.{SafeAction}
 use Rattle.bm_exec.specs.declared.frame.Open.{Open}

@@ -7,7 +7,7 @@ use Rattle.bm_lang.specs.declared.scenario.Statement.{Statement}
 use Rattle.bm_lang.specs.declared.scenario.TypeDeclaration.{TypeDeclaration}
 use Rattle.bm_lang.specs.Limits.{action_cost}
 use Rattle.bm_lawful.specs.Held.{Names}
-use Rattle.bm_lawful.specs.Runs.{RunsAction}
+use Rattle.bm_lawful.specs.OwnRuns.{RunsAction}
 use Rattle.bm_check.specs.Statements.{Setting}
 use Rattle.bm_check.specs.Values.{SafeAction, OwnsNothing}
 use Rattle.bm_exec.specs.declared.frame.Open.{Open}

@@ -21,8 +21,9 @@ use Rattle.bm_cache.specs.Tokens.{Token, number_of}
 use Rattle.bm_cache.specs.declared.caches.Caches.{Caches}
 use Rattle.bm_lawful.specs.Opened.{uses_class, opened_classes}
 use Rattle.bm_lawful.specs.Fills.{AreFills, fresh_stock, prefill}
-use Rattle.bm_lawful.specs.Grammar.{ordinary, AreSweeps, close_of, lines_of}
-use Rattle.bm_lawful.specs.Lawful.{LawfulLog}
+use Rattle.bm_lawful.specs.OwnGrammar.{ordinary, AreSweeps, LawfulLog}
+use Rattle.bm_lawful.specs.Closing.{close_of}
+use Rattle.bm_lawful.specs.Grammar.{lines_of}
 use Rattle.bm_run.proofs.Basics.{is_or_not}
 use Rattle.bm_run.specs.Filling.{filling}
 use Rattle.bm_run.specs.Gained.{Gained}
@@ -31,7 +32,8 @@ use Rattle.bm_run.specs.Closing.{Closing, SweptAll}
 use Rattle.bm_run.proofs.Gaining.{ordinary-append, told-by}
 use Rattle.bm_run.proofs.LogAll.{fills-all, scripts-all, sweeps-all, log-all, Each_of}
 use Rattle.bm_run.proofs.Replies.{Fits, fits-covers}
-use Rattle.bm_run.proofs.Beside.{AllSpare, spare-covers, spared, spare-join}
+use Rattle.bm_lawful.proofs.Spares.{AllSpare, spared, spare-join}
+use Rattle.bm_run.proofs.Beside.{spare-covers}
 use Rattle.bm_run.proofs.OpenedList.{opened-has, opened-each}
 
 -- ---- the entries of the opening

@@ -17,9 +17,10 @@ use Rattle.bm_cache.specs.Shown.{shown}
 use Rattle.bm_cache.specs.Span.{Fine}
 use Rattle.bm_cache.specs.Tests.{Tests, Proper}
 use Rattle.bm_cache.specs.declared.caches.Caches.{Caches}
-use Rattle.bm_lawful.specs.Grammar.{IsScript, AreScripts, lines_of}
+use Rattle.bm_lawful.specs.OwnGrammar.{IsScript, AreScripts}
+use Rattle.bm_lawful.specs.Grammar.{lines_of}
 use Rattle.bm_lawful.specs.Held.{Names, no_names, OwnsNothing}
-use Rattle.bm_lawful.specs.Runs.{RunsBlock}
+use Rattle.bm_lawful.specs.OwnRuns.{RunsBlock}
 use Rattle.bm_run.specs.Gained.{Gained}
 use Rattle.bm_run.specs.Lines.{lines_cost, Wrote}
 use Rattle.bm_run.proofs.Gaining.{gained-join}

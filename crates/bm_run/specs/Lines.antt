@@ -7,7 +7,8 @@ use Rattle.bm_lang.specs.declared.scenario.Parts.{Parts}
 use Rattle.bm_lang.specs.declared.scenario.Script.{Script}
 use Rattle.bm_lang.specs.Limits.{cost_on, script_cost}
 use Rattle.bm_law.specs.Lists.{Log}
-use Rattle.bm_lawful.specs.Grammar.{AreScripts, lines_of}
+use Rattle.bm_lawful.specs.OwnGrammar.{AreScripts}
+use Rattle.bm_lawful.specs.Grammar.{lines_of}
 use Rattle.bm_run.specs.Gained.{Gained}
 
 -- how many statements some lines run on processor 0 at most
