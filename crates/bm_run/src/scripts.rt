@@ -14,7 +14,7 @@ ghost use Rattle.bm_exec.specs.Slots.{lives_of};
 ghost use Rattle.bm_exec.specs.Sound.{Sound};
 ghost use Rattle.bm_exec.specs.declared.running.Stopped.TheVariants as stopped;
 ghost use Rattle.bm_run.specs.Gained.{Gained};
-ghost use Rattle.bm_run.specs.Lines.{lines_cost, AllDeclared, Wrote};
+ghost use Rattle.bm_run.specs.Lines.{lines_cost, AllDeclared, Wrote, WroteScript};
 ghost use Rattle.bm_built.specs.Yet.{RunsYet};
 
 use bm_exec::{Machine0, Stopped, Types, run_script};
@@ -53,7 +53,7 @@ fn run_line<'s>(
     requires can { can_run_block types.now.declared.now script.now.body ≡ true }
     requires accepted { Accepted scenario.now script.now }
     requires word { word + 2 < 2 ^ 32 }
-    ensures ended { result ≡ stopped.Ended → (own : List Entry) × IsScript scenario.now script.now (word + 1) own × Gained own machine.old.caches.recorder.told machine.new.caches.recorder.told }
+    ensures ended { result ≡ stopped.Ended → WroteScript scenario.now script.now (word + 1) machine.old.caches.recorder.told machine.new.caches.recorder.told }
     ensures none { result ≡ stopped.Ended → (u : ℕ) → lives_of machine.new.slots.slots.items u ≡ None }
     ensures asked { machine.new.asked ≤ machine.old.asked + block_cost script.now.body }
     ensures sound { Sound machine.new }
