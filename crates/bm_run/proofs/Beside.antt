@@ -1,21 +1,13 @@
 -- A class that no type uses: its lists stay as they were.
-use Rattle.std.proofs.Common.{◌≡◌, ◌≢◌, ℕ, suc, zero, Bool, true, false, ◌||◌, List, [], ◌∷◌, ◌++◌, refl, sym, ap, subst, ◌∙◌, Option, Some, None, slice_get, inl, inr, ne_eqb, nat_lt, if◌then◌else◌}
+use Rattle.std.proofs.Common.{◌≡◌, ◌≢◌, ℕ, suc, zero, Bool, true, false, ◌||◌, List, [], ◌∷◌, refl, sym, ap, subst, ◌∙◌, Option, Some, slice_get}
 use Rattle.std.specs.List.{list_any}
 use Rattle.std.proofs.lemmas.Bool.Decides.{Decides-eqb}
-use Rattle.bm_class.specs.Sizes.{class_of_size, size_of_class}
-use Rattle.bm_class.specs.Watermarks.{low_of_size, high_of_size}
-use Rattle.bm_journal.specs.declared.entry.Entry.{Entry}
-use Rattle.bm_journal.specs.declared.entry.Entry.TheVariants as entry
+use Rattle.bm_class.specs.Sizes.{class_of_size}
 use Rattle.bm_lang.specs.declared.scenario.Parts.{Parts}
 use Rattle.bm_lang.specs.declared.scenario.TypeDeclaration.{TypeDeclaration}
-use Rattle.bm_law.specs.State.{State, Row, with_row}
-use Rattle.bm_law.specs.Effect.{effect}
-use Rattle.bm_law.specs.Lists.{next, after}
-use Rattle.bm_law.specs.Phrases.{given, raise_below, overtaken, FreePhrase}
 use Rattle.bm_lawful.specs.Opened.{object_size, is_class, uses_class, OfClass}
 use Rattle.bm_lawful.proofs.RunsAll.{Closed}
 use Rattle.bm_lawful.proofs.Spares.{AllSpare, spare-join, other-row, spare-alloc, spare-free}
-use Rattle.bm_lawful.specs.Calls.{Allocates}
 use Rattle.bm_run.proofs.LogAll.{Covers}
 
 -- ---- the classes of types

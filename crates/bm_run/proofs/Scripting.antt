@@ -32,7 +32,7 @@ use Rattle.bm_lawful.specs.Runs as runs
 use Rattle.bm_lawful.specs.OwnRuns.{RunsBlock}
 use Rattle.bm_lawful.proofs.SameRuns.{block-same}
 use Rattle.bm_run.specs.Gained.{Gained}
-use Rattle.bm_run.specs.Lines.{lines_cost, GainedScript, WroteScript, GainedLines, Wrote}
+use Rattle.bm_run.specs.Lines.{lines_cost, WroteScript, Wrote}
 use Rattle.bm_run.proofs.Gaining.{gained-none, gained-join, told-by}
 
 -- caches whose lists are as before may be called as before
