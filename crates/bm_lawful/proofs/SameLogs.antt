@@ -37,10 +37,10 @@ use Rattle.bm_lawful.proofs.Calm.{Empty, AllCalm, calm-join, calm-quiet, calm-id
 
 -- ---- scripts
 
-none-statement : (s : Parts) → s.deferred ≡ false → behind_statement s ≡ part.Nothing
+pub none-statement : (s : Parts) → s.deferred ≡ false → behind_statement s ≡ part.Nothing
 none-statement s e = ap (λ b. If b (UntilDown (opened_classes s.types)) part.Nothing) e
 
-none-script : (s : Parts) → s.deferred ≡ false → behind_script s ≡ part.Nothing
+pub none-script : (s : Parts) → s.deferred ≡ false → behind_script s ≡ part.Nothing
 none-script s e = ap (λ b. If b (WorkBehind (opened_classes s.types)) part.Nothing) e
 
 script-told : (s : Parts) → s.deferred ≡ false → (x : Script) (w : ℕ) (l : State ℕ) (es : List Entry) → own.IsScript s x w es → IsScript s x w l (ordinary es)
@@ -89,7 +89,7 @@ scripts-told s e (r ∷ rs) w l es h =
           (then-of (IsScript s h.0 (w + 1)) (AreScripts s rs (w + 2)) l one two (script-told s e h.0 (w + 1) l one h.2.3) (scripts-told s e rs (w + 2) (after l (ordinary one)) two h.2.4)),
     )
 
-scripts-owned : (s : Parts) → s.deferred ≡ false → (rs : List RunLine) (w : ℕ) (l : State ℕ) (es : List Entry) → AreScripts s rs w l (ordinary es) → own.AreScripts s rs w es
+pub scripts-owned : (s : Parts) → s.deferred ≡ false → (rs : List RunLine) (w : ℕ) (l : State ℕ) (es : List Entry) → AreScripts s rs w l (ordinary es) → own.AreScripts s rs w es
 scripts-owned s e [] w l es h = sym (level-own 0 es) ∙ ap (own_entries 0) h
 scripts-owned s e (r ∷ rs) w l es h =
     let t = parted (IsScript s h.0 (w + 1)) (AreScripts s rs (w + 2)) l es h.2 in
