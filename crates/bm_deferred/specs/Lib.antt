@@ -1,3 +1,4 @@
 pub mod Parts
 pub mod WorkPhrases
 pub mod WorkedParts
+pub mod Grown

@@ -1,26 +1,26 @@
 -- A block is its list of statements.
-use Rattle.std.proofs.Common.{◌≡◌, ◌+◌, ◌&&◌, List, refl, ap}
+use Rattle.std.proofs.Common.{◌≡◌, ℕ, ◌+◌, ◌&&◌, Option, List, refl, ap}
 use mathlib.Core.Path.{fun_ext}
 use mathlib.Core.Former.{Count}
 use Rattle.bm_lang.specs.declared.scenario.Block.{Block, Block', Row_of-Statement, end_of-Statement, more_of-Statement, items-the_row-Statement}
 use Rattle.bm_lang.specs.declared.scenario.TypeDeclaration.{TypeDeclaration}
 use Rattle.bm_lang.specs.Limits.{action_cost, block_cost, row_cost}
 use Rattle.bm_lawful.specs.Held.{Names}
-use Rattle.bm_lawful.specs.Runs.{Then, RunsAction, RunsBlock, RunsRow}
+use Rattle.bm_lawful.specs.Runs.{Followed, RunsBlock, RunsRow}
 use Rattle.bm_check.specs.Statements.{Setting}
 use Rattle.bm_check.specs.Values.{Store, SafeAction, SafeBlock, SafeRow}
 use Rattle.bm_exec.specs.Stores.{store_of}
-use Rattle.bm_exec.specs.Lists.{block_list, RunsList, SafeList}
+use Rattle.bm_exec.specs.Lists.{block_list, Behind, RunsStatement, RunsList, SafeList}
 use Rattle.bm_exec.specs.Stack.{Closes}
 use Rattle.bm_exec.specs.Cost.{list_cost}
 use Rattle.bm_exec.specs.Runnable.{can_run_action, can_run_list, can_run_block, can_run_row}
 
-row-runs : (types : List TypeDeclaration) (n : Count) (row : Row_of-Statement n) → RunsRow types row ≡ RunsList types (items-the_row-Statement n row)
-row-runs types _ end_of-Statement = refl
-row-runs types _ (more_of-Statement line action rest) = ap (Then (RunsAction types action)) (row-runs types _ rest)
+row-runs : (types : List TypeDeclaration) (l : ℕ) (w : Option (List ℕ)) (n : Count) (row : Row_of-Statement n) → RunsRow types l (Behind w) row ≡ RunsList types l w (items-the_row-Statement n row)
+row-runs types l w _ end_of-Statement = refl
+row-runs types l w _ (more_of-Statement line action rest) = ap (Followed (RunsStatement types l w action)) (row-runs types l w _ rest)
 
-pub block-runs : (types : List TypeDeclaration) (b : Block) → RunsBlock types b ≡ RunsList types (block_list b)
-block-runs types (Block' shape row end_line) = row-runs types _ row
+pub block-runs : (types : List TypeDeclaration) (l : ℕ) (w : Option (List ℕ)) (b : Block) → RunsBlock types l (Behind w) b ≡ RunsList types l w (block_list b)
+block-runs types l w (Block' shape row end_line) = row-runs types l w _ row
 
 row-safe : (e : Setting) (s : Store) (Q : Store → Type 0) (n : Count) (row : Row_of-Statement n) → SafeRow e s row Q ≡ SafeList e s (items-the_row-Statement n row) Q
 row-safe e s Q _ end_of-Statement = refl

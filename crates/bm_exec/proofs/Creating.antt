@@ -7,7 +7,7 @@ use Rattle.bm_law.specs.Lists.{Log}
 use Rattle.bm_law.specs.Phrases.{alloc_took}
 use Rattle.bm_law.specs.Spans.{Records}
 use Rattle.bm_law.proofs.Spans.{Records-one, Records-join}
-use Rattle.bm_lawful.specs.Runs.{Allocates}
+use Rattle.bm_lawful.specs.Calls.{Allocates}
 use Rattle.bm_cache.specs.Tokens.{Token, seal_numbers}
 use Rattle.bm_exec.specs.declared.slots.Slots.{Slots}
 use Rattle.bm_exec.specs.Living.{Lives, with_life, Created}

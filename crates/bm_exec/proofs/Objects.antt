@@ -8,7 +8,7 @@ use Rattle.bm_lang.specs.declared.scenario.TypeId.{TypeId}
 use Rattle.bm_class.specs.Sizes.{class_of_size}
 use Rattle.bm_lawful.specs.Held.{Held, Nothing, Null, Object, Names, with_name, OwnsNothing}
 use Rattle.bm_lawful.specs.Opened.{OfClass, object_size}
-use Rattle.bm_lawful.specs.Runs.{answered}
+use Rattle.bm_lawful.specs.Calls.{answered}
 use Rattle.bm_check.specs.Values as safe
 use Rattle.bm_exec.specs.Runnable.{Classes}
 use Rattle.bm_exec.specs.Stores.{store_of, value_of}

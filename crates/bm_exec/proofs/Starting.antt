@@ -1,10 +1,12 @@
 -- A frame at a script's beginning.
 use Rattle.std.proofs.Common.{◌≡◌, true, ◌&&◌, List, [], refl, sym, ◌∙◌, arith, ℕ, Option, Some, None}
-use Rattle.bm_journal.specs.declared.entry.Entry.{Entry}
 use Rattle.bm_lang.specs.declared.scenario.Block.{Block}
 use Rattle.bm_lang.specs.declared.scenario.TypeDeclaration.{TypeDeclaration}
 use Rattle.bm_lang.specs.Limits.{block_cost}
 use Rattle.bm_lawful.specs.Held.{Names, no_names}
+use Rattle.bm_law.specs.State.{State}
+use Rattle.bm_law.specs.Lists.{Log}
+use Rattle.bm_deferred.specs.Parts.{Nothing}
 use Rattle.bm_lawful.specs.Runs.{RunsBlock}
 use Rattle.bm_check.specs.Statements.{Setting}
 use Rattle.bm_check.specs.Values as safe
@@ -18,7 +20,8 @@ use Rattle.bm_exec.specs.Living.{Living, Lives, Holds}
 use Rattle.bm_exec.specs.Steps.{Pushed}
 use Rattle.bm_exec.proofs.Blocks.{block-can}
 use Rattle.bm_exec.proofs.Objects.{nothing-is-none}
-use Rattle.bm_exec.proofs.Performing.{undone, block-once, once-safe, once-cost, both}
+use Rattle.bm_exec.proofs.Then.{undone-last}
+use Rattle.bm_exec.proofs.Performing.{block-once, once-safe, once-cost, both}
 
 pub start-cost : (types : List TypeDeclaration) (b : Block) (now : List Open) → Pushed [] now (block_list b) 0 b → stack_cost now ≡ block_cost b
 start-cost types b now p = rw p.now_is (let c = once-cost types p.top b p.rest_is p.repeats_is in omega (arith, c))
@@ -29,8 +32,8 @@ start-can types b now p e = rw p.now_is (rw p.rest_is (rw p.body_is (both (can_r
 pub start-safe : (e : Setting) (b : Block) (now : List Open) (names : Names) → names ≡ no_names → Pushed [] now (block_list b) 0 b → safe.SafeBlock e safe.empty_store b safe.OwnsNothing → SafeStack e (store_of names) now
 start-safe e b now names q p s = rw q (rw p.now_is (once-safe e p.top [] no_names b p.rest_is p.repeats_is s))
 
-pub start-runs : (types : List TypeDeclaration) (b : Block) (now : List Open) → Pushed [] now (block_list b) 0 b → (names after : Names) (part : List Entry) → RunsStack types now names part after → RunsBlock types b names part after
-start-runs types b now p names after part x = block-once types p.top b p.rest_is p.repeats_is names after part (undone (RunsOpen types p.top) names after part (rw p.now_is at x))
+pub start-runs : (types : List TypeDeclaration) (l : ℕ) (b : Block) (now : List Open) → Pushed [] now (block_list b) 0 b → (names last : Names) (s : State ℕ) (part : Log) → RunsStack types l None now names last s part → RunsBlock types l Nothing b names last s part
+start-runs types l b now p names last s part x = block-once types l p.top b p.rest_is p.repeats_is names last s part (undone-last (RunsOpen types l None p.top) names last s part (rw p.now_is at x))
 
 pub start-holds : (types : List TypeDeclaration) (lives : Lives) (names : Names) → names ≡ no_names → ((u : ℕ) → lives u ≡ None) → Holds types lives names
 start-holds types lives names e none = rw e (record {

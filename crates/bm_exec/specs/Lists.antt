@@ -1,19 +1,31 @@
 -- What is said of the statements of a block, said of a list of statements.
-use Rattle.std.specs.Prelude.{List, [], ◌∷◌}
+use Rattle.std.specs.Prelude.{ℕ, Option, Some, None, List, [], ◌∷◌}
+use Rattle.bm_lang.specs.declared.scenario.Action.{Action}
 use Rattle.bm_lang.specs.declared.scenario.Block.{Block, Block', items-the_row-Statement}
 use Rattle.bm_lang.specs.declared.scenario.Statement.{Statement}
 use Rattle.bm_lang.specs.declared.scenario.TypeDeclaration.{TypeDeclaration}
 use Rattle.bm_check.specs.Statements.{Setting}
 use Rattle.bm_check.specs.Values.{Store, SafeAction}
-use Rattle.bm_lawful.specs.Runs.{Run, Done, Then, RunsAction}
+use Rattle.bm_deferred.specs.Parts.{Part, Nothing}
+use Rattle.bm_lawful.specs.Works.{UntilDown}
+use Rattle.bm_lawful.specs.Runs.{Run, Leaving, Done, Followed, RunsAction}
 
 -- the statements of a block
 abbrev pub block_list : Block → List Statement
 block_list (Block' shape row end_line) = items-the_row-Statement _ row
 
-abbrev pub RunsList : List TypeDeclaration → List Statement → Run
-RunsList types [] = Done
-RunsList types (s ∷ ss) = Then (RunsAction types s.action) (RunsList types ss)
+-- what stands behind each statement: works for these classes until no flag is up, or nothing
+abbrev pub Behind : Option (List ℕ) → Part
+Behind None = Nothing
+Behind (Some classes) = UntilDown classes
+
+-- a statement, and what stands behind it
+abbrev pub RunsStatement : List TypeDeclaration → ℕ → Option (List ℕ) → Action → Run
+RunsStatement types l w a = Followed (RunsAction types l (Behind w) a) (Leaving (Behind w))
+
+abbrev pub RunsList : List TypeDeclaration → ℕ → Option (List ℕ) → List Statement → Run
+RunsList types l w [] = Done
+RunsList types l w (s ∷ ss) = Followed (RunsStatement types l w s.action) (RunsList types l w ss)
 
 abbrev pub SafeList : Setting → Store → List Statement → (Store → Type 0) → Type 0
 SafeList e s [] Q = Q s

@@ -11,7 +11,7 @@ use Rattle.bm_law.specs.Spans.{Records}
 use Rattle.bm_law.specs.Alone.{Alone}
 use Rattle.bm_lawful.specs.Held.{Names, Object}
 use Rattle.bm_lawful.specs.Opened.{OfClass}
-use Rattle.bm_lawful.specs.Runs.{Allocates}
+use Rattle.bm_lawful.specs.Calls.{Allocates}
 
 -- an object: the class of its unit, and which life of the unit it is
 pub record Living : Type 0 where

@@ -1,21 +1,26 @@
 -- What a frame has still to run: its open blocks, the innermost last.
-use Rattle.std.specs.Prelude.{◌≡◌, List, [], ◌∷◌}
+use Rattle.std.specs.Prelude.{◌≡◌, ℕ, Option, List, [], ◌∷◌}
 use Rattle.bm_lang.specs.declared.scenario.TypeDeclaration.{TypeDeclaration}
 use Rattle.bm_check.specs.declared.name_state.HeldLock.TheVariants.{Nothing as NoLock}
 use Rattle.bm_check.specs.Statements.{Setting}
 use Rattle.bm_check.specs.Values as safe
-use Rattle.bm_lawful.specs.Runs.{Run, Done, Then, Times, RunsBlock}
+use Rattle.bm_lawful.specs.Runs.{Run, Leaving, Done, Followed, Times, RunsBlock}
 use Rattle.bm_exec.specs.declared.frame.Open.{Open}
-use Rattle.bm_exec.specs.Lists.{RunsList, SafeList}
+use Rattle.bm_exec.specs.Lists.{Behind, RunsList, SafeList}
 
 -- the rest of a block's statements, and then the whole block some more times
-abbrev pub RunsOpen : List TypeDeclaration → Open → Run
-RunsOpen types o = Then (RunsList types o.rest.now) (Times (RunsBlock types o.body.now) o.repeats)
+abbrev pub RunsOpen : List TypeDeclaration → ℕ → Option (List ℕ) → Open → Run
+RunsOpen types l w o = Followed (RunsList types l w o.rest.now) (Times (RunsBlock types l (Behind w) o.body.now) o.repeats)
+
+-- open blocks around one that has ended, the innermost first: that one was a statement's of the first of them
+abbrev pub RunsAround : List TypeDeclaration → ℕ → Option (List ℕ) → List Open → Run
+RunsAround types l w [] = Done
+RunsAround types l w (o ∷ os) = Followed (Leaving (Behind w)) (Followed (RunsOpen types l w o) (RunsAround types l w os))
 
 -- open blocks, the innermost first
-abbrev pub RunsStack : List TypeDeclaration → List Open → Run
-RunsStack types [] = Done
-RunsStack types (o ∷ os) = Then (RunsOpen types o) (RunsStack types os)
+abbrev pub RunsStack : List TypeDeclaration → ℕ → Option (List ℕ) → List Open → Run
+RunsStack types l w [] = Done
+RunsStack types l w (o ∷ os) = Followed (RunsOpen types l w o) (RunsAround types l w os)
 
 -- a block whose lock is given back in it
 abbrev pub Closes : (safe.Store → Type 0) → safe.Store → Type 0

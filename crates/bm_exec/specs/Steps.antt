@@ -1,17 +1,19 @@
 -- One statement is taken off the open blocks of a frame.
-use Rattle.std.specs.Prelude.{◌≡◌, ◌≤◌, ℕ, ◌+◌, ◌*◌, ◌++◌, true, List, [], ◌∷◌, length, Option, Some, None}
+use Rattle.std.specs.Prelude.{◌≡◌, ◌≤◌, ℕ, ◌+◌, ◌*◌, true, List, [], ◌∷◌, length, Option, Some, None}
 use Rattle.std.specs.Borrow.{Bor}
-use Rattle.bm_journal.specs.declared.entry.Entry.{Entry}
 use Rattle.bm_lang.specs.declared.scenario.Block.{Block}
 use Rattle.bm_lang.specs.declared.scenario.Statement.{Statement}
 use Rattle.bm_lang.specs.declared.scenario.TypeDeclaration.{TypeDeclaration}
 use Rattle.bm_lang.specs.Limits.{action_cost}
+use Rattle.bm_law.specs.State.{State}
+use Rattle.bm_law.specs.Lists.{Log}
 use Rattle.bm_lawful.specs.Held.{Names}
-use Rattle.bm_lawful.specs.Runs.{RunsAction}
+use Rattle.bm_lawful.specs.Runs.{Followed}
 use Rattle.bm_check.specs.Statements.{Setting}
 use Rattle.bm_check.specs.Values.{SafeAction, OwnsNothing}
 use Rattle.bm_exec.specs.declared.frame.Open.{Open}
 use Rattle.bm_exec.specs.Stores.{store_of}
+use Rattle.bm_exec.specs.Lists.{Behind, RunsStatement}
 use Rattle.bm_exec.specs.Stack.{RunsStack, SafeStack}
 use Rattle.bm_exec.specs.Cost.{stack_cost}
 use Rattle.bm_exec.specs.Runnable.{can_run_action, can_run_stack}
@@ -20,9 +22,10 @@ use Rattle.bm_exec.specs.Runnable.{can_run_action, can_run_stack}
 abbrev pub weight : List Open → ℕ
 weight os = 2 * stack_cost os + length os
 
--- Blocks ended or began again: what is run from now on is what was to be run.
+-- Blocks ended or began again: what is run from now on is what was to be run. Where a block ends nothing stands behind its
+-- statement, for the last one in it left that so.
 pub record Passed (before now : List Open) : Type 0 where
-  pub runs : (types : List TypeDeclaration) (names after : Names) (part : List Entry) → RunsStack types now names part after → RunsStack types before names part after
+  pub runs : (types : List TypeDeclaration) (l : ℕ) (w : Option (List ℕ)) (names after : Names) (s : State ℕ) (part : Log) → Behind w s [] → RunsStack types l w now names after s part → RunsStack types l w before names after s part
   pub safe : (e : Setting) (names : Names) → SafeStack e (store_of names) before → SafeStack e (store_of names) now
   pub can : (types : List TypeDeclaration) → can_run_stack types before ≡ true → can_run_stack types now ≡ true
   pub cost : stack_cost now ≤ stack_cost before
@@ -30,7 +33,7 @@ pub record Passed (before now : List Open) : Type 0 where
 
 -- A statement was taken: it runs first, and the rest runs after it.
 pub record Taken (before now : List Open) (s : Statement) : Type 0 where
-  pub runs : (types : List TypeDeclaration) (names middle after : Names) (one two : List Entry) → RunsAction types s.action names one middle → RunsStack types now middle two after → RunsStack types before names (one ++ two) after
+  pub runs : (types : List TypeDeclaration) (l : ℕ) (w : Option (List ℕ)) (names after : Names) (t : State ℕ) (part : Log) → Behind w t [] → Followed (RunsStatement types l w s.action) (RunsStack types l w now) names after t part → RunsStack types l w before names after t part
   pub safe : (e : Setting) (names : Names) → SafeStack e (store_of names) before → SafeAction e (store_of names) s.action (λ r. SafeStack e r now)
   pub can_action : (types : List TypeDeclaration) → can_run_stack types before ≡ true → can_run_action types s.action ≡ true
   pub can : (types : List TypeDeclaration) → can_run_stack types before ≡ true → can_run_stack types now ≡ true
@@ -39,7 +42,7 @@ pub record Taken (before now : List Open) (s : Statement) : Type 0 where
 
 -- All ended: nothing is left to run.
 pub record Ended (before : List Open) : Type 0 where
-  pub runs : (types : List TypeDeclaration) (names : Names) → RunsStack types before names [] names
+  pub runs : (types : List TypeDeclaration) (l : ℕ) (w : Option (List ℕ)) (names : Names) (s : State ℕ) → Behind w s [] → RunsStack types l w before names names s []
   pub safe : (e : Setting) (names : Names) → SafeStack e (store_of names) before → OwnsNothing (store_of names)
 
 abbrev pub Stepped : List Open → List Open → Option (Bor Statement) → Type 0

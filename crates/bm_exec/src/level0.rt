@@ -76,10 +76,17 @@ impl Host<Keep> for Machine0 {
 }
 
 impl Machine for Machine0 {
+    ghost use Rattle.bm_law.specs.State.{seen};
+    ghost use Rattle.bm_cache.specs.Shown.{shown};
+    ghost use Rattle.bm_cache.specs.Tokens.{number_of};
     ghost use Rattle.bm_exec.specs.Slots.{lives_of};
-    ghost use Rattle.bm_exec.specs.Sound.{Sound};
+    ghost use Rattle.bm_exec.specs.Sound.{Sound, sound_told};
 
     ghost log = { λ m. m.caches.recorder.told };
+
+    ghost lists = { λ m. seen number_of (shown m.caches) };
+
+    ghost processor = { λ _. 0 };
 
     ghost level = { λ _. 0 };
 
@@ -90,6 +97,8 @@ impl Machine for Machine0 {
     ghost asked = { λ m. m.asked };
 
     ghost sound = { λ m. Sound m };
+
+    ghost told = { λ m s. sound_told m s };
 
     fn create(&mut self, class: Class, name: Name, values: Values) -> Option<ObjId> {
         self.caches

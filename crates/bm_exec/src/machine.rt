@@ -1,7 +1,8 @@
 //! Machines: what statements run on.
 
-ghost use Rattle.std.specs.Prelude.{◌≡◌, ◌+◌, ◌<◌, ◌^◌, ℕ, Option, Some};
-ghost use Rattle.bm_law.specs.Lists.{Log};
+ghost use Rattle.std.specs.Prelude.{◌≡◌, ◌+◌, ◌<◌, ◌^◌, ℕ, IfSome, Option, Some};
+ghost use Rattle.bm_law.specs.State.{State};
+ghost use Rattle.bm_law.specs.Lists.{Log, Leaves};
 ghost use Rattle.bm_exec.specs.Living.{Lives, Created, Disposed, Undisturbed};
 
 use bm_class::Class;
@@ -13,6 +14,12 @@ use bm_word::Name;
 pub trait Machine {
     /// The log, where it is told.
     ghost log: { Self → Option Log };
+
+    /// What stands in its lists and hands.
+    ghost lists: { Self → State ℕ };
+
+    /// The number of the processor.
+    ghost processor: { Self → ℕ };
 
     /// The level that the script runs at.
     ghost level: { Self → ℕ };
@@ -38,6 +45,7 @@ pub trait Machine {
         ensures sound { sound self.new }
         ensures level { level self.new ≡ level self.old }
         ensures asked { asked self.new ≡ asked self.old + 1 }
+        ensures processor { processor self.new ≡ processor self.old }
         ensures alone { Undisturbed level pending log self.old self.new };
 
     /// Gives up the one reference to an object that lives.
@@ -48,5 +56,9 @@ pub trait Machine {
         ensures sound { sound self.new }
         ensures level { level self.new ≡ level self.old }
         ensures asked { asked self.new ≡ asked self.old }
+        ensures processor { processor self.new ≡ processor self.old }
         ensures alone { Undisturbed level pending log self.old self.new };
+
+    /// A log that is told leaves these lists.
+    ghost told: { (m : Self) → sound m → IfSome (log m) (λ es. Leaves (processor m) es (lists m)) };
 }

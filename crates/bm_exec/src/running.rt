@@ -60,9 +60,10 @@ fn perform_new<'s, M: Machine>(
     requires holds { Holds types.now.declared.now (M.lives machine.old) (names_of names.old) }
     requires can { can_run_action types.now.declared.now (action.New name.now type_id values.now) ≡ true }
     requires free { is_owning (value_of (names_of names.old name.now)) ≡ false }
-    ensures performed { OnOk result ((os : List Open) → Performed types.now.declared.now (M.level machine.old) (action.New name.now type_id values.now) (names_of names.old) (names_of names.new) os os (M.lives machine.new) (M.asked machine.old) (M.asked machine.new) (M.log machine.old) (M.log machine.new)) }
+    ensures performed { OnOk result ((os : List Open) → Performed types.now.declared.now (M.level machine.old) (M.lists machine.old) (M.lists machine.new) (action.New name.now type_id values.now) (names_of names.old) (names_of names.new) os os (M.lives machine.new) (M.asked machine.old) (M.asked machine.new) (M.log machine.old) (M.log machine.new)) }
     ensures sound { M.sound machine.new }
     ensures level { M.level machine.new ≡ M.level machine.old }
+    ensures processor { M.processor machine.new ≡ M.processor machine.old }
     ensures asked { M.asked machine.new ≤ M.asked machine.old + 1 }
     ensures alone { Undisturbed M.level M.pending M.log machine.old machine.new }
 {
@@ -90,9 +91,10 @@ fn perform_drop<'s, M: Machine>(
     requires classes { Classes types.now.declared.now types.now.classes.now }
     requires holds { Holds types.now.declared.now (M.lives machine.old) (names_of names.old) }
     requires owned { is_owning (value_of (names_of names.old name.now)) ≡ true }
-    ensures performed { OnOk result ((os : List Open) → Performed types.now.declared.now (M.level machine.old) (action.Drop name.now) (names_of names.old) (names_of names.new) os os (M.lives machine.new) (M.asked machine.old) (M.asked machine.new) (M.log machine.old) (M.log machine.new)) }
+    ensures performed { OnOk result ((os : List Open) → Performed types.now.declared.now (M.level machine.old) (M.lists machine.old) (M.lists machine.new) (action.Drop name.now) (names_of names.old) (names_of names.new) os os (M.lives machine.new) (M.asked machine.old) (M.asked machine.new) (M.log machine.old) (M.log machine.new)) }
     ensures sound { M.sound machine.new }
     ensures level { M.level machine.new ≡ M.level machine.old }
+    ensures processor { M.processor machine.new ≡ M.processor machine.old }
     ensures asked { M.asked machine.new ≤ M.asked machine.old + 1 }
     ensures alone { Undisturbed M.level M.pending M.log machine.old machine.new }
 {
@@ -116,9 +118,10 @@ fn perform<'s, M: Machine>(
     requires holds { Holds types.now.declared.now (M.lives machine.old) (names_of frame.old.names) }
     requires can { can_run_action types.now.declared.now statement.now.action ≡ true }
     requires needed { (e : Setting) × SafeAction e (store_of (names_of frame.old.names)) statement.now.action (λ r. SafeStack e r (reverse frame.old.blocks.items)) }
-    ensures performed { OnOk result (Performed types.now.declared.now (M.level machine.old) statement.now.action (names_of frame.old.names) (names_of frame.new.names) (reverse frame.old.blocks.items) (reverse frame.new.blocks.items) (M.lives machine.new) (M.asked machine.old) (M.asked machine.new) (M.log machine.old) (M.log machine.new)) }
+    ensures performed { OnOk result (Performed types.now.declared.now (M.level machine.old) (M.lists machine.old) (M.lists machine.new) statement.now.action (names_of frame.old.names) (names_of frame.new.names) (reverse frame.old.blocks.items) (reverse frame.new.blocks.items) (M.lives machine.new) (M.asked machine.old) (M.asked machine.new) (M.log machine.old) (M.log machine.new)) }
     ensures sound { M.sound machine.new }
     ensures level { M.level machine.new ≡ M.level machine.old }
+    ensures processor { M.processor machine.new ≡ M.processor machine.old }
     ensures asked { M.asked machine.new ≤ M.asked machine.old + 1 }
     ensures alone { Undisturbed M.level M.pending M.log machine.old machine.new }
 {
@@ -156,11 +159,12 @@ pub fn resume<'s, M: Machine>(frame: &mut Frame<'s>, machine: &mut M, types: &Ty
     requires holds { Holds types.now.declared.now (M.lives machine.old) (names_of frame.old.names) }
     requires can { can_run_stack types.now.declared.now (reverse frame.old.blocks.items) ≡ true }
     requires accepted { (e : Setting) × SafeStack e (store_of (names_of frame.old.names)) (reverse frame.old.blocks.items) }
-    ensures ended { result ≡ stopped.Ended → Ran types.now.declared.now (M.level machine.old) (names_of frame.old.names) (names_of frame.new.names) (reverse frame.old.blocks.items) (M.pending machine.old) (M.pending machine.new) (M.log machine.old) (M.log machine.new) }
+    ensures ended { result ≡ stopped.Ended → Ran types.now.declared.now (M.level machine.old) (M.lists machine.old) (names_of frame.old.names) (names_of frame.new.names) (reverse frame.old.blocks.items) (M.pending machine.old) (M.pending machine.new) (M.log machine.old) (M.log machine.new) }
     ensures none { result ≡ stopped.Ended → (u : ℕ) → M.lives machine.new u ≡ None }
     ensures asked { M.asked machine.new ≤ M.asked machine.old + stack_cost (reverse frame.old.blocks.items) }
     ensures sound { M.sound machine.new }
     ensures level { M.level machine.new ≡ M.level machine.old }
+    ensures processor { M.processor machine.new ≡ M.processor machine.old }
     ensures alone { Undisturbed M.level M.pending M.log machine.old machine.new }
 {
     loop {
@@ -192,11 +196,12 @@ pub fn run_script<'s, M: Machine>(
     requires none { (u : ℕ) → M.lives machine.old u ≡ None }
     requires can { can_run_block types.now.declared.now script.now.body ≡ true }
     requires accepted { Accepted scenario.now script.now }
-    ensures ended { result ≡ stopped.Ended → RanScript types.now.declared.now (M.level machine.old) script.now (M.pending machine.old) (M.pending machine.new) (M.log machine.old) (M.log machine.new) }
+    ensures ended { result ≡ stopped.Ended → RanScript types.now.declared.now (M.level machine.old) (M.lists machine.old) script.now (M.pending machine.old) (M.pending machine.new) (M.log machine.old) (M.log machine.new) }
     ensures none { result ≡ stopped.Ended → (u : ℕ) → M.lives machine.new u ≡ None }
     ensures asked { M.asked machine.new ≤ M.asked machine.old + block_cost script.now.body }
     ensures sound { M.sound machine.new }
     ensures level { M.level machine.new ≡ M.level machine.old }
+    ensures processor { M.processor machine.new ≡ M.processor machine.old }
     ensures alone { Undisturbed M.level M.pending M.log machine.old machine.new }
 {
     accepted_scripts_are_safe();

@@ -8,26 +8,26 @@ use Rattle.bm_law.specs.Lists.{Log}
 use Rattle.bm_law.specs.Spans.{own_entries, AllFrom, Records}
 use Rattle.bm_law.specs.Alone.{at_level, AllAt, GrewAt, Alone, Gained, Adds}
 
-at-append : (l : ℕ) (a b : Log) → AllAt l a → AllAt l b → AllAt l (a ++ b)
+pub at-append : (l : ℕ) (a b : Log) → AllAt l a → AllAt l b → AllAt l (a ++ b)
 at-append l [] b h k = k
 at-append l (e ∷ a) b h k = (h.0, at-append l a b h.1 k)
 
-level-append : (l : ℕ) (v w : List Entry) → at_level l (v ++ w) ≡ at_level l v ++ at_level l w
+pub level-append : (l : ℕ) (v w : List Entry) → at_level l (v ++ w) ≡ at_level l v ++ at_level l w
 level-append l [] w = refl
 level-append l (e ∷ v) w = ap (λ (x : Log). (l, e) ∷ x) (level-append l v w)
 
 -- entries of one level are the own entries of that level
-at-own : (l : ℕ) (a : Log) → AllAt l a → a ≡ at_level l (own_entries l a)
+pub at-own : (l : ℕ) (a : Log) → AllAt l a → a ≡ at_level l (own_entries l a)
 at-own l [] h = refl
 at-own l (e ∷ a) h =
     let P : ℕ → Type 0 = λ k. e ∷ a ≡ (k, e.1) ∷ at_level l (own_entries l a) in
     rw (eq-eqb e.0 l h.0) (subst P h.0 (ap (λ (x : Log). e ∷ x) (at-own l a h.1)))
 
-level-from : (l : ℕ) (v : List Entry) → AllFrom l (at_level l v)
+pub level-from : (l : ℕ) (v : List Entry) → AllFrom l (at_level l v)
 level-from l [] = tt
 level-from l (e ∷ v) = (omega arith, level-from l v)
 
-level-own : (l : ℕ) (v : List Entry) → own_entries l (at_level l v) ≡ v
+pub level-own : (l : ℕ) (v : List Entry) → own_entries l (at_level l v) ≡ v
 level-own l [] = refl
 level-own l (e ∷ v) = rw (eq-eqb l l refl) (ap (λ x. e ∷ x) (level-own l v))
 

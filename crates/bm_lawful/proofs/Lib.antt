@@ -1,4 +1,10 @@
 pub mod Blocks
+pub mod Ordinary
+pub mod RunsAll
+pub mod SameRuns
+pub mod Spares
+pub mod Calm
+pub mod SameLogs
 pub mod Taken
 pub mod Told
 pub mod Ran
@@ -10,3 +16,10 @@ pub mod WrongScripts
 pub mod WrongSweep
 pub mod Opening
 pub mod WrongOpening
+pub mod BlockParts
+pub mod OpeningBlock
+pub mod OneBlock
+pub mod NoBlock
+pub mod WrongWork
+pub mod Parceled
+pub mod Periods

@@ -16,10 +16,11 @@ use Rattle.bm_law.proofs.Null.{pops-fit}
 use Rattle.bm_law.proofs.Folds.{Leaves-append}
 use Rattle.bm_lawful.proofs.Opening.{no-page}
 use Rattle.bm_lawful.specs.Held.{no_names}
-use Rattle.bm_lawful.specs.Grammar.{IsLog, ordinary}
-use Rattle.bm_lawful.specs.Lawful.{HeadingOf, Lawful, LawfulLog}
+use Rattle.bm_lawful.specs.OwnGrammar.{IsLog, LawfulLog, ordinary}
+use Rattle.bm_lawful.specs.Lawful.{HeadingOf, Lawful}
 use Rattle.bm_lawful.specs.WorkedJournal.{asks, asked, took_none, ended, no_object, no_object_log, no_object_journal}
 use Rattle.bm_lawful.proofs.Ran.{with_null, null-runs, null-owns_nothing}
+use Rattle.bm_lawful.proofs.SameLogs.{told-log}
 use Rattle.bm_lawful.proofs.Told.{one-log}
 
 -- the lists that the log leaves
@@ -88,7 +89,7 @@ pub no_object-lawful : Lawful no_object no_object_journal
 no_object-lawful = record {
   heading = heading;
   count = refl;
-  logs = one-log no_object no_object_log log-lawful;
+  logs = one-log no_object no_object_log (told-log no_object refl 0 no_object_log log-lawful);
   graphs = refl;
   totals = refl;
 }

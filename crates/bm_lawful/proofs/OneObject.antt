@@ -16,10 +16,11 @@ use Rattle.bm_law.specs.Worked.{Emptied}
 use Rattle.bm_law.proofs.Null.{pops-fit}
 use Rattle.bm_law.proofs.Folds.{Leaves-append}
 use Rattle.bm_lawful.proofs.Opening.{first-four}
-use Rattle.bm_lawful.specs.Grammar.{IsLog, ordinary}
-use Rattle.bm_lawful.specs.Lawful.{HeadingOf, Lawful, LawfulLog}
+use Rattle.bm_lawful.specs.OwnGrammar.{IsLog, LawfulLog, ordinary}
+use Rattle.bm_lawful.specs.Lawful.{HeadingOf, Lawful}
 use Rattle.bm_lawful.specs.WorkedJournal.{asks, one_page, asked, took, gave, ended, swept, sweep_period, one_object, one_object_log, one_object_journal}
 use Rattle.bm_lawful.proofs.Ran.{dropped, object-runs, dropped-owns_nothing}
+use Rattle.bm_lawful.proofs.SameLogs.{told-log}
 use Rattle.bm_lawful.proofs.Told.{one-log}
 
 -- the lists that the log leaves
@@ -105,7 +106,7 @@ pub one_object-lawful : Lawful one_object one_object_journal
 one_object-lawful = record {
   heading = heading;
   count = refl;
-  logs = one-log one_object one_object_log log-lawful;
+  logs = one-log one_object one_object_log (told-log one_object refl 0 one_object_log log-lawful);
   graphs = refl;
   totals = refl;
 }

@@ -14,10 +14,11 @@ use Rattle.bm_law.proofs.Null.{pops-fit}
 use Rattle.bm_law.proofs.Folds.{Leaves-append}
 use Rattle.bm_lawful.proofs.Opening.{no-page}
 use Rattle.bm_lawful.specs.Held.{no_names}
-use Rattle.bm_lawful.specs.Grammar.{IsLog, ordinary}
-use Rattle.bm_lawful.specs.Lawful.{HeadingOf, Lawful, LawfulLog}
+use Rattle.bm_lawful.specs.OwnGrammar.{IsLog, LawfulLog, ordinary}
+use Rattle.bm_lawful.specs.Lawful.{HeadingOf, Lawful}
 use Rattle.bm_lawful.specs.WorkedJournal.{asks, took_none, twice_part, main_part, three_calls, three_calls_log, three_calls_journal}
 use Rattle.bm_lawful.proofs.Ran.{with_null, two_nulls, null-runs, twice-runs, null-owns_nothing, nulls-own_nothing}
+use Rattle.bm_lawful.proofs.SameLogs.{told-log}
 use Rattle.bm_lawful.proofs.Told.{one-log}
 
 -- the lists that the log leaves
@@ -93,7 +94,7 @@ pub three_calls-lawful : Lawful three_calls three_calls_journal
 three_calls-lawful = record {
   heading = heading;
   count = refl;
-  logs = one-log three_calls three_calls_log log-lawful;
+  logs = one-log three_calls three_calls_log (told-log three_calls refl 0 three_calls_log log-lawful);
   graphs = refl;
   totals = refl;
 }

@@ -12,11 +12,11 @@ use Rattle.bm_law.specs.State.{State, seven_lists}
 use Rattle.bm_law.specs.Lists.{Log, Leaves, lists_of}
 use Rattle.bm_law.proofs.Agree.{lists-leaves}
 use Rattle.bm_lawful.specs.Held.{Names, no_names, OwnsNothing}
-use Rattle.bm_lawful.specs.Runs.{RunsBlock}
+use Rattle.bm_lawful.specs.OwnRuns.{RunsBlock}
 use Rattle.bm_page.specs.Stock.{fetched}
 use Rattle.bm_lawful.specs.Fills.{fresh_stock, numbers_of, prefill}
-use Rattle.bm_lawful.specs.Grammar.{IsLog, IsScript, Swept, ordinary}
-use Rattle.bm_lawful.specs.Lawful.{LawfulLog}
+use Rattle.bm_lawful.specs.Lawful as lawful
+use Rattle.bm_lawful.specs.OwnGrammar.{IsLog, IsScript, LawfulLog, Swept, ordinary}
 use Rattle.bm_lawful.specs.WorkedJournal.{types, scenario_of}
 
 -- its entries
@@ -92,6 +92,6 @@ same-log : {a b : Log} → Some a ≡ Some b → a ≡ b
 same-log e = cc
 
 -- one log is the only one
-pub one-log : (s : Parts) (log : Log) → LawfulLog s 0 log → (p : ℕ) (other : Log) → slice_get (log ∷ []) p ≡ Some other → LawfulLog s p other
-one-log s log h zero other e = subst (LawfulLog s 0) (same-log e) h
+pub one-log : (s : Parts) (log : Log) → lawful.LawfulLog s 0 log → (p : ℕ) (other : Log) → slice_get (log ∷ []) p ≡ Some other → lawful.LawfulLog s p other
+one-log s log h zero other e = subst (lawful.LawfulLog s 0) (same-log e) h
 one-log s log h (suc p) other e = none-some e

@@ -7,11 +7,12 @@ use Rattle.bm_journal.specs.declared.entry.Entry.TheVariants as entry
 use Rattle.bm_lang.specs.declared.scenario.Block.{Block}
 use Rattle.bm_page.specs.Stock.{fetched}
 use Rattle.bm_lawful.specs.Fills.{fresh_stock, numbers_of, prefill}
-use Rattle.bm_lawful.specs.Grammar.{IsLog}
+use Rattle.bm_lawful.specs.OwnGrammar.{IsLog}
 use Rattle.bm_lawful.specs.Lawful.{Lawful}
 use Rattle.bm_lawful.specs.WorkedJournal.{scenario_of, one_object}
 use Rattle.bm_lawful.specs.WrongJournals.{not_opened, not_opened_log}
 use Rattle.bm_lawful.proofs.Opening.{first-four}
+use Rattle.bm_lawful.proofs.SameLogs.{owned-log}
 use Rattle.bm_lawful.proofs.Told.{entries_of, own-is}
 
 -- a log begins with what a fresh stock gives
@@ -26,7 +27,7 @@ no-unit v w units e q = cc
 
 pub not_opened-wrong : Lawful one_object not_opened → ⊥
 not_opened-wrong h =
-    let l = h.logs 0 not_opened_log refl in
+    let l = owned-log one_object refl 0 not_opened_log (h.logs 0 not_opened_log refl) in
     let is : IsLog one_object 0 (entries_of not_opened_log) = subst (IsLog one_object 0) (own-is one_object 0 not_opened_log l) l.is_log in
     let o = opens 1 _ (entries_of not_opened_log) is in
     no-unit _ o.0 _ first-four o.1

@@ -10,12 +10,13 @@ use Rattle.bm_lang.specs.declared.scenario.Script.{Script}
 use Rattle.bm_page.specs.Stock.{fetched}
 use Rattle.bm_lawful.specs.Fills.{fresh_stock, numbers_of, prefill}
 use Rattle.bm_lawful.specs.Held.{Names, no_names}
-use Rattle.bm_lawful.specs.Runs.{Run, Done, Then, RunsBlock}
-use Rattle.bm_lawful.specs.Grammar.{IsLog, IsScript}
+use Rattle.bm_lawful.specs.OwnRuns.{Run, Done, Then, RunsBlock}
+use Rattle.bm_lawful.specs.OwnGrammar.{IsLog, IsScript}
 use Rattle.bm_lawful.specs.Lawful.{Lawful}
 use Rattle.bm_lawful.specs.WorkedJournal.{vector_of, types, makes_x, drops_x_unless_null, makes_and_drops, makes_and_drops_twice, script_of, three_calls}
 use Rattle.bm_lawful.specs.WrongJournals.{main_first_log, main_first, repeated_once_log, repeated_once}
 use Rattle.bm_lawful.proofs.Blocks.{block-runs}
+use Rattle.bm_lawful.proofs.SameLogs.{owned-log}
 use Rattle.bm_lawful.proofs.Told.{entries_of, own-is, same-script}
 
 -- what the log is made of: two scripts, in the order of their lines
@@ -60,7 +61,7 @@ other-name e = omega (arith, ap (λ (v : List ℕ). slice_index v 0) e)
 
 pub main_first-wrong : Lawful three_calls main_first → ⊥
 main_first-wrong h =
-    let l = h.logs 0 main_first_log refl in
+    let l = owned-log three_calls refl 0 main_first_log (h.logs 0 main_first_log refl) in
     let m = made-of (entries_of main_first_log) (subst (IsLog three_calls 0) (own-is three_calls 0 main_first_log l) l.is_log) in
     other-name (apart [] m.units _ _ (m.own_is ∙ ap (λ v. entry.Fill 0 (Whole m.units) ∷ ((v ++ m.two) ++ m.rest)) m.first.own_is))
 
@@ -109,7 +110,7 @@ script-calls s w own k = omega (arith, ap calls k.own_is, calls-append k.part (e
 pub repeated_once-wrong : Lawful three_calls repeated_once → ⊥
 unfolding calls asks-one
 repeated_once-wrong h =
-    let l = h.logs 0 repeated_once_log refl in
+    let l = owned-log three_calls refl 0 repeated_once_log (h.logs 0 repeated_once_log refl) in
     let m = made-of (entries_of repeated_once_log) (subst (IsLog three_calls 0) (own-is three_calls 0 repeated_once_log l) l.is_log) in
     let twice = twice-calls 11 12 no_names m.first.part m.first.after m.first.runs in
     let main = block-calls 7 8 9 no_names m.second.part m.second.after m.second.runs in

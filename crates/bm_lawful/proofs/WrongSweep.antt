@@ -10,12 +10,14 @@ use Rattle.bm_law.specs.State.{State, seven_lists}
 use Rattle.bm_law.specs.Lists.{Leaves}
 use Rattle.bm_law.specs.Phrases.{raise_below, alloc_took, alloc_empty, alloc_busy}
 use Rattle.bm_lawful.specs.Held.{Names, Null, no_names, with_name}
-use Rattle.bm_lawful.specs.Runs.{Run, Done, Then, Allocates, RunsAction, answered}
-use Rattle.bm_lawful.specs.Grammar.{Swept, ordinary}
+use Rattle.bm_lawful.specs.Calls.{Allocates, answered}
+use Rattle.bm_lawful.specs.OwnRuns.{Run, Done, Then, RunsAction}
+use Rattle.bm_lawful.specs.OwnGrammar.{Swept, ordinary}
 use Rattle.bm_lawful.specs.Lawful.{Lawful}
 use Rattle.bm_lawful.specs.WorkedJournal.{vector_of, types, x_name, item_id, makes_x, drops_x_unless_null, makes_and_drops, no_object, asks, took_none, ended, swept}
 use Rattle.bm_lawful.specs.WrongJournals.{empty_swept_log, empty_swept}
 use Rattle.bm_lawful.proofs.Blocks.{RunsList, block-runs}
+use Rattle.bm_lawful.proofs.SameLogs.{owned-log}
 use Rattle.bm_lawful.proofs.Told.{log-made}
 
 -- ---- an allocation that answers null
@@ -87,7 +89,7 @@ not-empty e q = cc
 
 pub empty_swept-wrong : Lawful no_object empty_swept → ⊥
 empty_swept-wrong h =
-    let k = log-made 0 (makes_and_drops 7 8 9) empty_swept_log (h.logs 0 empty_swept_log refl) in
+    let k = log-made 0 (makes_and_drops 7 8 9) empty_swept_log (owned-log no_object refl 0 empty_swept_log (h.logs 0 empty_swept_log refl)) in
     let b = begun k.units _ _ k.own_is in
     let list = subst (λ (run : Run). run no_names k.part k.after) (block-runs types (vector_of (makes_x 7 ∷ drops_x_unless_null 8 ∷ []) (lit≤ tt)) 9) k.runs in
     let t = block-taken k.part k.after (ended ++ k.sweeps) (ended ++ swept []) list b.1 in

@@ -1,75 +1,56 @@
--- What a processor's log is made of, while no handler runs and no deferred work does. (This project's own.)
-use Rattle.std.specs.Prelude.{◌≡◌, ℕ, zero, suc, ◌+◌, List, [], ◌∷◌, ◌++◌, Some, nat_eq, slice_get}
+-- What a processor's log is made of. (This project's own.)
+use Rattle.std.specs.Prelude.{◌≡◌, ℕ, ◌+◌, List, [], ◌∷◌, ◌++◌, Some, nat_eq, slice_get}
 use Rattle.std.specs.List.{filter}
 use Rattle.bm_journal.specs.declared.ids.Domain.TheVariants.{Plain}
-use Rattle.bm_journal.specs.declared.entry.Entry.{Entry}
 use Rattle.bm_journal.specs.declared.entry.Entry.TheVariants as entry
 use Rattle.bm_lang.specs.declared.scenario.RunLine.{RunLine}
 use Rattle.bm_lang.specs.declared.scenario.Parts.{Parts}
 use Rattle.bm_lang.specs.declared.scenario.Script.{Script}
-use Rattle.bm_law.specs.State.{State, seven_lists}
-use Rattle.bm_law.specs.Alone.{at_level}
-use Rattle.bm_law.specs.Lists.{Log, Leaves}
-use Rattle.bm_law.specs.SweepPhrases.{SweepPhrase}
+use Rattle.bm_law.specs.State.{opening}
+use Rattle.bm_law.specs.Lists.{Log, after}
+use Rattle.bm_deferred.specs.Parts.{Part, Nothing, Stand, Say, Then, If}
 use Rattle.bm_lawful.specs.Held.{Names, no_names, OwnsNothing}
 use Rattle.bm_lawful.specs.Fills.{AreFills, fresh_stock}
 use Rattle.bm_lawful.specs.Opened.{opened_classes}
+use Rattle.bm_lawful.specs.Works.{UntilDown, WorkBehind}
 use Rattle.bm_lawful.specs.Runs.{RunsBlock}
+use Rattle.bm_lawful.specs.Closing.{Closing}
 
--- entries of ordinary code, which is level 0
-abbrev pub ordinary : List Entry → Log
-ordinary own = at_level 0 own
+-- the deferred work behind each statement of a script, and behind the script: with `deferred off` none runs
+abbrev pub behind_statement : Parts → Part
+behind_statement s = If s.deferred (UntilDown (opened_classes s.types)) Nothing
 
--- A script in its plain section, whose word is w inside: its block runs from names that hold nothing to names that
--- own nothing.
-pub record IsScript (s : Parts) (script : Script) (w : ℕ) (own : List Entry) : Type 0 where
-  pub part : List Entry
-  pub after : Names
-  pub own_is : own ≡ entry.Script script.name ∷ entry.In Plain w ∷ part ++ entry.Out Plain (w + 1) ∷ entry.Done script.name ∷ []
-  pub runs : RunsBlock s.types script.body no_names part after
-  pub owns_nothing : (x : List ℕ) → OwnsNothing (after x)
+abbrev pub behind_script : Parts → Part
+behind_script s = If s.deferred (WorkBehind (opened_classes s.types)) Nothing
+
+-- A script's block runs from names that hold nothing to names that own nothing.
+abbrev pub IsBody : Parts → Script → Part
+IsBody s script l part = (names : Names) × RunsBlock s.types 0 (behind_statement s) script.body no_names names l part × ((x : List ℕ) → OwnsNothing (names x))
+
+-- A script in its plain section, whose word is w inside, and the deferred work behind it.
+abbrev pub IsScript : Parts → Script → ℕ → Part
+IsScript s script w =
+    Then (Stand 0 (entry.Script script.name ∷ entry.In Plain w ∷ []))
+    (Then (IsBody s script)
+    (Then (Stand 0 (entry.Out Plain (w + 1) ∷ entry.Done script.name ∷ [])) (behind_script s)))
 
 -- the scripts that these lines run, in order, where the plain section's word was w before
-abbrev pub AreScripts : Parts → List RunLine → ℕ → List Entry → Type 0
-AreScripts s [] w own = own ≡ []
-AreScripts s (r ∷ rs) w own =
-    (script : Script) × (slice_get s.scripts r.script.0 ≡ Some script) ×
-    ((one two : List Entry) × (own ≡ one ++ two) × IsScript s script (w + 1) one × AreScripts s rs (w + 2) two)
+abbrev pub AreScripts : Parts → List RunLine → ℕ → Part
+AreScripts s [] w l part = Nothing l part
+AreScripts s (r ∷ rs) w l part = (script : Script) × (slice_get s.scripts r.script.0 ≡ Some script) × Then (IsScript s script (w + 1)) (AreScripts s rs (w + 2)) l part
 
 -- the `run` lines of processor p
 abbrev pub lines_of : ℕ → List RunLine → List RunLine
 lines_of p runs = filter (λ r. nat_eq r.processor p) runs
 
--- a sweep that takes exactly these units, and gives exactly these back to the stock
-pub record SweepOf (c : ℕ) (units : List ℕ) (own : List Entry) : Type 0 where
-  pub phrase : SweepPhrase c own
-  pub taken : phrase.swept ≡ units
-  pub given : phrase.returned ≡ units
+-- the opening of a cache for each class from a fresh stock, and the scripts of processor p
+abbrev pub Front : Parts → ℕ → Part
+Front s p = Then (Say 0 (AreFills (opened_classes s.types) (fresh_stock s.pages))) (AreScripts s (lines_of p s.runs) 0)
 
--- a sweep where these units stand in the class's lists, and what follows
-abbrev pub Swept : ℕ → List ℕ → (List Entry → Type 0) → List Entry → Type 0
-Swept c [] Rest own = Rest own
-Swept c (u ∷ us) Rest own = (one two : List Entry) × (own ≡ one ++ two) × SweepOf c (u ∷ us) one × Rest two
-
--- the end of a processor whose lists are these: a sweep of each class that holds a unit
-abbrev pub AreSweeps : State ℕ → List ℕ → List Entry → Type 0
-AreSweeps s [] own = own ≡ []
-AreSweeps s (c ∷ cs) own = Swept c (seven_lists (s.rows c)) (AreSweeps s cs) own
-
--- processor 0 begins the closing
-abbrev pub close_of : ℕ → List Entry
-close_of zero = entry.Close ∷ []
-close_of (suc p) = []
-
--- The log of processor p, while there is one: the opening from a fresh stock, its scripts, and the closing, which sweeps what
--- stands in the lists by then.
-pub record IsLog (s : Parts) (p : ℕ) (own : List Entry) : Type 0 where
-  pub fills : List Entry
-  pub scripts : List Entry
-  pub sweeps : List Entry
-  pub own_is : own ≡ fills ++ (scripts ++ (entry.Ended ∷ close_of p ++ sweeps))
-  pub are_fills : AreFills (opened_classes s.types) (fresh_stock s.pages) fills
-  pub are_scripts : AreScripts s (lines_of p s.runs) 0 scripts
-  pub before : State ℕ
-  pub before_is : Leaves p (ordinary (fills ++ scripts)) before
-  pub are_sweeps : AreSweeps before (opened_classes s.types) sweeps
+-- The log of processor p, while there is one: the opening, its scripts, and the closing.
+pub record IsLog (s : Parts) (p : ℕ) (log : Log) : Type 0 where
+  pub front : Log
+  pub closing : Log
+  pub log_is : log ≡ front ++ closing
+  pub is_front : Front s p (opening p) front
+  pub is_closing : Closing p (opened_classes s.types) front (after (opening p) front) closing

@@ -1,6 +1,5 @@
--- When a journal is lawful for a scenario, as far as scenarios run by now. (This project's own.)
-use Rattle.std.specs.Prelude.{◌≡◌, ℕ, List, [], Some, length, map, slice_get}
-use Rattle.bm_journal.specs.declared.entry.Entry.{Entry}
+-- When a journal is lawful for a scenario, as far as its forms have laws by now. (This project's own.)
+use Rattle.std.specs.Prelude.{◌≡◌, ℕ, true, [], Some, length, map, slice_get}
 use Rattle.bm_journal.specs.declared.journal.Journal.{Journal}
 use Rattle.bm_journal.specs.Totals.{totals_of}
 use Rattle.bm_lang.specs.declared.scenario.Parts.{Parts}
@@ -8,11 +7,13 @@ use Rattle.bm_lang.specs.declared.scenario.Script.{Script}
 use Rattle.bm_lang.specs.declared.scenario.MapDeclaration.{MapDeclaration}
 use Rattle.bm_lang.specs.declared.scenario.TypeDeclaration.{TypeDeclaration}
 use Rattle.bm_law.specs.State.{State}
+use Rattle.bm_law.specs.Alone.{AllAt}
 use Rattle.bm_law.specs.Lists.{Log, Leaves}
 use Rattle.bm_law.specs.Null.{NullLaw}
 use Rattle.bm_law.specs.Worked.{Emptied}
 use Rattle.bm_lawful.specs.Opened.{opened}
-use Rattle.bm_lawful.specs.Grammar.{IsLog, ordinary}
+use Rattle.bm_lawful.specs.Grammar.{IsLog}
+use Rattle.bm_lawful.specs.Parcels.{ParcelLaw, sends_alone}
 
 -- The heading names what the scenario declares.
 pub record HeadingOf (s : Parts) (j : Journal) : Type 0 where
@@ -23,16 +24,16 @@ pub record HeadingOf (s : Parts) (j : Journal) : Type 0 where
   pub scripts : j.scripts ≡ map (λ (x : Script). x.name) s.scripts
   pub classes : j.classes ≡ opened s.types
 
--- A log of processor p: what it is made of, the lists that it leaves, in which nothing stands at its end, and when its
--- allocations answer null.
+-- A log of processor p: no handler runs in it by now; what it is made of; the lists that it leaves, in which nothing
+-- stands at its end; when its allocations answer null; and which parcels it receives, where it alone sends any.
 pub record LawfulLog (s : Parts) (p : ℕ) (log : Log) : Type 0 where
-  pub own : List Entry
-  pub log_is : log ≡ ordinary own
-  pub is_log : IsLog s p own
+  pub ordinary : AllAt 0 log
+  pub is_log : IsLog s p log
   pub last : State ℕ
   pub lists : Leaves p log last
   pub emptied : Emptied last
   pub null : NullLaw p log
+  pub parcels : sends_alone s ≡ true → ParcelLaw p log
 
 pub record Lawful (s : Parts) (j : Journal) : Type 0 where
   pub heading : HeadingOf s j

@@ -1,114 +1,78 @@
--- What the statements of a script leave in the log, and in the script's names. (This project's own language. That an
--- allocation may answer null, that the reference given has to be given up, and that the memory is freed behind the last
--- one, are bpf_obj_new_impl and bpf_obj_drop_impl in kernel/bpf/helpers.c.)
-use Rattle.std.specs.Prelude.{◌≡◌, ◌<◌, ◌⊎◌, ℕ, zero, suc, false, List, [], ◌∷◌, ◌++◌, Option, Some, None}
+-- What the statements of a script leave in the log, and in the script's names. Between the entries of a call those of
+-- handlers may stand, which are of higher levels. (This project's own language.)
+use Rattle.std.specs.Prelude.{◌≡◌, ℕ, zero, suc, List}
 use Rattle.bm_journal.specs.declared.entry.Entry.{Entry}
-use Rattle.bm_journal.specs.declared.entry.Entry.TheVariants as entry
 use Rattle.bm_lang.specs.declared.scenario.Action.{Action, New, Drop, Acquire, Get, Exchange, If', Repeat, Section, Lock, Unlock, Yield, PushFront, PushBack, PopFront, PopBack, Add, First, Remove, Held-Action-If-2, None', Some'}
 use Rattle.bm_lang.specs.declared.scenario.Block.{Block, Block', Row_of-Statement, end_of-Statement, more_of-Statement}
 use Rattle.bm_lang.specs.declared.scenario.TypeDeclaration.{TypeDeclaration}
-use Rattle.bm_lang.specs.declared.scenario.TypeId.{TypeId}
-use Rattle.bm_law.specs.Phrases.{alloc_took, alloc_empty, alloc_busy, FreePhrase}
-use Rattle.bm_lawful.specs.Held.{Held, Nothing, Null, Object, Names, with_name}
-use Rattle.bm_lawful.specs.Opened.{OfClass}
+use Rattle.bm_deferred.specs.Parts.{Part, Say, Then}
+use Rattle.bm_deferred.specs.Parts as part
+use Rattle.bm_lawful.specs.Held.{Held, Nothing, Null, Object, Names}
+use Rattle.bm_lawful.specs.Calls.{RunsNew, RunsDrop}
 
--- from these names, this part of a log, to those names
+-- from these names to those names, a part of a log
 abbrev pub Run : Type 1
-Run = Names → List Entry → Names → Type 0
+Run = Names → Names → Part
 
--- nothing is left, and the names hold what they held
+-- this part, and the names hold what they held
+abbrev pub Leaving : Part → Run
+Leaving stands names after s part = (after ≡ names) × stands s part
+
+-- nothing
 abbrev pub Done : Run
-Done names part after = (part ≡ []) × (after ≡ names)
+Done = Leaving part.Nothing
 
--- one after the other
-pub record Then (first second : Run) (names : Names) (part : List Entry) (after : Names) : Type 0 where
-  pub middle : Names
-  pub one : List Entry
-  pub two : List Entry
-  pub part_is : part ≡ one ++ two
-  pub first_runs : first names one middle
-  pub second_runs : second middle two after
+-- one run, and then another one, from the names and the lists that the first one leaves
+abbrev pub Followed : Run → Run → Run
+Followed first second names after s part = (middle : Names) × Then (first names middle) (second middle after) s part
 
 -- n times
 abbrev pub Times : Run → ℕ → Run
 Times run zero = Done
-Times run (suc n) = Then run (Times run n)
+Times run (suc n) = Followed run (Times run n)
 
--- an allocation from class c, with its reply: a unit and its new life, or null
-abbrev pub Allocates : ℕ → List Entry → Option (ℕ × ℕ) → Type 0
-Allocates c own None = ((a : ℕ) × (own ≡ alloc_empty c a)) ⊎ ((b a : ℕ) × (1 < b) × (own ≡ alloc_busy c b a))
-Allocates c own (Some object) = (seal : Option (ℕ × ℕ)) × (k a : ℕ) × (own ≡ alloc_took c object.0 object.1 seal k a)
-
--- what a name holds after a reply to a call for an object of type t
-abbrev pub answered : TypeId → Option (ℕ × ℕ) → Held
-answered t None = Null
-answered t (Some object) = Object t object.0 object.1
-
--- `new x T v..`: the call, an allocation from the class of T, and its reply, which x then holds
-pub record RunsNew (types : List TypeDeclaration) (x : List ℕ) (t : TypeId) (values : List ℕ) (names : Names) (part : List Entry) (after : Names) : Type 0 where
-  pub class : ℕ
-  pub declared : TypeDeclaration
-  pub of_class : OfClass types t.0 class declared
-  pub own : List Entry
-  pub reply : Option (ℕ × ℕ)
-  pub part_is : part ≡ entry.New declared.name values ∷ own
-  pub allocates : Allocates class own reply
-  pub after_is : after ≡ with_name x (answered t reply) names
-
--- `drop x`, where x holds the one reference to an object of a type without a count: the call, its reply, and a plain
--- free of the unit. Then x holds nothing.
-pub record RunsDrop (types : List TypeDeclaration) (x : List ℕ) (names : Names) (part : List Entry) (after : Names) : Type 0 where
-  pub type : TypeId
-  pub unit : ℕ
-  pub life : ℕ
-  pub held : names x ≡ Object type unit life
-  pub class : ℕ
-  pub declared : TypeDeclaration
-  pub of_class : OfClass types type.0 class declared
-  pub plain : declared.counted ≡ false
-  pub home : ℕ
-  pub own : List Entry
-  pub part_is : part ≡ entry.Drop unit life ∷ entry.Last ∷ own
-  pub frees : FreePhrase class unit home own
-  pub after_is : after ≡ with_name x Nothing names
+-- a call of level l
+abbrev pub Calls : ℕ → (Names → List Entry → Names → Type 0) → Run
+Calls l call names after = Say l (λ own. call names own after)
 
 -- `if x`: the first block where x holds an object, the other where it holds null
 abbrev pub Chosen : Held → Run → Run → Run
-Chosen Nothing first other = λ names part after. ⊥
+Chosen Nothing first other = λ names after s part. ⊥
 Chosen Null first other = other
 Chosen (Object t u life) first other = first
 
--- The statements that run by now. No journal has any of the others.
+-- The statements that run by now, each at level l. No journal has any of the others. After each statement, also one that
+-- holds others, stands what `behind` says: deferred work, or nothing.
 abbrev mutual
-  pub RunsAction : List TypeDeclaration → Action → Run
-  RunsAction types (New x t values) = RunsNew types x t values
-  RunsAction types (Drop x) = RunsDrop types x
-  RunsAction types (If' x body otherwise) = λ names. Chosen (names x) (RunsBlock types body) (RunsElse types otherwise) names
-  RunsAction types (Repeat n body) = Times (RunsBlock types body) n
-  RunsAction types (Section body) = λ names part after. ⊥
-  RunsAction types (Acquire y x) = λ names part after. ⊥
-  RunsAction types (Get x field) = λ names part after. ⊥
-  RunsAction types (Exchange y slot x) = λ names part after. ⊥
-  RunsAction types (Lock graph) = λ names part after. ⊥
-  RunsAction types Unlock = λ names part after. ⊥
-  RunsAction types Yield = λ names part after. ⊥
-  RunsAction types (PushFront list x) = λ names part after. ⊥
-  RunsAction types (PushBack list x) = λ names part after. ⊥
-  RunsAction types (PopFront x list) = λ names part after. ⊥
-  RunsAction types (PopBack x list) = λ names part after. ⊥
-  RunsAction types (Add tree x) = λ names part after. ⊥
-  RunsAction types (First x tree) = λ names part after. ⊥
-  RunsAction types (Remove y tree x) = λ names part after. ⊥
+  pub RunsAction : List TypeDeclaration → ℕ → Part → Action → Run
+  RunsAction types l behind (New x t values) = Calls l (RunsNew types x t values)
+  RunsAction types l behind (Drop x) = Calls l (RunsDrop types x)
+  RunsAction types l behind (If' x body otherwise) = λ names. Chosen (names x) (RunsBlock types l behind body) (RunsElse types l behind otherwise) names
+  RunsAction types l behind (Repeat n body) = Times (RunsBlock types l behind body) n
+  RunsAction types l behind (Section body) = λ names after s part. ⊥
+  RunsAction types l behind (Acquire y x) = λ names after s part. ⊥
+  RunsAction types l behind (Get x field) = λ names after s part. ⊥
+  RunsAction types l behind (Exchange y slot x) = λ names after s part. ⊥
+  RunsAction types l behind (Lock graph) = λ names after s part. ⊥
+  RunsAction types l behind Unlock = λ names after s part. ⊥
+  RunsAction types l behind Yield = λ names after s part. ⊥
+  RunsAction types l behind (PushFront list x) = λ names after s part. ⊥
+  RunsAction types l behind (PushBack list x) = λ names after s part. ⊥
+  RunsAction types l behind (PopFront x list) = λ names after s part. ⊥
+  RunsAction types l behind (PopBack x list) = λ names after s part. ⊥
+  RunsAction types l behind (Add tree x) = λ names after s part. ⊥
+  RunsAction types l behind (First x tree) = λ names after s part. ⊥
+  RunsAction types l behind (Remove y tree x) = λ names after s part. ⊥
 
   -- an absent `else` is an empty block
-  pub RunsElse : List TypeDeclaration → Held-Action-If-2 → Run
-  RunsElse types None' = Done
-  RunsElse types (Some' body) = RunsBlock types body
+  pub RunsElse : List TypeDeclaration → ℕ → Part → Held-Action-If-2 → Run
+  RunsElse types l behind None' = Done
+  RunsElse types l behind (Some' body) = RunsBlock types l behind body
 
-  pub RunsBlock : List TypeDeclaration → Block → Run
-  RunsBlock types (Block' shape row end_line) = RunsRow types row
+  pub RunsBlock : List TypeDeclaration → ℕ → Part → Block → Run
+  RunsBlock types l behind (Block' shape row end_line) = RunsRow types l behind row
 
   -- statements, one after the other
-  pub RunsRow : List TypeDeclaration → {m : _} → Row_of-Statement m → Run
-  RunsRow types end_of-Statement = Done
-  RunsRow types (more_of-Statement line action rest) = Then (RunsAction types action) (RunsRow types rest)
+  pub RunsRow : List TypeDeclaration → ℕ → Part → {m : _} → Row_of-Statement m → Run
+  RunsRow types l behind end_of-Statement = Done
+  RunsRow types l behind (more_of-Statement line action rest) = Followed (Followed (RunsAction types l behind action) (Leaving behind)) (RunsRow types l behind rest)

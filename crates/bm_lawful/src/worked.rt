@@ -3,7 +3,7 @@
 ghost use Rattle.std.specs.Prelude.{◌≡◌, ◌∷◌, []};
 ghost use Rattle.bm_lawful.specs.Held.{Nothing, Null, no_names, with_name};
 ghost use Rattle.bm_lawful.specs.Opened.{object_size, opened_classes};
-ghost use Rattle.bm_lawful.specs.Runs.{Done};
+ghost use Rattle.bm_lawful.specs.OwnRuns.{Done};
 ghost use Rattle.bm_lawful.specs.Worked.{item, page, pair};
 ghost use Rattle.std.specs.Prelude.{codes};
 
@@ -28,7 +28,10 @@ pub fn worked_names()
 #[cfg(test)]
 mod tests {
     use super::*;
-    use crate::{worked_journals, wrong_journals};
+    use crate::{
+        logs_without_work, worked_deferred, worked_flags, worked_journals, worked_parcels,
+        worked_periods, wrong_deferred, wrong_journals,
+    };
 
     #[test]
     fn laws_take_no_step(_rt: HostRuntime) {
@@ -36,5 +39,11 @@ mod tests {
         worked_names();
         worked_journals();
         wrong_journals();
+        logs_without_work();
+        worked_deferred();
+        wrong_deferred();
+        worked_flags();
+        worked_periods();
+        worked_parcels();
     }
 }

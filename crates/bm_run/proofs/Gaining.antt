@@ -3,7 +3,7 @@ use Rattle.std.proofs.Common.{◌≡◌, List, [], ◌∷◌, ◌++◌, Option, 
 use Rattle.bm_journal.specs.declared.entry.Entry.{Entry}
 use Rattle.bm_journal.specs.Recording.{Appends}
 use Rattle.bm_law.specs.Lists.{Log}
-use Rattle.bm_lawful.specs.Grammar.{ordinary}
+use Rattle.bm_lawful.specs.OwnGrammar.{ordinary}
 use Rattle.bm_law.specs.Alone.{Gained as GainedBy}
 use Rattle.bm_run.specs.Gained.{Gained}
 

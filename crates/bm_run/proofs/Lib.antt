@@ -8,7 +8,6 @@ pub mod Scripting
 pub mod Sweeping
 pub mod Gathering
 pub mod Sweeps
-pub mod RunsAll
 pub mod LogAll
 pub mod Replies
 pub mod Beside

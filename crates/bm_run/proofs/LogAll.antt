@@ -14,8 +14,9 @@ use Rattle.bm_law.specs.State.{State, seven_lists}
 use Rattle.bm_lawful.specs.Held.{no_names}
 use Rattle.bm_page.specs.Stock.{Stock, fetched}
 use Rattle.bm_lawful.specs.Fills.{AreFills, numbers_of, prefill}
-use Rattle.bm_lawful.specs.Grammar.{IsScript, AreScripts, Swept, AreSweeps, close_of}
-use Rattle.bm_run.proofs.RunsAll.{Closed, block-all}
+use Rattle.bm_lawful.specs.OwnGrammar.{IsScript, AreScripts, Swept, AreSweeps}
+use Rattle.bm_lawful.specs.Closing.{close_of}
+use Rattle.bm_lawful.proofs.RunsAll.{Closed, block-all}
 
 -- a property of stretches that all parts of such a log have, where the classes of the sweeps and fills are of these
 pub record Covers (s : Parts) (Of : ℕ → Type 0) (P : List Entry → Type 0) : Type 0 where

@@ -7,8 +7,8 @@ use Rattle.bm_lang.specs.declared.scenario.TypeDeclaration.{TypeDeclaration}
 use Rattle.bm_law.specs.Null.{Asked, Nothing, RepliesFit, asked_at_end, all_apart}
 use Rattle.bm_law.specs.Phrases.{AllocPhrase}
 use Rattle.bm_law.proofs.Null.{replies-append, asked-append, alloc-answers, apart-answers, apart-free}
-use Rattle.bm_lawful.specs.Runs.{Allocates}
-use Rattle.bm_run.proofs.RunsAll.{Closed}
+use Rattle.bm_lawful.specs.Calls.{Allocates}
+use Rattle.bm_lawful.proofs.RunsAll.{Closed}
 use Rattle.bm_run.proofs.LogAll.{Covers}
 
 -- the replies of a stretch fit, and none is owed at its end

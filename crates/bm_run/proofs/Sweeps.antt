@@ -10,7 +10,8 @@ use Rattle.bm_law.proofs.Seen.{map-seven}
 use Rattle.bm_cache.specs.Tokens.{Token, number_of}
 use Rattle.bm_cache.specs.Shown.{shown}
 use Rattle.bm_cache.specs.declared.caches.Caches.{Caches}
-use Rattle.bm_lawful.specs.Grammar.{Swept, AreSweeps, SweepOf}
+use Rattle.bm_lawful.specs.OwnGrammar.{Swept, AreSweeps}
+use Rattle.bm_lawful.specs.Closing.{SweepOf}
 use Rattle.bm_run.proofs.Basics.{nat_same}
 use Rattle.bm_run.specs.Gained.{Gained}
 use Rattle.bm_run.specs.Closing.{SweptClass, SweptAll}

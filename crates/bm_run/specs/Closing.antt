@@ -17,7 +17,8 @@ use Rattle.bm_cache.specs.Tokens.{Token, number_of}
 use Rattle.bm_cache.specs.Shown.{shown}
 use Rattle.bm_cache.specs.Placed.{Placed}
 use Rattle.bm_cache.specs.declared.caches.Caches.{Caches}
-use Rattle.bm_lawful.specs.Grammar.{AreSweeps, SweepOf}
+use Rattle.bm_lawful.specs.OwnGrammar.{AreSweeps}
+use Rattle.bm_lawful.specs.Closing.{SweepOf}
 use Rattle.bm_run.specs.Gained.{Gained}
 
 -- the unit is out of the stock

@@ -1,19 +1,20 @@
 //! The scripts that a processor's `run` lines run.
 
-ghost use Rattle.std.specs.Prelude.{◌≡◌, ◌+◌, ◌*◌, ◌<◌, ◌≤◌, ◌^◌, ◌∷◌, [], ℕ, List, Some, None, true, IsTrue, IfOk, slice_get};
+ghost use Rattle.std.specs.Prelude.{◌≡◌, ◌+◌, ◌*◌, ◌<◌, ◌≤◌, ◌^◌, ◌∷◌, [], ℕ, List, Some, None, true, false, IsTrue, IfOk, slice_get};
 ghost use Rattle.std.specs.List.{All};
 ghost use Rattle.bm_journal.specs.declared.entry.Entry.{Entry};
 ghost use Rattle.bm_lang.specs.Limits.{block_cost};
+ghost use Rattle.bm_law.specs.State.{seen};
 ghost use Rattle.bm_cache.specs.Shown.{shown};
+ghost use Rattle.bm_cache.specs.Tokens.{number_of};
 ghost use Rattle.bm_cache.specs.Steps.{is_note};
 ghost use Rattle.bm_check.specs.Scripts.{Accepted, AllAccepted};
-ghost use Rattle.bm_lawful.specs.Grammar.{IsScript, AreScripts, lines_of};
 ghost use Rattle.bm_exec.specs.Runnable.{Classes, can_run_block};
 ghost use Rattle.bm_exec.specs.Slots.{lives_of};
 ghost use Rattle.bm_exec.specs.Sound.{Sound};
 ghost use Rattle.bm_exec.specs.declared.running.Stopped.TheVariants as stopped;
 ghost use Rattle.bm_run.specs.Gained.{Gained};
-ghost use Rattle.bm_run.specs.Lines.{lines_cost, AllDeclared, Wrote};
+ghost use Rattle.bm_run.specs.Lines.{lines_cost, AllDeclared, WroteLines, WroteScript};
 ghost use Rattle.bm_built.specs.Yet.{RunsYet};
 
 use bm_exec::{Machine0, Stopped, Types, run_script};
@@ -47,12 +48,13 @@ fn run_line<'s>(
     requires sound { Sound machine.old }
     requires classes { Classes types.now.declared.now types.now.classes.now }
     requires types { types.now.declared.now ≡ scenario.now.types }
+    requires off { scenario.now.deferred ≡ false }
     requires room { machine.old.asked + block_cost script.now.body < 2 ^ 31 }
     requires none { (u : ℕ) → lives_of machine.old.slots.slots.items u ≡ None }
     requires can { can_run_block types.now.declared.now script.now.body ≡ true }
     requires accepted { Accepted scenario.now script.now }
     requires word { word + 2 < 2 ^ 32 }
-    ensures ended { result ≡ stopped.Ended → (own : List Entry) × IsScript scenario.now script.now (word + 1) own × Gained own machine.old.caches.recorder.told machine.new.caches.recorder.told }
+    ensures ended { result ≡ stopped.Ended → WroteScript scenario.now script.now (word + 1) (seen number_of (shown machine.old.caches)) machine.old.caches.recorder.told machine.new.caches.recorder.told }
     ensures none { result ≡ stopped.Ended → (u : ℕ) → lives_of machine.new.slots.slots.items u ≡ None }
     ensures asked { machine.new.asked ≤ machine.old.asked + block_cost script.now.body }
     ensures sound { Sound machine.new }
@@ -86,7 +88,7 @@ pub(crate) fn run_lines<'s>(
     requires yet { RunsYet scenario.now }
     requires declared { AllDeclared scenario.now }
     requires accepted { AllAccepted scenario.now }
-    ensures wrote { IfOk result (λ _. Wrote scenario.now machine.old.caches.recorder.told machine.new.caches.recorder.told) }
+    ensures wrote { IfOk result (λ _. WroteLines scenario.now (seen number_of (shown machine.old.caches)) machine.old.caches.recorder.told machine.new.caches.recorder.told) }
     ensures none { IfOk result (λ _. (u : ℕ) → lives_of machine.new.slots.slots.items u ≡ None) }
     ensures word { IfOk result (λ w. w < 2 ^ 31) }
     ensures sound { Sound machine.new }

@@ -1,5 +1,6 @@
 use Rattle.std.proofs.Common.{arith}
 use Rattle.bm_check.specs.Statements.{setting_of}
+use Rattle.bm_deferred.proofs.Grown.{grew-map}
 use Rattle.bm_exec.proofs.Results.{not-err}
 use Rattle.bm_exec.proofs.Starting.{start-cost, start-can, start-safe, start-runs, start-holds}
 use Rattle.bm_exec.proofs.Undisturbed.{undisturbed-none}
@@ -33,7 +34,12 @@ pub returns-clause-ended : goal.returns-clause-ended
 returns-clause-ended g c =
     let o = rw c.new.ensures.items at (not-err c.open_block.result _ c.if-is_err.ensures.value c.open_block.ensures.pushed) in
     λ e. (let r = c.resume.ensures.ended e in
-    record { part = r.part; after = _; records = r.records; adds = r.adds; runs = start-runs _ _ _ o _ _ _ (rw c.new-2.ensures at r.runs); owns_nothing = r.owns_nothing })
+    record {
+      after = _;
+      grew = grew-map _ _ (g.M.Machine.lists c.args.machine.now) (g.M.Machine.log c.args.machine.now) _ (λ part y. start-runs c.args.types.now.declared.now (g.M.Machine.level c.args.machine.now) _ _ o _ _ (g.M.Machine.lists c.args.machine.now) part y) (rw c.new-2.ensures at r.grew);
+      alone = r.alone;
+      owns_nothing = r.owns_nothing;
+    })
 
 -- src/running.rt:181:1
 pub returns-clause-asked : goal.returns-clause-asked

@@ -1,5 +1,9 @@
 use Rattle.std.proofs.Common.{refl, arith}
 use Rattle.std.proofs.lemmas.List.{drop_all}
+use Rattle.bm_law.specs.State.{seen}
+use Rattle.bm_cache.specs.Shown.{shown}
+use Rattle.bm_cache.specs.Tokens.{number_of}
+use Rattle.bm_exec.specs.Sound.{sound_told}
 use Rattle.bm_run.proofs.Results.{get-is}
 use Rattle.bm_run.proofs.Scripting.{line-room, other-room, lines-line, lines-other, lines-all}
 use Rattle.bm_run.proofs.scripts.run_lines.Goals.{then-run-eq0+in-Some+in-Ended, else-run-eq0}
@@ -44,13 +48,13 @@ loop-run-preserved c =
             sound = rw w.machine-is x.sound;
             none = rw w.machine-is (w.in-Ended.ensures.none refl);
             cost = rw (w.machine-is, w.word-is, c.as_slice-run-items.ensures) (omega (arith, r, x.asked));
-            wrote = rw (w.machine-is, w.word-is, c.as_slice-run-items.ensures) (lines-line s n _ w.in-Some.script.now c.loop-run.word c.args.machine.now.caches.recorder.told c.loop-run.machine.caches.recorder.told w.run_line.new.machine.caches.recorder.told lt here e wrote (w.in-Ended.ensures.ended refl));
+            wrote = rw (w.machine-is, w.word-is, c.as_slice-run-items.ensures) (lines-line s n _ w.in-Some.script.now c.loop-run.word (seen number_of (shown c.args.machine.now.caches)) (seen number_of (shown c.loop-run.machine.caches)) (seen number_of (shown w.run_line.new.machine.caches)) c.args.machine.now.caches.recorder.told c.loop-run.machine.caches.recorder.told w.run_line.new.machine.caches.recorder.told lt here e (sound_told c.loop-run.machine v.sound) (sound_told w.run_line.new.machine x.sound) wrote (w.in-Ended.ensures.ended refl));
           }
       | else-run-eq0 w ↦ record {
         sound = rw w.machine-is v.sound;
         none = rw w.machine-is v.none;
         cost = rw (w.machine-is, w.word-is, c.as_slice-run-items.ensures) (other-room s.scripts s.runs n (record { line = 0; processor = 0; script = record { 0 = 0 } }) c.loop-run.machine.asked c.loop-run.word lt cost);
-        wrote = rw (w.machine-is, w.word-is, c.as_slice-run-items.ensures) (lines-other s n _ c.loop-run.word c.args.machine.now.caches.recorder.told c.loop-run.machine.caches.recorder.told lt (rw c.as_slice-run-items.ensures at w.if-run-eq0.false) wrote);
+        wrote = rw (w.machine-is, w.word-is, c.as_slice-run-items.ensures) (lines-other s n _ c.loop-run.word (seen number_of (shown c.args.machine.now.caches)) (seen number_of (shown c.loop-run.machine.caches)) c.args.machine.now.caches.recorder.told c.loop-run.machine.caches.recorder.told lt (rw c.as_slice-run-items.ensures at w.if-run-eq0.false) wrote);
       }
     ]
 
@@ -59,4 +63,4 @@ returns-clause-wrote c =
     let s = c.args.scenario.now in
     let n = c.loop-run.run-index in
     let lt = rw c.as_slice-run-items.ensures at c.loop-run-test.false in
-    lines-all s n c.loop-run.word c.args.machine.now.caches.recorder.told c.loop-run.machine.caches.recorder.told (drop_all n s.runs lt) (rw c.as_slice-run-items.ensures at c.loop-run.invariant.wrote)
+    lines-all s n c.loop-run.word (seen number_of (shown c.args.machine.now.caches)) (seen number_of (shown c.loop-run.machine.caches)) c.args.machine.now.caches.recorder.told c.loop-run.machine.caches.recorder.told (drop_all n s.runs lt) (rw c.as_slice-run-items.ensures at c.loop-run.invariant.wrote)
