@@ -4,6 +4,7 @@ use Rattle.std.specs.List.{sum_by}
 use Rattle.bm_law.specs.Stands.{times}
 use Rattle.bm_page.specs.UnitState.{UnitState}
 use Rattle.bm_page.specs.Stock.{Stock, stocked_at, returned}
+use Rattle.bm_grace.specs.Known.{Known, no_side}
 use Rattle.bm_grace.specs.Rights.{Rights}
 use Rattle.bm_post.specs.HasRoom.{has_room}
 use Rattle.bm_post.specs.Rights.{numbers}
@@ -58,6 +59,13 @@ waits n inboxes = sum_by (times_in n) inboxes
 -- Mine are the units that are out of the pool and stand in no inbox.
 abbrev pub is_mine : PostState → ℕ → Bool
 is_mine state n = (stocked_at state.pool.units n).out && eqb (waits n state.inboxes) 0
+
+-- A post knows among how many processors it is, and whose side; of grace periods it knows nothing.
+abbrev pub known_by : PostState → Known
+known_by state = record {
+  grace = record { processors = state.processors; processor = state.processor; plain = no_side; tracing = no_side };
+  steps = [];
+}
 
 -- On one thread each unit with room for one life more may be used again as soon as it is there, whatever its seal.
 abbrev pub rights_in : PostState → Rights

@@ -3,11 +3,10 @@
 ghost use Rattle.std.specs.Prelude.{◌≡◌, ◌+◌, ◌*◌, ◌%◌, ◌<◌, ◌≤◌, ◌∷◌, ◌++◌, [], IfOk, IfErr, IfSome, IfNone, OnOk, OnErr, None, false, length, reverse, vec_capacity};
 ghost use Rattle.std.specs.List.{All};
 ghost use Rattle.bm_page.specs.Stock.{fetched as stock_fetched, next_unit};
-ghost use Rattle.bm_grace.specs.Known.{no_known};
 ghost use Rattle.bm_post.specs.Kept.{IsRoomy};
 ghost use Rattle.bm_post.specs.HasRoom.{room-of};
 ghost use Rattle.bm_post.specs.Calls.{Fetches, GivesBack, IsOf, KeepsCalls, Receives, TellsCall, fetched, received, returned_call, sent};
-ghost use Rattle.bm_post.specs.PostState.{Parcels, all_returned, inbox, no_parcels, rights_in, sent_to, taken_by};
+ghost use Rattle.bm_post.specs.PostState.{Parcels, all_returned, inbox, no_parcels, known_by, rights_in, sent_to, taken_by};
 ghost use Rattle.bm_post.specs.Rights.{AreSame, Holds, Lasting, MayLeave, numbers};
 
 use crate::back::put_all_back;
@@ -141,7 +140,7 @@ impl PlainPost {
 }
 
 impl Knows for PlainPost {
-    ghost known = { λ _. no_known };
+    ghost known = { known_by };
 
     ghost tells = { false };
 
@@ -149,8 +148,6 @@ impl Knows for PlainPost {
 }
 
 impl Post for PlainPost {
-    ghost processors = { λ post. post.processors };
-
     ghost calls = { λ _. None };
 
     fn fetch(&mut self, class: Class, want: usize, out: &mut Vec<Unit>) -> Result<usize, NoMemory>

@@ -20,9 +20,6 @@ use bm_word::NoMemory;
 /// waits for a grace period; and *ripe*, so that its grace period is seen to have passed. A settled unit has a number of
 /// its type and room for one life more. It may also tell its calls.
 pub trait Post: Knows {
-    /// Among how many processors.
-    ghost processors: { Self → ℕ };
-
     /// The calls that weren't refused, in order, where they are told.
     ghost calls: { Self → Option (List PostCall) };
 
@@ -33,7 +30,6 @@ pub trait Post: Knows {
         ensures err { OnErr result (out.new.items ≡ out.old.items) }
         ensures same { OnErr result (AreSame (Self.rights self.old) (Self.rights self.new)) }
         ensures lasts { Lasting [] (Self.rights self.old) (Self.rights self.new) }
-        ensures processors { processors self.new ≡ processors self.old }
         ensures known { Posts Self.tells (Self.known self.old) (Self.known self.new) }
         ensures calls { IfOk result (λ n. TellsCall (fetched class want n out.old.items out.new.items) (calls self.old) (calls self.new)) }
         ensures no_call { OnErr result (KeepsCalls (calls self.old) (calls self.new)) };
@@ -44,14 +40,13 @@ pub trait Post: Knows {
         requires fit { All (MayLeave (Self.rights self.old)) units.items }
         ensures back { GivesBack (numbers units.items) (Self.rights self.old) (Self.rights self.new) }
         ensures lasts { Lasting (numbers units.items) (Self.rights self.old) (Self.rights self.new) }
-        ensures processors { processors self.new ≡ processors self.old }
         ensures known { Posts Self.tells (Self.known self.old) (Self.known self.new) }
         ensures calls { TellsCall (returned_call units.items) (calls self.old) (calls self.new) };
 
     /// Sends units of a class to a processor's inbox, as one parcel; this one's own inbox too. They are mine, and settled
     /// or ripe. It refuses for want of memory alone, and then hands the units back, which are mine still.
     fn send(&mut self, to: u8, class: Class, units: Vec<Unit>) -> Result<(), Vec<Unit>>
-        requires to { to < processors self.old }
+        requires to { to < (Self.known self.old).grace.processors }
         requires some { 0 < length units.items }
         requires class { All (IsOf class) units.items }
         requires mine { Holds (Self.rights self.old) units.items }
@@ -60,7 +55,6 @@ pub trait Post: Knows {
         ensures refused { IfErr result (λ back. back.items ≡ units.items) }
         ensures same { OnErr result (AreSame (Self.rights self.old) (Self.rights self.new)) }
         ensures lasts { Lasting (numbers units.items) (Self.rights self.old) (Self.rights self.new) }
-        ensures processors { processors self.new ≡ processors self.old }
         ensures known { Posts Self.tells (Self.known self.old) (Self.known self.new) }
         ensures calls { OnOk result (TellsCall (sent to class units.items) (calls self.old) (calls self.new)) }
         ensures no_call { OnErr result (KeepsCalls (calls self.old) (calls self.new)) };
@@ -71,7 +65,6 @@ pub trait Post: Knows {
         ensures some { IfSome result (λ units. Receives class units.items (Self.rights self.old) (Self.rights self.new)) }
         ensures none { IfNone result (AreSame (Self.rights self.old) (Self.rights self.new)) }
         ensures lasts { Lasting [] (Self.rights self.old) (Self.rights self.new) }
-        ensures processors { processors self.new ≡ processors self.old }
         ensures known { Posts Self.tells (Self.known self.old) (Self.known self.new) }
         ensures calls { IfSome result (λ units. TellsCall (received class units.items) (calls self.old) (calls self.new)) }
         ensures empty { IfNone result (TellsCall (received class []) (calls self.old) (calls self.new)) };

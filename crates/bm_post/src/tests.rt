@@ -30,7 +30,7 @@ fn fetch_all<P: Post>(
     ensures class { All (IsOf class) result.items }
     ensures holds { Holds (P.rights post.new) result.items }
     ensures fit { All (MayLeave (P.rights post.new)) result.items }
-    ensures processors { P.processors post.new ≡ P.processors post.old }
+    ensures processors { (P.Knows.known post.new).grace.processors ≡ (P.Knows.known post.old).grace.processors }
 {
     let mut units = Vec::new(rt.alloc());
     let count = post
@@ -50,12 +50,12 @@ fn receive_one<P: Post>(rt: &impl Abort, post: &mut P, class: Class) -> Vec<Unit
 
 /// Sends a parcel for which there is memory.
 fn send_one<P: Post>(rt: &impl Abort, post: &mut P, to: u8, class: Class, units: Vec<Unit>)
-    requires to { to < P.processors post.old }
+    requires to { to < (P.Knows.known post.old).grace.processors }
     requires some { 0 < length units.items }
     requires class { All (IsOf class) units.items }
     requires holds { Holds (P.rights post.old) units.items }
     requires fit { All (MayLeave (P.rights post.old)) units.items }
-    ensures processors { P.processors post.new ≡ P.processors post.old }
+    ensures processors { (P.Knows.known post.new).grace.processors ≡ (P.Knows.known post.old).grace.processors }
 {
     match post.send(to, class, units) {
         Ok(()) => {}

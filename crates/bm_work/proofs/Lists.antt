@@ -19,7 +19,7 @@ use Rattle.bm_cache.specs.Shown.{shown, waiting, Took}
 use Rattle.bm_cache.specs.declared.caches.Caches.{Caches}
 
 -- where a log is told, the list that an entry names is whole
-whole-appends : (l : ℕ) (e : Units → Entry) (units : Units) (xs : List ℕ) (a b : Option Log) → (IsSome b → IsTrue (is_whole units)) → (IsTrue (is_whole units) → units ≡ Whole xs) → Appends a l (e units) b → Appends a l (e (Whole xs)) b
+pub whole-appends : (l : ℕ) (e : Units → Entry) (units : Units) (xs : List ℕ) (a b : Option Log) → (IsSome b → IsTrue (is_whole units)) → (IsTrue (is_whole units) → units ≡ Whole xs) → Appends a l (e units) b → Appends a l (e (Whole xs)) b
 whole-appends l e units xs a None t w h = tt
 whole-appends l e units xs a (Some now) t w h = subst (λ u. Appends a l (e u) (Some now)) (w (t refl)) h
 

@@ -1,5 +1,5 @@
 -- Stretches of deferred work: of plain steps alone, of one that moves a unit, and how they join.
-use Rattle.std.proofs.Common.{◌≡◌, ◌<◌, ℕ, ◌+◌, ◌-◌, ◌++◌, true, List, [], ◌∷◌, drop, length, Option, refl, sym, ◌∙◌, ap, subst, arith, inl, inr, eq-eqb}
+use Rattle.std.proofs.Common.{◌≡◌, ◌≢◌, ◌<◌, ℕ, ◌+◌, ◌-◌, ◌++◌, true, List, [], ◌∷◌, drop, length, Option, refl, sym, ◌∙◌, ap, subst, arith, inl, inr, eq-eqb}
 use Rattle.std.specs.List.{All}
 use Rattle.std.proofs.lemmas.List.Elements.{All-drop}
 use Rattle.std.proofs.lemmas.Bool.Decides.{eqb_tells}
@@ -20,8 +20,10 @@ use Rattle.bm_cache.specs.Span.{Came, Span}
 use Rattle.bm_cache.specs.declared.caches.Caches.{Caches}
 use Rattle.bm_cache.proofs.Moments.{took-at}
 use Rattle.bm_cache.proofs.Stretch.{walk-still, walk-join, lasting-below, lasting-join}
+use Rattle.bm_work.specs.Fit.{More}
 use Rattle.bm_work.specs.FromLists.{less}
 use Rattle.bm_work.specs.WorkSpan.{WorkSpan}
+use Rattle.bm_work.proofs.Fits.{all-back}
 
 -- active numbers over a whole stretch
 pub between-active : (l c : ℕ) (s t : State Token) → Between l c 0 0 s t → (k : ℕ) → (t.rows k).active ≡ (s.rows k).active
@@ -68,7 +70,7 @@ lasting-less l s t a b h d m = record {
 }
 
 -- tests over two stretches, of what stands in the lists at the end
-lasting-ends : (l : ℕ) (s : State Token) (a b d : Tests) → Lasting l s a b → Lasting l s b d → Lasting l s a d
+pub lasting-ends : (l : ℕ) (s : State Token) (a b d : Tests) → Lasting l s a b → Lasting l s b d → Lasting l s a d
 lasting-ends l s a b d x y = record {
   hands = λ k n. same-join a b d (s.sides k).hand (x.hands k n) (y.hands k n);
   first = λ k. same-join a b d (s.rows k).deferred.first (x.first k) (y.first k);
@@ -195,3 +197,24 @@ less-of-second d e u rest h q = record { first = ap (λ x. x.first) q; gone = 0;
 
 pub less-of : (n : ℕ) (d e : Deferred Token) → e ≡ less n d → Less d e
 less-of n d e q = record { first = ap (λ x. x.first) q; gone = n; ready = ap (λ x. x.ready) q; gone_second = n - length d.ready; second = ap (λ x. x.second) q }
+
+-- First has at most more on top
+pub more-same : (d e : Deferred Token) → e ≡ d → More d e
+more-same d e q = record { more = []; first = ap (λ x. x.first) q; ready = ap (λ x. x.ready) q; second = ap (λ x. x.second) q }
+
+-- while what deferred work writes is as it was, but for one class
+pub more-each : (c : ℕ) (s t : State Token) → More (s.rows c).deferred (t.rows c).deferred → ((k : ℕ) → k ≢ c → (t.rows k).deferred ≡ (s.rows k).deferred) → (k : ℕ) → More (s.rows k).deferred (t.rows k).deferred
+more-each c s t m o k =
+    elim (eqb_tells k c) [
+      | inl y ↦ rw y.1 m
+      | inr y ↦ more-same (s.rows k).deferred (t.rows k).deferred (o k y.1)
+    ]
+
+-- tests of what stood in the lists, by what stands there
+pub lasting-more : (l : ℕ) (s t : State Token) (a b : Tests) → ((k : ℕ) → k < l → t.sides k ≡ s.sides k) → ((k : ℕ) → More (s.rows k).deferred (t.rows k).deferred) → Lasting l t a b → Lasting l s a b
+lasting-more l s t a b h d m = record {
+  hands = λ k n. same-at a b (t.sides k).hand (s.sides k).hand (sym (ap (λ (x : Side Token). x.hand) (h k n))) (m.hands k n);
+  first = λ k. all-back (Same a b) (d k).more (s.rows k).deferred.first (let F : List Token → Type 0 = λ z. All (Same a b) z in subst F (d k).first (m.first k));
+  ready = λ k. same-at a b (t.rows k).deferred.ready (s.rows k).deferred.ready (sym (d k).ready) (m.ready k);
+  second = λ k. same-at a b (t.rows k).deferred.second (s.rows k).deferred.second (sym (d k).second) (m.second k);
+}

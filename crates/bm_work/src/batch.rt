@@ -7,11 +7,12 @@ ghost use Rattle.bm_journal.specs.declared.entry.Entry.TheVariants as entry;
 ghost use Rattle.bm_law.specs.declared.mark.Mark.TheVariants as mark;
 ghost use Rattle.bm_law.specs.State.{seen};
 ghost use Rattle.bm_cache.specs.Tokens.{Token, number_of};
-ghost use Rattle.bm_cache.specs.Tests.{Same};
+ghost use Rattle.bm_cache.specs.Tests.{Lasting, Same};
 ghost use Rattle.bm_cache.specs.Shown.{shown, waiting};
 ghost use Rattle.bm_cache.specs.Span.{Fine, Goes, Span, Unbroken};
 ghost use Rattle.bm_deferred.specs.Parts.{Say, Then, When};
 ghost use Rattle.bm_deferred.specs.WorkPhrases.{IsBatch, IsGathering, IsLeave, may_batch};
+ghost use Rattle.bm_work.specs.Fit.{More};
 ghost use Rattle.bm_work.specs.Grown.{GrewBy};
 
 use bm_cache::{Host, lower_active, raise_active};
@@ -90,6 +91,9 @@ fn batch_if_any<R: Recorder, H: Host<R>>(host: &mut H, class: Class) -> bool
     ensures phrase { GrewBy (When (may_batch class) (Say (H.face host.old).level (IsBatch class))) (seen number_of (shown (H.held host.old))) (R.log (H.held host.old).recorder) (R.log (H.held host.new).recorder) }
     ensures some { result ≡ true → (units : List ℕ) × (((shown (H.held host.new)).rows class).deferred ≡ record ((shown (H.held host.old)).rows class).deferred { first = ((shown (H.held host.old)).rows class).delayed ++ ((shown (H.held host.old)).rows class).deferred.first; plain = Some 0 }) × Span R.log (H.face host.old).level class 1 1 (entry.Batch class (Whole units) ∷ []) (H.tests host.old) (H.tests host.new) (H.held host.old) (H.held host.new) }
     ensures none { result ≡ false → (H.held host.new ≡ H.held host.old) × (H.tests host.new ≡ H.tests host.old) }
+    ensures lasting { Lasting (H.face host.old).level (shown (H.held host.old)) (H.tests host.old) (H.tests host.new) }
+    ensures below { (k : ℕ) → k < (H.face host.old).level → (shown (H.held host.new)).sides k ≡ (shown (H.held host.old)).sides k }
+    ensures more { (k : ℕ) → More ((shown (H.held host.old)).rows k).deferred ((shown (H.held host.new)).rows k).deferred }
     ensures processor { (H.held host.new).processor ≡ (H.held host.old).processor }
     ensures active { ((shown (H.held host.new)).rows class).active ≡ 1 }
     ensures waits { waiting class (shown (H.held host.new)) ≡ 0 }
@@ -122,7 +126,9 @@ pub fn gather_delayed<R: Recorder, H: Host<R>>(host: &mut H, class: Class) -> bo
     ensures waits { result ≡ false → ((shown (H.held host.new)).rows class).deferred ≡ ((shown (H.held host.old)).rows class).deferred }
     ensures side { (shown (H.held host.new)).sides (H.face host.old).level ≡ (shown (H.held host.old)).sides (H.face host.old).level }
     ensures lasts { All (Same (H.tests host.old) (H.tests host.new)) ((shown (H.held host.old)).sides (H.face host.old).level).hand }
-    ensures active { ((shown (H.held host.new)).rows class).active ≡ 0 }
+    ensures active { (k : ℕ) → ((shown (H.held host.new)).rows k).active ≡ ((shown (H.held host.old)).rows k).active }
+    ensures processor { (H.held host.new).processor ≡ (H.held host.old).processor }
+    ensures lasting { Lasting (H.face host.old).level (shown (H.held host.old)) (H.tests host.old) (H.tests host.new) }
     ensures kept { (k : ℕ) → k ≢ class → ((shown (H.held host.new)).rows k).deferred ≡ ((shown (H.held host.old)).rows k).deferred }
     ensures fine { Fine R.log R.counts (H.tests host.new) (H.face host.new).processors ((H.face host.new).level + 1) (H.held host.new) }
     ensures goes { Goes H.face H.pending H.keeps host.old host.new }

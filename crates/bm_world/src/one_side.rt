@@ -20,21 +20,48 @@ use bm_journal::{Domain, Period};
 use bm_page::Unit;
 use bm_post::{PlainPost, Post};
 use bm_word::NoMemory;
+use std::marker::Model;
 
 /// All that processors share, on one thread: the post and the grace periods of all of them. It is one processor's side at
 /// a time, which `turn` chooses. This project's own.
 pub struct OneSide {
     /// The pool and all inboxes.
-    pub post: PlainPost,
+    post: PlainPost,
     /// The words and numbers of both domains.
-    pub grace: PlainGrace,
+    grace: PlainGrace,
+}
+
+impl Model for OneSide {
+    ghost use Rattle.bm_world.specs.SideState.{AreOne, SideState};
+
+    ghost Value = { SideState };
+
+    ghost view = { λ world. record { post = world.post; grace = world.grace } };
+
+    ghost invariant = { λ world. AreOne world.post world.grace };
 }
 
 impl OneSide {
+    /// Joins the two parts, which have as many processors, and are the side of the same one.
+    pub fn new(post: PlainPost, grace: PlainGrace) -> OneSide
+        requires processors { post.processors ≡ grace.processors }
+        requires processor { post.processor ≡ grace.processor }
+        ensures { result ≡ record { post = post; grace = grace } }
+    {
+        OneSide { post, grace }
+    }
+
+    /// Gives the two parts back.
+    pub fn into_parts(self) -> (PlainPost, PlainGrace)
+        ensures { result ≡ (self.post, self.grace) }
+    {
+        let OneSide { post, grace } = self;
+        (post, grace)
+    }
+
     /// Makes it the side of a processor.
     pub fn turn(&mut self, processor: u8)
-        requires post { processor < self.old.post.processors }
-        requires grace { processor < self.old.grace.processors }
+        requires { processor < self.old.post.processors }
         ensures { self.new ≡ record {
           post = record self.old.post { processor = processor };
           grace = record self.old.grace { processor = processor };
@@ -152,8 +179,6 @@ impl Grace for OneSide {
 }
 
 impl Post for OneSide {
-    ghost processors = { λ world. world.post.processors };
-
     ghost calls = { λ _. None };
 
     fn fetch(&mut self, class: Class, want: usize, out: &mut Vec<Unit>) -> Result<usize, NoMemory>
@@ -166,7 +191,6 @@ impl Post for OneSide {
         ensures err { OnErr result (out.new.items ≡ out.old.items) }
         ensures same { OnErr result (AreSame (rights_in self.old.post) (rights_in self.new.post)) }
         ensures lasts { Lasting [] (rights_in self.old.post) (rights_in self.new.post) }
-        ensures processors { self.new.post.processors ≡ self.old.post.processors }
         ensures known { Posts false (known_in self.old.grace) (known_in self.new.grace) }
     {
         self.post.fetch(class, want, out)
@@ -179,14 +203,13 @@ impl Post for OneSide {
         ensures grace { self.new.grace ≡ self.old.grace }
         ensures back { GivesBack (numbers units.items) (rights_in self.old.post) (rights_in self.new.post) }
         ensures lasts { Lasting (numbers units.items) (rights_in self.old.post) (rights_in self.new.post) }
-        ensures processors { self.new.post.processors ≡ self.old.post.processors }
         ensures known { Posts false (known_in self.old.grace) (known_in self.new.grace) }
     {
         self.post.put_back(units);
     }
 
     fn send(&mut self, to: u8, class: Class, units: Vec<Unit>) -> Result<(), Vec<Unit>>
-        requires to { to < self.old.post.processors }
+        requires to { to < self.old.grace.processors }
         requires some { 0 < length units.items }
         requires class { All (IsOf class) units.items }
         requires mine { Holds (rights_in self.old.post) units.items }
@@ -198,7 +221,6 @@ impl Post for OneSide {
         ensures refused { IfErr result (λ back. back.items ≡ units.items) }
         ensures same { OnErr result (AreSame (rights_in self.old.post) (rights_in self.new.post)) }
         ensures lasts { Lasting (numbers units.items) (rights_in self.old.post) (rights_in self.new.post) }
-        ensures processors { self.new.post.processors ≡ self.old.post.processors }
         ensures known { Posts false (known_in self.old.grace) (known_in self.new.grace) }
     {
         self.post.send(to, class, units)
@@ -214,7 +236,6 @@ impl Post for OneSide {
         ensures some { IfSome result (λ units. Receives class units.items (rights_in self.old.post) (rights_in self.new.post)) }
         ensures none { IfNone result (AreSame (rights_in self.old.post) (rights_in self.new.post)) }
         ensures lasts { Lasting [] (rights_in self.old.post) (rights_in self.new.post) }
-        ensures processors { self.new.post.processors ≡ self.old.post.processors }
         ensures known { Posts false (known_in self.old.grace) (known_in self.new.grace) }
     {
         self.post.receive(class)

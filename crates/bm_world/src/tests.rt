@@ -23,10 +23,7 @@ fn a_period_passes_between_two_processors(rt: HostRuntime) {
         Ok(post) => post,
         Err(_pool) => panic!(&rt; "there is memory for the inboxes"),
     };
-    let mut world = OneSide {
-        post,
-        grace: PlainGrace::new(2),
-    };
+    let mut world = OneSide::new(post, PlainGrace::new(2));
     let class = Class::new(1).expect(&rt, "an index is a class");
     let mut units = Vec::new(rt.alloc());
     let count = world
@@ -49,6 +46,6 @@ fn a_period_passes_between_two_processors(rt: HostRuntime) {
         None => {}
         Some(_units) => panic!(&rt; "nothing was sent"),
     }
-    let OneSide { post, grace: _ } = world;
+    let (post, _grace) = world.into_parts();
     post.give_up();
 }

@@ -1,4 +1,4 @@
-use Rattle.std.proofs.Common.{◌≡◌, ◌∙◌, [], ◌∷◌, refl, ap, subst, arith}
+use Rattle.std.proofs.Common.{◌≡◌, ◌<◌, ℕ, ◌∙◌, [], ◌∷◌, refl, ap, subst, arith}
 use Rattle.bm_journal.specs.declared.units.Units.TheVariants.{Whole}
 use Rattle.bm_journal.specs.declared.entry.Entry.TheVariants as entry
 use Rattle.bm_law.specs.State.{seen}
@@ -7,7 +7,10 @@ use Rattle.bm_law.proofs.Spans.{Records-join}
 use Rattle.bm_cache.specs.Tokens.{number_of}
 use Rattle.bm_cache.specs.Shown.{shown}
 use Rattle.bm_cache.specs.Span.{Face}
-use Rattle.bm_cache.proofs.Moments.{goes-join}
+use Rattle.bm_cache.specs.Tests.{Lasting}
+use Rattle.bm_cache.proofs.Stretch.{lasting-join, walk-still}
+use Rattle.bm_work.proofs.Spans.{lasting-ends, lasting-more}
+use Rattle.bm_cache.proofs.Moments.{goes-join, span-at}
 use Rattle.bm_cache.proofs.Unbroken.{unbroken-join}
 use Rattle.bm_deferred.specs.Parts.{Part, Say, Then, When}
 use Rattle.bm_deferred.specs.WorkPhrases.{IsBatch, IsGathering, IsLeave, may_batch}
@@ -52,3 +55,33 @@ returns-clause-alone g c =
     unbroken-join c.raise_active.ensures.goes (goes-join j c.move_delayed.ensures.goes t) c.raise_active.ensures.alone
     (unbroken-join c.move_delayed.ensures.goes t c.move_delayed.ensures.alone
     (unbroken-join c.batch_if_any-begun.ensures.goes c.lower_active.ensures.goes c.batch_if_any-begun.ensures.alone c.lower_active.ensures.alone))
+
+pub returns-clause-lasting : goal.returns-clause-lasting
+returns-clause-lasting g c =
+    let l = (g.H.Host.face c.args.host.now).level in
+    let i = c.args.class in
+    let log = g.R.Recorder.log in
+    let T = g.H.Host.tests in
+    let x = g.H.Host.held c.args.host.now in
+    let y = g.H.Host.held c.raise_active.new.host in
+    let z = g.H.Host.held c.move_delayed.new.host in
+    let v = g.H.Host.held c.batch_if_any-begun.new.host in
+    let w = g.H.Host.held c.lower_active.new.host in
+    let tx = T c.args.host.now in
+    let ty = T c.raise_active.new.host in
+    let tz = T c.move_delayed.new.host in
+    let tv = T c.batch_if_any-begun.new.host in
+    let tw = T c.lower_active.new.host in
+    let ly : (g.H.Host.face c.raise_active.new.host).level ≡ l = ap (λ (f : Face). f.level) c.raise_active.ensures.goes.face in
+    let lz : (g.H.Host.face c.move_delayed.new.host).level ≡ l = ap (λ (f : Face). f.level) c.move_delayed.ensures.goes.face ∙ ly in
+    let lv : (g.H.Host.face c.batch_if_any-begun.new.host).level ≡ l = ap (λ (f : Face). f.level) c.batch_if_any-begun.ensures.goes.face ∙ lz in
+    let m = c.move_delayed.ensures.span in
+    let s1 = c.raise_active.ensures.span in
+    let s2 = span-at log l _ i 1 1 (entry.TakeDelayed i (Whole m.0) ∷ []) ty tz y z ly m.1 in
+    let s4 = span-at log l _ i 1 0 (entry.Leave i c.lower_active.result ∷ []) tv tw v w lv c.lower_active.ensures.span in
+    let s3 : Lasting l (shown z) tz tv = subst (λ k. Lasting k (shown z) tz tv) lz c.batch_if_any-begun.ensures.lasting in
+    let F : ℕ → Type 0 = λ k. (j : ℕ) → j < k → (shown v).sides j ≡ (shown z).sides j in
+    let o : Lasting l (shown z) tv tw = lasting-more l (shown z) (shown v) tv tw (subst F lz c.batch_if_any-begun.ensures.below) c.batch_if_any-begun.ensures.more s4.lasting in
+    let p : Lasting l (shown z) tz tw = lasting-ends l (shown z) tz tv tw s3 o in
+    let q : Lasting l (shown y) ty tw = lasting-join l (shown y) (shown z) ty tz tw s2.between.sides (walk-still l (entry.TakeDelayed i (Whole m.0) ∷ []) (shown y) (shown z) s2.walk refl) s2.lasting p in
+    lasting-join l (shown x) (shown y) tx ty tw s1.between.sides (walk-still l (entry.Enter i c.raise_active.result ∷ []) (shown x) (shown y) s1.walk refl) s1.lasting q
