@@ -1,1 +1,2 @@
 pub mod Aged
+pub mod Cleared

@@ -1,1 +1,2 @@
 pub mod SideState
+pub mod WaitingState

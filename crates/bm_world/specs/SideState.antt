@@ -1,5 +1,5 @@
 -- The world on one thread. (This project's own.)
-use Rattle.std.specs.Prelude.{◌≡◌, ℕ}
+use Rattle.std.specs.Prelude.{◌≡◌}
 use Rattle.bm_grace.specs.PlainState.{PlainState}
 use Rattle.bm_post.specs.PostState.{PostState}
 

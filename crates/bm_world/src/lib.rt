@@ -5,8 +5,16 @@ mod law;
 mod one_side;
 #[cfg(test)]
 mod tests;
+mod wait;
+mod waiting;
+mod waiting_law;
+#[cfg(test)]
+mod waiting_tests;
 mod world;
 
 pub use law::aged_law;
 pub use one_side::OneSide;
+pub use wait::Wait;
+pub use waiting::WaitingSide;
+pub use waiting_law::{ripe_only_when_passed, waits_without_a_seal};
 pub use world::World;
