@@ -1,0 +1,44 @@
+-- What calls of a side leave of what it knows.
+use Rattle.std.proofs.Common.{◌≡◌, ℕ, ◌%◌, Bool, List, refl}
+use Rattle.bm_journal.specs.declared.ids.Domain.{Domain}
+use Rattle.bm_journal.specs.declared.ids.Domain.TheVariants.{Plain, Tracing}
+use Rattle.bm_grace.specs.declared.step.TableStep.{TableStep}
+use Rattle.bm_grace.specs.declared.answer.Began.{Began}
+use Rattle.bm_grace.specs.declared.answer.Began.TheVariants.{Won, Moved}
+use Rattle.bm_grace.specs.Known.{Known, Side, side}
+use Rattle.bm_grace.specs.Calls.{changed, looked, read, began, finished, told}
+use Rattle.bm_desk.specs.Goes.{Alike}
+
+-- a side of one domain with the same word
+pub alike-changed : (t : Bool) (d : Domain) (s : Side) (steps : List TableStep) (k : Known) → s.word ≡ (side d k).word → Alike k (changed t d s steps k)
+alike-changed t Plain s steps k e = record { processors = refl; processor = refl; words = w }
+  where
+    w : (d : Domain) → (side d (changed t Plain s steps k)).word % 2 ≡ (side d k).word % 2
+    w Plain = rw e refl
+    w Tracing = refl
+alike-changed t Tracing s steps k e = record { processors = refl; processor = refl; words = w }
+  where
+    w : (d : Domain) → (side d (changed t Tracing s steps k)).word % 2 ≡ (side d k).word % 2
+    w Plain = refl
+    w Tracing = rw e refl
+
+pub alike-looked : (t : Bool) (d : Domain) (words : List ℕ) (k : Known) → Alike k (looked t d words k)
+alike-looked t d words k = alike-changed t d _ _ k refl
+
+pub alike-read : (t : Bool) (d : Domain) (n : ℕ) (k : Known) → Alike k (read t d n k)
+alike-read t d n k = alike-changed t d _ _ k refl
+
+pub alike-began : (t : Bool) (d : Domain) (a : Began) (even : ℕ) (k : Known) → Alike k (began t d a even k)
+alike-began t d Won even k = alike-changed t d _ _ k refl
+alike-began t d (Moved n) even k = alike-changed t d _ _ k refl
+
+pub alike-finished : (t : Bool) (d : Domain) (k : Known) → Alike k (finished t d k)
+alike-finished t d k = alike-changed t d _ _ k refl
+
+-- a post's call may add steps
+pub alike-posts : (t : Bool) (steps : List TableStep) (k : Known) → Alike k (record k { steps = told t k.steps steps })
+alike-posts t steps k = record { processors = refl; processor = refl; words = w }
+  where
+    w : (d : Domain) → (side d (record k { steps = told t k.steps steps })).word % 2 ≡ (side d k).word % 2
+    w Plain = refl
+    w Tracing = refl

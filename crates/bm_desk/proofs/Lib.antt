@@ -1,0 +1,13 @@
+pub mod Tests
+pub mod Onward
+pub mod Alike
+pub mod Points
+pub mod Steps
+pub mod Batches
+pub mod Came
+pub mod Moved
+pub mod Gone
+pub mod Sealed
+pub mod Passings
+pub mod Thens
+pub mod Sides

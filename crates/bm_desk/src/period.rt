@@ -1,0 +1,174 @@
+//! Periods of grace that a desk's side begins, looks at and ends.
+
+ghost use Rattle.std.specs.Prelude.{◌≡◌, ◌+◌, ◌<◌, ◌%◌, ◌^◌, ◌-◌, true, false};
+ghost use Rattle.bm_law.specs.SweepPhrases.{MayBegin, MayFinish};
+ghost use Rattle.bm_grace.specs.Answers.{Answers, CanFinish, number_in};
+ghost use Rattle.bm_grace.specs.Calls.{read};
+ghost use Rattle.bm_grace.specs.Known.{side};
+ghost use Rattle.bm_grace.specs.Rights.{Ages};
+ghost use Rattle.bm_grace.specs.declared.answer.Look.TheVariants as look_answer;
+ghost use Rattle.bm_cache.specs.Shown.{shown};
+ghost use Rattle.bm_cache.specs.Tokens.{Token};
+ghost use Rattle.bm_deferred.specs.Parts.{Say};
+ghost use Rattle.bm_deferred.specs.WorkPhrases.{IsOne};
+ghost use Rattle.bm_journal.specs.declared.entry.Entry.TheVariants as entry;
+ghost use Rattle.bm_desk.specs.DeskTests.{Ripened};
+ghost use Rattle.bm_desk.specs.Periods.{Ends};
+ghost use Rattle.bm_desk.specs.Works.{Called, Stands, Works, plain_of, tracing_of};
+
+use crate::Desk;
+use bm_cache::Host;
+use bm_grace::{Began, Done, Grace, Look};
+use bm_journal::{Domain, Period, Recorder};
+
+/// Whether the side has a period of a domain in progress.
+fn drives<R: Recorder, H: Desk<R>>(host: &mut H, domain: Domain) -> bool
+    requires stands { Stands R.log R.counts H.Host.sound H.Host.tests H.Host.face H.Host.held host.old }
+    ensures none { result ≡ false → (side domain (H.W.Knows.known (H.shared host.new))).number ≡ 0 }
+    ensures odd { result ≡ true → (side domain (H.W.Knows.known (H.shared host.new))).number % 2 ≡ 1 }
+    ensures called { Called H.Host.face H.Host.pending H.stays H.Host.held (λ h. H.W.Knows.known (H.shared h)) (λ h. H.W.Knows.rights (H.shared h)) 0 0 host.old host.new }
+    ensures stands { Stands R.log R.counts H.Host.sound H.Host.tests H.Host.face H.Host.held host.new }
+{
+    host.world().driving(domain)
+}
+
+/// Looks at each word of the period of a domain that the side has in progress.
+fn look_now<R: Recorder, H: Desk<R>>(host: &mut H, domain: Domain) -> Look
+    requires stands { Stands R.log R.counts H.Host.sound H.Host.tests H.Host.face H.Host.held host.old }
+    requires driving { (side domain (H.W.Knows.known (H.shared host.old))).number % 2 ≡ 1 }
+    ensures passed { result ≡ look_answer.All → CanFinish domain (H.W.Knows.known (H.shared host.new)) }
+    ensures called { Called H.Host.face H.Host.pending H.stays H.Host.held (λ h. H.W.Knows.known (H.shared h)) (λ h. H.W.Knows.rights (H.shared h)) 0 0 host.old host.new }
+    ensures stands { Stands R.log R.counts H.Host.sound H.Host.tests H.Host.face H.Host.held host.new }
+{
+    host.world().look(domain)
+}
+
+/// Ends the period of a domain that the side has in progress.
+fn finish_now<R: Recorder, H: Desk<R>>(host: &mut H, domain: Domain) -> Period
+    requires stands { Stands R.log R.counts H.Host.sound H.Host.tests H.Host.face H.Host.held host.old }
+    requires passed { CanFinish domain (H.W.Knows.known (H.shared host.old)) }
+    ensures domain { result.domain ≡ domain }
+    ensures called { Called H.Host.face H.Host.pending H.stays H.Host.held (λ h. H.W.Knows.known (H.shared h)) (λ h. H.W.Knows.rights (H.shared h)) 0 0 host.old host.new }
+    ensures stands { Stands R.log R.counts H.Host.sound H.Host.tests H.Host.face H.Host.held host.new }
+{
+    host.world().finish(domain)
+}
+
+/// Records that a period has ended.
+fn note_finished<R: Recorder, H: Desk<R>>(host: &mut H, period: Period)
+    requires stands { Stands R.log R.counts H.Host.sound H.Host.tests H.Host.face H.Host.held host.old }
+    ensures works { Works R.log H.Host.face H.Host.pending H.stays H.Host.held (λ h. H.W.Knows.known (H.shared h)) 0 0 (λ l. Say l (IsOne (entry.Finish period))) host.old host.new }
+    ensures lists { shown (H.Host.held host.new) ≡ shown (H.Host.held host.old) }
+    ensures quiet { H.Host.pending host.new ≡ H.Host.pending host.old }
+    ensures ages { Ages (H.W.Knows.rights (H.shared host.old)) (H.W.Knows.rights (H.shared host.new)) }
+    ensures stands { Stands R.log R.counts H.Host.sound H.Host.tests H.Host.face H.Host.held host.new }
+{
+    let level = host.level();
+    host.caches().finished(level, period);
+}
+
+/// Ends the period of a domain that the side has in progress, and records that.
+fn end_now<R: Recorder, H: Desk<R>>(host: &mut H, domain: Domain)
+    requires stands { Stands R.log R.counts H.Host.sound H.Host.tests H.Host.face H.Host.held host.old }
+    requires passed { CanFinish domain (H.W.Knows.known (H.shared host.old)) }
+    ensures works { Works R.log H.Host.face H.Host.pending H.stays H.Host.held (λ h. H.W.Knows.known (H.shared h)) 0 0 (λ l. Say l (Ends domain)) host.old host.new }
+    ensures lists { shown (H.Host.held host.new) ≡ shown (H.Host.held host.old) }
+    ensures quiet { H.Host.pending host.new ≡ H.Host.pending host.old }
+    ensures ages { Ages (H.W.Knows.rights (H.shared host.old)) (H.W.Knows.rights (H.shared host.new)) }
+    ensures stands { Stands R.log R.counts H.Host.sound H.Host.tests H.Host.face H.Host.held host.new }
+{
+    let period = finish_now(host, domain);
+    note_finished(host, period);
+}
+
+/// Where the side has a period of a domain in progress, looks at its words, and ends it if all pass. Handlers run neither
+/// before nor after, since neither is a step. From `rcu_gp_fqs` of kernel/rcu/tree.c.
+pub fn finish_if_passed<R: Recorder, H: Desk<R>>(host: &mut H, domain: Domain)
+    requires stands { Stands R.log R.counts H.Host.sound H.Host.tests H.Host.face H.Host.held host.old }
+    ensures works { Works R.log H.Host.face H.Host.pending H.stays H.Host.held (λ h. H.W.Knows.known (H.shared h)) 0 0 (λ l. Say l (MayFinish domain)) host.old host.new }
+    ensures lists { shown (H.Host.held host.new) ≡ shown (H.Host.held host.old) }
+    ensures quiet { H.Host.pending host.new ≡ H.Host.pending host.old }
+    ensures ages { Ages (H.W.Knows.rights (H.shared host.old)) (H.W.Knows.rights (H.shared host.new)) }
+    ensures stands { Stands R.log R.counts H.Host.sound H.Host.tests H.Host.face H.Host.held host.new }
+{
+    if drives(host, domain) && look_now(host, domain) == Look::All {
+        end_now(host, domain);
+    }
+}
+
+/// Reads the number of a domain, and answers whether it is at least a stamp.
+pub fn ask<R: Recorder, H: Desk<R>>(host: &mut H, domain: Domain, stamp: u32) -> Done
+    requires stands { Stands R.log R.counts H.Host.sound H.Host.tests H.Host.face H.Host.held host.old }
+    ensures answer { Answers result stamp }
+    ensures known { H.W.Knows.known (H.shared host.new) ≡ read H.W.Knows.tells domain (number_in result) (H.W.Knows.known (H.shared host.old)) }
+    ensures ripe { (u : Token) → Ripened (H.Host.tests host.old) (H.Host.tests host.new) domain stamp result u }
+    ensures called { Called H.Host.face H.Host.pending H.stays H.Host.held (λ h. H.W.Knows.known (H.shared h)) (λ h. H.W.Knows.rights (H.shared h)) 0 0 host.old host.new }
+    ensures stands { Stands R.log R.counts H.Host.sound H.Host.tests H.Host.face H.Host.held host.new }
+{
+    host.world().done(domain, stamp)
+}
+
+/// Tries to begin a period of a domain at an even number.
+fn try_begin<R: Recorder, H: Desk<R>>(host: &mut H, domain: Domain, even: u32) -> Began
+    requires stands { Stands R.log R.counts H.Host.sound H.Host.tests H.Host.face H.Host.held host.old }
+    requires even { even % 2 ≡ 0 }
+    requires idle { (side domain (H.W.Knows.known (H.shared host.old))).number ≡ 0 }
+    requires room { 0 < (side domain (H.W.Knows.known (H.shared host.old))).begins }
+    ensures called { Called H.Host.face H.Host.pending H.stays H.Host.held (λ h. H.W.Knows.known (H.shared h)) (λ h. H.W.Knows.rights (H.shared h)) (plain_of domain) (tracing_of domain) host.old host.new }
+    ensures stands { Stands R.log R.counts H.Host.sound H.Host.tests H.Host.face H.Host.held host.new }
+{
+    host.world().begin(domain, even)
+}
+
+/// Records that a period has begun, by which the number of a domain is `number`.
+fn note_begun<R: Recorder, H: Desk<R>>(host: &mut H, domain: Domain, number: u32)
+    requires stands { Stands R.log R.counts H.Host.sound H.Host.tests H.Host.face H.Host.held host.old }
+    ensures works { Works R.log H.Host.face H.Host.pending H.stays H.Host.held (λ h. H.W.Knows.known (H.shared h)) 0 0 (λ l. Say l (IsOne (entry.Begin domain number))) host.old host.new }
+    ensures lists { shown (H.Host.held host.new) ≡ shown (H.Host.held host.old) }
+    ensures quiet { H.Host.pending host.new ≡ H.Host.pending host.old }
+    ensures ages { Ages (H.W.Knows.rights (H.shared host.old)) (H.W.Knows.rights (H.shared host.new)) }
+    ensures stands { Stands R.log R.counts H.Host.sound H.Host.tests H.Host.face H.Host.held host.new }
+{
+    let level = host.level();
+    host.caches().began(level, domain, number);
+}
+
+/// Begins a period of a domain at an even number, if that is still the number, and looks at its words; it ends if all pass.
+fn begin_at<R: Recorder, H: Desk<R>>(host: &mut H, domain: Domain, even: u32)
+    requires stands { Stands R.log R.counts H.Host.sound H.Host.tests H.Host.face H.Host.held host.old }
+    requires even { even % 2 ≡ 0 }
+    requires small { even < 2 ^ 32 - 1 }
+    requires idle { (side domain (H.W.Knows.known (H.shared host.old))).number ≡ 0 }
+    requires room { 0 < (side domain (H.W.Knows.known (H.shared host.old))).begins }
+    ensures works { Works R.log H.Host.face H.Host.pending H.stays H.Host.held (λ h. H.W.Knows.known (H.shared h)) (plain_of domain) (tracing_of domain) (λ l. Say l (MayBegin domain)) host.old host.new }
+    ensures lists { shown (H.Host.held host.new) ≡ shown (H.Host.held host.old) }
+    ensures quiet { H.Host.pending host.new ≡ H.Host.pending host.old }
+    ensures ages { Ages (H.W.Knows.rights (H.shared host.old)) (H.W.Knows.rights (H.shared host.new)) }
+    ensures stands { Stands R.log R.counts H.Host.sound H.Host.tests H.Host.face H.Host.held host.new }
+{
+    if try_begin(host, domain, even) == Began::Won {
+        note_begun(host, domain, even + 1);
+        finish_if_passed(host, domain);
+    }
+}
+
+/// Begins a period of a domain where the side has none in progress and the number is even and below the stamp. One that began
+/// is looked at, and ended if all of its words pass. From `rcu_gp_init` of kernel/rcu/tree.c.
+pub fn begin_if_due<R: Recorder, H: Desk<R>>(host: &mut H, domain: Domain, stamp: u32)
+    requires stands { Stands R.log R.counts H.Host.sound H.Host.tests H.Host.face H.Host.held host.old }
+    requires room { 0 < (side domain (H.W.Knows.known (H.shared host.old))).begins }
+    ensures works { Works R.log H.Host.face H.Host.pending H.stays H.Host.held (λ h. H.W.Knows.known (H.shared h)) (plain_of domain) (tracing_of domain) (λ l. Say l (MayBegin domain)) host.old host.new }
+    ensures lists { shown (H.Host.held host.new) ≡ shown (H.Host.held host.old) }
+    ensures quiet { H.Host.pending host.new ≡ H.Host.pending host.old }
+    ensures ages { Ages (H.W.Knows.rights (H.shared host.old)) (H.W.Knows.rights (H.shared host.new)) }
+    ensures stands { Stands R.log R.counts H.Host.sound H.Host.tests H.Host.face H.Host.held host.new }
+{
+    if drives(host, domain) {
+        return;
+    }
+    if let Done::NotYet(number) = ask(host, domain, stamp) {
+        if number % 2 == 0 {
+            begin_at(host, domain, number);
+        }
+    }
+}

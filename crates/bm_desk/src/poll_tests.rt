@@ -1,0 +1,203 @@
+//! Polls on a desk without units, over both worlds. The numbers are worked out by hand: a stamp at the even number q is q + 2,
+//! a period begins by making the number odd and ends by making it even, and it passes a word that was even when it was first
+//! looked at, or is greater later.
+
+ghost use Rattle.std.specs.Prelude.{◌≡◌, ◌+◌, ◌<◌, ◌≤◌, ◌%◌, ◌^◌, [], IfSome};
+ghost use Rattle.bm_journal.specs.Counts.{no_counts};
+ghost use Rattle.bm_journal.specs.declared.ids.Domain.TheVariants.{Plain};
+ghost use Rattle.bm_cache.specs.Opening.{Opened};
+ghost use Rattle.bm_cache.specs.Shown.{shown};
+ghost use Rattle.bm_cache.specs.Span.{Fine};
+ghost use Rattle.bm_grace.specs.Known.{side};
+ghost use Rattle.bm_law.specs.State.{opening};
+ghost use Rattle.bm_grace.specs.PlainState.{idle};
+ghost use Rattle.bm_post.specs.Kept.{IsRoomy};
+ghost use Rattle.bm_desk.specs.Dated.{Dated};
+ghost use Rattle.bm_desk.specs.DeskTests.{tests_by};
+ghost use Rattle.bm_desk.specs.Works.{Stands};
+
+use crate::machines::{Lent, TestDesk};
+use crate::stamps::take_stamp;
+use crate::{Desk, poll};
+use bm_cache::Caches;
+use bm_class::Class;
+use bm_grace::{Done, Grace, PlainGrace};
+use bm_journal::{Domain, Histories, Journal, Keep, Logs, Names, Recorder, text_of, totals_of};
+use bm_page::Pool;
+use bm_post::PlainPost;
+use bm_world::{OneSide, WaitingSide, World};
+use std::process::Abort;
+
+/// A period that begins and ends at once. Its beginning and its end are no steps.
+const AT_ONCE: &str = "\
+processors 2 pages 1\n\
+types\n\
+maps\n\
+scripts\n\
+processor 0\n\
+0 begin plain 1\n\
+0 finish plain 2 first 0 0 later 0 0\n\
+0 pass 16 plain 2\n\
+total steps 1\n";
+
+/// A period that begins inside a section, and ends after it.
+const HELD_UP: &str = "\
+processors 2 pages 1\n\
+types\n\
+maps\n\
+scripts\n\
+processor 0\n\
+0 begin plain 1\n\
+0 pass 16 plain 1\n\
+0 finish plain 2 first 1 0 later 2 0\n\
+0 pass 16 plain 2\n\
+total steps 2\n";
+
+fn class(rt: &impl Abort) -> Class {
+    Class::new(0).expect(rt, "the class of 16 bytes")
+}
+
+/// A pool of one page.
+fn one_page(rt: &(impl Abort + AllocGlobal)) -> Pool
+    ensures { IsRoomy result }
+{
+    Pool::create(rt.alloc(), 1).expect(rt, "memory")
+}
+
+/// The side of the first of two processors, where nobody has done anything.
+pub(crate) fn one_side(rt: &(impl Abort + AllocGlobal)) -> OneSide
+    ensures { result.grace ≡ record { processors = 2; processor = 0; plain = idle; tracing = idle } }
+{
+    match PlainPost::create(rt.alloc(), one_page(rt), 2) {
+        Ok(post) => OneSide::new(post, PlainGrace::new(2)),
+        Err(_pool) => panic!(rt; "there is memory for the inboxes"),
+    }
+}
+
+/// The same, with tests by which units wait.
+pub(crate) fn waiting_side(rt: &(impl Abort + AllocGlobal)) -> WaitingSide
+    ensures { result.side.grace ≡ record { processors = 2; processor = 0; plain = idle; tracing = idle } }
+{
+    match WaitingSide::create(rt.alloc(), one_side(rt)) {
+        Ok(side) => side,
+        Err(_side) => panic!(rt; "there is memory for what waits"),
+    }
+}
+
+pub(crate) fn give_up(side: OneSide) {
+    let (post, _grace) = side.into_parts();
+    post.give_up();
+}
+
+/// Caches of processor 0 without units.
+fn no_units<R: Recorder>(rt: &(impl Abort + AllocGlobal), recorder: R) -> Caches<R>
+    requires counts { R.counts recorder ≡ no_counts }
+    requires log { IfSome (R.log recorder) (λ es. es ≡ []) }
+    ensures { Opened R.log R.counts 0 [] result }
+{
+    match Caches::create(rt.alloc(), 0, Vec::new(rt.alloc()), recorder) {
+        Ok(caches) => caches,
+        Err(_back) => panic!(rt; "memory"),
+    }
+}
+
+/// A desk without units.
+pub(crate) fn desk_over<R: Recorder, S: World>(
+    rt: &(impl Abort + AllocGlobal),
+    recorder: R,
+    lent: S,
+) -> TestDesk<R, S>
+    requires counts { R.counts recorder ≡ no_counts }
+    requires log { IfSome (R.log recorder) (λ es. es ≡ []) }
+    requires processors { (S.Knows.known lent).grace.processors ≡ 2 }
+    ensures fine { Fine R.log R.counts (tests_by (S.Knows.rights result.side)) (S.Knows.known result.side).grace.processors 1 result.caches }
+    ensures dated { Dated (tests_by (S.Knows.rights result.side)) (shown result.caches) }
+    ensures side { result.side ≡ lent }
+    ensures empty { shown result.caches ≡ opening 0 }
+{
+    TestDesk {
+        caches: no_units(rt, recorder),
+        side: lent,
+    }
+}
+
+/// A stamp of the plain domain, and what a poll for it answers.
+fn stamp_and_poll<R: Recorder, H: Desk<R>>(host: &mut H, class: Class) -> (u32, Done)
+    requires stands { Stands R.log R.counts H.Host.sound H.Host.tests H.Host.face H.Host.held host.old }
+    requires room { 0 < (side Plain (H.W.Knows.known (H.shared host.old))).begins }
+    ensures stays { H.stays host.old host.new }
+    ensures begins { (side Plain (H.W.Knows.known (H.shared host.old))).begins ≤ (side Plain (H.W.Knows.known (H.shared host.new))).begins + 1 }
+    ensures stands { Stands R.log R.counts H.Host.sound H.Host.tests H.Host.face H.Host.held host.new }
+{
+    let stamp = take_stamp(host, Domain::Plain);
+    let seen = poll(host, class, Domain::Plain, stamp);
+    (stamp, seen)
+}
+
+/// The log of two processors is this one, up to its first total.
+pub(crate) fn has_log(rt: &(impl Abort + AllocGlobal), recorder: Keep, want: &str) {
+    let log = recorder.into_log().expect(rt, "the log");
+    let mut items = Vec::with_capacity(rt.alloc(), 1).expect(rt, "memory");
+    items.push(log).expect(rt, "memory");
+    let logs = Logs::new(items);
+    let totals = totals_of(&logs);
+    let journal = Journal {
+        processors: 2,
+        pages: 1,
+        types: Names::new(Vec::new(rt.alloc())),
+        maps: Names::new(Vec::new(rt.alloc())),
+        scripts: Names::new(Vec::new(rt.alloc())),
+        classes: bm_journal::Opened::new(Vec::new(rt.alloc())),
+        logs,
+        graphs: Histories::new(Vec::new(rt.alloc())),
+        totals,
+    };
+    let text = text_of(rt.alloc(), &journal).expect(rt, "memory");
+    assert!(rt; text.as_slice().starts_with(want.as_bytes()));
+}
+
+/// Where no section is open, a poll begins a period and ends it.
+fn passes_at_once<S: World>(rt: &(impl Abort + AllocGlobal), lent: S) -> S
+    requires processors { (S.Knows.known lent).grace.processors ≡ 2 }
+    requires room { 0 < (side Plain (S.Knows.known lent)).begins }
+{
+    let mut keep = Keep::new(rt.alloc());
+    let mut desk = desk_over(rt, Lent { keep: &mut keep }, lent);
+    assert!(rt; stamp_and_poll(&mut desk, class(rt)) == (2, Done::Passed(2)));
+    let TestDesk { caches, side } = desk;
+    caches.give_up();
+    has_log(rt, keep, AT_ONCE);
+    side
+}
+
+/// Where a section of the own processor is open, the period that a poll begins isn't over, and a later poll ends it once the
+/// section has ended.
+fn a_section_holds_it_up<S: World>(rt: &(impl Abort + AllocGlobal), lent: S) -> S
+    requires processors { (S.Knows.known lent).grace.processors ≡ 2 }
+    requires room { 1 < (side Plain (S.Knows.known lent)).begins }
+    requires outside { (side Plain (S.Knows.known lent)).word ≡ 0 }
+{
+    let mut lent = lent;
+    assert!(rt; lent.enter(Domain::Plain) == 1);
+    let mut keep = Keep::new(rt.alloc());
+    let mut desk = desk_over(rt, Lent { keep: &mut keep }, lent);
+    assert!(rt; stamp_and_poll(&mut desk, class(rt)) == (2, Done::NotYet(1)));
+    assert!(rt; desk.side.leave(Domain::Plain) == 2);
+    assert!(rt; poll(&mut desk, class(rt), Domain::Plain, 2) == Done::Passed(2));
+    let TestDesk { caches, side } = desk;
+    caches.give_up();
+    has_log(rt, keep, HELD_UP);
+    side
+}
+
+#[test]
+fn a_poll_begins_a_period_and_ends_it(rt: HostRuntime) {
+    give_up(passes_at_once(&rt, one_side(&rt)));
+    give_up(passes_at_once(&rt, waiting_side(&rt)).into_side());
+}
+
+#[test]
+fn a_poll_inside_a_section_waits(rt: HostRuntime) {
+    give_up(a_section_holds_it_up(&rt, one_side(&rt)));
+    give_up(a_section_holds_it_up(&rt, waiting_side(&rt)).into_side());
+}
