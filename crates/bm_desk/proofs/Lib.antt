@@ -1,3 +1,4 @@
+pub mod Rests
 pub mod Tests
 pub mod Onward
 pub mod Alike

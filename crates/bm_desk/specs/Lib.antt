@@ -3,6 +3,7 @@ pub mod Periods
 pub mod DeskTests
 pub mod Dated
 pub mod Onward
+pub mod Rests
 pub mod Stops
 pub mod Still
 pub mod Works
