@@ -1,4 +1,4 @@
-use Rattle.std.proofs.Common.{◌≡◌, ◌≤◌, ◌+◌, ℕ, List, map, sym, subst}
+use Rattle.std.proofs.Common.{◌≡◌, ◌≤◌, ◌+◌, ℕ, List, arith, length, map, sym, subst}
 use Rattle.std.specs.List.{All}
 use Rattle.bm_law.specs.Stands.{stands, times}
 use Rattle.bm_law.specs.State.{seen}
@@ -10,6 +10,13 @@ use Rattle.bm_post.specs.Rights.{numbers}
 use Rattle.bm_desk.proofs.Came.{fetched-all, gains-fresh, gains-onward, same-onward, takes-reusable}
 use Rattle.bm_desk.proofs.Sides.{passes-shared, proper-shared, stands-posted}
 use Rattle.bm_desk.proofs.fetches.get_fetched.Goals as goal
+
+pub returns-in-Ok-clause-few : goal.returns-in-Ok-clause-few
+returns-in-Ok-clause-few g c =
+    let f = c.in-Ok.ensures.ok in
+    let e : c.fetch.new.out.items ≡ f.units = fetched-all c.new-units.result.items f.units c.fetch.new.out.items f.appended c.new-units.ensures.items in
+    let F : List Token → Type 0 = λ us. length us ≤ c.args.want in
+    subst F (sym e) (omega (arith, f.count, f.most))
 
 pub returns-in-Ok-clause-fresh : goal.returns-in-Ok-clause-fresh
 returns-in-Ok-clause-fresh g c =
