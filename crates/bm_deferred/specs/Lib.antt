@@ -2,3 +2,4 @@ pub mod Parts
 pub mod WorkPhrases
 pub mod WorkedParts
 pub mod Grown
+pub mod Inboxes
