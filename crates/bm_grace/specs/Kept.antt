@@ -1,6 +1,6 @@
 -- What the words and numbers of all processors keep true.
-use Rattle.std.specs.Prelude.{◌≡◌, ◌⊎◌, ℕ, ◌+◌, ◌*◌, ◌%◌, ◌^◌, ◌<◌, ◌≤◌, Option, None, Some, List, [], length, sum, All}
-use Rattle.bm_grace.specs.PlainState.{DomainState}
+use Rattle.std.specs.Prelude.{◌≡◌, ◌⊎◌, ℕ, ◌+◌, ◌*◌, ◌%◌, ◌^◌, ◌<◌, ◌≤◌, Option, None, Some, List, [], ◌∷◌, length, sum, take, All}
+use Rattle.bm_grace.specs.PlainState.{DomainState, in_turn}
 
 -- the number is odd where a period is in progress
 abbrev pub parity : Option ℕ → ℕ
@@ -16,9 +16,19 @@ pub record IsDomain (words begins : List ℕ) (number : ℕ) (driver : Option �
   pub parity_is : number % 2 ≡ parity driver
   pub number_limit : number + number % 2 + 2 * sum begins ≤ 2 ^ 31
 
--- Both domains: there are 1 to 8 processors, and a period that was looked at has as many words as it looks at.
+-- Each of some words is at most the word at its place among others. Section words only grow, so that holds of the words
+-- that a period first looked at, and of those that stand there now.
+abbrev pub AreAtMost : List ℕ → List ℕ → Type 0
+AreAtMost [] words = Unit {0}
+AreAtMost (first ∷ firsts) [] = ⊥
+AreAtMost (first ∷ firsts) (word ∷ words) = (first ≤ word) × AreAtMost firsts words
+
+-- Both domains: there are 1 to 8 processors, and a period that was looked at has as many words as it looks at, each of
+-- them at most the word that stands there now.
 pub record IsPlain (processors processor : ℕ) (plain tracing : DomainState) : Type 0 where
   pub processor_limit : processors ≤ 8
   pub turn : processor < processors
   pub plain_words : (plain.first ≡ []) ⊎ (length plain.first ≡ processors)
   pub tracing_words : (tracing.first ≡ []) ⊎ (length tracing.first ≡ 2 * processors)
+  pub plain_grown : AreAtMost plain.first (take processors plain.words)
+  pub tracing_grown : AreAtMost tracing.first (in_turn (take processors plain.words) (take processors tracing.words))

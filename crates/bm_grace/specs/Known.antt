@@ -1,5 +1,5 @@
 -- What a processor's side knows of the words that all processors share.
-use Rattle.std.specs.Prelude.{ℕ, List, []}
+use Rattle.std.specs.Prelude.{ℕ, Option, None, List, []}
 use Rattle.bm_journal.specs.declared.ids.Domain.{Domain}
 use Rattle.bm_journal.specs.declared.ids.Domain.TheVariants.{Plain, Tracing}
 use Rattle.bm_grace.specs.declared.step.TableStep.{TableStep}
@@ -25,10 +25,13 @@ pub record Sides : Type 0 where
   pub plain : Side
   pub tracing : Side
 
--- all of it, and the steps that it took, in their order, where they are told
+-- all of it
 pub record Known : Type 0 where
   pub grace : Sides
+  -- the steps that it took, in their order, where they are told
   pub steps : List TableStep
+  -- the parcels in its own inbox of each class, by the numbers of their units, the oldest first, where they are told
+  pub parcels : Option (ℕ → List (List ℕ))
 
 abbrev pub side : Domain → Known → Side
 side Plain known = known.grace.plain
@@ -42,4 +45,5 @@ abbrev pub no_known : Known
 no_known = record {
   grace = record { processors = 0; processor = 0; plain = no_side; tracing = no_side };
   steps = [];
+  parcels = None;
 }

@@ -1,7 +1,9 @@
 pub mod Answers
+pub mod AtRest
 pub mod Calls
 pub mod Kept
 pub mod Known
 pub mod Law
 pub mod PlainState
+pub mod Rest
 pub mod Rights

@@ -88,7 +88,7 @@ side_in processor here =
       seen = here.number;
     }
 
--- What the processor whose side it is knows. No steps are told.
+-- What the processor whose side it is knows. No steps are told, and no parcels.
 abbrev pub known_in : PlainState → Known
 known_in state = record {
   grace = record {
@@ -98,4 +98,5 @@ known_in state = record {
     tracing = side_in state.processor state.tracing;
   };
   steps = [];
+  parcels = None;
 }

@@ -36,6 +36,14 @@ pub record Ages (before now : Rights) : Type 0 where
   pub ripe : (n life : ℕ) (seal : Option Seal) → before.ripe n life seal ≡ true → now.ripe n life seal ≡ true
   pub since : (d : Domain) (x n : ℕ) → before.since d x n ≡ true → now.since d x n ≡ true
 
+-- all of it is as before
+pub record AsBefore (before now : Rights) : Type 0 where
+  pub mine : (n : ℕ) → now.mine n ≡ before.mine n
+  pub settled : (n life : ℕ) (seal : Option Seal) → now.settled n life seal ≡ before.settled n life seal
+  pub due : (n life : ℕ) (seal : Option Seal) → now.due n life seal ≡ before.due n life seal
+  pub ripe : (n life : ℕ) (seal : Option Seal) → now.ripe n life seal ≡ before.ripe n life seal
+  pub since : (d : Domain) (x n : ℕ) → now.since d x n ≡ before.since d x n
+
 -- a stamp was taken: what was mine has been mine since
 abbrev pub MineSince : Domain → ℕ → Rights → Rights → Type 0
 MineSince d x before now = (n : ℕ) → before.mine n ≡ true → now.since d x n ≡ true

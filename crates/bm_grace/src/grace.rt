@@ -3,8 +3,12 @@
 ghost use Rattle.std.specs.Prelude.{◌≡◌, ◌+◌, ◌%◌, ◌^◌, ◌<◌, ◌≤◌, ℕ, Bool, true, false, length};
 ghost use Rattle.bm_grace.specs.Known.{Known, side};
 ghost use Rattle.bm_grace.specs.Calls.{began, entered, finished, found_at, left, looked, looks, read};
-ghost use Rattle.bm_grace.specs.Rights.{Ages, MineSince, Rights, Ripens};
-ghost use Rattle.bm_grace.specs.Answers.{Answers, BeganAt, CanFinish, Stamped, Verdict, ended, number_in};
+ghost use Rattle.bm_grace.specs.Rights.{Ages, AsBefore, MineSince, Rights, Ripens};
+ghost use Rattle.bm_grace.specs.Rest.{MovesNumber, StaysAtRest};
+ghost use Rattle.bm_grace.specs.declared.answer.Began.TheVariants.{Won};
+ghost use Rattle.bm_grace.specs.declared.answer.Look.TheVariants.{All};
+ghost use Rattle.bm_journal.specs.declared.ids.Domain.{Domain as DomainValue};
+ghost use Rattle.bm_grace.specs.Answers.{Answers, BeganAt, CanFinish, Stamped, Verdict, ended, next, number_in};
 
 use crate::answer::{Began, Done, Look};
 use bm_journal::{Domain, Period};
@@ -20,6 +24,10 @@ pub trait Knows {
 
     /// Which units are this side's, and what it tells of their waiting.
     ghost rights: { Self → Rights };
+
+    /// Where all is at rest: no section is open on any processor, and nobody but this side calls. The number of the
+    /// domain is then this one.
+    ghost rest: { Self → DomainValue → ℕ → Type 0 };
 }
 
 /// One processor's side of both domains. A domain stands for a kind of grace period of the kernel: `Plain` for RCU,
@@ -35,7 +43,8 @@ pub trait Grace: Knows {
         requires room { (side domain (Self.known self.old)).word < 2 ^ 28 }
         ensures word { result ≡ (side domain (Self.known self.old)).word + 1 }
         ensures known { Self.known self.new ≡ entered Self.tells domain (Self.known self.old) }
-        ensures rights { Ages (Self.rights self.old) (Self.rights self.new) };
+        ensures rights { Ages (Self.rights self.old) (Self.rights self.new) }
+        ensures same { AsBefore (Self.rights self.old) (Self.rights self.new) };
 
     /// Ends the outermost section of a domain, from inside of it. The answer is the processor's new section word, an
     /// even number. From `rcu_read_unlock` and `rcu_read_unlock_trace`.
@@ -43,7 +52,8 @@ pub trait Grace: Knows {
         requires inside { (side domain (Self.known self.old)).word % 2 ≡ 1 }
         ensures word { result ≡ (side domain (Self.known self.old)).word + 1 }
         ensures known { Self.known self.new ≡ left Self.tells domain (Self.known self.old) }
-        ensures rights { Ages (Self.rights self.old) (Self.rights self.new) };
+        ensures rights { Ages (Self.rights self.old) (Self.rights self.new) }
+        ensures same { AsBefore (Self.rights self.old) (Self.rights self.new) };
 
     /// Reads a domain's number, and answers the stamp of it: the number at the end of the first period that begins
     /// afterwards. That is the number and 2 where no period is in progress, and the number and 3 where one is. From
@@ -51,7 +61,9 @@ pub trait Grace: Knows {
     fn stamp(&mut self, domain: Domain) -> u32
         ensures known { Stamped Self.tells domain result (Self.known self.old) (Self.known self.new) }
         ensures rights { Ages (Self.rights self.old) (Self.rights self.new) }
-        ensures since { MineSince domain result (Self.rights self.old) (Self.rights self.new) };
+        ensures since { MineSince domain result (Self.rights self.old) (Self.rights self.new) }
+        ensures rest { StaysAtRest Self.rest self.old self.new }
+        ensures at_rest { (n : ℕ) → Self.rest self.old domain n → result ≡ next n };
 
     /// Reads a domain's number, and answers whether it is at least a stamp. From `poll_state_synchronize_rcu`.
     fn done(&mut self, domain: Domain, stamp: u32) -> Done
@@ -59,7 +71,9 @@ pub trait Grace: Knows {
         ensures seen { (side domain (Self.known self.old)).seen ≤ number_in result }
         ensures known { Self.known self.new ≡ read Self.tells domain (number_in result) (Self.known self.old) }
         ensures rights { Ages (Self.rights self.old) (Self.rights self.new) }
-        ensures ripe { Ripens domain stamp result (Self.rights self.old) (Self.rights self.new) };
+        ensures ripe { Ripens domain stamp result (Self.rights self.old) (Self.rights self.new) }
+        ensures rest { StaysAtRest Self.rest self.old self.new }
+        ensures at_rest { (n : ℕ) → Self.rest self.old domain n → number_in result ≡ n };
 
     /// Begins a period of a domain where its number is the even one that is named, and changes nothing elsewhere. The
     /// number is odd from then on, until this side finishes the period. From `rcu_seq_start`.
@@ -70,7 +84,9 @@ pub trait Grace: Knows {
         ensures answer { BeganAt result even }
         ensures seen { (side domain (Self.known self.old)).seen ≤ found_at even result }
         ensures known { Self.known self.new ≡ began Self.tells domain result even (Self.known self.old) }
-        ensures rights { Ages (Self.rights self.old) (Self.rights self.new) };
+        ensures rights { Ages (Self.rights self.old) (Self.rights self.new) }
+        ensures rest { MovesNumber Self.rest domain even (even + 1) self.old self.new }
+        ensures at_rest { Self.rest self.old domain even → result ≡ Won };
 
     /// Looks at each word of the period of a domain that this side has in progress: at the plain words in the plain
     /// domain, and at both words of each processor, the plain one first, in the tracing domain, whose periods imply
@@ -84,7 +100,9 @@ pub trait Grace: Knows {
         ensures answer { let s = side domain (Self.known self.new) in Verdict result domain s.first s.later }
         ensures known { Self.known self.new
             ≡ looked Self.tells domain (side domain (Self.known self.new)).later (Self.known self.old) }
-        ensures rights { Ages (Self.rights self.old) (Self.rights self.new) };
+        ensures rights { Ages (Self.rights self.old) (Self.rights self.new) }
+        ensures rest { StaysAtRest Self.rest self.old self.new }
+        ensures at_rest { (n : ℕ) → Self.rest self.old domain n → result ≡ All };
 
     /// Ends the period of a domain that this side has in progress and all of whose words have passed. The number is
     /// even again. The answer has that number, and the words as they were first and last looked at. From `rcu_seq_end`.
@@ -92,10 +110,14 @@ pub trait Grace: Knows {
         requires { CanFinish domain (Self.known self.old) }
         ensures period { result ≡ ended domain (side domain (Self.known self.old)) }
         ensures known { Self.known self.new ≡ finished Self.tells domain (Self.known self.old) }
-        ensures rights { Ages (Self.rights self.old) (Self.rights self.new) };
+        ensures rights { Ages (Self.rights self.old) (Self.rights self.new) }
+        ensures rest { (n : ℕ) → MovesNumber Self.rest domain n (n + 1) self.old self.new };
 
     /// Whether this side has a period of a domain in progress.
     fn driving(&self, domain: Domain) -> bool
         ensures none { result ≡ false → (side domain (Self.known self.now)).number ≡ 0 }
         ensures odd { result ≡ true → (side domain (Self.known self.now)).number % 2 ≡ 1 };
+
+    // Where all is at rest and the number is even, no period is in progress.
+    ghost idle_at_rest: { (g : Self) (d : DomainValue) (n : ℕ) → Self.rest g d n → n % 2 ≡ 0 → (side d (Self.known g)).number ≡ 0 };
 }

@@ -1,10 +1,14 @@
 //! Grace periods for one thread and all processors.
 
-ghost use Rattle.std.specs.Prelude.{◌≡◌, ◌≢◌, ◌⊎◌, ◌+◌, ◌*◌, ◌%◌, ◌^◌, ◌<◌, ◌≤◌, Bool, true, false, [], length, slice_index};
+ghost use Rattle.std.specs.Prelude.{◌≡◌, ◌≢◌, ◌⊎◌, ◌+◌, ◌*◌, ◌%◌, ◌^◌, ◌<◌, ◌≤◌, ℕ, Bool, true, false, [], length, slice_index};
 ghost use Rattle.bm_grace.specs.Known.{side};
 ghost use Rattle.bm_grace.specs.Calls.{began, entered, finished, found_at, left, looked, looks, read};
 ghost use Rattle.bm_grace.specs.Rights.{no_rights};
 ghost use Rattle.bm_grace.specs.Answers.{Answers, BeganAt, CanFinish, Stamped, Verdict, ended, next, number_in};
+ghost use Rattle.bm_grace.specs.AtRest.{IsAtRest, idle-at-rest};
+ghost use Rattle.bm_grace.specs.Rest.{MovesNumber, StaysAtRest};
+ghost use Rattle.bm_grace.specs.declared.answer.Began.TheVariants.{Won};
+ghost use Rattle.bm_grace.specs.declared.answer.Look.TheVariants.{All};
 ghost use Rattle.bm_grace.specs.PlainState.{domain_in, idle, is_processor, known_in, period_begun, period_ended, period_looked, side_in, with_domain, word_moved, words_in};
 
 use crate::answer::{Began, Done, Look};
@@ -106,6 +110,8 @@ impl Knows for PlainGrace {
     ghost tells = { false };
 
     ghost rights = { λ _. no_rights };
+
+    ghost rest = { IsAtRest };
 }
 
 impl Grace for PlainGrace {
@@ -132,6 +138,8 @@ impl Grace for PlainGrace {
         ensures stamp { result ≡ next (domain_in domain self.old).number }
         ensures state { self.new ≡ self.old }
         ensures known { Stamped false domain result (known_in self.old) (known_in self.new) }
+        ensures rest { StaysAtRest IsAtRest self.old self.new }
+        ensures at_rest { (n : ℕ) → IsAtRest self.old domain n → result ≡ next n }
     {
         let number = self.number(domain);
         number + 2 + number % 2
@@ -143,6 +151,8 @@ impl Grace for PlainGrace {
         ensures state { self.new ≡ self.old }
         ensures seen { (side domain (known_in self.old)).seen ≤ number_in result }
         ensures known { known_in self.new ≡ read false domain (number_in result) (known_in self.old) }
+        ensures rest { StaysAtRest IsAtRest self.old self.new }
+        ensures at_rest { (n : ℕ) → IsAtRest self.old domain n → number_in result ≡ n }
     {
         let number = self.number(domain);
         if number < stamp {
@@ -161,6 +171,8 @@ impl Grace for PlainGrace {
         ensures state { self.new ≡ with_domain domain (period_begun self.old.processor result (domain_in domain self.old)) self.old }
         ensures seen { (side domain (known_in self.old)).seen ≤ found_at even result }
         ensures known { known_in self.new ≡ began false domain result even (known_in self.old) }
+        ensures rest { MovesNumber IsAtRest domain even (even + 1) self.old self.new }
+        ensures at_rest { IsAtRest self.old domain even → result ≡ Won }
     {
         match domain {
             Domain::Plain => self.plain.begin(self.processor, even),
@@ -176,6 +188,8 @@ impl Grace for PlainGrace {
         ensures later { length (side domain (known_in self.new)).later ≡ looks domain self.old.processors }
         ensures known { known_in self.new ≡ looked false domain (side domain (known_in self.new)).later (known_in self.old) }
         ensures verdict { let s = side domain (known_in self.new) in Verdict result domain s.first s.later }
+        ensures rest { StaysAtRest IsAtRest self.old self.new }
+        ensures at_rest { (n : ℕ) → IsAtRest self.old domain n → result ≡ All }
     {
         let words = self.words_seen(domain);
         match domain {
@@ -191,6 +205,7 @@ impl Grace for PlainGrace {
         ensures state { self.new ≡ with_domain domain (period_ended (domain_in domain self.old)) self.old }
         ensures ended { result ≡ ended domain (side domain (known_in self.old)) }
         ensures known { known_in self.new ≡ finished false domain (known_in self.old) }
+        ensures rest { (n : ℕ) → MovesNumber IsAtRest domain n (n + 1) self.old self.new }
     {
         match domain {
             Domain::Plain => self.plain.finish(domain),
@@ -208,4 +223,6 @@ impl Grace for PlainGrace {
             Domain::Tracing => self.tracing.is_driven_by(self.processor),
         }
     }
+
+    ghost idle_at_rest = { idle-at-rest };
 }

@@ -3,3 +3,4 @@ pub mod Returned
 pub mod Fetched
 pub mod Posts
 pub mod Room
+pub mod Told

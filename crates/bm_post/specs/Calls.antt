@@ -1,11 +1,12 @@
 -- The calls of a post: what each leaves, and how they are told.
-use Rattle.std.specs.Prelude.{◌≡◌, ◌<◌, ◌≤◌, ℕ, Bool, List, [], ◌∷◌, ◌++◌, length, drop, Option, Some, None}
+use Rattle.std.specs.Prelude.{◌≡◌, ◌<◌, ◌≤◌, ℕ, Bool, List, [], ◌∷◌, ◌++◌, length, drop, Option, Some, None, option_map}
 use Rattle.std.specs.List.{All}
 use Rattle.bm_page.specs.UnitState.{UnitState}
 use Rattle.bm_grace.specs.Known.{Known}
 use Rattle.bm_grace.specs.Calls.{told}
 use Rattle.bm_grace.specs.declared.step.TableStep.{TableStep}
 use Rattle.bm_grace.specs.Rights.{Rights}
+use Rattle.bm_post.specs.Parcels.{Boxes}
 use Rattle.bm_post.specs.Rights.{Gains, Loses, IsSettled, numbers}
 
 -- a unit is of a class
@@ -35,10 +36,16 @@ pub record Receives (class : ℕ) (units : List UnitState) (before now : Rights)
 abbrev pub GivesBack : List ℕ → Rights → Rights → Type 0
 GivesBack = Loses
 
--- A call of a post leaves what is known of grace periods; where steps are told it may have taken some.
+-- A call of a post leaves what is known of grace periods, and the parcels that are told; where steps are told it may have
+-- taken some.
 pub record Posts (tells : Bool) (before now : Known) : Type 0 where
   pub steps : List TableStep
   pub known : now ≡ record before { steps = told tells before.steps steps }
+
+-- .. and the parcels that are told, if they are, went so
+pub record Mails (tells : Bool) (change : Boxes → Boxes) (before now : Known) : Type 0 where
+  pub steps : List TableStep
+  pub known : now ≡ record before { steps = told tells before.steps steps; parcels = option_map change before.parcels }
 
 -- A call that wasn't refused, with what it was given and what it answered, units by their numbers. A receive that found
 -- nothing has no units.

@@ -1,5 +1,5 @@
 -- The pool and all inboxes, for one thread.
-use Rattle.std.specs.Prelude.{ℕ, ◌+◌, ◌*◌, ◌&&◌, eqb, Bool, true, List, [], ◌∷◌, ◌++◌, drop, replicate, slice_index_or, slice_set}
+use Rattle.std.specs.Prelude.{ℕ, ◌+◌, ◌*◌, ◌&&◌, eqb, nat_lt, if◌then◌else◌, Bool, true, Some, List, map, [], ◌∷◌, ◌++◌, drop, replicate, slice_index_or, slice_set}
 use Rattle.std.specs.List.{sum_by}
 use Rattle.bm_law.specs.Stands.{times}
 use Rattle.bm_page.specs.UnitState.{UnitState}
@@ -7,6 +7,7 @@ use Rattle.bm_page.specs.Stock.{Stock, stocked_at, returned}
 use Rattle.bm_grace.specs.Known.{Known, no_side}
 use Rattle.bm_grace.specs.Rights.{Rights}
 use Rattle.bm_post.specs.HasRoom.{has_room}
+use Rattle.bm_post.specs.Parcels.{Boxes}
 use Rattle.bm_post.specs.Rights.{numbers}
 
 -- The parcels of an inbox, oldest first.
@@ -60,11 +61,16 @@ waits n inboxes = sum_by (times_in n) inboxes
 abbrev pub is_mine : PostState → ℕ → Bool
 is_mine state n = (stocked_at state.pool.units n).out && eqb (waits n state.inboxes) 0
 
--- A post knows among how many processors it is, and whose side; of grace periods it knows nothing.
+-- The parcels in the inboxes of the processor whose side it is, by the numbers of their units; there are eleven classes.
+abbrev pub told_in : PostState → Boxes
+told_in state = λ c. if nat_lt c 11 then map numbers (inbox state.processor c state) else []
+
+-- A post knows among how many processors it is, and whose side, and tells its parcels; of grace periods it knows nothing.
 abbrev pub known_by : PostState → Known
 known_by state = record {
   grace = record { processors = state.processors; processor = state.processor; plain = no_side; tracing = no_side };
   steps = [];
+  parcels = Some (told_in state);
 }
 
 -- On one thread each unit with room for one life more may be used again as soon as it is there, whatever its seal.

@@ -2,11 +2,13 @@
 
 ghost use Rattle.std.specs.Prelude.{◌≡◌, ◌+◌, ◌*◌, ◌%◌, ◌<◌, ◌≤◌, ◌∷◌, ◌++◌, [], IfOk, IfErr, IfSome, IfNone, OnOk, OnErr, None, false, length, reverse, vec_capacity};
 ghost use Rattle.std.specs.List.{All};
+ghost use Rattle.std.specs.Option.{option_map_or};
 ghost use Rattle.bm_page.specs.Stock.{fetched as stock_fetched, next_unit};
 ghost use Rattle.bm_post.specs.Kept.{IsRoomy};
 ghost use Rattle.bm_post.specs.HasRoom.{room-of};
-ghost use Rattle.bm_post.specs.Calls.{Fetches, GivesBack, IsOf, KeepsCalls, Receives, TellsCall, fetched, received, returned_call, sent};
-ghost use Rattle.bm_post.specs.PostState.{Parcels, all_returned, inbox, no_parcels, known_by, rights_in, sent_to, taken_by};
+ghost use Rattle.bm_post.specs.Calls.{Fetches, GivesBack, IsOf, KeepsCalls, Mails, Receives, TellsCall, fetched, received, returned_call, sent};
+ghost use Rattle.bm_post.specs.PostState.{Parcels, all_returned, inbox, no_parcels, known_by, rights_in, sent_to, taken_by, told_in};
+ghost use Rattle.bm_post.specs.Parcels.{oldest, parcel_sent, parcel_taken};
 ghost use Rattle.bm_post.specs.Rights.{AreSame, Holds, Lasting, MayLeave, numbers};
 
 use crate::back::put_all_back;
@@ -145,6 +147,9 @@ impl Knows for PlainPost {
     ghost tells = { false };
 
     ghost rights = { rights_in };
+
+    // It knows nothing of grace periods.
+    ghost rest = { λ _ _ _. ⊥ };
 }
 
 impl Post for PlainPost {
@@ -186,6 +191,9 @@ impl Post for PlainPost {
         ensures sent { OnOk result (GivesBack (numbers units.items) (rights_in self.old) (rights_in self.new)) }
         ensures same { OnErr result (AreSame (rights_in self.old) (rights_in self.new)) }
         ensures lasts { Lasting (numbers units.items) (rights_in self.old) (rights_in self.new) }
+        ensures may { OnErr result (All (MayLeave (rights_in self.new)) units.items) }
+        ensures mails { OnOk result
+            (Mails false (parcel_sent to self.old.processor class (numbers units.items)) (known_by self.old) (known_by self.new)) }
     {
         let inboxes = &mut self.inboxes;
         inboxes[place_of(to, class)].push(units)
@@ -200,6 +208,9 @@ impl Post for PlainPost {
         ensures some { IfSome result (λ units. Receives class units.items (rights_in self.old) (rights_in self.new)) }
         ensures none { IfNone result (AreSame (rights_in self.old) (rights_in self.new)) }
         ensures lasts { Lasting [] (rights_in self.old) (rights_in self.new) }
+        ensures mails { Mails false (parcel_taken class) (known_by self.old) (known_by self.new) }
+        ensures oldest_told { oldest (told_in self.old class) ≡ option_map_or (λ units. numbers units.items) result [] }
+        ensures none_told { IfNone result (told_in self.old class ≡ []) }
     {
         let place = place_of(self.processor, class);
         let inbox = &mut self.inboxes[place];

@@ -2,9 +2,12 @@
 
 ghost use Rattle.std.specs.Prelude.{◌≡◌, ◌<◌, ◌≤◌, ◌+◌, ◌^◌, true, ℕ, List, Option, [], length, IfOk, IfErr, IfSome, IfNone, OnOk, OnErr};
 ghost use Rattle.std.specs.List.{All};
+ghost use Rattle.std.specs.Option.{option_map_or};
 ghost use Rattle.bm_page.specs.declared.units.Seal.{Seal};
+ghost use Rattle.bm_grace.specs.Rest.{StaysAtRest};
 ghost use Rattle.bm_grace.specs.Rights.{Rights};
-ghost use Rattle.bm_post.specs.Calls.{Fetches, GivesBack, IsOf, KeepsCalls, PostCall, Posts, Receives, TellsCall, fetched, received, returned_call, sent};
+ghost use Rattle.bm_post.specs.Calls.{Fetches, GivesBack, IsOf, KeepsCalls, Mails, PostCall, Posts, Receives, TellsCall, fetched, received, returned_call, sent};
+ghost use Rattle.bm_post.specs.Parcels.{oldest, parcel_sent, parcel_taken};
 ghost use Rattle.bm_post.specs.Rights.{AreSame, Holds, Lasting, MayLeave, numbers};
 
 use bm_class::Class;
@@ -31,6 +34,7 @@ pub trait Post: Knows {
         ensures same { OnErr result (AreSame (Self.rights self.old) (Self.rights self.new)) }
         ensures lasts { Lasting [] (Self.rights self.old) (Self.rights self.new) }
         ensures known { Posts Self.tells (Self.known self.old) (Self.known self.new) }
+        ensures rest { StaysAtRest Self.rest self.old self.new }
         ensures calls { IfOk result (λ n. TellsCall (fetched class want n out.old.items out.new.items) (calls self.old) (calls self.new)) }
         ensures no_call { OnErr result (KeepsCalls (calls self.old) (calls self.new)) };
 
@@ -41,6 +45,7 @@ pub trait Post: Knows {
         ensures back { GivesBack (numbers units.items) (Self.rights self.old) (Self.rights self.new) }
         ensures lasts { Lasting (numbers units.items) (Self.rights self.old) (Self.rights self.new) }
         ensures known { Posts Self.tells (Self.known self.old) (Self.known self.new) }
+        ensures rest { StaysAtRest Self.rest self.old self.new }
         ensures calls { TellsCall (returned_call units.items) (calls self.old) (calls self.new) };
 
     /// Sends units of a class to a processor's inbox, as one parcel; this one's own inbox too. They are mine, and settled
@@ -55,7 +60,11 @@ pub trait Post: Knows {
         ensures refused { IfErr result (λ back. back.items ≡ units.items) }
         ensures same { OnErr result (AreSame (Self.rights self.old) (Self.rights self.new)) }
         ensures lasts { Lasting (numbers units.items) (Self.rights self.old) (Self.rights self.new) }
-        ensures known { Posts Self.tells (Self.known self.old) (Self.known self.new) }
+        ensures may { OnErr result (All (MayLeave (Self.rights self.new)) units.items) }
+        ensures mails { OnOk result
+            (Mails Self.tells (parcel_sent to (Self.known self.old).grace.processor class (numbers units.items)) (Self.known self.old) (Self.known self.new)) }
+        ensures known { OnErr result (Posts Self.tells (Self.known self.old) (Self.known self.new)) }
+        ensures rest { StaysAtRest Self.rest self.old self.new }
         ensures calls { OnOk result (TellsCall (sent to class units.items) (calls self.old) (calls self.new)) }
         ensures no_call { OnErr result (KeepsCalls (calls self.old) (calls self.new)) };
 
@@ -65,7 +74,11 @@ pub trait Post: Knows {
         ensures some { IfSome result (λ units. Receives class units.items (Self.rights self.old) (Self.rights self.new)) }
         ensures none { IfNone result (AreSame (Self.rights self.old) (Self.rights self.new)) }
         ensures lasts { Lasting [] (Self.rights self.old) (Self.rights self.new) }
-        ensures known { Posts Self.tells (Self.known self.old) (Self.known self.new) }
+        ensures mails { Mails Self.tells (parcel_taken class) (Self.known self.old) (Self.known self.new) }
+        ensures oldest_told { IfSome (Self.known self.old).parcels
+            (λ boxes. oldest (boxes class) ≡ option_map_or (λ units. numbers units.items) result []) }
+        ensures none_told { IfNone result (IfSome (Self.known self.old).parcels (λ boxes. boxes class ≡ [])) }
+        ensures rest { StaysAtRest Self.rest self.old self.new }
         ensures calls { IfSome result (λ units. TellsCall (received class units.items) (calls self.old) (calls self.new)) }
         ensures empty { IfNone result (TellsCall (received class []) (calls self.old) (calls self.new)) };
 

@@ -1,13 +1,15 @@
 -- Units that wait no more, and units that come.
 use Rattle.std.proofs.Common.{◌≡◌, ◌⊎◌, ℕ, zero, suc, ◌<◌, true, false, List, [], ◌∷◌, length, get_or, set, length-set, replicate, refl, sym, ◌∙◌, ap, subst, inl, inr, arith, eqb, eq-eqb, ne_eqb, Option, Some, None, Result, Ok, Err, IfOk, OnOk, OnErr, IfSome, IfNone}
 use Rattle.std.specs.Prelude.{◌&&◌, not}
+use Rattle.std.specs.List.{All}
 use Rattle.std.proofs.lemmas.Bool.{cases_eq, cases_lt, and_parts, and_from, false≢true}
 use Rattle.std.proofs.lemmas.List.{get_or_past, get_or-set_same, get_or-set_other, length-replicate}
 use Rattle.bm_law.specs.Stands.{times}
 use Rattle.bm_page.specs.UnitState.{UnitState}
+use Rattle.bm_grace.specs.Answers.{next}
 use Rattle.bm_grace.specs.Rights.{Rights}
 use Rattle.bm_post.specs.HasRoom.{has_room}
-use Rattle.bm_post.specs.Rights.{AreSame, Gains, Lasting, Loses, numbers}
+use Rattle.bm_post.specs.Rights.{AreSame, Gains, Lasting, Loses, MayLeave, numbers}
 use Rattle.bm_post.specs.Calls.{Fetches, Receives, Takes}
 use Rattle.bm_post.specs.PostState.{PostState, is_mine, rights_in}
 use Rattle.bm_post.proofs.Counts.{here-times, zero-or-more}
@@ -155,3 +157,45 @@ none-kept post p t ws e = record {
   where
     never : (n : ℕ) (w : Wait) → wait_of ws n ≡ Some w → ⊥
     never n w h = let x : is_waiting None ≡ is_waiting (Some w) = ap is_waiting (sym (none-wait 65536 n) ∙ (ap (λ (z : Waits). wait_of z n) (sym e) ∙ h)) in false≢true x
+
+-- units that were to be sent wait no more, so those with room for one life more may leave
+pub leave-cleared : {A E : Type 0} (r : Result A E) (us : List UnitState) (post post' : PostState) (p t : ℕ) (ws : Waits) → OnErr r (All (MayLeave (rights_in post)) us) → OnErr r (All (MayLeave (rights_with post' p t (cleared (numbers us) ws))) us)
+leave-cleared (Ok x) us post post' p t ws h = tt
+leave-cleared (Err e) us post post' p t ws h = λ i d lt.
+    let u : UnitState = get_or us i d in
+    let room : has_room u.number u.life ≡ true = elim (h i d lt) [ inl a ↦ a | inr b ↦ b ] in
+    let free : wait_of (cleared (numbers us) ws) u.number ≡ None =
+    elim (cleared-either (numbers us) ws u.number) [
+      | inl gone ↦ gone.0
+      | inr stays ↦ absurd (let some = here-times us i d lt in let none = stays.0 in omega (arith, some, none))
+    ] in
+    inl (and_from (has_room u.number u.life) (not (is_waiting (wait_of (cleared (numbers us) ws) u.number))) room (ap (λ w. not (is_waiting w)) free))
+
+-- a unit of mine begins to wait now
+pub kept-waiting : (post : PostState) (p t n : ℕ) (ws : Waits) (wait : Wait) → wait.plain ≡ next p → wait.tracing ≡ next t → is_mine post n ≡ true → AreKept post p t ws → AreKept post p t (set ws n (Some wait))
+kept-waiting post p t n ws wait plain tracing mine k = record {
+  size = length-set ws n (Some wait) ∙ k.size;
+  mine = λ m w e. elim (either m w e) [ inl x ↦ subst (λ j. is_mine post j ≡ true) (sym x.0) mine | inr x ↦ k.mine m w x ];
+  began_plain = λ m w e. elim (either m w e) [
+    | inl x ↦ let q : w.plain ≡ next p = ap (λ (v : Wait). v.plain) x.1 ∙ plain in omega (arith, q)
+    | inr x ↦ k.began_plain m w x
+  ];
+  began_tracing = λ m w e. elim (either m w e) [
+    | inl x ↦ let q : w.tracing ≡ next t = ap (λ (v : Wait). v.tracing) x.1 ∙ tracing in omega (arith, q)
+    | inr x ↦ k.began_tracing m w x
+  ];
+}
+  where
+    wait_in : Option Wait → Wait
+    wait_in None = wait
+    wait_in (Some w) = w
+
+    either : (m : ℕ) (w : Wait) → wait_of (set ws n (Some wait)) m ≡ Some w → ((m ≡ n) × (w ≡ wait)) ⊎ (wait_of ws m ≡ Some w)
+    either m w e =
+        elim (cases_eq m n) [
+          | inl same ↦ elim (cases_lt m (length ws)) [
+            | inl less ↦ inl (same, sym (ap wait_in (sym (subst (λ j. wait_of (set ws n (Some wait)) j ≡ Some wait) (sym same) (get_or-set_same ws n (Some wait) None (subst (λ j. j < length ws) same less))) ∙ e)))
+            | inr past ↦ absurd (let x : is_waiting None ≡ is_waiting (Some w) = ap is_waiting (sym (get_or_past (set ws n (Some wait)) m None (rw length-set past)) ∙ e) in false≢true x)
+          ]
+          | inr other ↦ inr (sym (get_or-set_other ws n m (Some wait) None other) ∙ e)
+        ]

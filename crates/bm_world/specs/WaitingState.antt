@@ -1,16 +1,17 @@
 -- The world on one thread that tells which units wait. (This project's own. The kernel keeps units that wait in lists apart,
 -- and nothing there tells of a unit itself that it waits.)
-use Rattle.std.specs.Prelude.{◌≡◌, ◌≤◌, ℕ, ◌+◌, ◌^◌, ◌<◌, ◌&&◌, not, nat_le, Bool, true, false, Option, None, Some, List, [], ◌∷◌, length, slice_index_or, slice_set, replicate}
+use Rattle.std.specs.Prelude.{◌≡◌, ◌≤◌, ℕ, ◌+◌, ◌%◌, ◌^◌, ◌<◌, ◌&&◌, not, nat_le, Bool, true, false, Option, None, Some, List, [], ◌∷◌, length, slice_index_or, slice_set, replicate}
 use Rattle.bm_journal.specs.declared.ids.Domain.{Domain}
 use Rattle.bm_journal.specs.declared.ids.Domain.TheVariants.{Plain, Tracing}
 use Rattle.bm_page.specs.declared.units.Seal.{Seal}
 use Rattle.bm_grace.specs.Answers.{next}
 use Rattle.bm_grace.specs.PlainState.{PlainState}
+use Rattle.bm_grace.specs.Known.{side}
 use Rattle.bm_grace.specs.Rights.{Rights}
 use Rattle.std.proofs.lemmas.Bool.{and_parts}
 use Rattle.bm_post.specs.HasRoom.{has_room, room-of}
 use Rattle.bm_post.specs.PostState.{PostState, is_mine}
-use Rattle.bm_world.specs.SideState.{SideState}
+use Rattle.bm_world.specs.SideState.{SideAtRest, SideState, idle-of, known_of}
 use Rattle.bm_world.specs.declared.wait.Wait.{Wait}
 
 -- The side, and by a unit's number since when it waits; none where it doesn't.
@@ -61,6 +62,10 @@ rights_with post plain tracing waits = record {
 abbrev pub rights_now : WaitingState → Rights
 rights_now state = rights_with state.side.post state.side.grace.plain.number state.side.grace.tracing.number state.waits
 
+-- All is at rest where it is on the side.
+abbrev pub WaitingAtRest : WaitingState → Domain → ℕ → Type 0
+WaitingAtRest world = SideAtRest world.side
+
 -- nothing waits
 abbrev pub no_waits : List (Option Wait)
 no_waits = replicate 65536 None
@@ -88,3 +93,6 @@ pub record AreKept (post : PostState) (plain tracing : ℕ) (waits : List (Optio
 -- what may be used again has room
 pub room-now : (p : WaitingState) (n life : ℕ) (seal : Option Seal) → (rights_now p).settled n life seal ≡ true → (n < 2 ^ 16) × (life + 1 < 2 ^ 32)
 room-now p n life seal h = room-of n life seal (and_parts (has_room n life) (not (is_waiting (wait_of p.waits n))) h).0
+
+pub idle-now : (world : WaitingState) (d : Domain) (n : ℕ) → WaitingAtRest world d n → n % 2 ≡ 0 → (side d (known_of world.side)).number ≡ 0
+idle-now world = idle-of world.side

@@ -1,16 +1,22 @@
 //! The world on one thread.
 
-ghost use Rattle.std.specs.Prelude.{◌≡◌, ◌+◌, ◌%◌, ◌^◌, ◌<◌, ◌≤◌, ◌∷◌, ◌++◌, [], None, false, length, reverse, true, IfOk, IfErr, IfSome, IfNone, OnOk, OnErr};
+ghost use Rattle.std.specs.Prelude.{◌≡◌, ℕ, ◌+◌, ◌%◌, ◌^◌, ◌<◌, ◌≤◌, ◌∷◌, ◌++◌, [], None, false, length, reverse, true, IfOk, IfErr, IfSome, IfNone, OnOk, OnErr};
 ghost use Rattle.std.specs.List.{All};
+ghost use Rattle.std.specs.Option.{option_map_or};
 ghost use Rattle.bm_page.specs.Stock.{fetched as stock_fetched};
 ghost use Rattle.bm_grace.specs.Answers.{Answers, BeganAt, CanFinish, Stamped, Verdict, ended, next, number_in};
 ghost use Rattle.bm_grace.specs.Calls.{began, entered, finished, found_at, left, looked, looks, read};
-ghost use Rattle.bm_grace.specs.Rights.{Ages, MineSince, Ripens};
+ghost use Rattle.bm_grace.specs.Rights.{Ages, AsBefore, MineSince, Ripens};
+ghost use Rattle.bm_grace.specs.Rest.{MovesNumber, StaysAtRest};
+ghost use Rattle.bm_grace.specs.declared.answer.Began.TheVariants.{Won};
+ghost use Rattle.bm_grace.specs.declared.answer.Look.TheVariants.{All as AllPass};
 ghost use Rattle.bm_grace.specs.Known.{side};
-ghost use Rattle.bm_grace.specs.PlainState.{domain_in, is_processor, known_in, period_begun, period_ended, period_looked, with_domain, word_moved, words_in};
-ghost use Rattle.bm_post.specs.PostState.{all_returned, inbox, rights_in, sent_to, taken_by};
+ghost use Rattle.bm_grace.specs.PlainState.{domain_in, is_processor, period_begun, period_ended, period_looked, with_domain, word_moved, words_in};
+ghost use Rattle.bm_post.specs.PostState.{all_returned, inbox, rights_in, sent_to, taken_by, told_in};
 ghost use Rattle.bm_post.specs.HasRoom.{room-of};
-ghost use Rattle.bm_post.specs.Calls.{Fetches, GivesBack, IsOf, Posts, Receives};
+ghost use Rattle.bm_post.specs.Calls.{Fetches, GivesBack, IsOf, Mails, Posts, Receives};
+ghost use Rattle.bm_post.specs.Parcels.{oldest, parcel_sent, parcel_taken};
+ghost use Rattle.bm_world.specs.SideState.{SideAtRest, idle-of, known_of};
 ghost use Rattle.bm_post.specs.Rights.{AreSame, Holds, Lasting, MayLeave, numbers};
 
 use crate::World;
@@ -73,35 +79,39 @@ impl OneSide {
 }
 
 impl Knows for OneSide {
-    ghost known = { λ world. known_in world.grace };
+    ghost known = { known_of };
 
     ghost tells = { false };
 
     ghost rights = { λ world. rights_in world.post };
+
+    ghost rest = { SideAtRest };
 }
 
 impl Grace for OneSide {
     fn enter(&mut self, domain: Domain) -> u32
-        requires outside { (side domain (known_in self.old.grace)).word % 2 ≡ 0 }
-        requires room { (side domain (known_in self.old.grace)).word < 2 ^ 28 }
+        requires outside { (side domain (known_of self.old)).word % 2 ≡ 0 }
+        requires room { (side domain (known_of self.old)).word < 2 ^ 28 }
         ensures post { self.new.post ≡ self.old.post }
         ensures grace { self.new.grace
             ≡ with_domain domain (word_moved self.old.grace.processor (domain_in domain self.old.grace)) self.old.grace }
-        ensures word { result ≡ (side domain (known_in self.old.grace)).word + 1 }
-        ensures known { known_in self.new.grace ≡ entered false domain (known_in self.old.grace) }
+        ensures word { result ≡ (side domain (known_of self.old)).word + 1 }
+        ensures known { known_of self.new ≡ entered false domain (known_of self.old) }
         ensures rights { Ages (rights_in self.old.post) (rights_in self.new.post) }
+        ensures same { AsBefore (rights_in self.old.post) (rights_in self.new.post) }
     {
         self.grace.enter(domain)
     }
 
     fn leave(&mut self, domain: Domain) -> u32
-        requires inside { (side domain (known_in self.old.grace)).word % 2 ≡ 1 }
+        requires inside { (side domain (known_of self.old)).word % 2 ≡ 1 }
         ensures post { self.new.post ≡ self.old.post }
         ensures grace { self.new.grace
             ≡ with_domain domain (word_moved self.old.grace.processor (domain_in domain self.old.grace)) self.old.grace }
-        ensures word { result ≡ (side domain (known_in self.old.grace)).word + 1 }
-        ensures known { known_in self.new.grace ≡ left false domain (known_in self.old.grace) }
+        ensures word { result ≡ (side domain (known_of self.old)).word + 1 }
+        ensures known { known_of self.new ≡ left false domain (known_of self.old) }
         ensures rights { Ages (rights_in self.old.post) (rights_in self.new.post) }
+        ensures same { AsBefore (rights_in self.old.post) (rights_in self.new.post) }
     {
         self.grace.leave(domain)
     }
@@ -109,9 +119,11 @@ impl Grace for OneSide {
     fn stamp(&mut self, domain: Domain) -> u32
         ensures stamp { result ≡ next (domain_in domain self.old.grace).number }
         ensures state { self.new ≡ self.old }
-        ensures known { Stamped false domain result (known_in self.old.grace) (known_in self.new.grace) }
+        ensures known { Stamped false domain result (known_of self.old) (known_of self.new) }
         ensures rights { Ages (rights_in self.old.post) (rights_in self.new.post) }
         ensures since { MineSince domain result (rights_in self.old.post) (rights_in self.new.post) }
+        ensures rest { StaysAtRest SideAtRest self.old self.new }
+        ensures at_rest { (n : ℕ) → SideAtRest self.old domain n → result ≡ next n }
     {
         self.grace.stamp(domain)
     }
@@ -120,62 +132,71 @@ impl Grace for OneSide {
         ensures number { number_in result ≡ (domain_in domain self.old.grace).number }
         ensures state { self.new ≡ self.old }
         ensures answer { Answers result stamp }
-        ensures seen { (side domain (known_in self.old.grace)).seen ≤ number_in result }
-        ensures known { known_in self.new.grace ≡ read false domain (number_in result) (known_in self.old.grace) }
+        ensures seen { (side domain (known_of self.old)).seen ≤ number_in result }
+        ensures known { known_of self.new ≡ read false domain (number_in result) (known_of self.old) }
         ensures rights { Ages (rights_in self.old.post) (rights_in self.new.post) }
         ensures ripe { Ripens domain stamp result (rights_in self.old.post) (rights_in self.new.post) }
+        ensures rest { StaysAtRest SideAtRest self.old self.new }
+        ensures at_rest { (n : ℕ) → SideAtRest self.old domain n → number_in result ≡ n }
     {
         self.grace.done(domain, stamp)
     }
 
     fn begin(&mut self, domain: Domain, even: u32) -> Began
         requires even { even % 2 ≡ 0 }
-        requires idle { (side domain (known_in self.old.grace)).number ≡ 0 }
-        requires room { 0 < (side domain (known_in self.old.grace)).begins }
+        requires idle { (side domain (known_of self.old)).number ≡ 0 }
+        requires room { 0 < (side domain (known_of self.old)).begins }
         ensures found { found_at even result ≡ (domain_in domain self.old.grace).number }
         ensures post { self.new.post ≡ self.old.post }
         ensures grace { self.new.grace
             ≡ with_domain domain (period_begun self.old.grace.processor result (domain_in domain self.old.grace)) self.old.grace }
         ensures answer { BeganAt result even }
-        ensures seen { (side domain (known_in self.old.grace)).seen ≤ found_at even result }
-        ensures known { known_in self.new.grace ≡ began false domain result even (known_in self.old.grace) }
+        ensures seen { (side domain (known_of self.old)).seen ≤ found_at even result }
+        ensures known { known_of self.new ≡ began false domain result even (known_of self.old) }
         ensures rights { Ages (rights_in self.old.post) (rights_in self.new.post) }
+        ensures rest { MovesNumber SideAtRest domain even (even + 1) self.old self.new }
+        ensures at_rest { SideAtRest self.old domain even → result ≡ Won }
     {
         self.grace.begin(domain, even)
     }
 
     fn look(&mut self, domain: Domain) -> Look
-        requires driving { (side domain (known_in self.old.grace)).number % 2 ≡ 1 }
+        requires driving { (side domain (known_of self.old)).number % 2 ≡ 1 }
         ensures post { self.new.post ≡ self.old.post }
         ensures grace { self.new.grace
             ≡ with_domain domain (period_looked (words_in domain self.old.grace) (domain_in domain self.old.grace)) self.old.grace }
-        ensures first { length (side domain (known_in self.new.grace)).first ≡ looks domain self.old.grace.processors }
-        ensures later { length (side domain (known_in self.new.grace)).later ≡ looks domain self.old.grace.processors }
-        ensures answer { let s = side domain (known_in self.new.grace) in Verdict result domain s.first s.later }
-        ensures known { known_in self.new.grace ≡ looked false domain (side domain (known_in self.new.grace)).later (known_in self.old.grace) }
+        ensures first { length (side domain (known_of self.new)).first ≡ looks domain self.old.grace.processors }
+        ensures later { length (side domain (known_of self.new)).later ≡ looks domain self.old.grace.processors }
+        ensures answer { let s = side domain (known_of self.new) in Verdict result domain s.first s.later }
+        ensures known { known_of self.new ≡ looked false domain (side domain (known_of self.new)).later (known_of self.old) }
         ensures rights { Ages (rights_in self.old.post) (rights_in self.new.post) }
+        ensures rest { StaysAtRest SideAtRest self.old self.new }
+        ensures at_rest { (n : ℕ) → SideAtRest self.old domain n → result ≡ AllPass }
     {
         self.grace.look(domain)
     }
 
     fn finish(&mut self, domain: Domain) -> Period
-        requires { CanFinish domain (known_in self.old.grace) }
+        requires { CanFinish domain (known_of self.old) }
         ensures post { self.new.post ≡ self.old.post }
         ensures grace { self.new.grace ≡ with_domain domain (period_ended (domain_in domain self.old.grace)) self.old.grace }
-        ensures period { result ≡ ended domain (side domain (known_in self.old.grace)) }
-        ensures known { known_in self.new.grace ≡ finished false domain (known_in self.old.grace) }
+        ensures period { result ≡ ended domain (side domain (known_of self.old)) }
+        ensures known { known_of self.new ≡ finished false domain (known_of self.old) }
         ensures rights { Ages (rights_in self.old.post) (rights_in self.new.post) }
+        ensures rest { (n : ℕ) → MovesNumber SideAtRest domain n (n + 1) self.old self.new }
     {
         self.grace.finish(domain)
     }
 
     fn driving(&self, domain: Domain) -> bool
         ensures is { result ≡ is_processor self.now.grace.processor (domain_in domain self.now.grace).driver }
-        ensures none { result ≡ false → (side domain (known_in self.now.grace)).number ≡ 0 }
-        ensures odd { result ≡ true → (side domain (known_in self.now.grace)).number % 2 ≡ 1 }
+        ensures none { result ≡ false → (side domain (known_of self.now)).number ≡ 0 }
+        ensures odd { result ≡ true → (side domain (known_of self.now)).number % 2 ≡ 1 }
     {
         self.grace.driving(domain)
     }
+
+    ghost idle_at_rest = { idle-of };
 }
 
 impl Post for OneSide {
@@ -191,7 +212,8 @@ impl Post for OneSide {
         ensures err { OnErr result (out.new.items ≡ out.old.items) }
         ensures same { OnErr result (AreSame (rights_in self.old.post) (rights_in self.new.post)) }
         ensures lasts { Lasting [] (rights_in self.old.post) (rights_in self.new.post) }
-        ensures known { Posts false (known_in self.old.grace) (known_in self.new.grace) }
+        ensures known { Posts false (known_of self.old) (known_of self.new) }
+        ensures rest { StaysAtRest SideAtRest self.old self.new }
     {
         self.post.fetch(class, want, out)
     }
@@ -203,7 +225,8 @@ impl Post for OneSide {
         ensures grace { self.new.grace ≡ self.old.grace }
         ensures back { GivesBack (numbers units.items) (rights_in self.old.post) (rights_in self.new.post) }
         ensures lasts { Lasting (numbers units.items) (rights_in self.old.post) (rights_in self.new.post) }
-        ensures known { Posts false (known_in self.old.grace) (known_in self.new.grace) }
+        ensures known { Posts false (known_of self.old) (known_of self.new) }
+        ensures rest { StaysAtRest SideAtRest self.old self.new }
     {
         self.post.put_back(units);
     }
@@ -221,7 +244,11 @@ impl Post for OneSide {
         ensures refused { IfErr result (λ back. back.items ≡ units.items) }
         ensures same { OnErr result (AreSame (rights_in self.old.post) (rights_in self.new.post)) }
         ensures lasts { Lasting (numbers units.items) (rights_in self.old.post) (rights_in self.new.post) }
-        ensures known { Posts false (known_in self.old.grace) (known_in self.new.grace) }
+        ensures may { OnErr result (All (MayLeave (rights_in self.new.post)) units.items) }
+        ensures mails { OnOk result
+            (Mails false (parcel_sent to self.old.grace.processor class (numbers units.items)) (known_of self.old) (known_of self.new)) }
+        ensures known { OnErr result (Posts false (known_of self.old) (known_of self.new)) }
+        ensures rest { StaysAtRest SideAtRest self.old self.new }
     {
         self.post.send(to, class, units)
     }
@@ -236,7 +263,10 @@ impl Post for OneSide {
         ensures some { IfSome result (λ units. Receives class units.items (rights_in self.old.post) (rights_in self.new.post)) }
         ensures none { IfNone result (AreSame (rights_in self.old.post) (rights_in self.new.post)) }
         ensures lasts { Lasting [] (rights_in self.old.post) (rights_in self.new.post) }
-        ensures known { Posts false (known_in self.old.grace) (known_in self.new.grace) }
+        ensures mails { Mails false (parcel_taken class) (known_of self.old) (known_of self.new) }
+        ensures oldest_told { oldest (told_in self.old.post class) ≡ option_map_or (λ units. numbers units.items) result [] }
+        ensures none_told { IfNone result (told_in self.old.post class ≡ []) }
+        ensures rest { StaysAtRest SideAtRest self.old self.new }
     {
         self.post.receive(class)
     }

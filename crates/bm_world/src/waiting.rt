@@ -2,18 +2,24 @@
 
 ghost use Rattle.std.specs.Prelude.{◌≡◌, ◌≢◌, ◌+◌, ◌%◌, ◌^◌, ◌<◌, ◌≤◌, ◌∷◌, ◌++◌, [], ℕ, List, Option, None, Some, false, length, reverse, true, vec_capacity, IfOk, IfErr, IfSome, IfNone, OnOk, OnErr};
 ghost use Rattle.std.specs.List.{All};
+ghost use Rattle.std.specs.Option.{option_map_or};
 ghost use Rattle.bm_page.specs.Stock.{fetched as stock_fetched};
 ghost use Rattle.bm_page.specs.declared.units.Seal.{Seal};
 ghost use Rattle.bm_grace.specs.Answers.{Answers, BeganAt, CanFinish, Stamped, Verdict, ended, next, number_in};
 ghost use Rattle.bm_grace.specs.Calls.{began, entered, finished, found_at, left, looked, looks, read};
-ghost use Rattle.bm_grace.specs.Rights.{Ages, MineSince, Ripens};
+ghost use Rattle.bm_grace.specs.Rights.{Ages, AsBefore, MineSince, Ripens};
+ghost use Rattle.bm_grace.specs.Rest.{MovesNumber, StaysAtRest};
+ghost use Rattle.bm_grace.specs.declared.answer.Began.TheVariants.{Won};
+ghost use Rattle.bm_grace.specs.declared.answer.Look.TheVariants.{All as AllPass};
 ghost use Rattle.bm_grace.specs.Known.{side};
-ghost use Rattle.bm_grace.specs.PlainState.{domain_in, is_processor, known_in, period_begun, period_ended, period_looked, with_domain, word_moved, words_in};
-ghost use Rattle.bm_post.specs.PostState.{all_returned, inbox, is_mine, sent_to, taken_by};
+ghost use Rattle.bm_grace.specs.PlainState.{domain_in, is_processor, period_begun, period_ended, period_looked, with_domain, word_moved, words_in};
+ghost use Rattle.bm_post.specs.PostState.{all_returned, inbox, is_mine, sent_to, taken_by, told_in};
 ghost use Rattle.bm_post.specs.HasRoom.{has_room};
-ghost use Rattle.bm_post.specs.Calls.{Fetches, GivesBack, IsOf, Posts, Receives};
+ghost use Rattle.bm_post.specs.Calls.{Fetches, GivesBack, IsOf, Mails, Posts, Receives};
+ghost use Rattle.bm_post.specs.Parcels.{oldest, parcel_sent, parcel_taken};
 ghost use Rattle.bm_post.specs.Rights.{AreSame, Holds, Lasting, MayLeave, numbers};
-ghost use Rattle.bm_world.specs.WaitingState.{cleared, no_waits, rights_now, room-now, wait_of, with_wait};
+ghost use Rattle.bm_world.specs.SideState.{known_of};
+ghost use Rattle.bm_world.specs.WaitingState.{WaitingAtRest, cleared, idle-now, no_waits, rights_now, room-now, wait_of, with_wait};
 ghost use Rattle.bm_world.specs.declared.wait.Wait.{Wait};
 
 use crate::wait::Wait;
@@ -129,37 +135,41 @@ impl WaitingSide {
 }
 
 impl Knows for WaitingSide {
-    ghost known = { λ world. known_in world.side.grace };
+    ghost known = { λ world. known_of world.side };
 
     ghost tells = { false };
 
     ghost rights = { rights_now };
+
+    ghost rest = { WaitingAtRest };
 }
 
 impl Grace for WaitingSide {
     fn enter(&mut self, domain: Domain) -> u32
-        requires outside { (side domain (known_in self.old.side.grace)).word % 2 ≡ 0 }
-        requires room { (side domain (known_in self.old.side.grace)).word < 2 ^ 28 }
+        requires outside { (side domain (known_of self.old.side)).word % 2 ≡ 0 }
+        requires room { (side domain (known_of self.old.side)).word < 2 ^ 28 }
         ensures post { self.new.side.post ≡ self.old.side.post }
         ensures waits { self.new.waits ≡ self.old.waits }
         ensures grace { self.new.side.grace
             ≡ with_domain domain (word_moved self.old.side.grace.processor (domain_in domain self.old.side.grace)) self.old.side.grace }
-        ensures word { result ≡ (side domain (known_in self.old.side.grace)).word + 1 }
-        ensures known { known_in self.new.side.grace ≡ entered false domain (known_in self.old.side.grace) }
+        ensures word { result ≡ (side domain (known_of self.old.side)).word + 1 }
+        ensures known { known_of self.new.side ≡ entered false domain (known_of self.old.side) }
         ensures rights { Ages (rights_now self.old) (rights_now self.new) }
+        ensures same { AsBefore (rights_now self.old) (rights_now self.new) }
     {
         self.side.enter(domain)
     }
 
     fn leave(&mut self, domain: Domain) -> u32
-        requires inside { (side domain (known_in self.old.side.grace)).word % 2 ≡ 1 }
+        requires inside { (side domain (known_of self.old.side)).word % 2 ≡ 1 }
         ensures post { self.new.side.post ≡ self.old.side.post }
         ensures waits { self.new.waits ≡ self.old.waits }
         ensures grace { self.new.side.grace
             ≡ with_domain domain (word_moved self.old.side.grace.processor (domain_in domain self.old.side.grace)) self.old.side.grace }
-        ensures word { result ≡ (side domain (known_in self.old.side.grace)).word + 1 }
-        ensures known { known_in self.new.side.grace ≡ left false domain (known_in self.old.side.grace) }
+        ensures word { result ≡ (side domain (known_of self.old.side)).word + 1 }
+        ensures known { known_of self.new.side ≡ left false domain (known_of self.old.side) }
         ensures rights { Ages (rights_now self.old) (rights_now self.new) }
+        ensures same { AsBefore (rights_now self.old) (rights_now self.new) }
     {
         self.side.leave(domain)
     }
@@ -167,9 +177,11 @@ impl Grace for WaitingSide {
     fn stamp(&mut self, domain: Domain) -> u32
         ensures stamp { result ≡ next (domain_in domain self.old.side.grace).number }
         ensures state { self.new ≡ self.old }
-        ensures known { Stamped false domain result (known_in self.old.side.grace) (known_in self.new.side.grace) }
+        ensures known { Stamped false domain result (known_of self.old.side) (known_of self.new.side) }
         ensures rights { Ages (rights_now self.old) (rights_now self.new) }
         ensures since { MineSince domain result (rights_now self.old) (rights_now self.new) }
+        ensures rest { StaysAtRest WaitingAtRest self.old self.new }
+        ensures at_rest { (n : ℕ) → WaitingAtRest self.old domain n → result ≡ next n }
     {
         self.side.stamp(domain)
     }
@@ -178,65 +190,74 @@ impl Grace for WaitingSide {
         ensures number { number_in result ≡ (domain_in domain self.old.side.grace).number }
         ensures state { self.new ≡ self.old }
         ensures answer { Answers result stamp }
-        ensures seen { (side domain (known_in self.old.side.grace)).seen ≤ number_in result }
-        ensures known { known_in self.new.side.grace ≡ read false domain (number_in result) (known_in self.old.side.grace) }
+        ensures seen { (side domain (known_of self.old.side)).seen ≤ number_in result }
+        ensures known { known_of self.new.side ≡ read false domain (number_in result) (known_of self.old.side) }
         ensures rights { Ages (rights_now self.old) (rights_now self.new) }
         ensures ripe { Ripens domain stamp result (rights_now self.old) (rights_now self.new) }
+        ensures rest { StaysAtRest WaitingAtRest self.old self.new }
+        ensures at_rest { (n : ℕ) → WaitingAtRest self.old domain n → number_in result ≡ n }
     {
         self.side.done(domain, stamp)
     }
 
     fn begin(&mut self, domain: Domain, even: u32) -> Began
         requires even { even % 2 ≡ 0 }
-        requires idle { (side domain (known_in self.old.side.grace)).number ≡ 0 }
-        requires room { 0 < (side domain (known_in self.old.side.grace)).begins }
+        requires idle { (side domain (known_of self.old.side)).number ≡ 0 }
+        requires room { 0 < (side domain (known_of self.old.side)).begins }
         ensures found { found_at even result ≡ (domain_in domain self.old.side.grace).number }
         ensures post { self.new.side.post ≡ self.old.side.post }
         ensures waits { self.new.waits ≡ self.old.waits }
         ensures grace { self.new.side.grace
             ≡ with_domain domain (period_begun self.old.side.grace.processor result (domain_in domain self.old.side.grace)) self.old.side.grace }
         ensures answer { BeganAt result even }
-        ensures seen { (side domain (known_in self.old.side.grace)).seen ≤ found_at even result }
-        ensures known { known_in self.new.side.grace ≡ began false domain result even (known_in self.old.side.grace) }
+        ensures seen { (side domain (known_of self.old.side)).seen ≤ found_at even result }
+        ensures known { known_of self.new.side ≡ began false domain result even (known_of self.old.side) }
         ensures rights { Ages (rights_now self.old) (rights_now self.new) }
+        ensures rest { MovesNumber WaitingAtRest domain even (even + 1) self.old self.new }
+        ensures at_rest { WaitingAtRest self.old domain even → result ≡ Won }
     {
         self.side.begin(domain, even)
     }
 
     fn look(&mut self, domain: Domain) -> Look
-        requires driving { (side domain (known_in self.old.side.grace)).number % 2 ≡ 1 }
+        requires driving { (side domain (known_of self.old.side)).number % 2 ≡ 1 }
         ensures post { self.new.side.post ≡ self.old.side.post }
         ensures waits { self.new.waits ≡ self.old.waits }
         ensures grace { self.new.side.grace
             ≡ with_domain domain (period_looked (words_in domain self.old.side.grace) (domain_in domain self.old.side.grace)) self.old.side.grace }
-        ensures first { length (side domain (known_in self.new.side.grace)).first ≡ looks domain self.old.side.grace.processors }
-        ensures later { length (side domain (known_in self.new.side.grace)).later ≡ looks domain self.old.side.grace.processors }
-        ensures answer { let s = side domain (known_in self.new.side.grace) in Verdict result domain s.first s.later }
-        ensures known { known_in self.new.side.grace ≡ looked false domain (side domain (known_in self.new.side.grace)).later (known_in self.old.side.grace) }
+        ensures first { length (side domain (known_of self.new.side)).first ≡ looks domain self.old.side.grace.processors }
+        ensures later { length (side domain (known_of self.new.side)).later ≡ looks domain self.old.side.grace.processors }
+        ensures answer { let s = side domain (known_of self.new.side) in Verdict result domain s.first s.later }
+        ensures known { known_of self.new.side ≡ looked false domain (side domain (known_of self.new.side)).later (known_of self.old.side) }
         ensures rights { Ages (rights_now self.old) (rights_now self.new) }
+        ensures rest { StaysAtRest WaitingAtRest self.old self.new }
+        ensures at_rest { (n : ℕ) → WaitingAtRest self.old domain n → result ≡ AllPass }
     {
         self.side.look(domain)
     }
 
     fn finish(&mut self, domain: Domain) -> Period
-        requires { CanFinish domain (known_in self.old.side.grace) }
+        requires { CanFinish domain (known_of self.old.side) }
         ensures post { self.new.side.post ≡ self.old.side.post }
         ensures waits { self.new.waits ≡ self.old.waits }
         ensures grace { self.new.side.grace ≡ with_domain domain (period_ended (domain_in domain self.old.side.grace)) self.old.side.grace }
-        ensures period { result ≡ ended domain (side domain (known_in self.old.side.grace)) }
-        ensures known { known_in self.new.side.grace ≡ finished false domain (known_in self.old.side.grace) }
+        ensures period { result ≡ ended domain (side domain (known_of self.old.side)) }
+        ensures known { known_of self.new.side ≡ finished false domain (known_of self.old.side) }
         ensures rights { Ages (rights_now self.old) (rights_now self.new) }
+        ensures rest { (n : ℕ) → MovesNumber WaitingAtRest domain n (n + 1) self.old self.new }
     {
         self.side.finish(domain)
     }
 
     fn driving(&self, domain: Domain) -> bool
         ensures is { result ≡ is_processor self.now.side.grace.processor (domain_in domain self.now.side.grace).driver }
-        ensures none { result ≡ false → (side domain (known_in self.now.side.grace)).number ≡ 0 }
-        ensures odd { result ≡ true → (side domain (known_in self.now.side.grace)).number % 2 ≡ 1 }
+        ensures none { result ≡ false → (side domain (known_of self.now.side)).number ≡ 0 }
+        ensures odd { result ≡ true → (side domain (known_of self.now.side)).number % 2 ≡ 1 }
     {
         self.side.driving(domain)
     }
+
+    ghost idle_at_rest = { idle-now };
 }
 
 impl Post for WaitingSide {
@@ -253,7 +274,8 @@ impl Post for WaitingSide {
         ensures err { OnErr result (out.new.items ≡ out.old.items) }
         ensures same { OnErr result (AreSame (rights_now self.old) (rights_now self.new)) }
         ensures lasts { Lasting [] (rights_now self.old) (rights_now self.new) }
-        ensures known { Posts false (known_in self.old.side.grace) (known_in self.new.side.grace) }
+        ensures known { Posts false (known_of self.old.side) (known_of self.new.side) }
+        ensures rest { StaysAtRest WaitingAtRest self.old self.new }
     {
         self.side.fetch(class, want, out)
     }
@@ -266,7 +288,8 @@ impl Post for WaitingSide {
         ensures waits { self.new.waits ≡ cleared (numbers units.items) self.old.waits }
         ensures back { GivesBack (numbers units.items) (rights_now self.old) (rights_now self.new) }
         ensures lasts { Lasting (numbers units.items) (rights_now self.old) (rights_now self.new) }
-        ensures known { Posts false (known_in self.old.side.grace) (known_in self.new.side.grace) }
+        ensures known { Posts false (known_of self.old.side) (known_of self.new.side) }
+        ensures rest { StaysAtRest WaitingAtRest self.old self.new }
     {
         clear(&mut self.waits, &units);
         self.side.put_back(units);
@@ -286,7 +309,11 @@ impl Post for WaitingSide {
         ensures refused { IfErr result (λ back. back.items ≡ units.items) }
         ensures same { OnErr result (AreSame (rights_now self.old) (rights_now self.new)) }
         ensures lasts { Lasting (numbers units.items) (rights_now self.old) (rights_now self.new) }
-        ensures known { Posts false (known_in self.old.side.grace) (known_in self.new.side.grace) }
+        ensures may { OnErr result (All (MayLeave (rights_now self.new)) units.items) }
+        ensures mails { OnOk result
+            (Mails false (parcel_sent to self.old.side.grace.processor class (numbers units.items)) (known_of self.old.side) (known_of self.new.side)) }
+        ensures known { OnErr result (Posts false (known_of self.old.side) (known_of self.new.side)) }
+        ensures rest { StaysAtRest WaitingAtRest self.old self.new }
     {
         clear(&mut self.waits, &units);
         self.side.send(to, class, units)
@@ -303,7 +330,10 @@ impl Post for WaitingSide {
         ensures some { IfSome result (λ units. Receives class units.items (rights_now self.old) (rights_now self.new)) }
         ensures none { IfNone result (AreSame (rights_now self.old) (rights_now self.new)) }
         ensures lasts { Lasting [] (rights_now self.old) (rights_now self.new) }
-        ensures known { Posts false (known_in self.old.side.grace) (known_in self.new.side.grace) }
+        ensures mails { Mails false (parcel_taken class) (known_of self.old.side) (known_of self.new.side) }
+        ensures oldest_told { oldest (told_in self.old.side.post class) ≡ option_map_or (λ units. numbers units.items) result [] }
+        ensures none_told { IfNone result (told_in self.old.side.post class ≡ []) }
+        ensures rest { StaysAtRest WaitingAtRest self.old self.new }
     {
         self.side.receive(class)
     }

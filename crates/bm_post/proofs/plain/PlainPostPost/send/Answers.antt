@@ -5,6 +5,7 @@ use Rattle.bm_post.specs.Calls.{IsOf}
 use Rattle.bm_post.specs.Rights.{Holds, MayLeave}
 use Rattle.bm_post.specs.PostState.{Parcels, PostState, rights_in}
 use Rattle.bm_post.proofs.Posts.{post-send, send-same}
+use Rattle.bm_post.proofs.Told.{send-told}
 use Rattle.bm_post.proofs.plain.PlainPostPost.send.Goals as goal
 
 pub invariant_of-self : goal.invariant_of-self
@@ -32,3 +33,14 @@ returns-clause-same c =
     let at : c.index_mut.result.now ≡ get_or xs place [] = c.index_mut.ensures.value ∙ get_or_default xs place c.index_mut.result.now [] there in
     let err = subst (λ (z : Parcels). OnErr c.push.result (c.push.new.self ≡ z)) at c.push.ensures.err in
     rw (← c.self.view_is) (send-same c.push.result inside.processors inside.processor place inside.pool xs c.push.new.self err)
+
+pub returns-clause-mails : goal.returns-clause-mails
+returns-clause-mails c =
+    let inside = c.self.inside in
+    let xs = inside.inboxes.items in
+    let place = c.place_of.result in
+    let count = c.self.invariant.inbox_count in
+    let there : place < length xs = omega arith in
+    let at : c.index_mut.result.now ≡ get_or xs place [] = c.index_mut.ensures.value ∙ get_or_default xs place c.index_mut.result.now [] there in
+    let ok = subst (λ (z : Parcels). OnOk c.push.result (c.push.new.self ≡ z ++ c.args.units.items ∷ [])) at c.push.ensures.ok in
+    rw (← c.self.view_is) (send-told c.push.result inside.processors inside.processor place c.args.to c.args.class inside.pool xs c.push.new.self c.args.units.items c.place_of.ensures.place c.place_of.ensures.class ok c.self.invariant)

@@ -1,0 +1,48 @@
+-- What calls do where all processors on one thread are at rest.
+use Rattle.std.proofs.Common.{◌≡◌, ℕ, zero, suc, ◌%◌, ◌≤◌, List, [], ◌∷◌, take, slice_index, refl, sym, ◌∙◌, ap, subst, inl, inr, arith}
+use Rattle.std.proofs.lemmas.Bool.{cases_lt}
+use Rattle.bm_journal.specs.declared.ids.Domain.{Domain}
+use Rattle.bm_journal.specs.declared.ids.Domain.TheVariants.{Plain, Tracing}
+use Rattle.bm_grace.specs.declared.answer.Look.{Look}
+use Rattle.bm_grace.specs.declared.answer.Look.TheVariants.{All, Waits}
+use Rattle.bm_grace.specs.Answers.{IsPassed, Verdict}
+use Rattle.bm_grace.specs.AtRest.{AreEven, IsAtRest}
+use Rattle.bm_grace.specs.Kept.{AreAtMost}
+use Rattle.bm_grace.specs.PlainState.{DomainState, PlainState, domain_in, in_turn, period_looked, words_in}
+use Rattle.bm_grace.proofs.Grown.{at_most-at, at_most-first_or}
+
+-- the words of the first n processors are even, and past them there are none
+even-taken : (n : ℕ) (xs : List ℕ) → AreEven n xs → (i : ℕ) → slice_index (take n xs) i % 2 ≡ 0
+even-taken zero xs h i = refl
+even-taken (suc n) [] h i = refl
+even-taken (suc n) (x ∷ xs) h zero = h 0 (omega arith)
+even-taken (suc n) (x ∷ xs) h (suc i) = even-taken n xs (λ k lt. h (suc k) (omega arith)) i
+
+even-in_turn : (xs ys : List ℕ) → ((i : ℕ) → slice_index xs i % 2 ≡ 0) → ((i : ℕ) → slice_index ys i % 2 ≡ 0) → (i : ℕ) → slice_index (in_turn xs ys) i % 2 ≡ 0
+even-in_turn [] ys h k i = refl
+even-in_turn (x ∷ xs) [] h k i = refl
+even-in_turn (x ∷ xs) (y ∷ ys) h k zero = h 0
+even-in_turn (x ∷ xs) (y ∷ ys) h k (suc zero) = k 0
+even-in_turn (x ∷ xs) (y ∷ ys) h k (suc (suc i)) = even-in_turn xs ys (λ j. h (suc j)) (λ j. k (suc j)) i
+
+even-words : (domain : Domain) (g : PlainState) (n : ℕ) → IsAtRest g domain n → (i : ℕ) → slice_index (words_in domain g) i % 2 ≡ 0
+even-words Plain g n rest = even-taken g.processors g.plain.words rest.plain
+even-words Tracing g n rest = even-in_turn (take g.processors g.plain.words) (take g.processors g.tracing.words) (even-taken g.processors g.plain.words rest.plain) (even-taken g.processors g.tracing.words rest.tracing)
+
+-- an even word that is at least what it was has passed
+even-passed : (first word : ℕ) → first ≤ word → word % 2 ≡ 0 → IsPassed first word
+even-passed first word le even =
+    elim (cases_lt first word) [
+      | inl less ↦ inr less
+      | inr more ↦ let same : first ≡ word = omega arith in inl (ap (λ k. k % 2) same ∙ even)
+    ]
+
+all-pass : (r : Look) (domain : Domain) (first words : List ℕ) → Verdict r domain first words → AreAtMost first words → ((i : ℕ) → slice_index words i % 2 ≡ 0) → r ≡ All
+all-pass All domain first words v h even = refl
+all-pass (Waits p w) domain first words v h even =
+    absurd (v.waiting.here (even-passed (slice_index first v.place) (slice_index words v.place) (at_most-at first words v.place h) (even v.place)))
+
+pub look-passes : (r : Look) (domain : Domain) (g : PlainState) (looked : DomainState) (words : List ℕ) → words ≡ words_in domain g → looked ≡ period_looked words (domain_in domain g) → Verdict r domain looked.first words → AreAtMost (domain_in domain g).first (words_in domain g) → (n : ℕ) → IsAtRest g domain n → r ≡ All
+look-passes r domain g looked words w e v h n rest =
+    let first : AreAtMost looked.first words = subst (λ (s : DomainState). AreAtMost s.first words) (sym e) (at_most-first_or words (domain_in domain g).first (subst (λ xs. AreAtMost (domain_in domain g).first xs) (sym w) h)) in
+    all-pass r domain looked.first words v first (subst (λ xs. (i : ℕ) → slice_index xs i % 2 ≡ 0) (sym w) (even-words domain g n rest))
