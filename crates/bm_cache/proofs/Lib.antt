@@ -6,6 +6,7 @@ pub mod Opened
 pub mod Stretch
 pub mod Moments
 pub mod Unbroken
+pub mod Flags
 pub mod Absent
 pub mod Lent
 pub mod Outside

@@ -8,7 +8,7 @@ ghost use Rattle.bm_cache.specs.Tokens.{Token};
 ghost use Rattle.std.specs.List.{All};
 ghost use Rattle.bm_cache.specs.Tests.{Reusable, Waits, Same};
 ghost use Rattle.bm_cache.specs.Shown.{shown, waiting};
-ghost use Rattle.bm_cache.specs.Span.{Fine, Goes, Span, Unbroken};
+ghost use Rattle.bm_cache.specs.Span.{Fine, Goes, RaisesNone, Span, Unbroken};
 ghost use Rattle.std.specs.Prelude.{IsTrue};
 ghost use Rattle.bm_law.specs.State.{State, idle_side, seen};
 ghost use Rattle.bm_law.specs.Effect.{effect};
@@ -71,6 +71,7 @@ pub fn count_taken<R: Recorder, H: Host<R>>(host: &mut H, class: Class) -> u32
     ensures fine { Fine R.log R.counts (H.tests host.new) (H.face host.new).processors ((H.face host.new).level + 1) (H.held host.new) }
     ensures goes { Goes H.face H.pending H.keeps host.old host.new }
     ensures alone { Unbroken H.face H.pending H.held R.log host.old host.new }
+    ensures flags { RaisesNone H.pending H.held host.old host.new }
     ensures sound { H.sound host.new }
 {
     let level = host.level();

@@ -1,7 +1,7 @@
 -- The phrases of deferred work. (bpf_mem_refill, alloc_bulk, free_bulk, check_free_by_rcu and do_call_rcu in
 -- kernel/bpf/memalloc.c. Parcels, the order of a refill's sources, stamps, polling, and the place of the second stage are
 -- this project's own.)
-use Rattle.std.specs.Prelude.{◌≡◌, ◌⊎◌, ◌<◌, ◌≤◌, ℕ, zero, suc, ◌+◌, ◌/◌, Bool, true, false, not, ◌&&◌, nat_lt, nat_le, is_none, Option, Some, None, List, [], ◌∷◌, ◌++◌}
+use Rattle.std.specs.Prelude.{◌≡◌, ◌⊎◌, ◌<◌, ◌≤◌, ℕ, zero, suc, ◌+◌, ◌/◌, Bool, true, false, not, ◌&&◌, nat_lt, nat_le, is_none, Option, Some, None, List, [], ◌∷◌, ◌++◌, length}
 use Rattle.std.specs.List.{All}
 use Rattle.bm_class.specs.Sizes.{size_of_class}
 use Rattle.bm_class.specs.Watermarks.{low_of_size, high_of_size, batch_of_size}
@@ -34,9 +34,9 @@ abbrev pub AddAll : ℕ → ℕ → List ℕ → Part
 AddAll l c [] = Nothing
 AddAll l c (u ∷ us) = Then (Say l (AddPhrase c u)) (AddAll l c us)
 
--- one fetch of so many units from the stock, which may give fewer
+-- one fetch of so many units from the stock, which may give fewer, but not more
 abbrev pub Fetches : ℕ → ℕ → ℕ → Part
-Fetches l c want s part = (units : List ℕ) × Then (Say l (IsOne (entry.Fetch c want (Whole units)))) (AddAll l c units) s part
+Fetches l c want s part = (units : List ℕ) × (length units ≤ want) × Then (Say l (IsOne (entry.Fetch c want (Whole units)))) (AddAll l c units) s part
 
 -- A refill goes on, with so many units left to bring: by one from the top of Ready, if there is one, else by one from the
 -- top of Second, and then by the rest of the refill; and where both are empty by one fetch of all that are left.

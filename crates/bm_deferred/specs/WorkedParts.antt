@@ -39,13 +39,16 @@ from_both = at 0 (brings (entry.Ready 10 5) 5 0 ++ brings (entry.Second 10 9) 9 
 abbrev pub second_too_early : Log
 second_too_early = at 0 (brings (entry.Second 10 9) 9 0 ++ brings (entry.Ready 10 5) 5 1 ++ brings (entry.Second 10 8) 8 2)
 
--- A refill of three where there is one in Ready: one fetch of two, of which the stock has one. Not of three, and not left
--- out.
+-- A refill of three where there is one in Ready: one fetch of two, of which the stock has one. Not of three, not with three
+-- units though two were wanted, and not left out.
 abbrev pub from_stock : Log
 from_stock = at 0 (brings (entry.Ready 10 5) 5 0 ++ fetches 2 1 (7 ∷ []))
 
 abbrev pub fetched_too_many : Log
 fetched_too_many = at 0 (brings (entry.Ready 10 5) 5 0 ++ fetches 3 1 (7 ∷ []))
+
+abbrev pub brought_too_many : Log
+brought_too_many = at 0 (brings (entry.Ready 10 5) 5 0 ++ fetches 2 1 (7 ∷ 6 ∷ 4 ∷ []))
 
 abbrev pub fetched_none : Log
 fetched_none = at 0 (brings (entry.Ready 10 5) 5 0)

@@ -6,7 +6,7 @@ ghost use Rattle.bm_law.specs.State.{opening};
 ghost use Rattle.bm_law.specs.WorkedDeferred.{work_overtaken, first_batch, second_batch, second_stage, second_returned};
 ghost use Rattle.bm_deferred.specs.Parts.{Say};
 ghost use Rattle.bm_deferred.specs.WorkPhrases.{IsSend, Passing, Refill, Unloads, Work, empty_take, may_batch, may_begin, middle_of_class, takes};
-ghost use Rattle.bm_deferred.specs.WorkedParts.{IsFrom, fetched_none, fetched_too_many, from_both, from_stock, kept_at, second_too_early, sent_at, take_to, with_batches, with_lists};
+ghost use Rattle.bm_deferred.specs.WorkedParts.{IsFrom, brought_too_many, fetched_none, fetched_too_many, from_both, from_stock, kept_at, second_too_early, sent_at, take_to, with_batches, with_lists};
 
 /// The works of some logs: a drain during which a handler takes all units; a batch that begins; one that passes, and the
 /// next one that begins; a second stage that begins, and that ends.
@@ -27,6 +27,7 @@ pub fn worked_parts()
     ensures early { ¬ Refill 0 10 3 (with_lists (5 ∷ []) (9 ∷ 8 ∷ 7 ∷ [])) second_too_early }
     ensures stock { Refill 0 10 3 (with_lists (5 ∷ []) []) from_stock }
     ensures many { ¬ Refill 0 10 3 (with_lists (5 ∷ []) []) fetched_too_many }
+    ensures beyond { ¬ Refill 0 10 3 (with_lists (5 ∷ []) []) brought_too_many }
     ensures none { ¬ Refill 0 10 3 (with_lists (5 ∷ []) []) fetched_none }
     ensures middle { Unloads 10 4 (takes 10 (take_to 3 6 ∷ take_to 2 5 ∷ take_to 1 4 ∷ [])) }
     ensures emptied { Unloads 10 4 (takes 10 (take_to 3 6 ∷ []) ++ empty_take 10 0) }

@@ -1,5 +1,5 @@
 -- The journal of a script that makes nothing, with deferred work behind it, is lawful.
-use Rattle.std.proofs.Common.{ℕ, inl, inr, List, [], ◌∷◌, ◌++◌, refl, sym, ap, subst, codes, lit≤}
+use Rattle.std.proofs.Common.{ℕ, inl, inr, List, [], ◌∷◌, ◌++◌, refl, sym, ap, subst, arith, codes, lit≤}
 use Rattle.std.proofs.lemmas.Bool.Decides.{eqb_tells}
 use Rattle.bm_class.specs.Sizes.{class_of_size, size_of_class}
 use Rattle.bm_class.specs.Watermarks.{low_of_size, high_of_size, batch_of_size}
@@ -96,7 +96,7 @@ unfolding size_of_class low_of_size high_of_size batch_of_size
 is-work1 =
     then-of _ _ s1 (entry.Work 10 ∷ []) (entry.Receive 10 (Whole []) ∷ entry.Read 10 1 ∷ refills 2 ++ work_ends) (says _ _ _ refl)
     (then-of _ _ _ (entry.Receive 10 (Whole []) ∷ []) (entry.Read 10 1 ∷ refills 2 ++ work_ends) ([], then-of _ _ _ (entry.Receive 10 (Whole []) ∷ []) [] (says _ _ _ refl) refl)
-    (then-of _ _ _ (entry.Read 10 1 ∷ refills 2) work_ends (1, then-of _ _ _ (entry.Read 10 1 ∷ []) (refills 2) (says _ _ _ refl) (256 ∷ [], then-of _ _ _ (entry.Fetch 10 3 (Whole (256 ∷ [])) ∷ []) (added 10 256 2 0) (says _ _ _ refl) (then-of _ _ _ (added 10 256 2 0) [] (says _ _ _ (2, 0, refl)) refl)))
+    (then-of _ _ _ (entry.Read 10 1 ∷ refills 2) work_ends (1, then-of _ _ _ (entry.Read 10 1 ∷ []) (refills 2) (says _ _ _ refl) (256 ∷ [], omega arith, then-of _ _ _ (entry.Fetch 10 3 (Whole (256 ∷ [])) ∷ []) (added 10 256 2 0) (says _ _ _ refl) (then-of _ _ _ (added 10 256 2 0) [] (says _ _ _ (2, 0, refl)) refl)))
     (then-of _ _ _ work_ends [] (then-of _ _ _ [] work_ends refl (then-of _ _ _ (entry.Enter 10 1 ∷ entry.TakeDelayed 10 (Whole []) ∷ []) (entry.Leave 10 0 ∷ []) (says _ _ _ ([], refl)) (then-of _ _ _ [] (entry.Leave 10 0 ∷ []) refl (then-of _ _ _ (entry.Leave 10 0 ∷ []) [] (says _ _ _ (0, refl)) refl)))) (then-of _ _ _ [] [] refl refl))))
 
 -- ---- the script's statement

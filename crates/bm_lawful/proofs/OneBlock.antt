@@ -1,5 +1,5 @@
 -- The journal of one object made and dropped, with deferred work, is lawful.
-use Rattle.std.proofs.Common.{ℕ, inl, inr, true, false, cond, List, [], ◌∷◌, ◌++◌, Some, None, refl, sym, ap, subst, codes, lit≤, bytes_eq}
+use Rattle.std.proofs.Common.{ℕ, inl, inr, true, false, cond, List, [], ◌∷◌, ◌++◌, Some, None, refl, sym, ap, subst, arith, codes, lit≤, bytes_eq}
 use Rattle.std.proofs.lemmas.Bool.Decides.{eqb_tells}
 use Rattle.bm_class.specs.Sizes.{class_of_size, size_of_class}
 use Rattle.bm_class.specs.Watermarks.{low_of_size, high_of_size, batch_of_size}
@@ -105,7 +105,7 @@ unfolding size_of_class low_of_size high_of_size batch_of_size
 is-work1 =
     then-of _ _ s1 (entry.Work 10 ∷ []) (entry.Receive 10 (Whole []) ∷ entry.Read 10 0 ∷ refills 1 ++ work_ends) (says _ _ _ refl)
     (then-of _ _ _ (entry.Receive 10 (Whole []) ∷ []) (entry.Read 10 0 ∷ refills 1 ++ work_ends) ([], then-of _ _ _ (entry.Receive 10 (Whole []) ∷ []) [] (says _ _ _ refl) refl)
-    (then-of _ _ _ (entry.Read 10 0 ∷ refills 1) work_ends (0, then-of _ _ _ (entry.Read 10 0 ∷ []) (refills 1) (says _ _ _ refl) (256 ∷ [], then-of _ _ _ (entry.Fetch 10 3 (Whole (256 ∷ [])) ∷ []) (added 10 256 1 0) (says _ _ _ refl) (then-of _ _ _ (added 10 256 1 0) [] (says _ _ _ (1, 0, refl)) refl)))
+    (then-of _ _ _ (entry.Read 10 0 ∷ refills 1) work_ends (0, then-of _ _ _ (entry.Read 10 0 ∷ []) (refills 1) (says _ _ _ refl) (256 ∷ [], omega arith, then-of _ _ _ (entry.Fetch 10 3 (Whole (256 ∷ [])) ∷ []) (added 10 256 1 0) (says _ _ _ refl) (then-of _ _ _ (added 10 256 1 0) [] (says _ _ _ (1, 0, refl)) refl)))
     (then-of _ _ _ work_ends [] (then-of _ _ _ [] work_ends refl (then-of _ _ _ (entry.Enter 10 1 ∷ entry.TakeDelayed 10 (Whole []) ∷ []) (entry.Leave 10 0 ∷ []) (says _ _ _ ([], refl)) (then-of _ _ _ [] (entry.Leave 10 0 ∷ []) refl (then-of _ _ _ (entry.Leave 10 0 ∷ []) [] (says _ _ _ (0, refl)) refl)))) (then-of _ _ _ [] [] refl refl))))
 
 is-work2 : Work 0 10 s2 (ordinary (work_reads 2 ++ work_ends))

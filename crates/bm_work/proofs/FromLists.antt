@@ -66,7 +66,7 @@ from-ends l c (suc n) s part h d e p =
 -- With the fetch of what is left it is the whole refill.
 module _ (l c : ℕ) where
   fetch-after : (n : ℕ) (s : State ℕ) (one two : Log) → Stand l [] s one → Fetches l c n (after s one) two → Fetches l c n s (one ++ two)
-  fetch-after n s one two h f = (f.0, then-after l _ _ s one two h f.1)
+  fetch-after n s one two h f = (f.0, f.1, then-after l _ _ s one two h f.2)
 
   then-whole : (P : Part) (n left : ℕ) (s : State ℕ) (one two : Log) → ((t : State ℕ) (v : Log) → FromLists l c n left t v → Fetched l c left (after t v) two → Refill l c n t (v ++ two)) → Then P (FromLists l c n left) s one → Fetched l c left (after s one) two → Then P (Refill l c n) s (one ++ two)
   then-whole P n left s one two w h f =

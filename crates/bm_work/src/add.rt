@@ -10,7 +10,7 @@ ghost use Rattle.bm_law.specs.Waiting.{is_waiting};
 ghost use Rattle.bm_cache.specs.Tokens.{Token, number_of};
 ghost use Rattle.bm_cache.specs.Tests.{Same};
 ghost use Rattle.bm_cache.specs.Shown.{shown, waiting};
-ghost use Rattle.bm_cache.specs.Span.{Fine, Goes, Span, Unbroken};
+ghost use Rattle.bm_cache.specs.Span.{Fine, Goes, RaisesNone, Span, Unbroken};
 ghost use Rattle.bm_deferred.specs.Parts.{Say};
 ghost use Rattle.bm_work.specs.Fit.{Fit};
 ghost use Rattle.bm_work.specs.Grown.{GrewBy};
@@ -32,6 +32,7 @@ fn push_first<R: Recorder, H: Host<R>>(host: &mut H, class: Class)
     ensures fine { Fine R.log R.counts (H.tests host.new) (H.face host.new).processors ((H.face host.new).level + 1) (H.held host.new) }
     ensures goes { Goes H.face H.pending H.keeps host.old host.new }
     ensures alone { Unbroken H.face H.pending H.held R.log host.old host.new }
+    ensures flags { RaisesNone H.pending H.held host.old host.new }
     ensures sound { H.sound host.new }
 {
     let level = host.level();
@@ -52,6 +53,7 @@ fn count_push<R: Recorder, H: Host<R>>(host: &mut H, class: Class) -> u32
     ensures fine { Fine R.log R.counts (H.tests host.new) (H.face host.new).processors ((H.face host.new).level + 1) (H.held host.new) }
     ensures goes { Goes H.face H.pending H.keeps host.old host.new }
     ensures alone { Unbroken H.face H.pending H.held R.log host.old host.new }
+    ensures flags { RaisesNone H.pending H.held host.old host.new }
     ensures sound { H.sound host.new }
 {
     let level = host.level();
@@ -77,6 +79,7 @@ pub fn add_unit<R: Recorder, H: Host<R>>(host: &mut H, class: Class)
     ensures fine { Fine R.log R.counts (H.tests host.new) (H.face host.new).processors ((H.face host.new).level + 1) (H.held host.new) }
     ensures goes { Goes H.face H.pending H.keeps host.old host.new }
     ensures alone { Unbroken H.face H.pending H.held R.log host.old host.new }
+    ensures flags { RaisesNone H.pending H.held host.old host.new }
     ensures sound { H.sound host.new }
 {
     raise_active(host, class);

@@ -9,7 +9,7 @@ ghost use Rattle.bm_law.specs.State.{seen};
 ghost use Rattle.bm_cache.specs.Tokens.{Token, number_of};
 ghost use Rattle.bm_cache.specs.Tests.{Lasting, Same};
 ghost use Rattle.bm_cache.specs.Shown.{shown, waiting};
-ghost use Rattle.bm_cache.specs.Span.{Fine, Goes, Span, Unbroken};
+ghost use Rattle.bm_cache.specs.Span.{Fine, Goes, RaisesNone, Span, Unbroken};
 ghost use Rattle.bm_deferred.specs.Parts.{Say, Then, When};
 ghost use Rattle.bm_deferred.specs.WorkPhrases.{IsBatch, IsGathering, IsLeave, may_batch};
 ghost use Rattle.bm_work.specs.Fit.{More};
@@ -32,6 +32,7 @@ fn move_delayed<R: Recorder, H: Host<R>>(host: &mut H, class: Class)
     ensures fine { Fine R.log R.counts (H.tests host.new) (H.face host.new).processors ((H.face host.new).level + 1) (H.held host.new) }
     ensures goes { Goes H.face H.pending H.keeps host.old host.new }
     ensures alone { Unbroken H.face H.pending H.held R.log host.old host.new }
+    ensures flags { RaisesNone H.pending H.held host.old host.new }
     ensures sound { H.sound host.new }
 {
     let level = host.level();
@@ -49,6 +50,7 @@ fn wants_batch<R: Recorder, H: Host<R>>(host: &mut H, class: Class) -> bool
     ensures fine { Fine R.log R.counts (H.tests host.new) (H.face host.new).processors ((H.face host.new).level + 1) (H.held host.new) }
     ensures goes { Goes H.face H.pending H.keeps host.old host.new }
     ensures alone { Unbroken H.face H.pending H.held R.log host.old host.new }
+    ensures flags { RaisesNone H.pending H.held host.old host.new }
     ensures sound { H.sound host.new }
 {
     let caches = host.caches();
@@ -73,6 +75,7 @@ fn make_batch<R: Recorder, H: Host<R>>(host: &mut H, class: Class)
     ensures fine { Fine R.log R.counts (H.tests host.new) (H.face host.new).processors ((H.face host.new).level + 1) (H.held host.new) }
     ensures goes { Goes H.face H.pending H.keeps host.old host.new }
     ensures alone { Unbroken H.face H.pending H.held R.log host.old host.new }
+    ensures flags { RaisesNone H.pending H.held host.old host.new }
     ensures sound { H.sound host.new }
 {
     let level = host.level();
@@ -103,6 +106,7 @@ fn batch_if_any<R: Recorder, H: Host<R>>(host: &mut H, class: Class) -> bool
     ensures fine { Fine R.log R.counts (H.tests host.new) (H.face host.new).processors ((H.face host.new).level + 1) (H.held host.new) }
     ensures goes { Goes H.face H.pending H.keeps host.old host.new }
     ensures alone { Unbroken H.face H.pending H.held R.log host.old host.new }
+    ensures flags { RaisesNone H.pending H.held host.old host.new }
     ensures sound { H.sound host.new }
 {
     if !wants_batch(host, class) {
@@ -133,6 +137,7 @@ pub fn gather_delayed<R: Recorder, H: Host<R>>(host: &mut H, class: Class) -> bo
     ensures fine { Fine R.log R.counts (H.tests host.new) (H.face host.new).processors ((H.face host.new).level + 1) (H.held host.new) }
     ensures goes { Goes H.face H.pending H.keeps host.old host.new }
     ensures alone { Unbroken H.face H.pending H.held R.log host.old host.new }
+    ensures flags { RaisesNone H.pending H.held host.old host.new }
     ensures sound { H.sound host.new }
 {
     raise_active(host, class);

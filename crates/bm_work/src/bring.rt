@@ -9,7 +9,7 @@ ghost use Rattle.bm_law.specs.State.{seen, idle_side};
 ghost use Rattle.bm_cache.specs.Tokens.{Token, number_of};
 ghost use Rattle.bm_cache.specs.Tests.{Reusable};
 ghost use Rattle.bm_cache.specs.Shown.{shown};
-ghost use Rattle.bm_cache.specs.Span.{Came, Fine, Goes, Unbroken};
+ghost use Rattle.bm_cache.specs.Span.{Came, Fine, Goes, RaisesNone, Unbroken};
 ghost use Rattle.bm_deferred.specs.WorkPhrases.{Brings};
 ghost use Rattle.bm_work.specs.Fit.{Fit};
 ghost use Rattle.bm_work.specs.Grown.{GrewBy};
@@ -30,6 +30,7 @@ fn ready_in<R: Recorder, H: Host<R>>(host: &mut H, class: Class) -> bool
     ensures fine { Fine R.log R.counts (H.tests host.new) (H.face host.new).processors ((H.face host.new).level + 1) (H.held host.new) }
     ensures goes { Goes H.face H.pending H.keeps host.old host.new }
     ensures alone { Unbroken H.face H.pending H.held R.log host.old host.new }
+    ensures flags { RaisesNone H.pending H.held host.old host.new }
     ensures sound { H.sound host.new }
 {
     let level = host.level();
@@ -48,6 +49,7 @@ fn second_in<R: Recorder, H: Host<R>>(host: &mut H, class: Class) -> bool
     ensures fine { Fine R.log R.counts (H.tests host.new) (H.face host.new).processors ((H.face host.new).level + 1) (H.held host.new) }
     ensures goes { Goes H.face H.pending H.keeps host.old host.new }
     ensures alone { Unbroken H.face H.pending H.held R.log host.old host.new }
+    ensures flags { RaisesNone H.pending H.held host.old host.new }
     ensures sound { H.sound host.new }
 {
     let level = host.level();
@@ -71,6 +73,7 @@ pub fn bring_ready<R: Recorder, H: Host<R>>(host: &mut H, class: Class) -> bool
     ensures fine { Fine R.log R.counts (H.tests host.new) (H.face host.new).processors ((H.face host.new).level + 1) (H.held host.new) }
     ensures goes { Goes H.face H.pending H.keeps host.old host.new }
     ensures alone { Unbroken H.face H.pending H.held R.log host.old host.new }
+    ensures flags { RaisesNone H.pending H.held host.old host.new }
     ensures sound { H.sound host.new }
 {
     if !ready_in(host, class) {
@@ -97,6 +100,7 @@ pub fn bring_second<R: Recorder, H: Host<R>>(host: &mut H, class: Class) -> bool
     ensures fine { Fine R.log R.counts (H.tests host.new) (H.face host.new).processors ((H.face host.new).level + 1) (H.held host.new) }
     ensures goes { Goes H.face H.pending H.keeps host.old host.new }
     ensures alone { Unbroken H.face H.pending H.held R.log host.old host.new }
+    ensures flags { RaisesNone H.pending H.held host.old host.new }
     ensures sound { H.sound host.new }
 {
     if !second_in(host, class) {

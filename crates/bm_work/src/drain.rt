@@ -10,7 +10,7 @@ ghost use Rattle.bm_law.specs.State.{seen};
 ghost use Rattle.bm_cache.specs.Tokens.{Token, number_of};
 ghost use Rattle.bm_cache.specs.Tests.{Same};
 ghost use Rattle.bm_cache.specs.Shown.{shown};
-ghost use Rattle.bm_cache.specs.Span.{Fine, Goes, Span, Unbroken};
+ghost use Rattle.bm_cache.specs.Span.{Fine, Goes, RaisesNone, Span, Unbroken};
 ghost use Rattle.bm_deferred.specs.Parts.{Say, Then};
 ghost use Rattle.bm_deferred.specs.WorkPhrases.{IsTakeExtra, Unloads};
 ghost use Rattle.bm_work.specs.Fit.{Fit};
@@ -38,6 +38,7 @@ pub fn unload<R: Recorder, H: Host<R>>(host: &mut H, class: Class, middle: u32)
     ensures fine { Fine R.log R.counts (H.tests host.new) (H.face host.new).processors ((H.face host.new).level + 1) (H.held host.new) }
     ensures goes { Goes H.face H.pending H.keeps host.old host.new }
     ensures alone { Unbroken H.face H.pending H.held R.log host.old host.new }
+    ensures flags { RaisesNone H.pending H.held host.old host.new }
     ensures sound { H.sound host.new }
 {
     'takes: loop {
@@ -68,6 +69,7 @@ pub fn drain_to_hand<R: Recorder, H: Host<R>>(host: &mut H, class: Class, middle
     ensures fine { Fine R.log R.counts (H.tests host.new) (H.face host.new).processors ((H.face host.new).level + 1) (H.held host.new) }
     ensures goes { Goes H.face H.pending H.keeps host.old host.new }
     ensures alone { Unbroken H.face H.pending H.held R.log host.old host.new }
+    ensures flags { RaisesNone H.pending H.held host.old host.new }
     ensures sound { H.sound host.new }
 {
     unload(host, class, middle);

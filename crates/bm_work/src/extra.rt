@@ -9,7 +9,7 @@ ghost use Rattle.bm_law.specs.State.{seen};
 ghost use Rattle.bm_cache.specs.Tokens.{Token, number_of};
 ghost use Rattle.bm_cache.specs.Tests.{Same};
 ghost use Rattle.bm_cache.specs.Shown.{shown};
-ghost use Rattle.bm_cache.specs.Span.{Fine, Goes, Span, Unbroken};
+ghost use Rattle.bm_cache.specs.Span.{Fine, Goes, RaisesNone, Span, Unbroken};
 ghost use Rattle.bm_deferred.specs.Parts.{Say};
 ghost use Rattle.bm_deferred.specs.WorkPhrases.{IsTakeExtra};
 ghost use Rattle.bm_work.specs.Fit.{Fit};
@@ -35,6 +35,7 @@ pub fn take_all_extra<R: Recorder, H: Host<R>>(host: &mut H, class: Class) -> us
     ensures fine { Fine R.log R.counts (H.tests host.new) (H.face host.new).processors ((H.face host.new).level + 1) (H.held host.new) }
     ensures goes { Goes H.face H.pending H.keeps host.old host.new }
     ensures alone { Unbroken H.face H.pending H.held R.log host.old host.new }
+    ensures flags { RaisesNone H.pending H.held host.old host.new }
     ensures sound { H.sound host.new }
 {
     let level = host.level();

@@ -7,7 +7,7 @@ ghost use Rattle.bm_law.specs.State.{seen, idle_side};
 ghost use Rattle.bm_cache.specs.Tokens.{number_of};
 ghost use Rattle.bm_cache.specs.Tests.{Reusable};
 ghost use Rattle.bm_cache.specs.Shown.{shown};
-ghost use Rattle.bm_cache.specs.Span.{Came, Fine, Goes, Unbroken};
+ghost use Rattle.bm_cache.specs.Span.{Came, Fine, Goes, RaisesNone, Unbroken};
 ghost use Rattle.bm_work.specs.FromLists.{FromLists, less};
 ghost use Rattle.bm_work.specs.Grown.{GrewBy};
 ghost use Rattle.bm_work.specs.WorkSpan.{WorkSpan};
@@ -31,6 +31,7 @@ fn bring<R: Recorder, H: Host<R>>(host: &mut H, class: Class) -> bool
     ensures fine { Fine R.log R.counts (H.tests host.new) (H.face host.new).processors ((H.face host.new).level + 1) (H.held host.new) }
     ensures goes { Goes H.face H.pending H.keeps host.old host.new }
     ensures alone { Unbroken H.face H.pending H.held R.log host.old host.new }
+    ensures flags { RaisesNone H.pending H.held host.old host.new }
     ensures sound { H.sound host.new }
 {
     if bring_ready(host, class) {
@@ -59,6 +60,7 @@ pub fn refill_from_lists<R: Recorder, H: Host<R>>(host: &mut H, class: Class, wa
     ensures fine { Fine R.log R.counts (H.tests host.new) (H.face host.new).processors ((H.face host.new).level + 1) (H.held host.new) }
     ensures goes { Goes H.face H.pending H.keeps host.old host.new }
     ensures alone { Unbroken H.face H.pending H.held R.log host.old host.new }
+    ensures flags { RaisesNone H.pending H.held host.old host.new }
     ensures sound { H.sound host.new }
 {
     let mut left = want;

@@ -1,4 +1,4 @@
-use Rattle.std.proofs.Common.{◌≡◌, ◌+◌, ◌<◌, ℕ, [], ap, ◌∙◌, sym, subst, arith}
+use Rattle.std.proofs.Common.{◌≡◌, ◌+◌, ◌<◌, ℕ, [], ap, ◌∙◌, sym, subst, arith, refl}
 use Rattle.bm_journal.specs.declared.entry.Entry.TheVariants as entry
 use Rattle.bm_law.specs.declared.mark.Mark.TheVariants as mark
 use Rattle.bm_law.specs.State.{Side, State}
@@ -7,6 +7,7 @@ use Rattle.bm_cache.specs.Shown.{shown, waiting, Took}
 use Rattle.bm_cache.specs.Span.{Face, Fine}
 use Rattle.bm_cache.proofs.Stretch.{stretch, fine-step, between-count}
 use Rattle.bm_cache.proofs.Moments.{took-at, counted-down}
+use Rattle.bm_cache.proofs.Flags.{raises-none-step}
 use Rattle.bm_cache.proofs.Unbroken.{unbroken-step}
 use Rattle.bm_cache.proofs.allocate.count_taken.Goals as goal
 
@@ -29,3 +30,7 @@ returns-clause-fine g c = fine-step g.R.Recorder.log g.R.Recorder.counts (g.H.Ho
 pub returns-clause-alone : goal.returns-clause-alone
 returns-clause-alone g c =
     unbroken-step g.H.Host.face g.H.Host.pending g.H.Host.held g.R.Recorder.log c.args.host.now c.point.new.self (g.H.Host.with_held c.point.new.self c.count_down.new.self) c.caches.result.now c.count_down.new.self c.level-level.result (entry.Count c.args.class c.count_down.result) [] c.point.ensures.quiet c.level-level.ensures.same c.caches.ensures.held (g.met.H.Host.held_back c.point.new.self c.count_down.new.self) (g.met.H.Host.pending_back c.point.new.self c.count_down.new.self) c.count_down.ensures.step
+
+pub returns-clause-flags : goal.returns-clause-flags
+returns-clause-flags g c =
+    raises-none-step g.H.Host.pending g.H.Host.held g.R.Recorder.log c.args.host.now c.point.new.self (g.H.Host.with_held c.point.new.self c.count_down.new.self) c.caches.result.now c.count_down.new.self c.level-level.result (entry.Count c.args.class c.count_down.result) [] refl c.point.ensures.quiet c.caches.ensures.held (g.met.H.Host.held_back c.point.new.self c.count_down.new.self) (g.met.H.Host.pending_back c.point.new.self c.count_down.new.self) c.count_down.ensures.step

@@ -1,8 +1,9 @@
-use Rattle.std.proofs.Common.{◌+◌, ◌<◌, ℕ, [], ap, subst}
+use Rattle.std.proofs.Common.{◌+◌, ◌<◌, ℕ, [], ap, subst, refl}
 use Rattle.bm_journal.specs.declared.entry.Entry.TheVariants as entry
 use Rattle.bm_cache.specs.Shown.{shown}
 use Rattle.bm_cache.specs.Span.{Face, Fine}
 use Rattle.bm_cache.proofs.Stretch.{stretch, fine-step, between-leave}
+use Rattle.bm_cache.proofs.Flags.{raises-none-step}
 use Rattle.bm_cache.proofs.Unbroken.{unbroken-step}
 use Rattle.bm_cache.proofs.stretches.lower_active.Goals as goal
 
@@ -17,3 +18,7 @@ returns-clause-fine g c = fine-step g.R.Recorder.log g.R.Recorder.counts (g.H.Ho
 pub returns-clause-alone : goal.returns-clause-alone
 returns-clause-alone g c =
     unbroken-step g.H.Host.face g.H.Host.pending g.H.Host.held g.R.Recorder.log c.args.host.now c.point.new.self (g.H.Host.with_held c.point.new.self c.leave.new.self) c.caches.result.now c.leave.new.self c.level-level.result (entry.Leave c.args.class c.leave.result) [] c.point.ensures.quiet c.level-level.ensures.same c.caches.ensures.held (g.met.H.Host.held_back c.point.new.self c.leave.new.self) (g.met.H.Host.pending_back c.point.new.self c.leave.new.self) c.leave.ensures.step
+
+pub returns-clause-flags : goal.returns-clause-flags
+returns-clause-flags g c =
+    raises-none-step g.H.Host.pending g.H.Host.held g.R.Recorder.log c.args.host.now c.point.new.self (g.H.Host.with_held c.point.new.self c.leave.new.self) c.caches.result.now c.leave.new.self c.level-level.result (entry.Leave c.args.class c.leave.result) [] refl c.point.ensures.quiet c.caches.ensures.held (g.met.H.Host.held_back c.point.new.self c.leave.new.self) (g.met.H.Host.pending_back c.point.new.self c.leave.new.self) c.leave.ensures.step

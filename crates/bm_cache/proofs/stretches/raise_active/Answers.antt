@@ -1,4 +1,4 @@
-use Rattle.std.proofs.Common.{◌≡◌, ◌+◌, ◌<◌, ◌≤◌, ℕ, [], ap, ◌∙◌, sym, subst, arith}
+use Rattle.std.proofs.Common.{◌≡◌, ◌+◌, ◌<◌, ◌≤◌, ℕ, [], ap, ◌∙◌, sym, subst, arith, refl}
 use Rattle.bm_journal.specs.declared.entry.Entry.TheVariants as entry
 use Rattle.bm_law.specs.State.{Side}
 use Rattle.bm_cache.specs.Tokens.{Token}
@@ -6,6 +6,7 @@ use Rattle.bm_cache.specs.Shown.{shown}
 use Rattle.bm_cache.specs.Span.{Face, Fine}
 use Rattle.bm_cache.proofs.Stretch.{stretch, fine-step, between-enter, aims-of}
 use Rattle.bm_law.specs.Effect.{aimed}
+use Rattle.bm_cache.proofs.Flags.{raises-none-step}
 use Rattle.bm_cache.proofs.Unbroken.{unbroken-step}
 use Rattle.bm_cache.proofs.stretches.raise_active.Goals as goal
 
@@ -23,3 +24,7 @@ returns-clause-fine g c =
 pub returns-clause-alone : goal.returns-clause-alone
 returns-clause-alone g c =
     unbroken-step g.H.Host.face g.H.Host.pending g.H.Host.held g.R.Recorder.log c.args.host.now c.point.new.self (g.H.Host.with_held c.point.new.self c.enter.new.self) c.caches.result.now c.enter.new.self c.level-level.result (entry.Enter c.args.class c.enter.result) [] c.point.ensures.quiet c.level-level.ensures.same c.caches.ensures.held (g.met.H.Host.held_back c.point.new.self c.enter.new.self) (g.met.H.Host.pending_back c.point.new.self c.enter.new.self) c.enter.ensures.step
+
+pub returns-clause-flags : goal.returns-clause-flags
+returns-clause-flags g c =
+    raises-none-step g.H.Host.pending g.H.Host.held g.R.Recorder.log c.args.host.now c.point.new.self (g.H.Host.with_held c.point.new.self c.enter.new.self) c.caches.result.now c.enter.new.self c.level-level.result (entry.Enter c.args.class c.enter.result) [] refl c.point.ensures.quiet c.caches.ensures.held (g.met.H.Host.held_back c.point.new.self c.enter.new.self) (g.met.H.Host.pending_back c.point.new.self c.enter.new.self) c.enter.ensures.step

@@ -1,4 +1,4 @@
-use Rattle.std.proofs.Common.{◌≡◌, ◌+◌, ◌∙◌, ◌<◌, ℕ, Some, nat_le, refl, sym, ap, subst, inl, inr, arith, [], ◌∷◌, ◌++◌, List}
+use Rattle.std.proofs.Common.{◌≡◌, ◌+◌, ◌∙◌, ◌<◌, ◌≤◌, ℕ, Some, nat_le, refl, sym, ap, subst, inl, inr, arith, [], ◌∷◌, ◌++◌, List, length}
 use Rattle.std.specs.List.{All}
 use Rattle.std.proofs.lemmas.List.Elements.{All-head, All-tail, All-cons}
 use Rattle.bm_journal.specs.declared.ids.Domain.TheVariants.{Plain}
@@ -72,6 +72,7 @@ returns-clause-stock c = record {
   is_first = brought _ 5 0 _;
   is_second = (
     7 ∷ [],
+    omega arith,
     record {
       one = at 0 (entry.Fetch 10 2 (Whole (7 ∷ [])) ∷ []);
       two = at 0 (adds 10 1 (7 ∷ []));
@@ -83,31 +84,43 @@ returns-clause-stock c = record {
   );
 }
 
--- where Ready held one unit and Second none, two are fetched behind it
-fetches-two : (rest es : List Entry) → (b : Brought (entry.Ready 10 5) 5 (Refill 0 10 2) (with_lists (5 ∷ []) []) es) → (units : List ℕ) × (more : List Entry) × (b.rest ≡ entry.Fetch 10 2 (Whole units) ∷ more)
+-- where Ready held one unit and Second none, two are fetched behind it, and at most two come
+fetches-two : (rest es : List Entry) → (b : Brought (entry.Ready 10 5) 5 (Refill 0 10 2) (with_lists (5 ∷ []) []) es) → (units : List ℕ) × (more : List Entry) × (length units ≤ 2) × (b.rest ≡ entry.Fetch 10 2 (Whole units) ∷ more)
 fetches-two rest es b =
     let t : State ℕ = after (with_lists (5 ∷ []) []) (at 0 (entry.Ready 10 5 ∷ added 10 5 b.count b.active)) in
     let f : Fetches 0 10 2 t (at 0 b.rest) = b.is_rest in
-    let p : Parted (Say 0 (IsOne (entry.Fetch 10 2 (Whole f.0)))) (AddAll 0 10 f.0) t b.rest = parted _ _ t b.rest f.1 in
+    let p : Parted (Say 0 (IsOne (entry.Fetch 10 2 (Whole f.0)))) (AddAll 0 10 f.0) t b.rest = parted _ _ t b.rest f.2 in
     let x : p.left ≡ entry.Fetch 10 2 (Whole f.0) ∷ [] = said (IsOne (entry.Fetch 10 2 (Whole f.0))) t p.left p.is_first in
-    (f.0, p.right, p.whole ∙ ap (λ z. z ++ p.right) x)
+    (f.0, p.right, f.1, p.whole ∙ ap (λ z. z ++ p.right) x)
 
 pub returns-clause-many : goal.returns-clause-many
 returns-clause-many c h =
     let es : List Entry = brings (entry.Ready 10 5) 5 0 ++ fetches 3 1 (7 ∷ []) in
     let b : Brought (entry.Ready 10 5) 5 (Refill 0 10 2) (with_lists (5 ∷ []) []) es = brings-first (entry.Ready 10 5) 5 (Refill 0 10 2) (with_lists (5 ∷ []) []) es h in
     let f = fetches-two [] es b in
-    absurd (not-three (7 ∷ []) f.0 (adds 10 1 (7 ∷ [])) f.1 b.count b.active b.rest b.whole f.2)
+    absurd (not-three (7 ∷ []) f.0 (adds 10 1 (7 ∷ [])) f.1 b.count b.active b.rest b.whole f.3)
   where
     not-three : (us vs : List ℕ) (xs ys : List Entry) (k a : ℕ) (rest : List Entry) → brings (entry.Ready 10 5) 5 0 ++ entry.Fetch 10 3 (Whole us) ∷ xs ≡ entry.Ready 10 5 ∷ added 10 5 k a ++ rest → rest ≡ entry.Fetch 10 2 (Whole vs) ∷ ys → ⊥
     not-three us vs xs ys k a rest p q = let z : ◌≡◌ {A = ℕ} 3 2 = cc in absurd (omega (arith, z))
+
+pub returns-clause-beyond : goal.returns-clause-beyond
+returns-clause-beyond c h =
+    let es : List Entry = brings (entry.Ready 10 5) 5 0 ++ fetches 2 1 (7 ∷ 6 ∷ 4 ∷ []) in
+    let b : Brought (entry.Ready 10 5) 5 (Refill 0 10 2) (with_lists (5 ∷ []) []) es = brings-first (entry.Ready 10 5) 5 (Refill 0 10 2) (with_lists (5 ∷ []) []) es h in
+    let f = fetches-two [] es b in
+    absurd (not-so-many f.0 (adds 10 1 (7 ∷ 6 ∷ 4 ∷ [])) f.1 b.count b.active b.rest b.whole f.3 f.2)
+  where
+    not-so-many : (vs : List ℕ) (xs ys : List Entry) (k a : ℕ) (rest : List Entry) → brings (entry.Ready 10 5) 5 0 ++ entry.Fetch 10 2 (Whole (7 ∷ 6 ∷ 4 ∷ [])) ∷ xs ≡ entry.Ready 10 5 ∷ added 10 5 k a ++ rest → rest ≡ entry.Fetch 10 2 (Whole vs) ∷ ys → length vs ≤ 2 → ⊥
+    not-so-many vs xs ys k a rest p q n =
+        let z : 7 ∷ 6 ∷ 4 ∷ [] ≡ vs = cc in
+        absurd (omega (arith, n, ap (λ (us : List ℕ). length us) z))
 
 pub returns-clause-none : goal.returns-clause-none
 returns-clause-none c h =
     let es : List Entry = brings (entry.Ready 10 5) 5 0 in
     let b : Brought (entry.Ready 10 5) 5 (Refill 0 10 2) (with_lists (5 ∷ []) []) es = brings-first (entry.Ready 10 5) 5 (Refill 0 10 2) (with_lists (5 ∷ []) []) es h in
     let f = fetches-two [] es b in
-    absurd (not-over f.0 f.1 b.count b.active b.rest b.whole f.2)
+    absurd (not-over f.0 f.1 b.count b.active b.rest b.whole f.3)
   where
     not-over : (vs : List ℕ) (ys : List Entry) (k a : ℕ) (rest : List Entry) → brings (entry.Ready 10 5) 5 0 ≡ entry.Ready 10 5 ∷ added 10 5 k a ++ rest → rest ≡ entry.Fetch 10 2 (Whole vs) ∷ ys → ⊥
     not-over vs ys k a rest p q = absurd (cc)

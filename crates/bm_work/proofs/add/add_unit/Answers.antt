@@ -10,6 +10,7 @@ use Rattle.bm_cache.specs.Shown.{shown}
 use Rattle.bm_cache.specs.Span.{Face, Span}
 use Rattle.bm_cache.proofs.Stretch.{span-join}
 use Rattle.bm_cache.proofs.Moments.{span-at, one-token, goes-join}
+use Rattle.bm_cache.proofs.Flags.{raises-none-join}
 use Rattle.bm_cache.proofs.Unbroken.{unbroken-join}
 use Rattle.bm_work.proofs.Grown.{grew-say}
 use Rattle.bm_work.proofs.Spans.{span-active, span-still}
@@ -125,3 +126,9 @@ returns-clause-alone g c =
     let r3 = goes-join g.met.H.Host.keeps_join c.count_push.ensures.goes c.lower_active.ensures.goes in
     let r2 = goes-join g.met.H.Host.keeps_join c.push_first.ensures.goes r3 in
     unbroken-join c.raise_active.ensures.goes r2 c.raise_active.ensures.alone (unbroken-join c.push_first.ensures.goes r3 c.push_first.ensures.alone (unbroken-join c.count_push.ensures.goes c.lower_active.ensures.goes c.count_push.ensures.alone c.lower_active.ensures.alone))
+
+pub returns-clause-flags : goal.returns-clause-flags
+returns-clause-flags g c =
+    let r3 = goes-join g.met.H.Host.keeps_join c.count_push.ensures.goes c.lower_active.ensures.goes in
+    let r2 = goes-join g.met.H.Host.keeps_join c.push_first.ensures.goes r3 in
+    raises-none-join c.raise_active.ensures.goes r2 c.raise_active.ensures.flags (raises-none-join c.push_first.ensures.goes r3 c.push_first.ensures.flags (raises-none-join c.count_push.ensures.goes c.lower_active.ensures.goes c.count_push.ensures.flags c.lower_active.ensures.flags))

@@ -1,4 +1,4 @@
-use Rattle.std.proofs.Common.{◌≡◌, ◌+◌, ℕ, [], ◌∷◌, ap, ◌∙◌, sym, subst, arith}
+use Rattle.std.proofs.Common.{◌≡◌, ◌+◌, ℕ, [], ◌∷◌, ap, ◌∙◌, sym, subst, arith, refl}
 use Rattle.bm_journal.specs.declared.entry.Entry.TheVariants as entry
 use Rattle.bm_law.specs.State.{Side, State}
 use Rattle.bm_cache.specs.Tokens.{Token}
@@ -8,6 +8,7 @@ use Rattle.bm_cache.specs.Span.{Face, Fine}
 use Rattle.bm_cache.proofs.Asked.{one-first}
 use Rattle.bm_cache.proofs.Stretch.{stretch, fine-step, between-push}
 use Rattle.bm_cache.proofs.Moments.{took-at, one-token}
+use Rattle.bm_cache.proofs.Flags.{raises-none-step}
 use Rattle.bm_cache.proofs.Unbroken.{unbroken-step}
 use Rattle.bm_work.proofs.Steps.{pushed-more, first-lasts}
 use Rattle.bm_work.proofs.add.push_first.Goals as goal
@@ -48,3 +49,8 @@ pub returns-clause-alone : goal.returns-clause-alone
 returns-clause-alone g c =
     let q = c.push.ensures.pushed in
     unbroken-step g.H.Host.face g.H.Host.pending g.H.Host.held g.R.Recorder.log c.args.host.now c.point.new.self (g.H.Host.with_held c.point.new.self c.push.new.self) c.caches.result.now c.push.new.self c.level-level.result (entry.Push c.args.class q.0.number) [] c.point.ensures.quiet c.level-level.ensures.same c.caches.ensures.held (g.met.H.Host.held_back c.point.new.self c.push.new.self) (g.met.H.Host.pending_back c.point.new.self c.push.new.self) q.3
+
+pub returns-clause-flags : goal.returns-clause-flags
+returns-clause-flags g c =
+    let q = c.push.ensures.pushed in
+    raises-none-step g.H.Host.pending g.H.Host.held g.R.Recorder.log c.args.host.now c.point.new.self (g.H.Host.with_held c.point.new.self c.push.new.self) c.caches.result.now c.push.new.self c.level-level.result (entry.Push c.args.class q.0.number) [] refl c.point.ensures.quiet c.caches.ensures.held (g.met.H.Host.held_back c.point.new.self c.push.new.self) (g.met.H.Host.pending_back c.point.new.self c.push.new.self) q.3

@@ -11,6 +11,7 @@ use Rattle.bm_cache.specs.Tests.{Lasting}
 use Rattle.bm_cache.proofs.Stretch.{lasting-join, walk-still}
 use Rattle.bm_work.proofs.Spans.{lasting-ends, lasting-more}
 use Rattle.bm_cache.proofs.Moments.{goes-join, span-at}
+use Rattle.bm_cache.proofs.Flags.{raises-none-join}
 use Rattle.bm_cache.proofs.Unbroken.{unbroken-join}
 use Rattle.bm_deferred.specs.Parts.{Part, Say, Then, When}
 use Rattle.bm_deferred.specs.WorkPhrases.{IsBatch, IsGathering, IsLeave, may_batch}
@@ -55,6 +56,14 @@ returns-clause-alone g c =
     unbroken-join c.raise_active.ensures.goes (goes-join j c.move_delayed.ensures.goes t) c.raise_active.ensures.alone
     (unbroken-join c.move_delayed.ensures.goes t c.move_delayed.ensures.alone
     (unbroken-join c.batch_if_any-begun.ensures.goes c.lower_active.ensures.goes c.batch_if_any-begun.ensures.alone c.lower_active.ensures.alone))
+
+pub returns-clause-flags : goal.returns-clause-flags
+returns-clause-flags g c =
+    let j = g.met.H.Host.keeps_join in
+    let t = goes-join j c.batch_if_any-begun.ensures.goes c.lower_active.ensures.goes in
+    raises-none-join c.raise_active.ensures.goes (goes-join j c.move_delayed.ensures.goes t) c.raise_active.ensures.flags
+    (raises-none-join c.move_delayed.ensures.goes t c.move_delayed.ensures.flags
+    (raises-none-join c.batch_if_any-begun.ensures.goes c.lower_active.ensures.goes c.batch_if_any-begun.ensures.flags c.lower_active.ensures.flags))
 
 pub returns-clause-lasting : goal.returns-clause-lasting
 returns-clause-lasting g c =

@@ -6,6 +6,7 @@ use Rattle.bm_cache.specs.Tokens.{Token, number_of}
 use Rattle.bm_cache.specs.Shown.{shown}
 use Rattle.bm_cache.specs.Span.{Face, Span}
 use Rattle.bm_cache.proofs.Moments.{span-at, one-token}
+use Rattle.bm_cache.proofs.Flags.{raises-none-join}
 use Rattle.bm_cache.proofs.Unbroken.{unbroken-join}
 use Rattle.bm_deferred.specs.Parts.{Say}
 use Rattle.bm_deferred.specs.WorkPhrases.{IsOne}
@@ -65,3 +66,6 @@ returns-clause-phrase g c _ =
 
 pub returns-clause-alone : goal.returns-clause-alone
 returns-clause-alone g c = unbroken-join c.second_in.ensures.goes c.add_unit.ensures.goes c.second_in.ensures.alone c.add_unit.ensures.alone
+
+pub returns-clause-flags : goal.returns-clause-flags
+returns-clause-flags g c = raises-none-join c.second_in.ensures.goes c.add_unit.ensures.goes c.second_in.ensures.flags c.add_unit.ensures.flags

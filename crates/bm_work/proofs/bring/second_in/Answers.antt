@@ -7,10 +7,11 @@ use Rattle.bm_law.specs.Places.{Second as second_list}
 use Rattle.bm_cache.specs.Tokens.{Token}
 use Rattle.bm_cache.specs.Tests.{Reusable, Either}
 use Rattle.bm_cache.specs.Shown.{shown, Took}
-use Rattle.bm_cache.specs.Span.{Face, Fine, Unbroken}
+use Rattle.bm_cache.specs.Span.{Face, Fine, RaisesNone, Unbroken}
 use Rattle.bm_cache.specs.declared.caches.Caches.{Caches}
 use Rattle.bm_cache.proofs.Stretch.{fine-step}
 use Rattle.bm_cache.proofs.Moments.{took-at, first-reusable, first-sits, fine-same}
+use Rattle.bm_cache.proofs.Flags.{raises-none-point, raises-none-step}
 use Rattle.bm_cache.proofs.Unbroken.{unbroken-step}
 use Rattle.bm_work.proofs.Spans.{work-step, between-second, less-second, deferred-second, side-second}
 use Rattle.bm_work.proofs.Steps.{unbroken-point, first-lasts}
@@ -80,3 +81,15 @@ returns-clause-alone g c =
     go false h =
         let q = c.take_second.ensures.none h in
         unbroken-point g.H.Host.face g.H.Host.pending g.H.Host.held g.R.Recorder.log c.args.host.now c.point.new.self (g.H.Host.with_held c.point.new.self c.take_second.new.self) c.point.ensures.quiet (g.met.H.Host.held_back c.point.new.self c.take_second.new.self ∙ q.1 ∙ c.caches.ensures.held) (g.met.H.Host.pending_back c.point.new.self c.take_second.new.self)
+
+pub returns-clause-flags : goal.returns-clause-flags
+returns-clause-flags g c =
+    go c.take_second.result refl
+  where
+    go : (b : Bool) → c.take_second.result ≡ b → RaisesNone g.H.Host.pending g.H.Host.held c.args.host.now (g.H.Host.with_held c.point.new.self c.take_second.new.self)
+    go true h =
+        let q = c.take_second.ensures.some h in
+        raises-none-step g.H.Host.pending g.H.Host.held g.R.Recorder.log c.args.host.now c.point.new.self (g.H.Host.with_held c.point.new.self c.take_second.new.self) c.caches.result.now c.take_second.new.self c.level-level.result (entry.Second c.args.class q.0.number) [] refl c.point.ensures.quiet c.caches.ensures.held (g.met.H.Host.held_back c.point.new.self c.take_second.new.self) (g.met.H.Host.pending_back c.point.new.self c.take_second.new.self) q.3
+    go false h =
+        let q = c.take_second.ensures.none h in
+        raises-none-point g.H.Host.pending g.H.Host.held c.args.host.now c.point.new.self (g.H.Host.with_held c.point.new.self c.take_second.new.self) c.point.ensures.quiet (g.met.H.Host.held_back c.point.new.self c.take_second.new.self ∙ q.1 ∙ c.caches.ensures.held) (g.met.H.Host.pending_back c.point.new.self c.take_second.new.self)

@@ -8,6 +8,7 @@ use Rattle.bm_cache.specs.Tokens.{Token}
 use Rattle.bm_cache.specs.Shown.{shown}
 use Rattle.bm_cache.proofs.Moments.{came-none}
 use Rattle.bm_cache.proofs.Stretch.{stretch, fine-step}
+use Rattle.bm_cache.proofs.Flags.{raises-none-step}
 use Rattle.bm_cache.proofs.Unbroken.{unbroken-step}
 use Rattle.bm_deferred.specs.WorkPhrases.{IsOne}
 use Rattle.bm_work.proofs.Grown.{grew-say}
@@ -44,3 +45,7 @@ returns-clause-fine g c = fine-step g.R.Recorder.log g.R.Recorder.counts (g.H.Ho
 pub returns-clause-alone : goal.returns-clause-alone
 returns-clause-alone g c =
     unbroken-step g.H.Host.face g.H.Host.pending g.H.Host.held g.R.Recorder.log c.args.host.now c.args.host.now (g.H.Host.with_held c.args.host.now c.lower.new.self) c.caches.result.now c.lower.new.self c.level-level.result (entry.Work c.args.class) [] (λ _. refl) c.level-level.ensures.same c.caches.ensures.held (g.met.H.Host.held_back c.args.host.now c.lower.new.self) (g.met.H.Host.pending_back c.args.host.now c.lower.new.self) c.lower.ensures.step
+
+pub returns-clause-flags : goal.returns-clause-flags
+returns-clause-flags g c =
+    raises-none-step g.H.Host.pending g.H.Host.held g.R.Recorder.log c.args.host.now c.args.host.now (g.H.Host.with_held c.args.host.now c.lower.new.self) c.caches.result.now c.lower.new.self c.level-level.result (entry.Work c.args.class) [] refl (λ _. refl) c.caches.ensures.held (g.met.H.Host.held_back c.args.host.now c.lower.new.self) (g.met.H.Host.pending_back c.args.host.now c.lower.new.self) c.lower.ensures.step

@@ -5,6 +5,7 @@ use Rattle.bm_cache.specs.Tokens.{Token}
 use Rattle.bm_cache.specs.Shown.{shown}
 use Rattle.bm_cache.specs.Span.{Face, Fine}
 use Rattle.bm_cache.proofs.Stretch.{stretch, fine-step, between-none}
+use Rattle.bm_cache.proofs.Flags.{raises-none-step}
 use Rattle.bm_cache.proofs.Unbroken.{unbroken-step}
 use Rattle.bm_deferred.specs.WorkPhrases.{IsOne}
 use Rattle.bm_work.proofs.Grown.{grew-say}
@@ -35,3 +36,7 @@ returns-clause-fine g c = fine-step g.R.Recorder.log g.R.Recorder.counts (g.H.Ho
 pub returns-clause-alone : goal.returns-clause-alone
 returns-clause-alone g c =
     unbroken-step g.H.Host.face g.H.Host.pending g.H.Host.held g.R.Recorder.log c.args.host.now c.point.new.self (g.H.Host.with_held c.point.new.self c.read.new.self) c.caches.result.now c.read.new.self c.level-level.result (entry.Read c.args.class c.read.result) [] c.point.ensures.quiet c.level-level.ensures.same c.caches.ensures.held (g.met.H.Host.held_back c.point.new.self c.read.new.self) (g.met.H.Host.pending_back c.point.new.self c.read.new.self) c.read.ensures.step
+
+pub returns-clause-flags : goal.returns-clause-flags
+returns-clause-flags g c =
+    raises-none-step g.H.Host.pending g.H.Host.held g.R.Recorder.log c.args.host.now c.point.new.self (g.H.Host.with_held c.point.new.self c.read.new.self) c.caches.result.now c.read.new.self c.level-level.result (entry.Read c.args.class c.read.result) [] refl c.point.ensures.quiet c.caches.ensures.held (g.met.H.Host.held_back c.point.new.self c.read.new.self) (g.met.H.Host.pending_back c.point.new.self c.read.new.self) c.read.ensures.step

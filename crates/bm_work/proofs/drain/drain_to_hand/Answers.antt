@@ -12,6 +12,7 @@ use Rattle.bm_cache.specs.Shown.{shown}
 use Rattle.bm_cache.specs.Span.{Face, Span}
 use Rattle.bm_cache.proofs.Moments.{span-at}
 use Rattle.bm_cache.proofs.Stretch.{span-join}
+use Rattle.bm_cache.proofs.Flags.{raises-none-join}
 use Rattle.bm_cache.proofs.Unbroken.{unbroken-join}
 use Rattle.bm_deferred.specs.Parts.{Say}
 use Rattle.bm_deferred.specs.WorkPhrases.{IsTakeExtra, Unloads}
@@ -69,3 +70,6 @@ returns-clause-lasts g c =
 
 pub returns-clause-alone : goal.returns-clause-alone
 returns-clause-alone g c = unbroken-join c.unload.ensures.goes c.take_all_extra.ensures.goes c.unload.ensures.alone c.take_all_extra.ensures.alone
+
+pub returns-clause-flags : goal.returns-clause-flags
+returns-clause-flags g c = raises-none-join c.unload.ensures.goes c.take_all_extra.ensures.goes c.unload.ensures.flags c.take_all_extra.ensures.flags

@@ -10,6 +10,7 @@ use Rattle.bm_cache.specs.Shown.{shown}
 use Rattle.bm_cache.specs.Span.{Face, Span}
 use Rattle.bm_cache.proofs.Stretch.{span-join, span-none}
 use Rattle.bm_cache.proofs.Moments.{span-at, goes-join, goes-back}
+use Rattle.bm_cache.proofs.Flags.{raises-none-join, raises-none-same}
 use Rattle.bm_cache.proofs.Unbroken.{unbroken-join, unbroken-same}
 use Rattle.bm_deferred.specs.WorkPhrases.{Moved, take_of, takes, empty_take, Unloads}
 use Rattle.bm_work.specs.Fit.{Fit}
@@ -30,6 +31,7 @@ takes-init g c =
       fine = c.requires.fine;
       goes = goes-back h h refl refl (g.met.H.Host.keeps_same h);
       alone = unbroken-same g.H.Host.face g.H.Host.pending g.H.Host.held g.R.Recorder.log h h refl;
+      flags = raises-none-same g.H.Host.pending g.H.Host.held h h refl;
       idle = c.requires.idle;
       quiet = c.requires.quiet;
       lasts = λ i e n j. refl;
@@ -71,6 +73,7 @@ takes-preserved g c =
       fine = c.take_one.ensures.fine;
       goes = goes-join g.met.H.Host.keeps_join v.goes c.take_one.ensures.goes;
       alone = unbroken-join v.goes c.take_one.ensures.goes v.alone c.take_one.ensures.alone;
+      flags = raises-none-join v.goes c.take_one.ensures.goes v.flags c.take_one.ensures.flags;
       idle = c.take_one.ensures.active i ∙ v.idle;
       quiet = subst Q (sym lz) (ap (λ (s : Side Token). s.mark) t.2);
       lasts = same-join tx ty tz h v.lasts (all-front (Same ty tz) h us last);
@@ -177,5 +180,11 @@ returns-in-None-clause-goes g c = goes-join g.met.H.Host.keeps_join c.takes.inva
 pub returns-then-count-middle-clause-alone : goal.returns-then-count-middle-clause-alone
 returns-then-count-middle-clause-alone g c = unbroken-join c.takes.invariant.goes c.take_one.ensures.goes c.takes.invariant.alone c.take_one.ensures.alone
 
+pub returns-then-count-middle-clause-flags : goal.returns-then-count-middle-clause-flags
+returns-then-count-middle-clause-flags g c = raises-none-join c.takes.invariant.goes c.take_one.ensures.goes c.takes.invariant.flags c.take_one.ensures.flags
+
 pub returns-in-None-clause-alone : goal.returns-in-None-clause-alone
 returns-in-None-clause-alone g c = unbroken-join c.takes.invariant.goes c.take_one.ensures.goes c.takes.invariant.alone c.take_one.ensures.alone
+
+pub returns-in-None-clause-flags : goal.returns-in-None-clause-flags
+returns-in-None-clause-flags g c = raises-none-join c.takes.invariant.goes c.take_one.ensures.goes c.takes.invariant.flags c.take_one.ensures.flags

@@ -4,7 +4,7 @@ use Rattle.bm_law.specs.declared.mark.Mark.TheVariants as mark
 use Rattle.bm_cache.specs.Tokens.{Token, number_of}
 use Rattle.bm_cache.specs.Tests.{Same}
 use Rattle.bm_cache.specs.Shown.{shown}
-use Rattle.bm_cache.specs.Span.{Fine, Goes, Span, Unbroken}
+use Rattle.bm_cache.specs.Span.{Fine, Goes, RaisesNone, Span, Unbroken}
 use Rattle.bm_deferred.specs.WorkPhrases.{Moved, takes}
 use Rattle.bm_work.specs.Fit.{Fit}
 use Rattle.bm_work.specs.Takes.{popped}
@@ -17,6 +17,7 @@ invariant-takes g l = record {
   fine : Fine g.R.Recorder.log g.R.Recorder.counts (g.H.Host.tests l.host) (g.H.Host.face l.host).processors ((g.H.Host.face l.host).level + 1) (g.H.Host.held l.host);
   goes : Goes g.H.Host.face g.H.Host.pending g.H.Host.keeps l.initial.host l.host;
   alone : Unbroken g.H.Host.face g.H.Host.pending g.H.Host.held g.R.Recorder.log l.initial.host l.host;
+  flags : RaisesNone g.H.Host.pending g.H.Host.held l.initial.host l.host;
   idle : ((shown (g.H.Host.held l.host)).rows l.class).active ≡ 0;
   quiet : ((shown (g.H.Host.held l.host)).sides (g.H.Host.face l.host).level).mark ≡ mark.Quiet;
   lasts : All (Same (g.H.Host.tests l.initial.host) (g.H.Host.tests l.host)) ((shown (g.H.Host.held l.initial.host)).sides (g.H.Host.face l.initial.host).level).hand;

@@ -12,6 +12,7 @@ use Rattle.bm_cache.specs.Span.{Face, Fine}
 use Rattle.bm_cache.specs.declared.caches.Caches.{Caches}
 use Rattle.bm_cache.proofs.Stretch.{stretch, fine-step}
 use Rattle.bm_cache.proofs.Moments.{took-at}
+use Rattle.bm_cache.proofs.Flags.{raises-none-step}
 use Rattle.bm_cache.proofs.Unbroken.{unbroken-step}
 use Rattle.bm_deferred.specs.WorkPhrases.{IsTakeExtra}
 use Rattle.bm_work.specs.Fit.{Fit}
@@ -79,3 +80,10 @@ returns-clause-alone g c =
     let z = c.take_extra.new.self in
     let q = took-list g.R.Recorder.log c.level-level.result (entry.TakeExtra i) _ c.caches.result.now z refl c.take_extra.ensures.step in
     unbroken-step g.H.Host.face g.H.Host.pending g.H.Host.held g.R.Recorder.log c.args.host.now c.point.new.self (g.H.Host.with_held c.point.new.self z) c.caches.result.now z c.level-level.result (entry.TakeExtra i (Whole _)) [] c.point.ensures.quiet c.level-level.ensures.same c.caches.ensures.held (g.met.H.Host.held_back c.point.new.self z) (g.met.H.Host.pending_back c.point.new.self z) q
+
+pub returns-clause-flags : goal.returns-clause-flags
+returns-clause-flags g c =
+    let i = c.args.class in
+    let z = c.take_extra.new.self in
+    let q = took-list g.R.Recorder.log c.level-level.result (entry.TakeExtra i) _ c.caches.result.now z refl c.take_extra.ensures.step in
+    raises-none-step g.H.Host.pending g.H.Host.held g.R.Recorder.log c.args.host.now c.point.new.self (g.H.Host.with_held c.point.new.self z) c.caches.result.now z c.level-level.result (entry.TakeExtra i (Whole _)) [] refl c.point.ensures.quiet c.caches.ensures.held (g.met.H.Host.held_back c.point.new.self z) (g.met.H.Host.pending_back c.point.new.self z) q

@@ -7,6 +7,7 @@ use Rattle.bm_law.proofs.Spans.{Records-points}
 use Rattle.bm_cache.specs.Tokens.{Token, number_of}
 use Rattle.bm_cache.specs.Shown.{shown}
 use Rattle.bm_cache.specs.Span.{Face, Came}
+use Rattle.bm_cache.proofs.Flags.{raises-none-join}
 use Rattle.bm_cache.proofs.Unbroken.{unbroken-join}
 use Rattle.bm_deferred.specs.Parts.{Part, Stand}
 use Rattle.bm_deferred.specs.WorkPhrases.{Brings}
@@ -94,3 +95,6 @@ returns-clause-span g c =
 
 pub returns-clause-alone : goal.returns-clause-alone
 returns-clause-alone g c = unbroken-join c.bring_ready.ensures.goes c.bring_second.ensures.goes c.bring_ready.ensures.alone c.bring_second.ensures.alone
+
+pub returns-clause-flags : goal.returns-clause-flags
+returns-clause-flags g c = raises-none-join c.bring_ready.ensures.goes c.bring_second.ensures.goes c.bring_ready.ensures.flags c.bring_second.ensures.flags

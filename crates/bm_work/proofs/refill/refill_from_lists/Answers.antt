@@ -7,6 +7,7 @@ use Rattle.bm_cache.specs.Tests.{Same}
 use Rattle.bm_cache.specs.Shown.{shown}
 use Rattle.bm_cache.specs.Span.{Face, Came}
 use Rattle.bm_cache.proofs.Moments.{goes-join, goes-back, came-none}
+use Rattle.bm_cache.proofs.Flags.{raises-none-join, raises-none-same}
 use Rattle.bm_cache.proofs.Unbroken.{unbroken-join, unbroken-same}
 use Rattle.bm_deferred.specs.Parts.{Stand}
 use Rattle.bm_work.specs.FromLists.{FromLists, less}
@@ -26,6 +27,7 @@ brings-init g c =
       fine = c.requires.fine;
       goes = goes-back h h refl refl (g.met.H.Host.keeps_same h);
       alone = unbroken-same g.H.Host.face g.H.Host.pending g.H.Host.held g.R.Recorder.log h h refl;
+      flags = raises-none-same g.H.Host.pending g.H.Host.held h h refl;
       idle = c.requires.idle;
       empty = c.requires.empty;
       settled = c.requires.settled;
@@ -62,6 +64,7 @@ brings-preserved g c =
       fine = c.bring.ensures.fine;
       goes = goes-join g.met.H.Host.keeps_join v.goes c.bring.ensures.goes;
       alone = unbroken-join v.goes c.bring.ensures.goes v.alone c.bring.ensures.alone;
+      flags = raises-none-join v.goes c.bring.ensures.goes v.flags c.bring.ensures.flags;
       idle = between-active l i (shown y) (shown z) s.between i ∙ v.idle;
       empty = subst F (sym lz) c.bring.ensures.side;
       settled = settled-less (g.H.Host.tests c.brings.host) (g.H.Host.tests c.bring.new.host) dy.second dz.second lower.gone_second lower.second (s.lasting.second i) v.settled;
@@ -144,6 +147,9 @@ returns-then-not-bring-clause-goes g c = goes-join g.met.H.Host.keeps_join c.bri
 
 pub returns-then-not-bring-clause-alone : goal.returns-then-not-bring-clause-alone
 returns-then-not-bring-clause-alone g c = unbroken-join c.brings.invariant.goes c.bring.ensures.goes c.brings.invariant.alone c.bring.ensures.alone
+
+pub returns-then-not-bring-clause-flags : goal.returns-then-not-bring-clause-flags
+returns-then-not-bring-clause-flags g c = raises-none-join c.brings.invariant.goes c.bring.ensures.goes c.brings.invariant.flags c.bring.ensures.flags
 
 pub returns-clause-answer : goal.returns-clause-answer
 returns-clause-answer g c =

@@ -6,7 +6,7 @@ use Rattle.bm_law.specs.State.{seen, idle_side}
 use Rattle.bm_cache.specs.Tokens.{number_of}
 use Rattle.bm_cache.specs.Tests.{Reusable}
 use Rattle.bm_cache.specs.Shown.{shown}
-use Rattle.bm_cache.specs.Span.{Fine, Goes, Unbroken}
+use Rattle.bm_cache.specs.Span.{Fine, Goes, RaisesNone, Unbroken}
 use Rattle.bm_work.specs.FromLists.{FromLists, less}
 use Rattle.bm_work.specs.Grown.{GrewBy}
 use Rattle.bm_work.specs.WorkSpan.{WorkSpan}
@@ -19,6 +19,7 @@ invariant-brings g l = record {
   fine : Fine g.R.Recorder.log g.R.Recorder.counts (g.H.Host.tests l.host) (g.H.Host.face l.host).processors ((g.H.Host.face l.host).level + 1) (g.H.Host.held l.host);
   goes : Goes g.H.Host.face g.H.Host.pending g.H.Host.keeps l.initial.host l.host;
   alone : Unbroken g.H.Host.face g.H.Host.pending g.H.Host.held g.R.Recorder.log l.initial.host l.host;
+  flags : RaisesNone g.H.Host.pending g.H.Host.held l.initial.host l.host;
   idle : ((shown (g.H.Host.held l.host)).rows l.class).active ≡ 0;
   empty : (shown (g.H.Host.held l.host)).sides (g.H.Host.face l.host).level ≡ idle_side;
   settled : All (Reusable (g.H.Host.tests l.host)) ((shown (g.H.Host.held l.host)).rows l.class).deferred.second;

@@ -9,6 +9,7 @@ use Rattle.bm_cache.specs.Span.{Face, Fine}
 use Rattle.bm_cache.specs.declared.caches.Caches.{Caches}
 use Rattle.bm_cache.proofs.Stretch.{stretch, fine-step}
 use Rattle.bm_cache.proofs.Moments.{took-at}
+use Rattle.bm_cache.proofs.Flags.{raises-none-step}
 use Rattle.bm_cache.proofs.Unbroken.{unbroken-step}
 use Rattle.bm_work.proofs.Lists.{took-list, between-second, second-deferred, second-others}
 use Rattle.bm_work.proofs.Spans.{span-active}
@@ -44,6 +45,15 @@ returns-clause-alone g c =
     let us : List ℕ = map number_of ((shown w).rows i).deferred.ready in
     let q = took-list g.R.Recorder.log c.level-level.result (entry.BeginSecond i) us w z refl c.take_all_ready.ensures.step in
     unbroken-step g.H.Host.face g.H.Host.pending g.H.Host.held g.R.Recorder.log c.args.host.now c.point.new.self (g.H.Host.with_held c.point.new.self z) w z c.level-level.result (entry.BeginSecond i (Whole us)) [] c.point.ensures.quiet c.level-level.ensures.same c.caches.ensures.held (g.met.H.Host.held_back c.point.new.self z) (g.met.H.Host.pending_back c.point.new.self z) q
+
+pub returns-clause-flags : goal.returns-clause-flags
+returns-clause-flags g c =
+    let i = c.args.class in
+    let z = c.take_all_ready.new.self in
+    let w = c.caches.result.now in
+    let us : List ℕ = map number_of ((shown w).rows i).deferred.ready in
+    let q = took-list g.R.Recorder.log c.level-level.result (entry.BeginSecond i) us w z refl c.take_all_ready.ensures.step in
+    raises-none-step g.H.Host.pending g.H.Host.held g.R.Recorder.log c.args.host.now c.point.new.self (g.H.Host.with_held c.point.new.self z) w z c.level-level.result (entry.BeginSecond i (Whole us)) [] refl c.point.ensures.quiet c.caches.ensures.held (g.met.H.Host.held_back c.point.new.self z) (g.met.H.Host.pending_back c.point.new.self z) q
 
 pub returns-clause-deferred : goal.returns-clause-deferred
 returns-clause-deferred g c =

@@ -6,12 +6,13 @@ use Rattle.bm_law.specs.Places.{Free as free_list}
 use Rattle.bm_cache.specs.Tokens.{Token}
 use Rattle.bm_cache.specs.Tests.{Reusable}
 use Rattle.bm_cache.specs.Shown.{shown, waiting, Took}
-use Rattle.bm_cache.specs.Span.{Face, Fine, Unbroken}
+use Rattle.bm_cache.specs.Span.{Face, Fine, RaisesNone, Unbroken}
 use Rattle.bm_law.specs.Kept.{Ready}
 use Rattle.bm_cache.specs.declared.caches.Caches.{Caches}
 use Rattle.bm_cache.proofs.Placed.{room}
 use Rattle.bm_cache.proofs.Stretch.{stretch, fine-step, between-pop, between-none}
 use Rattle.bm_cache.proofs.Moments.{took-at, waiting-kept, reusable-either, first-reusable, first-sits}
+use Rattle.bm_cache.proofs.Flags.{raises-none-step}
 use Rattle.bm_cache.proofs.Unbroken.{unbroken-step}
 use Rattle.bm_work.proofs.Steps.{popped-more, hand-room}
 use Rattle.bm_work.proofs.take.pop_more.Goals as goal
@@ -85,3 +86,15 @@ returns-clause-alone g c =
     go false h =
         let q = c.pop.ensures.none h in
         unbroken-step g.H.Host.face g.H.Host.pending g.H.Host.held g.R.Recorder.log c.args.host.now c.point.new.self (g.H.Host.with_held c.point.new.self c.pop.new.self) c.caches.result.now c.pop.new.self c.level-level.result (entry.PopNone c.args.class) [] c.point.ensures.quiet c.level-level.ensures.same c.caches.ensures.held (g.met.H.Host.held_back c.point.new.self c.pop.new.self) (g.met.H.Host.pending_back c.point.new.self c.pop.new.self) q.1
+
+pub returns-clause-flags : goal.returns-clause-flags
+returns-clause-flags g c =
+    go c.pop.result refl
+  where
+    go : (b : Bool) → c.pop.result ≡ b → RaisesNone g.H.Host.pending g.H.Host.held c.args.host.now (g.H.Host.with_held c.point.new.self c.pop.new.self)
+    go true h =
+        let q = c.pop.ensures.some h in
+        raises-none-step g.H.Host.pending g.H.Host.held g.R.Recorder.log c.args.host.now c.point.new.self (g.H.Host.with_held c.point.new.self c.pop.new.self) c.caches.result.now c.pop.new.self c.level-level.result (entry.Pop c.args.class q.0.number) [] refl c.point.ensures.quiet c.caches.ensures.held (g.met.H.Host.held_back c.point.new.self c.pop.new.self) (g.met.H.Host.pending_back c.point.new.self c.pop.new.self) q.3
+    go false h =
+        let q = c.pop.ensures.none h in
+        raises-none-step g.H.Host.pending g.H.Host.held g.R.Recorder.log c.args.host.now c.point.new.self (g.H.Host.with_held c.point.new.self c.pop.new.self) c.caches.result.now c.pop.new.self c.level-level.result (entry.PopNone c.args.class) [] refl c.point.ensures.quiet c.caches.ensures.held (g.met.H.Host.held_back c.point.new.self c.pop.new.self) (g.met.H.Host.pending_back c.point.new.self c.pop.new.self) q.1

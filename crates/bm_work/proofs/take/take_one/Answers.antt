@@ -9,6 +9,7 @@ use Rattle.bm_cache.specs.Shown.{shown}
 use Rattle.bm_cache.specs.Span.{Face, Span}
 use Rattle.bm_cache.proofs.Stretch.{span-join}
 use Rattle.bm_cache.proofs.Moments.{span-at, goes-join}
+use Rattle.bm_cache.proofs.Flags.{raises-none-join}
 use Rattle.bm_cache.proofs.Unbroken.{unbroken-join}
 use Rattle.bm_deferred.specs.WorkPhrases.{Moved, take_of, empty_take}
 use Rattle.bm_work.specs.Fit.{Fit}
@@ -156,6 +157,12 @@ returns-then-pop_more-clause-alone g c =
     let r2 = goes-join g.met.H.Host.keeps_join c.pop_more.ensures.goes r3 in
     unbroken-join c.raise_active.ensures.goes r2 c.raise_active.ensures.alone (unbroken-join c.pop_more.ensures.goes r3 c.pop_more.ensures.alone (unbroken-join c.count_taken-count.ensures.goes c.lower_active.ensures.goes c.count_taken-count.ensures.alone c.lower_active.ensures.alone))
 
+pub returns-then-pop_more-clause-flags : goal.returns-then-pop_more-clause-flags
+returns-then-pop_more-clause-flags g c =
+    let r3 = goes-join g.met.H.Host.keeps_join c.count_taken-count.ensures.goes c.lower_active.ensures.goes in
+    let r2 = goes-join g.met.H.Host.keeps_join c.pop_more.ensures.goes r3 in
+    raises-none-join c.raise_active.ensures.goes r2 c.raise_active.ensures.flags (raises-none-join c.pop_more.ensures.goes r3 c.pop_more.ensures.flags (raises-none-join c.count_taken-count.ensures.goes c.lower_active.ensures.goes c.count_taken-count.ensures.flags c.lower_active.ensures.flags))
+
 pub returns-else-pop_more-clause-goes : goal.returns-else-pop_more-clause-goes
 returns-else-pop_more-clause-goes g c = goes-join g.met.H.Host.keeps_join c.raise_active.ensures.goes (goes-join g.met.H.Host.keeps_join c.pop_more.ensures.goes c.lower_active-else-pop_more.ensures.goes)
 
@@ -163,6 +170,11 @@ pub returns-else-pop_more-clause-alone : goal.returns-else-pop_more-clause-alone
 returns-else-pop_more-clause-alone g c =
     let r2 = goes-join g.met.H.Host.keeps_join c.pop_more.ensures.goes c.lower_active-else-pop_more.ensures.goes in
     unbroken-join c.raise_active.ensures.goes r2 c.raise_active.ensures.alone (unbroken-join c.pop_more.ensures.goes c.lower_active-else-pop_more.ensures.goes c.pop_more.ensures.alone c.lower_active-else-pop_more.ensures.alone)
+
+pub returns-else-pop_more-clause-flags : goal.returns-else-pop_more-clause-flags
+returns-else-pop_more-clause-flags g c =
+    let r2 = goes-join g.met.H.Host.keeps_join c.pop_more.ensures.goes c.lower_active-else-pop_more.ensures.goes in
+    raises-none-join c.raise_active.ensures.goes r2 c.raise_active.ensures.flags (raises-none-join c.pop_more.ensures.goes c.lower_active-else-pop_more.ensures.goes c.pop_more.ensures.flags c.lower_active-else-pop_more.ensures.flags)
 
 pub returns-then-pop_more-clause-phrase : goal.returns-then-pop_more-clause-phrase
 returns-then-pop_more-clause-phrase g c =
