@@ -21,7 +21,7 @@ pub room-is : (n life : ℕ) → n < 2 ^ 16 → life + 1 < 2 ^ 32 → has_room n
 room-is n life h k = ap (λ b. b && nat_lt (life + 1) (2 ^ 32)) (lt-ltb n (2 ^ 16) h) ∙ lt-ltb (life + 1) (2 ^ 32) k
 
 -- a unit that was given keeps its lives
-given-life : (class number n : ℕ) (pool : Stock) → (stocked_at (given class number pool).units n).life ≡ (stocked_at pool.units n).life
+pub given-life : (class number n : ℕ) (pool : Stock) → (stocked_at (given class number pool).units n).life ≡ (stocked_at pool.units n).life
 unfolding given
 given-life class number n pool =
     elim (cases_eq n number) [
@@ -39,7 +39,7 @@ given-roomy class number pool h = record {
   lives = λ n. let e = given-life class number n pool in omega (arith, e, h.lives n);
 }
 
-next_cases : (o : Option ℕ) → (o ≡ None) ⊎ ((n : ℕ) × (o ≡ Some n))
+pub next_cases : (o : Option ℕ) → (o ≡ None) ⊎ ((n : ℕ) × (o ≡ Some n))
 next_cases None = inl refl
 next_cases (Some n) = inr (n, refl)
 

@@ -1,2 +1,5 @@
 pub mod Aged
+pub mod Alive
 pub mod Cleared
+pub mod Lived
+pub mod SlotLemmas

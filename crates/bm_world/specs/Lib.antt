@@ -1,2 +1,4 @@
+pub mod LivingState
 pub mod SideState
+pub mod Slots
 pub mod WaitingState

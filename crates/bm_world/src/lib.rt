@@ -2,7 +2,11 @@
 #![tactic(auto)]
 
 mod law;
+mod living;
+#[cfg(test)]
+mod living_tests;
 mod one_side;
+mod slots;
 #[cfg(test)]
 mod tests;
 mod wait;
@@ -13,7 +17,9 @@ mod waiting_tests;
 mod world;
 
 pub use law::aged_law;
+pub use living::LivingSide;
 pub use one_side::OneSide;
+pub use slots::Slots;
 pub use wait::Wait;
 pub use waiting::WaitingSide;
 pub use waiting_law::{ripe_only_when_passed, waits_without_a_seal};

@@ -1,0 +1,7 @@
+use Rattle.bm_world.proofs.Alive.{ended-mine}
+use Rattle.bm_world.proofs.living.LivingSide.end_life.Goals as goal
+
+pub returns-clause-mine : goal.returns-clause-mine
+returns-clause-mine c =
+    let i = c.self.inside in
+    rw (← c.self.view_is, c.take.ensures.empty) (ended-mine i.side.post i.slots.slots.items i.asked c.args.number c.take.result c.take.ensures.unit c.self.invariant)

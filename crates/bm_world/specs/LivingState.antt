@@ -1,0 +1,89 @@
+-- The world on one thread with the units that live in it. (This project's own. The kernel's allocator knows nothing of a unit
+-- while it is in use.)
+use Rattle.std.specs.Prelude.{◌≡◌, ℕ, ◌+◌, ◌%◌, ◌^◌, ◌<◌, ◌≤◌, ◌&&◌, not, nat_le, Bool, true, Option, None, Some, List, [], is_some, length, slice_index_or, slice_set}
+use Rattle.std.specs.List.{All}
+use Rattle.std.proofs.lemmas.Bool.{and_parts}
+use Rattle.bm_journal.specs.declared.ids.Domain.{Domain}
+use Rattle.bm_page.specs.declared.units.Seal.{Seal}
+use Rattle.bm_page.specs.UnitState.{UnitState}
+use Rattle.bm_page.specs.Stock.{stocked_at}
+use Rattle.bm_grace.specs.Known.{side}
+use Rattle.bm_grace.specs.Rights.{Rights}
+use Rattle.bm_post.specs.HasRoom.{has_room, room-of}
+use Rattle.bm_post.specs.PostState.{PostState, is_mine}
+use Rattle.bm_world.specs.SideState.{SideAtRest, SideState, idle-of, known_of}
+use Rattle.bm_world.specs.Slots.{unit_at}
+
+-- The side; by a unit's number the unit that lives, if it does; and how many objects were asked for.
+pub record LivingState : Type 0 where
+  pub side : SideState
+  pub slots : List (Option UnitState)
+  pub asked : ℕ
+
+-- Whether a unit with these lives so far may be used again: it has room for one life more, and has had no more lives than
+-- objects were asked for.
+abbrev pub may_live : (asked n life : ℕ) → Bool
+may_live asked n life = has_room n life && nat_le life asked
+
+-- Mine is what is mine of the side and doesn't live. Each unit that has had no more lives than objects were asked for may be
+-- used again as soon as it is there, whatever its seal.
+abbrev pub rights_with_living : PostState → List (Option UnitState) → ℕ → Rights
+rights_with_living post slots asked = record {
+  mine = λ n. is_mine post n && not (is_some (unit_at slots n));
+  settled = λ n life seal. may_live asked n life;
+  due = λ n life seal. may_live asked n life;
+  ripe = λ n life seal. may_live asked n life;
+  since = λ d x n. true;
+}
+
+abbrev pub rights_living : LivingState → Rights
+rights_living world = rights_with_living world.side.post world.slots world.asked
+
+-- All is at rest where it is on the side.
+abbrev pub LivingAtRest : LivingState → Domain → ℕ → Type 0
+LivingAtRest world = SideAtRest world.side
+
+-- A unit begins its next life, without a seal.
+abbrev pub next_life : UnitState → UnitState
+next_life unit = record unit { life = unit.life + 1; seal = None }
+
+-- An object was asked for.
+abbrev pub with_asked : LivingState → LivingState
+with_asked world = record world { asked = world.asked + 1 }
+
+-- .. and a unit begins its next life for it, in its slot
+abbrev pub with_begun : UnitState → LivingState → LivingState
+with_begun unit world =
+    record world { slots = slice_set world.slots unit.number (Some (next_life unit)); asked = world.asked + 1 }
+
+-- A unit lives no more.
+abbrev pub with_ended : ℕ → LivingState → LivingState
+with_ended n world = record world { slots = slice_set world.slots n None }
+
+-- A unit has had at most so many lives.
+abbrev pub LivedAtMost : ℕ → UnitState → Type 0
+LivedAtMost most unit = unit.life ≤ most
+
+-- Each unit of the pool and of the inboxes has.
+pub record HaveLived (most : ℕ) (post : PostState) : Type 0 where
+  pub stock : (n : ℕ) → (stocked_at post.pool.units n).life ≤ most
+  pub boxes : (i : ℕ) → All (All (LivedAtMost most)) (slice_index_or post.inboxes i [])
+
+-- What the parts keep true: there is a slot for each number; the unit in a slot has its number, is out of the pool and stands
+-- in no inbox, has had no more lives than objects were asked for, and its home is one of the processors; and no unit
+-- anywhere has had more.
+pub record AreLiving (post : PostState) (slots : List (Option UnitState)) (asked : ℕ) : Type 0 where
+  pub size : length slots ≡ 2 ^ 16
+  pub number : (n : ℕ) (unit : UnitState) → unit_at slots n ≡ Some unit → unit.number ≡ n
+  pub mine : (n : ℕ) (unit : UnitState) → unit_at slots n ≡ Some unit → is_mine post n ≡ true
+  pub life : (n : ℕ) (unit : UnitState) → unit_at slots n ≡ Some unit → unit.life ≤ asked
+  pub home : (n : ℕ) (unit : UnitState) → unit_at slots n ≡ Some unit → unit.home < post.processors
+  pub few : asked < 2 ^ 31
+  pub lived : HaveLived asked post
+
+-- what may be used again has room
+pub room-living : (p : LivingState) (n life : ℕ) (seal : Option Seal) → (rights_living p).settled n life seal ≡ true → (n < 2 ^ 16) × (life + 1 < 2 ^ 32)
+room-living p n life seal h = room-of n life seal (and_parts (has_room n life) (nat_le life p.asked) h).0
+
+pub idle-living : (world : LivingState) (d : Domain) (n : ℕ) → LivingAtRest world d n → n % 2 ≡ 0 → (side d (known_of world.side)).number ≡ 0
+idle-living world = idle-of world.side

@@ -1,0 +1,378 @@
+//! The world on one thread with the units that live in it.
+
+ghost use Rattle.std.specs.Prelude.{◌≡◌, ◌≢◌, ◌+◌, ◌%◌, ◌^◌, ◌<◌, ◌≤◌, ◌∷◌, ◌++◌, [], ℕ, List, Option, None, Some, false, length, is_some, reverse, true, IfOk, IfErr, IfSome, IfNone, OnOk, OnErr};
+ghost use Rattle.std.specs.List.{All};
+ghost use Rattle.std.specs.Option.{option_map_or};
+ghost use Rattle.bm_page.specs.Stock.{fetched as stock_fetched};
+ghost use Rattle.bm_grace.specs.Answers.{Answers, BeganAt, CanFinish, Stamped, Verdict, ended, next, number_in};
+ghost use Rattle.bm_grace.specs.Calls.{began, entered, finished, found_at, left, looked, looks, read};
+ghost use Rattle.bm_grace.specs.Rights.{Ages, AsBefore, MineSince, Ripens};
+ghost use Rattle.bm_grace.specs.Rest.{MovesNumber, StaysAtRest};
+ghost use Rattle.bm_grace.specs.declared.answer.Began.TheVariants.{Won};
+ghost use Rattle.bm_grace.specs.declared.answer.Look.TheVariants.{All as AllPass};
+ghost use Rattle.bm_grace.specs.Known.{side};
+ghost use Rattle.bm_grace.specs.PlainState.{domain_in, is_processor, period_begun, period_ended, period_looked, with_domain, word_moved, words_in};
+ghost use Rattle.bm_post.specs.PostState.{all_returned, inbox, sent_to, taken_by, told_in};
+ghost use Rattle.bm_post.specs.Calls.{Fetches, GivesBack, IsOf, Mails, Posts, Receives};
+ghost use Rattle.bm_post.specs.Parcels.{oldest, parcel_sent, parcel_taken};
+ghost use Rattle.bm_post.specs.Rights.{AreSame, Gains, Holds, IsSettled, Lasting, Loses, MayLeave, numbers};
+ghost use Rattle.bm_world.specs.SideState.{known_of};
+ghost use Rattle.bm_world.specs.Slots.{AllEmpty, unit_at};
+ghost use Rattle.bm_world.specs.LivingState.{HaveLived, LivingAtRest, idle-living, next_life, rights_living, room-living, with_asked, with_begun, with_ended};
+
+use crate::slots::Slots;
+use crate::{OneSide, World};
+use bm_class::Class;
+use bm_grace::{Began, Done, Grace, Knows, Look};
+use bm_journal::{Domain, ObjId, Period};
+use bm_page::Unit;
+use bm_post::Post;
+use bm_word::NoMemory;
+use std::alloc::Global;
+use std::marker::Model;
+
+/// The world on one thread with the units that live in it. Beside the side it owns each unit that lives, by its number, and
+/// counts how many objects were asked for. It has to be ended, by `give_up` or by ending its parts. This project's own.
+///
+/// A unit that lives isn't mine: its number can be named, and nothing can be done with it, until its life ends.
+pub struct LivingSide {
+    /// The pool, all inboxes, and the words and numbers of both domains.
+    side: OneSide,
+    /// By number, the unit that lives, if it does.
+    slots: Slots,
+    /// How many objects were asked for.
+    asked: u32,
+}
+
+impl Model for LivingSide {
+    ghost use Rattle.bm_world.specs.LivingState.{AreLiving, LivingState};
+
+    ghost Value = { LivingState };
+
+    ghost view = { λ world. record { side = world.side; slots = world.slots.slots.items; asked = world.asked } };
+
+    ghost invariant = { λ world. AreLiving world.side.post world.slots.slots.items world.asked };
+}
+
+impl LivingSide {
+    /// A side in which nothing lives, and for which no object was asked. No unit of its pool or its inboxes has ever lived. Want
+    /// of memory is the only refusal, and hands the side back.
+    pub fn create(alloc: Global, side: OneSide) -> Result<LivingSide, OneSide>
+        requires { HaveLived 0 side.post }
+        ensures side { IfOk result (λ world. world.side ≡ side) }
+        ensures slots { IfOk result (λ world. AllEmpty world.slots) }
+        ensures asked { IfOk result (λ world. world.asked ≡ 0) }
+        ensures err { IfErr result (λ back. back ≡ side) }
+    {
+        match Slots::new(alloc) {
+            Ok(slots) => Ok(LivingSide {
+                side,
+                slots,
+                asked: 0,
+            }),
+            Err(_) => Err(side),
+        }
+    }
+
+    /// Gives the side and the units that live back, and how many objects were asked for.
+    pub fn into_parts(self) -> (OneSide, Slots, u32)
+        ensures side { result.0 ≡ self.side }
+        ensures slots { result.1.slots.items ≡ self.slots }
+        ensures asked { result.2 ≡ self.asked }
+    {
+        let LivingSide { side, slots, asked } = self;
+        (side, slots, asked)
+    }
+
+    /// Ends it after a want of memory, whatever lives or waits. Its units are lost.
+    pub fn give_up(self) {
+        let LivingSide {
+            side,
+            slots,
+            asked: _,
+        } = self;
+        slots.give_up();
+        let (post, _grace) = side.into_parts();
+        post.give_up();
+    }
+
+    /// Makes it the side of a processor.
+    pub fn turn(&mut self, processor: u8)
+        requires { processor < self.old.side.post.processors }
+        ensures { self.new ≡ record self.old {
+          side = record {
+            post = record self.old.side.post { processor = processor };
+            grace = record self.old.side.grace { processor = processor };
+          };
+        } }
+    {
+        self.side.turn(processor);
+    }
+
+    /// An object is asked for, and there is none to give.
+    pub fn ask(&mut self)
+        requires room { self.old.asked + 1 < 2 ^ 31 }
+        ensures state { self.new ≡ with_asked self.old }
+        ensures same { AreSame (rights_living self.old) (rights_living self.new) }
+        ensures lasts { Lasting [] (rights_living self.old) (rights_living self.new) }
+        ensures rest { StaysAtRest LivingAtRest self.old self.new }
+    {
+        self.asked += 1;
+    }
+
+    /// An object is asked for, and a unit of mine begins its next life for it, in its slot. It is mine no more.
+    pub fn begin_life(&mut self, unit: Unit) -> ObjId
+        requires room { self.old.asked + 1 < 2 ^ 31 }
+        requires mine { (rights_living self.old).mine unit.number ≡ true }
+        requires settled { IsSettled (rights_living self.old) unit }
+        requires home { unit.home < self.old.side.post.processors }
+        ensures object { result ≡ record { unit = unit.number; life = unit.life + 1 } }
+        ensures none { unit_at self.old.slots unit.number ≡ None }
+        ensures state { self.new ≡ with_begun unit self.old }
+        ensures lives { unit_at self.new.slots unit.number ≡ Some (next_life unit) }
+        ensures gone { Loses (unit.number ∷ []) (rights_living self.old) (rights_living self.new) }
+        ensures lasts { Lasting [] (rights_living self.old) (rights_living self.new) }
+        ensures rest { StaysAtRest LivingAtRest self.old self.new }
+    {
+        let mut unit = unit;
+        unit.begin_life();
+        let object = ObjId {
+            unit: unit.number(),
+            life: unit.life(),
+        };
+        self.slots.put(unit);
+        self.asked += 1;
+        object
+    }
+
+    /// The life of a unit ends. The unit is mine again, and may be used again.
+    pub fn end_life(&mut self, number: u16) -> Unit
+        requires lives { is_some (unit_at self.old.slots number) ≡ true }
+        ensures unit { unit_at self.old.slots number ≡ Some result }
+        ensures number { result.number ≡ number }
+        ensures state { self.new ≡ with_ended number self.old }
+        ensures mine { Gains (number ∷ []) (rights_living self.old) (rights_living self.new) }
+        ensures settled { IsSettled (rights_living self.new) result }
+        ensures home { result.home < self.old.side.post.processors }
+        ensures lasts { Lasting [] (rights_living self.old) (rights_living self.new) }
+        ensures rest { StaysAtRest LivingAtRest self.old self.new }
+    {
+        self.slots.take(number)
+    }
+}
+
+impl Knows for LivingSide {
+    ghost known = { λ world. known_of world.side };
+
+    ghost tells = { false };
+
+    ghost rights = { rights_living };
+
+    ghost rest = { LivingAtRest };
+}
+
+impl Grace for LivingSide {
+    fn enter(&mut self, domain: Domain) -> u32
+        requires outside { (side domain (known_of self.old.side)).word % 2 ≡ 0 }
+        requires room { (side domain (known_of self.old.side)).word < 2 ^ 28 }
+        ensures post { self.new.side.post ≡ self.old.side.post }
+        ensures slots { self.new.slots ≡ self.old.slots }
+        ensures asked { self.new.asked ≡ self.old.asked }
+        ensures grace { self.new.side.grace
+            ≡ with_domain domain (word_moved self.old.side.grace.processor (domain_in domain self.old.side.grace)) self.old.side.grace }
+        ensures word { result ≡ (side domain (known_of self.old.side)).word + 1 }
+        ensures known { known_of self.new.side ≡ entered false domain (known_of self.old.side) }
+        ensures rights { Ages (rights_living self.old) (rights_living self.new) }
+        ensures same { AsBefore (rights_living self.old) (rights_living self.new) }
+    {
+        self.side.enter(domain)
+    }
+
+    fn leave(&mut self, domain: Domain) -> u32
+        requires inside { (side domain (known_of self.old.side)).word % 2 ≡ 1 }
+        ensures post { self.new.side.post ≡ self.old.side.post }
+        ensures slots { self.new.slots ≡ self.old.slots }
+        ensures asked { self.new.asked ≡ self.old.asked }
+        ensures grace { self.new.side.grace
+            ≡ with_domain domain (word_moved self.old.side.grace.processor (domain_in domain self.old.side.grace)) self.old.side.grace }
+        ensures word { result ≡ (side domain (known_of self.old.side)).word + 1 }
+        ensures known { known_of self.new.side ≡ left false domain (known_of self.old.side) }
+        ensures rights { Ages (rights_living self.old) (rights_living self.new) }
+        ensures same { AsBefore (rights_living self.old) (rights_living self.new) }
+    {
+        self.side.leave(domain)
+    }
+
+    fn stamp(&mut self, domain: Domain) -> u32
+        ensures stamp { result ≡ next (domain_in domain self.old.side.grace).number }
+        ensures state { self.new ≡ self.old }
+        ensures known { Stamped false domain result (known_of self.old.side) (known_of self.new.side) }
+        ensures rights { Ages (rights_living self.old) (rights_living self.new) }
+        ensures since { MineSince domain result (rights_living self.old) (rights_living self.new) }
+        ensures rest { StaysAtRest LivingAtRest self.old self.new }
+        ensures at_rest { (n : ℕ) → LivingAtRest self.old domain n → result ≡ next n }
+    {
+        self.side.stamp(domain)
+    }
+
+    fn done(&mut self, domain: Domain, stamp: u32) -> Done
+        ensures number { number_in result ≡ (domain_in domain self.old.side.grace).number }
+        ensures state { self.new ≡ self.old }
+        ensures answer { Answers result stamp }
+        ensures seen { (side domain (known_of self.old.side)).seen ≤ number_in result }
+        ensures known { known_of self.new.side ≡ read false domain (number_in result) (known_of self.old.side) }
+        ensures rights { Ages (rights_living self.old) (rights_living self.new) }
+        ensures ripe { Ripens domain stamp result (rights_living self.old) (rights_living self.new) }
+        ensures rest { StaysAtRest LivingAtRest self.old self.new }
+        ensures at_rest { (n : ℕ) → LivingAtRest self.old domain n → number_in result ≡ n }
+    {
+        self.side.done(domain, stamp)
+    }
+
+    fn begin(&mut self, domain: Domain, even: u32) -> Began
+        requires even { even % 2 ≡ 0 }
+        requires idle { (side domain (known_of self.old.side)).number ≡ 0 }
+        requires room { 0 < (side domain (known_of self.old.side)).begins }
+        ensures found { found_at even result ≡ (domain_in domain self.old.side.grace).number }
+        ensures post { self.new.side.post ≡ self.old.side.post }
+        ensures slots { self.new.slots ≡ self.old.slots }
+        ensures asked { self.new.asked ≡ self.old.asked }
+        ensures grace { self.new.side.grace
+            ≡ with_domain domain (period_begun self.old.side.grace.processor result (domain_in domain self.old.side.grace)) self.old.side.grace }
+        ensures answer { BeganAt result even }
+        ensures seen { (side domain (known_of self.old.side)).seen ≤ found_at even result }
+        ensures known { known_of self.new.side ≡ began false domain result even (known_of self.old.side) }
+        ensures rights { Ages (rights_living self.old) (rights_living self.new) }
+        ensures rest { MovesNumber LivingAtRest domain even (even + 1) self.old self.new }
+        ensures at_rest { LivingAtRest self.old domain even → result ≡ Won }
+    {
+        self.side.begin(domain, even)
+    }
+
+    fn look(&mut self, domain: Domain) -> Look
+        requires driving { (side domain (known_of self.old.side)).number % 2 ≡ 1 }
+        ensures post { self.new.side.post ≡ self.old.side.post }
+        ensures slots { self.new.slots ≡ self.old.slots }
+        ensures asked { self.new.asked ≡ self.old.asked }
+        ensures grace { self.new.side.grace
+            ≡ with_domain domain (period_looked (words_in domain self.old.side.grace) (domain_in domain self.old.side.grace)) self.old.side.grace }
+        ensures first { length (side domain (known_of self.new.side)).first ≡ looks domain self.old.side.grace.processors }
+        ensures later { length (side domain (known_of self.new.side)).later ≡ looks domain self.old.side.grace.processors }
+        ensures answer { let s = side domain (known_of self.new.side) in Verdict result domain s.first s.later }
+        ensures known { known_of self.new.side ≡ looked false domain (side domain (known_of self.new.side)).later (known_of self.old.side) }
+        ensures rights { Ages (rights_living self.old) (rights_living self.new) }
+        ensures rest { StaysAtRest LivingAtRest self.old self.new }
+        ensures at_rest { (n : ℕ) → LivingAtRest self.old domain n → result ≡ AllPass }
+    {
+        self.side.look(domain)
+    }
+
+    fn finish(&mut self, domain: Domain) -> Period
+        requires { CanFinish domain (known_of self.old.side) }
+        ensures post { self.new.side.post ≡ self.old.side.post }
+        ensures slots { self.new.slots ≡ self.old.slots }
+        ensures asked { self.new.asked ≡ self.old.asked }
+        ensures grace { self.new.side.grace ≡ with_domain domain (period_ended (domain_in domain self.old.side.grace)) self.old.side.grace }
+        ensures period { result ≡ ended domain (side domain (known_of self.old.side)) }
+        ensures known { known_of self.new.side ≡ finished false domain (known_of self.old.side) }
+        ensures rights { Ages (rights_living self.old) (rights_living self.new) }
+        ensures rest { (n : ℕ) → MovesNumber LivingAtRest domain n (n + 1) self.old self.new }
+    {
+        self.side.finish(domain)
+    }
+
+    fn driving(&self, domain: Domain) -> bool
+        ensures is { result ≡ is_processor self.now.side.grace.processor (domain_in domain self.now.side.grace).driver }
+        ensures none { result ≡ false → (side domain (known_of self.now.side)).number ≡ 0 }
+        ensures odd { result ≡ true → (side domain (known_of self.now.side)).number % 2 ≡ 1 }
+    {
+        self.side.driving(domain)
+    }
+
+    ghost idle_at_rest = { idle-living };
+}
+
+impl Post for LivingSide {
+    ghost calls = { λ _. None };
+
+    fn fetch(&mut self, class: Class, want: usize, out: &mut Vec<Unit>) -> Result<usize, NoMemory>
+        ensures count { IfOk result (λ n. n ≡ length (stock_fetched class want self.old.side.post.pool).units) }
+        ensures units { OnOk result (out.new.items ≡ out.old.items ++ (stock_fetched class want self.old.side.post.pool).units) }
+        ensures state { OnOk result (self.new.side.post ≡ record self.old.side.post { pool = (stock_fetched class want self.old.side.post.pool).pool }) }
+        ensures err_state { OnErr result (self.new.side.post ≡ self.old.side.post) }
+        ensures grace { self.new.side.grace ≡ self.old.side.grace }
+        ensures slots { self.new.slots ≡ self.old.slots }
+        ensures asked { self.new.asked ≡ self.old.asked }
+        ensures ok { IfOk result (λ n. Fetches class want n out.old.items out.new.items (rights_living self.old) (rights_living self.new)) }
+        ensures err { OnErr result (out.new.items ≡ out.old.items) }
+        ensures same { OnErr result (AreSame (rights_living self.old) (rights_living self.new)) }
+        ensures lasts { Lasting [] (rights_living self.old) (rights_living self.new) }
+        ensures known { Posts false (known_of self.old.side) (known_of self.new.side) }
+        ensures rest { StaysAtRest LivingAtRest self.old self.new }
+    {
+        self.side.fetch(class, want, out)
+    }
+
+    fn put_back(&mut self, units: Vec<Unit>)
+        requires mine { Holds (rights_living self.old) units.items }
+        requires fit { All (MayLeave (rights_living self.old)) units.items }
+        ensures state { self.new.side.post ≡ record self.old.side.post { pool = all_returned (reverse units.items) self.old.side.post.pool } }
+        ensures grace { self.new.side.grace ≡ self.old.side.grace }
+        ensures slots { self.new.slots ≡ self.old.slots }
+        ensures asked { self.new.asked ≡ self.old.asked }
+        ensures back { GivesBack (numbers units.items) (rights_living self.old) (rights_living self.new) }
+        ensures lasts { Lasting (numbers units.items) (rights_living self.old) (rights_living self.new) }
+        ensures known { Posts false (known_of self.old.side) (known_of self.new.side) }
+        ensures rest { StaysAtRest LivingAtRest self.old self.new }
+    {
+        self.side.put_back(units);
+    }
+
+    fn send(&mut self, to: u8, class: Class, units: Vec<Unit>) -> Result<(), Vec<Unit>>
+        requires to { to < self.old.side.grace.processors }
+        requires some { 0 < length units.items }
+        requires class { All (IsOf class) units.items }
+        requires mine { Holds (rights_living self.old) units.items }
+        requires fit { All (MayLeave (rights_living self.old)) units.items }
+        ensures state { OnOk result (self.new.side.post ≡ sent_to to class units.items self.old.side.post) }
+        ensures err_state { OnErr result (self.new.side.post ≡ self.old.side.post) }
+        ensures grace { self.new.side.grace ≡ self.old.side.grace }
+        ensures slots { self.new.slots ≡ self.old.slots }
+        ensures asked { self.new.asked ≡ self.old.asked }
+        ensures sent { OnOk result (GivesBack (numbers units.items) (rights_living self.old) (rights_living self.new)) }
+        ensures refused { IfErr result (λ back. back.items ≡ units.items) }
+        ensures same { OnErr result (AreSame (rights_living self.old) (rights_living self.new)) }
+        ensures lasts { Lasting (numbers units.items) (rights_living self.old) (rights_living self.new) }
+        ensures may { OnErr result (All (MayLeave (rights_living self.new)) units.items) }
+        ensures mails { OnOk result
+            (Mails false (parcel_sent to self.old.side.grace.processor class (numbers units.items)) (known_of self.old.side) (known_of self.new.side)) }
+        ensures known { OnErr result (Posts false (known_of self.old.side) (known_of self.new.side)) }
+        ensures rest { StaysAtRest LivingAtRest self.old self.new }
+    {
+        self.side.send(to, class, units)
+    }
+
+    fn receive(&mut self, class: Class) -> Option<Vec<Unit>>
+        ensures oldest { IfSome result (λ units.
+            inbox self.old.side.post.processor class self.old.side.post ≡ units.items ∷ inbox self.old.side.post.processor class self.new.side.post) }
+        ensures none_waits { IfNone result (inbox self.old.side.post.processor class self.old.side.post ≡ []) }
+        ensures state { IfSome result (λ _. self.new.side.post ≡ taken_by self.old.side.post.processor class self.old.side.post) }
+        ensures none_state { IfNone result (self.new.side.post ≡ self.old.side.post) }
+        ensures grace { self.new.side.grace ≡ self.old.side.grace }
+        ensures slots { self.new.slots ≡ self.old.slots }
+        ensures asked { self.new.asked ≡ self.old.asked }
+        ensures some { IfSome result (λ units. Receives class units.items (rights_living self.old) (rights_living self.new)) }
+        ensures none { IfNone result (AreSame (rights_living self.old) (rights_living self.new)) }
+        ensures lasts { Lasting [] (rights_living self.old) (rights_living self.new) }
+        ensures mails { Mails false (parcel_taken class) (known_of self.old.side) (known_of self.new.side) }
+        ensures oldest_told { oldest (told_in self.old.side.post class) ≡ option_map_or (λ units. numbers units.items) result [] }
+        ensures none_told { IfNone result (told_in self.old.side.post class ≡ []) }
+        ensures rest { StaysAtRest LivingAtRest self.old self.new }
+    {
+        self.side.receive(class)
+    }
+
+    ghost room = { room-living };
+}
+
+impl World for LivingSide {}
