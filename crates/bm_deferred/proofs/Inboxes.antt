@@ -13,14 +13,14 @@ use Rattle.bm_law.proofs.Spans.{own-append}
 use Rattle.bm_deferred.specs.Parts.{Part, Nothing, Stand, Say, Then, If, When}
 use Rattle.bm_deferred.specs.Grown.{GrewBy}
 use Rattle.bm_deferred.specs.WorkPhrases.{AddAll, Brings, IsOne, Moved, Unloads, take_of, takes}
-use Rattle.bm_deferred.specs.Inboxes.{Inboxes, inboxes_after, inboxes_over, TakesOldest, AllOldest, Delivers, Delivered}
+use Rattle.bm_deferred.specs.Inboxes.{Inboxes, inboxes_after, inboxes_over, TakesOldest, AllOldest, Carries, Delivers, Delivered}
 
 -- two lists of entries, one after the other
-over-append : (p : ℕ) (v w : List Entry) (boxes : Inboxes) → inboxes_over p (v ++ w) boxes ≡ inboxes_over p w (inboxes_over p v boxes)
+pub over-append : (p : ℕ) (v w : List Entry) (boxes : Inboxes) → inboxes_over p (v ++ w) boxes ≡ inboxes_over p w (inboxes_over p v boxes)
 over-append p [] w boxes = refl
 over-append p (e ∷ v) w boxes = over-append p v w (inboxes_after p e boxes)
 
-oldest-append : (p : ℕ) (v w : List Entry) (boxes : Inboxes) → AllOldest p v boxes → AllOldest p w (inboxes_over p v boxes) → AllOldest p (v ++ w) boxes
+pub oldest-append : (p : ℕ) (v w : List Entry) (boxes : Inboxes) → AllOldest p v boxes → AllOldest p w (inboxes_over p v boxes) → AllOldest p (v ++ w) boxes
 oldest-append p [] w boxes h k = k
 oldest-append p (e ∷ v) w boxes h k = (h.0, oldest-append p v w (inboxes_after p e boxes) h.1 k)
 
@@ -83,11 +83,11 @@ oldest-quiet : (e : Entry) (boxes : Inboxes) → IsQuiet e → TakesOldest e box
 oldest-quiet (entry.Receive c us) boxes h = absurd h
 oldest-quiet _ boxes h = tt
 
-over-quiet : (p : ℕ) (es : List Entry) (boxes : Inboxes) → AllQuiet es → inboxes_over p es boxes ≡ boxes
+pub over-quiet : (p : ℕ) (es : List Entry) (boxes : Inboxes) → AllQuiet es → inboxes_over p es boxes ≡ boxes
 over-quiet p [] boxes h = refl
 over-quiet p (e ∷ es) boxes h = over-quiet p es (inboxes_after p e boxes) h.1 ∙ after-quiet p e boxes h.0
 
-all-quiet : (p : ℕ) (es : List Entry) (boxes : Inboxes) → AllQuiet es → AllOldest p es boxes
+pub all-quiet : (p : ℕ) (es : List Entry) (boxes : Inboxes) → AllQuiet es → AllOldest p es boxes
 all-quiet p [] boxes h = tt
 all-quiet p (e ∷ es) boxes h = (oldest-quiet e boxes h.0, all-quiet p es (inboxes_after p e boxes) h.1)
 
@@ -133,24 +133,21 @@ delivered-records l p own x (Some y) a (Some b) q e g =
       left = sym (over-quiet p (own_entries l g.added) y n);
     }
 
-some-same : (u v : Inboxes) → Some u ≡ Some v → u ≡ v
-some-same u v h = cc
-
 -- an entry that sends a parcel or takes the oldest one
-pub delivered-one : (l p : ℕ) (e : Entry) (boxes : Inboxes) (x y : Option Inboxes) (a b : Option Log) → x ≡ Some boxes → y ≡ Some (inboxes_after p e boxes) → TakesOldest e boxes → Records l (e ∷ []) a b → Delivered l p x y a b
-delivered-one l p e boxes x None a b q n t g = tt
-delivered-one l p e boxes x (Some y) a None q n t g = tt
-delivered-one l p e boxes x (Some y) a (Some b) q n t g =
-    let O : List Entry → Type 0 = λ es. AllOldest p es boxes in
+pub delivered-one : (l p : ℕ) (e : Entry) (x y : Option Inboxes) (a b : Option Log) → Carries p e x y → Records l (e ∷ []) a b → Delivered l p x y a b
+delivered-one l p e x None a b m g = tt
+delivered-one l p e x (Some y) a None m g = tt
+delivered-one l p e x (Some y) a (Some b) m g =
+    let O : List Entry → Type 0 = λ es. AllOldest p es m.boxes in
     record {
-      boxes = boxes;
-      boxes_told = q;
+      boxes = m.boxes;
+      boxes_told = m.boxes_told;
       log = g.log;
       told = g.told;
       added = g.added;
       now_is = g.now_is;
-      received = subst O (sym g.owned) (t, tt);
-      left = some-same y (inboxes_after p e boxes) n ∙ ap (λ es. inboxes_over p es boxes) (sym g.owned);
+      received = subst O (sym g.owned) (m.received, tt);
+      left = m.left ∙ ap (λ es. inboxes_over p es m.boxes) (sym g.owned);
     }
 
 -- parts of parts

@@ -1,6 +1,6 @@
 -- Parcels that come to a processor's inboxes and leave them, as entries of its own log tell it. (This project's own. In
 -- kernel/bpf/memalloc.c units are put on the list free_by_rcu_ttrace of the target's cache.)
-use Rattle.std.specs.Prelude.{◌≡◌, ℕ, eqb, if◌then◌else◌, List, [], ◌∷◌, ◌++◌, drop, Option, Some, None}
+use Rattle.std.specs.Prelude.{◌≡◌, ℕ, ◌==◌, if◌then◌else◌, List, [], ◌∷◌, ◌++◌, drop, Option, Some, None}
 use Rattle.bm_journal.specs.declared.entry.Entry.{Entry}
 use Rattle.bm_journal.specs.declared.entry.Entry.TheVariants as entry
 use Rattle.bm_journal.specs.EntryText.{unit_list}
@@ -13,7 +13,7 @@ Inboxes = ℕ → List (List ℕ)
 
 -- the inboxes with this one changed so
 abbrev pub on_inbox : ℕ → (List (List ℕ) → List (List ℕ)) → Inboxes → Inboxes
-on_inbox c f boxes = λ k. if eqb k c then f (boxes k) else boxes k
+on_inbox c f boxes = λ k. if (k == c) then f (boxes k) else boxes k
 
 -- the units of the oldest parcel, if there is one
 abbrev pub oldest : List (List ℕ) → List ℕ
@@ -23,7 +23,7 @@ oldest (parcel ∷ parcels) = parcel
 -- The inboxes of processor p after an entry of its log: what is sent to p comes last, the oldest is received, and a sweep
 -- leaves none.
 abbrev pub inboxes_after : ℕ → Entry → Inboxes → Inboxes
-inboxes_after p (entry.Send c to us) boxes = if eqb to p then on_inbox c (λ parcels. parcels ++ unit_list us ∷ []) boxes else boxes
+inboxes_after p (entry.Send c to us) boxes = if (to == p) then on_inbox c (λ parcels. parcels ++ unit_list us ∷ []) boxes else boxes
 inboxes_after p (entry.Receive c us) boxes = on_inbox c (λ parcels. drop 1 parcels) boxes
 inboxes_after p (entry.Sweep c us) boxes = on_inbox c (λ parcels. []) boxes
 inboxes_after p _ boxes = boxes
@@ -42,6 +42,19 @@ TakesOldest _ boxes = Unit {0}
 abbrev pub AllOldest : ℕ → List Entry → Inboxes → Type 0
 AllOldest p [] boxes = Unit {0}
 AllOldest p (e ∷ es) boxes = TakesOldest e boxes × AllOldest p es (inboxes_after p e boxes)
+
+-- Parcels of processor p, its own, were told, and an entry has come about: if it took one, that was the oldest, and these are
+-- left.
+pub record Carried (p : ℕ) (e : Entry) (before : Option Inboxes) (now : Inboxes) : Type 0 where
+  pub boxes : Inboxes
+  pub boxes_told : before ≡ Some boxes
+  pub received : TakesOldest e boxes
+  pub left : now ≡ inboxes_after p e boxes
+
+-- the same, where they are told now
+abbrev pub Carries : ℕ → Entry → Option Inboxes → Option Inboxes → Type 0
+Carries p e before None = Unit {0}
+Carries p e before (Some now) = Carried p e before now
 
 -- A log was told, and so were the parcels of processor p, its own. The log has grown, and by the entries of level l that were
 -- added each parcel that came was the oldest one, and these are the parcels that are left.

@@ -1,5 +1,6 @@
 -- What calls of a side leave of what it knows.
-use Rattle.std.proofs.Common.{◌≡◌, ℕ, ◌%◌, Bool, List, refl}
+use Rattle.std.proofs.Common.{◌≡◌, ℕ, ◌%◌, Bool, List, Option, refl, sym, subst}
+use Rattle.std.specs.Prelude.{option_map}
 use Rattle.bm_journal.specs.declared.ids.Domain.{Domain}
 use Rattle.bm_journal.specs.declared.ids.Domain.TheVariants.{Plain, Tracing}
 use Rattle.bm_grace.specs.declared.step.TableStep.{TableStep}
@@ -7,6 +8,8 @@ use Rattle.bm_grace.specs.declared.answer.Began.{Began}
 use Rattle.bm_grace.specs.declared.answer.Began.TheVariants.{Won, Moved}
 use Rattle.bm_grace.specs.Known.{Known, Side, side}
 use Rattle.bm_grace.specs.Calls.{changed, looked, read, began, finished, told}
+use Rattle.bm_post.specs.Calls.{Mails, Posts}
+use Rattle.bm_deferred.specs.Inboxes.{Inboxes}
 use Rattle.bm_desk.specs.Goes.{Alike}
 
 -- a side of one domain with the same word
@@ -35,10 +38,16 @@ alike-began t d (Moved n) even k = alike-changed t d _ _ k refl
 pub alike-finished : (t : Bool) (d : Domain) (k : Known) → Alike k (finished t d k)
 alike-finished t d k = alike-changed t d _ _ k refl
 
--- a post's call may add steps
-pub alike-posts : (t : Bool) (steps : List TableStep) (k : Known) → Alike k (record k { steps = told t k.steps steps })
-alike-posts t steps k = record { processors = refl; processor = refl; words = w }
+-- a post's call may add steps, and change the parcels
+alike-but : (k : Known) (steps : List TableStep) (parcels : Option Inboxes) → Alike k (record k { steps = steps; parcels = parcels })
+alike-but k steps parcels = record { processors = refl; processor = refl; words = w }
   where
-    w : (d : Domain) → (side d (record k { steps = told t k.steps steps })).word % 2 ≡ (side d k).word % 2
+    w : (d : Domain) → (side d (record k { steps = steps; parcels = parcels })).word % 2 ≡ (side d k).word % 2
     w Plain = refl
     w Tracing = refl
+
+pub alike-posts : (t : Bool) (a b : Known) → Posts t a b → Alike a b
+alike-posts t a b h = subst (λ k. Alike a k) (sym h.known) (alike-but a (told t a.steps h.steps) a.parcels)
+
+pub alike-mails : (t : Bool) (f : Inboxes → Inboxes) (a b : Known) → Mails t f a b → Alike a b
+alike-mails t f a b h = subst (λ k. Alike a k) (sym h.known) (alike-but a (told t a.steps h.steps) (option_map f a.parcels))

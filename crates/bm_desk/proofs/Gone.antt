@@ -1,5 +1,5 @@
 -- Units that leave the caches and the side.
-use Rattle.std.proofs.Common.{◌≡◌, ◌<◌, ◌≤◌, ◌+◌, ℕ, zero, suc, List, [], ◌∷◌, map, length, Option, None, Some, refl, sym, subst, arith, inl, inr}
+use Rattle.std.proofs.Common.{eq-eqb, ◌≡◌, ◌<◌, ◌≤◌, ◌+◌, ℕ, zero, suc, List, [], ◌∷◌, map, length, Option, None, Some, refl, sym, subst, arith, inl, inr}
 use Rattle.std.specs.Prelude.{get_or}
 use Rattle.std.specs.List.{All}
 use Rattle.bm_journal.specs.declared.counts.Counts.{Counts}
@@ -20,7 +20,7 @@ use Rattle.bm_law.specs.Lists.{Log, sends}
 use Rattle.bm_law.specs.Places.{Stack, list_at, Free, Extra, Extra_delayed, Delayed, First, Second}
 use Rattle.bm_law.specs.Places.{Ready as ready_list}
 use Rattle.bm_law.specs.Stands.{Once, Known, stands, times}
-use Rattle.bm_law.specs.State.{State, Deferred, seen}
+use Rattle.bm_law.specs.State.{State, Deferred, idle_side, seen}
 use Rattle.bm_law.proofs.Seen.{seen-effect}
 use Rattle.bm_law.proofs.Stands.{stands-effect}
 use Rattle.bm_post.specs.Calls.{IsOf}
@@ -136,7 +136,14 @@ sent-rows : (l i : ℕ) (h : List Token) (s : State Token) → 0 < length h → 
 sent-rows l i [] s m k = absurd (omega (arith, m))
 sent-rows l i (u ∷ us) s m k = refl
 
--- a hand that was sent leaves what deferred work alone writes
+sent-side : (l i : ℕ) (h : List Token) (s : State Token) → 0 < length h → (sent i l h s).sides l ≡ idle_side
+sent-side l i [] s m = absurd (omega (arith, m))
+sent-side l i (u ∷ us) s m = rw (eq-eqb l l refl) refl
+
+-- a hand that was sent is empty, and leaves what deferred work alone writes
+pub hand-side : (l i to : ℕ) (ns : List ℕ) (s : State Token) → 0 < length (s.sides l).hand → (effect l (entry.Send i to (Whole ns)) [] s).sides l ≡ idle_side
+hand-side l i to ns s m = sent-side l i (s.sides l).hand s m
+
 pub hand-deferred : (l i to : ℕ) (ns : List ℕ) (s : State Token) → 0 < length (s.sides l).hand → (k : ℕ) → ((effect l (entry.Send i to (Whole ns)) [] s).rows k).deferred ≡ (s.rows k).deferred
 hand-deferred l i to ns s m k = sent-rows l i (s.sides l).hand s m k
 

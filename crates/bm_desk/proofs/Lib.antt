@@ -2,8 +2,10 @@ pub mod Rests
 pub mod Tests
 pub mod Onward
 pub mod Alike
+pub mod Quiet
 pub mod Points
 pub mod Steps
+pub mod Mail
 pub mod Batches
 pub mod Came
 pub mod Moved

@@ -10,9 +10,11 @@ use Rattle.bm_law.proofs.Spans.{Records-points}
 use Rattle.bm_cache.specs.Tokens.{Token, number_of}
 use Rattle.bm_cache.specs.Tests.{Tests, Passes, Same, Lasting}
 use Rattle.bm_cache.specs.Shown.{shown}
-use Rattle.bm_cache.specs.Span.{Face, Fine, Came, Goes, Unbroken}
+use Rattle.bm_cache.specs.Span.{Face, Fine, Came, Goes, RaisesNone, Unbroken}
 use Rattle.bm_cache.specs.declared.caches.Caches.{Caches}
+use Rattle.bm_cache.proofs.Flags.{raises-none-point}
 use Rattle.bm_deferred.specs.Parts.{Part, Stand}
+use Rattle.bm_deferred.proofs.Inboxes.{QuietPart, delivered-grew, delivered-records}
 use Rattle.bm_work.specs.Grown.{GrewBy}
 use Rattle.bm_work.proofs.Grown.{grew-stand}
 use Rattle.bm_work.proofs.Steps.{unbroken-point}
@@ -43,29 +45,41 @@ module _ {H R : Type 0} (log : R → Option Log) (counts : R → Counts) (sound 
 
 module _ {H R : Type 0} (log : R → Option Log) (tests : H → Tests) (faces : H → Face) (waits : H → ℕ) (stays : H → H → Type 0) (holds : H → Caches R) (known : H → Known) where
   pub works-point : (h k : H) → Came log ((faces h).level + 1) (tests h) (tests k) (holds h) (holds k) → Goes faces waits stays h k → (waits k ≡ waits h → k ≡ h) → GoesOn (known h) (known k) → Works log faces waits stays holds known 0 0 (λ l. Stand l []) h k
-  works-point h k c g q n = record {
-    phrase = grew-stand (faces h).level [] (seen number_of (shown (holds h))) (log (holds h).recorder) (log (holds k).recorder) (Records-points (faces h).level (log (holds h).recorder) (log (holds k).recorder) c.above);
-    goes = g;
-    alone = unbroken-point faces waits holds log h k k q refl refl;
-    processor = c.processor;
-    active = λ i. (c.kept.rows i).active;
-    plain_begins = omega (arith, n.begins Plain);
-    tracing_begins = omega (arith, n.begins Tracing);
-  }
+  works-point h k c g q n =
+      let l = (faces h).level in
+      let a = log (holds h).recorder in
+      let b = log (holds k).recorder in
+      let r = Records-points l a b c.above in
+      record {
+        phrase = grew-stand l [] (seen number_of (shown (holds h))) a b r;
+        goes = g;
+        alone = unbroken-point faces waits holds log h k k q refl refl;
+        flags = raises-none-point waits holds h k k q refl refl;
+        processor = c.processor;
+        active = λ i. (c.kept.rows i).active;
+        plain_begins = omega (arith, n.begins Plain);
+        tracing_begins = omega (arith, n.begins Tracing);
+        same_side = n.alike.processor;
+        mail = delivered-records l (known h).grace.processor [] (known h).parcels (known k).parcels a b tt n.parcels r;
+      }
 
 module _ {H R : Type 0} (log : R → Option Log) (counts : R → Counts) (sound : H → Type 0) (tests : H → Tests) (faces : H → Face) (waits : H → ℕ) (stays keeps : H → H → Type 0) (holds : H → Caches R) (known : H → Known) (on : (a b : H) → keeps a b → stays a b) (goes-on : (a b : H) → keeps a b → GoesOn (known a) (known b)) where
-  -- a call of the host's, as a call of the desk's
-  pub works-host : (P : ℕ → Part) (h k : H) → GrewBy (P (faces h).level) (seen number_of (shown (holds h))) (log (holds h).recorder) (log (holds k).recorder) → Goes faces waits keeps h k → Unbroken faces waits holds log h k → (holds k).processor ≡ (holds h).processor → ((i : ℕ) → ((shown (holds k)).rows i).active ≡ ((shown (holds h)).rows i).active) → Works log faces waits stays holds known 0 0 P h k
-  works-host P h k g q u p a =
+  -- a call of the host's, whose part sends and receives nothing, as a call of the desk's
+  pub works-host : (P : ℕ → Part) (h k : H) → ((l : ℕ) → QuietPart l (P l)) → GrewBy (P (faces h).level) (seen number_of (shown (holds h))) (log (holds h).recorder) (log (holds k).recorder) → Goes faces waits keeps h k → Unbroken faces waits holds log h k → RaisesNone waits holds h k → (holds k).processor ≡ (holds h).processor → ((i : ℕ) → ((shown (holds k)).rows i).active ≡ ((shown (holds h)).rows i).active) → Works log faces waits stays holds known 0 0 P h k
+  works-host P h k e g q u r p a =
       let n = goes-on h k q.keeps in
+      let l = (faces h).level in
       record {
         phrase = g;
         goes = record { face = q.face; pending = q.pending; keeps = on h k q.keeps };
         alone = u;
+        flags = r;
         processor = p;
         active = a;
         plain_begins = omega (arith, n.begins Plain);
         tracing_begins = omega (arith, n.begins Tracing);
+        same_side = n.alike.processor;
+        mail = delivered-grew l (known h).grace.processor (P l) (seen number_of (shown (holds h))) (known h).parcels (known k).parcels (log (holds h).recorder) (log (holds k).recorder) (e l) n.parcels g;
       }
 
   -- what a call needs, after one that leaves what deferred work alone writes

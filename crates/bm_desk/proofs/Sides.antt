@@ -1,5 +1,5 @@
 -- Calls of the side, and what is made of calls.
-use Rattle.std.proofs.Common.{Result, Ok, Err, OnOk, OnErr, ◌≡◌, ◌≤◌, Bool, ℕ, ◌+◌, ◌++◌, List, [], Option, refl, sym, ◌∙◌, ap, subst, arith}
+use Rattle.std.proofs.Common.{Result, Ok, Err, OnOk, OnErr, ◌≡◌, ◌≤◌, Bool, true, false, ℕ, ◌+◌, ◌++◌, List, [], Option, refl, sym, ◌∙◌, ap, subst, arith}
 use Rattle.bm_journal.specs.declared.counts.Counts.{Counts}
 use Rattle.bm_grace.specs.Known.{Known, Sides}
 use Rattle.bm_grace.specs.Rights.{Rights, Ages}
@@ -9,25 +9,26 @@ use Rattle.bm_cache.specs.Tokens.{Token, number_of}
 use Rattle.bm_cache.specs.Tests.{Tests, Passes, Proper}
 use Rattle.bm_cache.specs.Shown.{shown}
 use Rattle.bm_cache.specs.Placed.{Placed}
-use Rattle.bm_cache.specs.Span.{Face, Fine, Goes}
+use Rattle.bm_cache.specs.Span.{Face, Fine, Goes, RaisesNone}
 use Rattle.bm_cache.specs.declared.caches.Caches.{Caches}
+use Rattle.bm_cache.proofs.Flags.{raises-none-join, raises-none-same}
 use Rattle.bm_cache.proofs.Moments.{goes-join}
 use Rattle.bm_cache.proofs.Unbroken.{unbroken-join, unbroken-same}
 use Rattle.bm_journal.specs.declared.entry.Entry.{Entry}
 use Rattle.bm_law.specs.Spans.{own_entries}
 use Rattle.bm_law.proofs.Spans.{from-append, own-append}
+use Rattle.bm_deferred.specs.Inboxes.{Delivered}
 use Rattle.bm_deferred.specs.Parts.{Part, Nothing, Say, Stand, Then}
+use Rattle.bm_deferred.proofs.Inboxes.{delivered-join, delivered-none}
 use Rattle.bm_work.specs.Grown.{GrewBy}
 use Rattle.bm_work.proofs.Grown.{grew-map, grew-none, grew-parts}
 use Rattle.bm_desk.specs.Dated.{Dated}
 use Rattle.bm_desk.specs.Onward.{Onward}
-use Rattle.bm_desk.specs.Works.{Stands, Called, Posted, Stopped, Works}
+use Rattle.bm_desk.specs.Works.{Stands, Called, Handled, Posted, Stopped, Works}
 use Rattle.bm_desk.specs.Goes.{Alike}
 use Rattle.bm_desk.specs.DeskTests.{tests_by}
 use Rattle.bm_desk.proofs.Onward.{fine-on, dated-on}
 use Rattle.std.specs.List.{All}
-use Rattle.bm_post.specs.Calls.{Posts}
-use Rattle.bm_desk.proofs.Alike.{alike-posts}
 use Rattle.bm_desk.proofs.Tests.{ages-onward}
 
 -- nothing has changed
@@ -74,6 +75,22 @@ module _ {H R : Type 0} (log : R → Option Log) (counts : R → Counts) (sound 
         dated = subst D (sym p) (dated-on (tests h) (tests k) (shown (holds h)) o s.dated);
       }
 
+module _ {H R : Type 0} (log : R → Option Log) (faces : H → Face) (holds : H → Caches R) (known : H → Known) where
+  -- parcels over two stretches, and where the side is called that keeps them
+  pub mail-join : (a b c : H) → (faces b).level ≡ (faces a).level → (known b).grace.processor ≡ (known a).grace.processor → Delivered (faces a).level (known a).grace.processor (known a).parcels (known b).parcels (log (holds a).recorder) (log (holds b).recorder) → Delivered (faces b).level (known b).grace.processor (known b).parcels (known c).parcels (log (holds b).recorder) (log (holds c).recorder) → Delivered (faces a).level (known a).grace.processor (known a).parcels (known c).parcels (log (holds a).recorder) (log (holds c).recorder)
+  mail-join a b c e s v w =
+      let l = (faces a).level in
+      let p = (known a).grace.processor in
+      let M : ℕ → ℕ → Type 0 = λ k n. Delivered k n (known b).parcels (known c).parcels (log (holds b).recorder) (log (holds c).recorder) in
+      delivered-join l p (known a).parcels (known b).parcels (known c).parcels (log (holds a).recorder) (log (holds b).recorder) (log (holds c).recorder) v (subst (λ k. M k p) e (subst (M (faces b).level) s w))
+
+  pub mail-same : (a b : H) → holds b ≡ holds a → (known b).parcels ≡ (known a).parcels → Delivered (faces a).level (known a).grace.processor (known a).parcels (known b).parcels (log (holds a).recorder) (log (holds b).recorder)
+  mail-same a b e s =
+      let l = (faces a).level in
+      let p = (known a).grace.processor in
+      let M : Caches R → Type 0 = λ x. Delivered l p (known a).parcels (known b).parcels (log (holds a).recorder) (log x.recorder) in
+      subst M (sym e) (delivered-none l p (known a).parcels (known b).parcels (log (holds a).recorder) s)
+
 module _ {H R : Type 0} (log : R → Option Log) (counts : R → Counts) (faces : H → Face) (waits : H → ℕ) (stays : H → H → Type 0) (holds : H → Caches R) (known : H → Known) (join : (a b c : H) → stays a b → stays b c → stays a c) where
   -- two calls, one after the other, from these lists
   pub works-join-at : (p t p' t' : ℕ) (P Q W : ℕ → Part) (a b c : H) → ((l : ℕ) (one two : Log) → P l (seen number_of (shown (holds a))) one → Q l (after (seen number_of (shown (holds a))) one) two → W l (seen number_of (shown (holds a))) (one ++ two)) → Placed log counts (holds a) → Placed log counts (holds b) → Works log faces waits stays holds known p t P a b → Works log faces waits stays holds known p' t' Q b c → Works log faces waits stays holds known (p + p') (t + t') W a c
@@ -85,28 +102,18 @@ module _ {H R : Type 0} (log : R → Option Log) (counts : R → Counts) (faces 
         phrase = grew-parts log counts (P l) (Q l) (W l) (holds a) (holds b) (log (holds c).recorder) (f l) v.processor x y v.phrase q;
         goes = goes-join join v.goes w.goes;
         alone = unbroken-join v.goes w.goes v.alone w.alone;
+        flags = raises-none-join v.goes w.goes v.flags w.flags;
         processor = w.processor ∙ v.processor;
         active = λ k. w.active k ∙ v.active k;
         plain_begins = omega (arith, v.plain_begins, w.plain_begins);
         tracing_begins = omega (arith, v.tracing_begins, w.tracing_begins);
+        same_side = w.same_side ∙ v.same_side;
+        mail = mail-join log faces holds known a b c e v.same_side v.mail w.mail;
       }
 
   -- two calls, one after the other
   pub works-join : (p t p' t' : ℕ) (P Q W : ℕ → Part) (a b c : H) → ((l : ℕ) (s : State ℕ) (one two : Log) → P l s one → Q l (after s one) two → W l s (one ++ two)) → Placed log counts (holds a) → Placed log counts (holds b) → Works log faces waits stays holds known p t P a b → Works log faces waits stays holds known p' t' Q b c → Works log faces waits stays holds known (p + p') (t + t') W a c
-  works-join p t p' t' P Q W a b c f x y v w =
-      let l = (faces a).level in
-      let e : (faces b).level ≡ l = ap (λ (z : Face). z.level) v.goes.face in
-      let S = seen number_of (shown (holds a)) in
-      let q : GrewBy (Q l) (seen number_of (shown (holds b))) (log (holds b).recorder) (log (holds c).recorder) = subst (λ k. GrewBy (Q k) (seen number_of (shown (holds b))) (log (holds b).recorder) (log (holds c).recorder)) e w.phrase in
-      record {
-        phrase = grew-parts log counts (P l) (Q l) (W l) (holds a) (holds b) (log (holds c).recorder) (f l S) v.processor x y v.phrase q;
-        goes = goes-join join v.goes w.goes;
-        alone = unbroken-join v.goes w.goes v.alone w.alone;
-        processor = w.processor ∙ v.processor;
-        active = λ k. w.active k ∙ v.active k;
-        plain_begins = omega (arith, v.plain_begins, w.plain_begins);
-        tracing_begins = omega (arith, v.tracing_begins, w.tracing_begins);
-      }
+  works-join p t p' t' P Q W a b c f = works-join-at p t p' t' P Q W a b c (λ l. f l (seen number_of (shown (holds a))))
 
   pub works-then : (p t p' t' : ℕ) (P Q : ℕ → Part) (a b c : H) → Placed log counts (holds a) → Placed log counts (holds b) → Works log faces waits stays holds known p t P a b → Works log faces waits stays holds known p' t' Q b c → Works log faces waits stays holds known (p + p') (t + t') (λ l. Then (P l) (Q l)) a c
   works-then p t p' t' P Q a b c = works-join p t p' t' P Q (λ l. Then (P l) (Q l)) a b c (λ l s one two i j. record { one = one; two = two; part_is = refl; is_first = i; is_second = j })
@@ -122,15 +129,18 @@ module _ {H R : Type 0} (log : R → Option Log) (counts : R → Counts) (faces 
         phrase = subst G (sym e) (grew-none Nothing s (log (holds a).recorder) refl);
         goes = record { face = c.face; pending = omega (arith, c.pending); keeps = c.stays };
         alone = unbroken-same faces waits holds log a b e;
+        flags = raises-none-same waits holds a b e;
         processor = ap (λ (x : Caches R). x.processor) e;
         active = λ k. ap (λ (x : Caches R). ((shown x).rows k).active) e;
         plain_begins = c.plain_begins;
         tracing_begins = c.tracing_begins;
+        same_side = c.same_side;
+        mail = mail-same log faces holds known a b e c.parcels;
       }
 
   -- more periods may have begun
   pub works-at-most : (p t p' t' : ℕ) (P : ℕ → Part) (a b : H) → p ≤ p' → t ≤ t' → Works log faces waits stays holds known p t P a b → Works log faces waits stays holds known p' t' P a b
-  works-at-most p t p' t' P a b h k w = record { phrase = w.phrase; goes = w.goes; alone = w.alone; processor = w.processor; active = w.active; plain_begins = omega (arith, w.plain_begins, h); tracing_begins = omega (arith, w.tracing_begins, k) }
+  works-at-most p t p' t' P a b h k w = record { phrase = w.phrase; goes = w.goes; alone = w.alone; flags = w.flags; processor = w.processor; active = w.active; plain_begins = omega (arith, w.plain_begins, h); tracing_begins = omega (arith, w.tracing_begins, k); same_side = w.same_side; mail = w.mail }
 
 -- a call, and then one that stops for want of memory
 pub works-stopped : {H R : Type 0} (log : R → Option Log) (counts : R → Counts) (faces : H → Face) (waits : H → ℕ) (stays : H → H → Type 0) (holds : H → Caches R) (known : H → Known) (p t : ℕ) (P Q W : ℕ → Part) (a b c : H) → ((l : ℕ) (s : State ℕ) (one two : Log) → P l s one → Q l (after s one) two → W l s (one ++ two)) → Placed log counts (holds a) → Placed log counts (holds b) → Works log faces waits stays holds known p t P a b → Stopped log counts faces holds Q b c → Stopped log counts faces holds W a c
@@ -164,21 +174,21 @@ pub works-map-at : {H R : Type 0} (log : R → Option Log) (faces : H → Face) 
 works-map-at log faces waits stays holds known p t P Q a b f w =
     let l = (faces a).level in
     let s = seen number_of (shown (holds a)) in
-    record { phrase = grew-map (P l) (Q l) s (log (holds a).recorder) (log (holds b).recorder) (f l) w.phrase; goes = w.goes; alone = w.alone; processor = w.processor; active = w.active; plain_begins = w.plain_begins; tracing_begins = w.tracing_begins }
+    record { phrase = grew-map (P l) (Q l) s (log (holds a).recorder) (log (holds b).recorder) (f l) w.phrase; goes = w.goes; alone = w.alone; flags = w.flags; processor = w.processor; active = w.active; plain_begins = w.plain_begins; tracing_begins = w.tracing_begins; same_side = w.same_side; mail = w.mail }
 
 -- a part that is another one too, from these lists and at the desk's level
 pub works-map-here : {H R : Type 0} (log : R → Option Log) (faces : H → Face) (waits : H → ℕ) (stays : H → H → Type 0) (holds : H → Caches R) (known : H → Known) (p t : ℕ) (P Q : ℕ → Part) (a b : H) → ((part : Log) → P (faces a).level (seen number_of (shown (holds a))) part → Q (faces a).level (seen number_of (shown (holds a))) part) → Works log faces waits stays holds known p t P a b → Works log faces waits stays holds known p t Q a b
 works-map-here log faces waits stays holds known p t P Q a b f w =
     let l = (faces a).level in
     let s = seen number_of (shown (holds a)) in
-    record { phrase = grew-map (P l) (Q l) s (log (holds a).recorder) (log (holds b).recorder) f w.phrase; goes = w.goes; alone = w.alone; processor = w.processor; active = w.active; plain_begins = w.plain_begins; tracing_begins = w.tracing_begins }
+    record { phrase = grew-map (P l) (Q l) s (log (holds a).recorder) (log (holds b).recorder) f w.phrase; goes = w.goes; alone = w.alone; flags = w.flags; processor = w.processor; active = w.active; plain_begins = w.plain_begins; tracing_begins = w.tracing_begins; same_side = w.same_side; mail = w.mail }
 
 -- a part that is another one too
 pub works-map : {H R : Type 0} (log : R → Option Log) (faces : H → Face) (waits : H → ℕ) (stays : H → H → Type 0) (holds : H → Caches R) (known : H → Known) (p t : ℕ) (P Q : ℕ → Part) (a b : H) → ((l : ℕ) (s : State ℕ) (part : Log) → P l s part → Q l s part) → Works log faces waits stays holds known p t P a b → Works log faces waits stays holds known p t Q a b
 works-map log faces waits stays holds known p t P Q a b f w =
     let l = (faces a).level in
     let s = seen number_of (shown (holds a)) in
-    record { phrase = grew-map (P l) (Q l) s (log (holds a).recorder) (log (holds b).recorder) (f l s) w.phrase; goes = w.goes; alone = w.alone; processor = w.processor; active = w.active; plain_begins = w.plain_begins; tracing_begins = w.tracing_begins }
+    record { phrase = grew-map (P l) (Q l) s (log (holds a).recorder) (log (holds b).recorder) (f l s) w.phrase; goes = w.goes; alone = w.alone; flags = w.flags; processor = w.processor; active = w.active; plain_begins = w.plain_begins; tracing_begins = w.tracing_begins; same_side = w.same_side; mail = w.mail }
 
 -- nothing was done, where that is such a part
 pub works-still : {H R : Type 0} (log : R → Option Log) (faces : H → Face) (waits : H → ℕ) (stays : H → H → Type 0) (holds : H → Caches R) (known : H → Known) (P : ℕ → Part) (a : H) → stays a a → ((l : ℕ) → P l (seen number_of (shown (holds a))) []) → Works log faces waits stays holds known 0 0 P a a
@@ -186,10 +196,13 @@ works-still log faces waits stays holds known P a k h = record {
   phrase = grew-none (P (faces a).level) (seen number_of (shown (holds a))) (log (holds a).recorder) (h (faces a).level);
   goes = record { face = refl; pending = omega (arith); keeps = k };
   alone = unbroken-same faces waits holds log a a refl;
+  flags = raises-none-same waits holds a a refl;
   processor = refl;
   active = λ i. refl;
   plain_begins = omega (arith);
   tracing_begins = omega (arith);
+  same_side = refl;
+  mail = mail-same log faces holds known a a refl refl;
 }
 
 -- the same at the desk's level
@@ -198,11 +211,26 @@ works-still-here log faces waits stays holds known P a k h = record {
   phrase = grew-none (P (faces a).level) (seen number_of (shown (holds a))) (log (holds a).recorder) h;
   goes = record { face = refl; pending = omega (arith); keeps = k };
   alone = unbroken-same faces waits holds log a a refl;
+  flags = raises-none-same waits holds a a refl;
   processor = refl;
   active = λ i. refl;
   plain_begins = omega (arith);
   tracing_begins = omega (arith);
+  same_side = refl;
+  mail = mail-same log faces holds known a a refl refl;
 }
+
+-- the caches alone changed, and so the parcels are as they were
+pub handled-mail : {H W : Type 0} {faces : H → Face} {waits : H → ℕ} {keeps : H → H → Type 0} {shared : H → W} {tests : H → Tests} {a b : H} (known : W → Known) → Handled faces waits keeps shared tests a b → (known (shared b)).parcels ≡ (known (shared a)).parcels
+handled-mail {H} {W} known h = ap (λ (w : W). (known w).parcels) h.shared_is
+
+-- a flag that is down stays down where no handler ran
+pub flag-down : {H R : Type 0} {waits : H → ℕ} {holds : H → Caches R} {a b : H} (c : ℕ) → RaisesNone waits holds a b → waits b ≡ waits a → ((shown (holds a)).rows c).raised ≡ false → ((shown (holds b)).rows c).raised ≡ false
+flag-down {H} {R} {waits} {holds} {a} {b} c r e d = pick ((shown (holds b)).rows c).raised refl
+  where
+    pick : (x : Bool) → ((shown (holds b)).rows c).raised ≡ x → ((shown (holds b)).rows c).raised ≡ false
+    pick false p = p
+    pick true p = let q : ((shown (holds a)).rows c).raised ≡ true = r.flags e c p in absurd (cc)
 
 -- nothing, and then a part
 pub nothing-first : (Q : Part) (s : State ℕ) (one two : Log) → Nothing s one → Q (after s one) two → Q s (one ++ two)
@@ -216,27 +244,34 @@ module _ {H R : Type 0} (log : R → Option Log) (counts : R → Counts) (faces 
   called-works p t p' t' Q a b c x y h w = works-join log counts faces waits stays holds known join p t p' t' (λ l. Nothing) Q Q a b c (λ l s one two i k. nothing-first (Q l) s one two i k) x y (works-called log counts faces waits stays holds known rights p t a b h) w
 
 module _ {H R : Type 0} (log : R → Option Log) (counts : R → Counts) (faces : H → Face) (waits : H → ℕ) (stays : H → H → Type 0) (holds : H → Caches R) (known : H → Known) (tests : H → Tests) (join : (a b c : H) → stays a b → stays b c → stays a c) where
-  -- a call of the post, and then another call
-  pub posted-works : (gone : List ℕ) (p t : ℕ) (Q : ℕ → Part) (a b c : H) → Placed log counts (holds a) → Placed log counts (holds b) → Posted faces waits stays holds known tests gone a b → Works log faces waits stays holds known p t Q b c → Works log faces waits stays holds known p t Q a c
-  posted-works gone p t Q a b c x y h w =
+  -- a call of the post that keeps the parcels records nothing
+  works-kept : (gone : List ℕ) (a b : H) → (known b).parcels ≡ (known a).parcels → Posted faces waits stays holds known tests gone a b → Works log faces waits stays holds known 0 0 (λ l. Nothing) a b
+  works-kept gone a b m h =
       let e = h.held in
       let s = seen number_of (shown (holds a)) in
       let G : Caches R → Type 0 = λ z. GrewBy Nothing s (log (holds a).recorder) (log z.recorder) in
-      let v : Works log faces waits stays holds known 0 0 (λ l. Nothing) a b = record {
+      record {
         phrase = subst G (sym e) (grew-none Nothing s (log (holds a).recorder) refl);
         goes = record { face = h.face; pending = omega (arith, h.pending); keeps = h.stays };
         alone = unbroken-same faces waits holds log a b e;
+        flags = raises-none-same waits holds a b e;
         processor = ap (λ (z : Caches R). z.processor) e;
         active = λ k. ap (λ (z : Caches R). ((shown z).rows k).active) e;
         plain_begins = omega (arith, ap (λ (z : Sides). z.plain.begins) h.known_is);
         tracing_begins = omega (arith, ap (λ (z : Sides). z.tracing.begins) h.known_is);
-      } in
-      let r = works-join log counts faces waits stays holds known join 0 0 p t (λ l. Nothing) Q Q a b c (λ l s one two i k. nothing-first (Q l) s one two i k) x y v w in
-      record { phrase = r.phrase; goes = r.goes; alone = r.alone; processor = r.processor; active = r.active; plain_begins = omega (arith, r.plain_begins); tracing_begins = omega (arith, r.tracing_begins) }
+        same_side = ap (λ (z : Sides). z.processor) h.known_is;
+        mail = mail-same log faces holds known a b e m;
+      }
 
-  -- another call, and then one of the post
-  pub works-posted : (gone : List ℕ) (p t : ℕ) (P : ℕ → Part) (a b c : H) → Works log faces waits stays holds known p t P a b → Posted faces waits stays holds known tests gone b c → Works log faces waits stays holds known p t P a c
-  works-posted gone p t P a b c w h =
+  -- such a call of the post, and then another call
+  pub posted-works : (gone : List ℕ) (p t : ℕ) (Q : ℕ → Part) (a b c : H) → Placed log counts (holds a) → Placed log counts (holds b) → (known b).parcels ≡ (known a).parcels → Posted faces waits stays holds known tests gone a b → Works log faces waits stays holds known p t Q b c → Works log faces waits stays holds known p t Q a c
+  posted-works gone p t Q a b c x y m h w =
+      let r = works-join log counts faces waits stays holds known join 0 0 p t (λ l. Nothing) Q Q a b c (λ l s one two i k. nothing-first (Q l) s one two i k) x y (works-kept gone a b m h) w in
+      record { phrase = r.phrase; goes = r.goes; alone = r.alone; flags = r.flags; processor = r.processor; active = r.active; plain_begins = omega (arith, r.plain_begins); tracing_begins = omega (arith, r.tracing_begins); same_side = r.same_side; mail = r.mail }
+
+  -- another call, and then such a one of the post
+  pub works-posted : (gone : List ℕ) (p t : ℕ) (P : ℕ → Part) (a b c : H) → Works log faces waits stays holds known p t P a b → (known c).parcels ≡ (known b).parcels → Posted faces waits stays holds known tests gone b c → Works log faces waits stays holds known p t P a c
+  works-posted gone p t P a b c w m h =
       let e = h.held in
       let l = (faces a).level in
       let G : Caches R → Type 0 = λ z. GrewBy (P l) (seen number_of (shown (holds a))) (log (holds a).recorder) (log z.recorder) in
@@ -245,28 +280,18 @@ module _ {H R : Type 0} (log : R → Option Log) (counts : R → Counts) (faces 
         phrase = subst G (sym e) w.phrase;
         goes = goes-join join w.goes g;
         alone = unbroken-join w.goes g w.alone (unbroken-same faces waits holds log b c e);
+        flags = raises-none-join w.goes g w.flags (raises-none-same waits holds b c e);
         processor = ap (λ (z : Caches R). z.processor) e ∙ w.processor;
         active = λ k. ap (λ (z : Caches R). ((shown z).rows k).active) e ∙ w.active k;
         plain_begins = omega (arith, w.plain_begins, ap (λ (z : Sides). z.plain.begins) h.known_is);
         tracing_begins = omega (arith, w.tracing_begins, ap (λ (z : Sides). z.tracing.begins) h.known_is);
+        same_side = ap (λ (z : Sides). z.processor) h.known_is ∙ w.same_side;
+        mail = mail-join log faces holds known a b c (ap (λ (z : Face). z.level) w.goes.face) w.same_side w.mail (mail-same log faces holds known b c e m);
       }
 
-  -- a call of the post, and then one that stops
-  pub posted-stopped : (gone : List ℕ) (Q : ℕ → Part) (a b c : H) → Placed log counts (holds a) → Placed log counts (holds b) → Posted faces waits stays holds known tests gone a b → Stopped log counts faces holds Q b c → Stopped log counts faces holds Q a c
-  posted-stopped gone Q a b c x y h w =
-      let e = h.held in
-      let s = seen number_of (shown (holds a)) in
-      let G : Caches R → Type 0 = λ z. GrewBy Nothing s (log (holds a).recorder) (log z.recorder) in
-      let v : Works log faces waits stays holds known 0 0 (λ l. Nothing) a b = record {
-        phrase = subst G (sym e) (grew-none Nothing s (log (holds a).recorder) refl);
-        goes = record { face = h.face; pending = omega (arith, h.pending); keeps = h.stays };
-        alone = unbroken-same faces waits holds log a b e;
-        processor = ap (λ (z : Caches R). z.processor) e;
-        active = λ k. ap (λ (z : Caches R). ((shown z).rows k).active) e;
-        plain_begins = omega (arith, ap (λ (z : Sides). z.plain.begins) h.known_is);
-        tracing_begins = omega (arith, ap (λ (z : Sides). z.tracing.begins) h.known_is);
-      } in
-      works-stopped log counts faces waits stays holds known 0 0 (λ l. Nothing) Q Q a b c (λ l s one two i k. nothing-first (Q l) s one two i k) x y v w
+  -- such a call of the post, and then one that stops
+  pub posted-stopped : (gone : List ℕ) (Q : ℕ → Part) (a b c : H) → Placed log counts (holds a) → Placed log counts (holds b) → (known b).parcels ≡ (known a).parcels → Posted faces waits stays holds known tests gone a b → Stopped log counts faces holds Q b c → Stopped log counts faces holds Q a c
+  posted-stopped gone Q a b c x y m h w = works-stopped log counts faces waits stays holds known 0 0 (λ l. Nothing) Q Q a b c (λ l s one two i k. nothing-first (Q l) s one two i k) x y (works-kept gone a b m h) w
 
 -- entries of one's own, one stretch after the other
 pub stand-join : (l : ℕ) (v w : List Entry) (s t : State ℕ) (one two : Log) → Stand l v s one → Stand l w t two → Stand l (v ++ w) s (one ++ two)
@@ -290,10 +315,9 @@ module _ {H R W : Type 0} (log : R → Option Log) (counts : R → Counts) (soun
       stands-side log counts sound tests faces holds h (with_shared h w) (held h w) (face h w a') (sounds h w a' s.sound) (tests-shared [] h v w e (ages-onward (rights v) (rights w) [] r)) s
 
   -- a post's call was made, and tests go on
-  pub stands-posted : (t : Bool) (h : H) (v w : W) → v ≡ shared h → Posts t (known v) (known w) → Onward [] (tests_by (rights v)) (tests_by (rights w)) → Stands log counts sound tests faces holds h → Stands log counts sound tests faces holds (with_shared h w)
-  stands-posted t h v w e a o s =
-      let k : Alike (known v) (known w) = subst (λ x. Alike (known v) x) (sym a.known) (alike-posts t a.steps (known v)) in
-      let a' : Alike (known (shared h)) (known w) = subst (λ x. Alike (known x) (known w)) e k in
+  pub stands-posted : (h : H) (v w : W) → v ≡ shared h → Alike (known v) (known w) → Onward [] (tests_by (rights v)) (tests_by (rights w)) → Stands log counts sound tests faces holds h → Stands log counts sound tests faces holds (with_shared h w)
+  stands-posted h v w e a o s =
+      let a' : Alike (known (shared h)) (known w) = subst (λ x. Alike (known x) (known w)) e a in
       stands-side log counts sound tests faces holds h (with_shared h w) (held h w) (face h w a') (sounds h w a' s.sound) (tests-shared [] h v w e o) s
 
   -- units stand where they suit, by the rights

@@ -1,5 +1,5 @@
 -- A desk after a step of its caches.
-use Rattle.std.proofs.Common.{◌≡◌, ◌<◌, ◌+◌, ℕ, suc, List, [], ◌∷◌, Option, refl, sym, ◌∙◌, ap, subst, arith, inl, inr}
+use Rattle.std.proofs.Common.{◌≡◌, ◌<◌, ◌+◌, ℕ, suc, true, false, List, [], ◌∷◌, Option, refl, sym, ◌∙◌, ap, subst, arith, inl, inr}
 use Rattle.std.specs.List.{All}
 use Rattle.std.proofs.lemmas.Bool.Decides.{eqb_tells}
 use Rattle.bm_journal.specs.declared.counts.Counts.{Counts}
@@ -12,10 +12,8 @@ use Rattle.bm_law.specs.State.{Row, State, Deferred, seen, with_row}
 use Rattle.bm_law.specs.Effect.{effect}
 use Rattle.bm_law.specs.Kept.{Ready}
 use Rattle.bm_law.specs.Lists.{Log}
-use Rattle.bm_law.specs.Spans.{Records}
 use Rattle.bm_law.proofs.Spans.{Records-one}
 use Rattle.bm_law.proofs.Alone.{Alone-one}
-use Rattle.bm_law.specs.Alone.{Alone}
 use Rattle.bm_cache.specs.Allowed.{Lifts, Aims}
 use Rattle.bm_cache.specs.Each.{Arrives}
 use Rattle.bm_cache.specs.Listed.{TookUnits}
@@ -23,12 +21,15 @@ use Rattle.bm_cache.specs.Tokens.{Token, number_of}
 use Rattle.bm_cache.specs.Tests.{Tests, Passes, Reusable, Suits, Either, Proper}
 use Rattle.bm_cache.specs.Shown.{shown}
 use Rattle.bm_cache.specs.Placed.{Placed}
-use Rattle.bm_cache.specs.Span.{Face, Fine, Goes}
+use Rattle.bm_cache.specs.Span.{Face, Fine, Goes, RaisesNone}
 use Rattle.bm_cache.specs.declared.caches.Caches.{Caches}
 use Rattle.bm_cache.proofs.Each.{each-effect}
+use Rattle.bm_cache.proofs.Flags.{raised-effect, raises}
 use Rattle.bm_cache.proofs.Stretch.{ready-effect, targets-effect}
+use Rattle.bm_deferred.specs.Inboxes.{Delivered}
 use Rattle.bm_deferred.specs.Parts.{Say}
 use Rattle.bm_deferred.specs.WorkPhrases.{IsOne}
+use Rattle.bm_deferred.proofs.Inboxes.{IsQuiet, delivered-records}
 use Rattle.bm_work.proofs.Grown.{grew-say}
 use Rattle.bm_work.proofs.Lists.{whole-appends}
 use Rattle.bm_journal.specs.declared.ids.Domain.TheVariants.{Plain, Tracing}
@@ -83,24 +84,41 @@ module _ {H R : Type 0} (log : R → Option Log) (counts : R → Counts) (sound 
       let y = shown (holds h) in
       stands-to h k z (effect l e us y) p q f s o n d (ready-effect l e us y x w.fine.ready) (each-effect (λ c k u. Suits (tests h) k u) (Either (tests h)) l e us y v w.fine.proper) (targets-effect (faces h).processors l e us y a w.fine.aimed.targets) b w
 
+-- an entry that raises no flag was recorded
+raises-none-effect : {H R : Type 0} (waits : H → ℕ) (holds : H → Caches R) (h k : H) (l : ℕ) (e : Entry) (us : List Token) → raises e ≡ false → shown (holds k) ≡ effect l e us (shown (holds h)) → RaisesNone waits holds h k
+raises-none-effect waits holds h k l e us r q = record {
+  flags = λ _ i p.
+      let U : State Token → Type 0 = λ s. (s.rows i).raised ≡ true in
+      raised-effect l e us (shown (holds h)) r i (subst U q p);
+}
+
 module _ {H R : Type 0} (log : R → Option Log) (faces : H → Face) (waits : H → ℕ) (stays : H → H → Type 0) (holds : H → Caches R) (known : H → Known) where
-  -- an entry of the desk's level was recorded
-  pub works-entry : (h k : H) (z : Caches R) (e : Entry) → holds k ≡ z → Goes faces waits stays h k → (known k).grace ≡ (known h).grace → Appends (log (holds h).recorder) (faces h).level e (log z.recorder) → z.processor ≡ (holds h).processor → ((c : ℕ) → ((shown z).rows c).active ≡ ((shown (holds h)).rows c).active) → Works log faces waits stays holds known 0 0 (λ l. Say l (IsOne e)) h k
-  works-entry h k z e p g n r q a =
+  -- an entry of the desk's level was recorded, and this became of the parcels
+  pub works-entry : (h k : H) (e : Entry) (us : List Token) → Goes faces waits stays h k → (known k).grace ≡ (known h).grace → Appends (log (holds h).recorder) (faces h).level e (log (holds k).recorder) → (holds k).processor ≡ (holds h).processor → shown (holds k) ≡ effect (faces h).level e us (shown (holds h)) → ((c : ℕ) → ((effect (faces h).level e us (shown (holds h))).rows c).active ≡ ((shown (holds h)).rows c).active) → raises e ≡ false → Delivered (faces h).level (known h).grace.processor (known h).parcels (known k).parcels (log (holds h).recorder) (log (holds k).recorder) → Works log faces waits stays holds known 0 0 (λ l. Say l (IsOne e)) h k
+  works-entry h k e us g n r q t a f m =
       let l = (faces h).level in
-      let B : Caches R → Type 0 = λ x. Records l (e ∷ []) (log (holds h).recorder) (log x.recorder) in
-      let A : Caches R → Type 0 = λ x. Alone l (log (holds h).recorder) (log x.recorder) in
-      let N : Caches R → Type 0 = λ x. x.processor ≡ (holds h).processor in
-      let C : Caches R → Type 0 = λ x. (c : ℕ) → ((shown x).rows c).active ≡ ((shown (holds h)).rows c).active in
+      let x = log (holds h).recorder in
+      let y = log (holds k).recorder in
       record {
-        phrase = grew-say l (IsOne e) (e ∷ []) (seen number_of (shown (holds h))) (log (holds h).recorder) (log (holds k).recorder) (subst B (sym p) (Records-one l e (log (holds h).recorder) (log z.recorder) r)) refl;
+        phrase = grew-say l (IsOne e) (e ∷ []) (seen number_of (shown (holds h))) x y (Records-one l e x y r) refl;
         goes = g;
-        alone = record { alone = λ _. subst A (sym p) (Alone-one l e (log (holds h).recorder) (log z.recorder) r) };
-        processor = subst N (sym p) q;
-        active = subst C (sym p) a;
-        plain_begins = omega (arith, ap (λ (x : Sides). x.plain.begins) n);
-        tracing_begins = omega (arith, ap (λ (x : Sides). x.tracing.begins) n);
+        alone = record { alone = λ _. Alone-one l e x y r };
+        flags = raises-none-effect waits holds h k l e us f t;
+        processor = q;
+        active = λ c. ap (λ (s : State Token). (s.rows c).active) t ∙ a c;
+        plain_begins = omega (arith, ap (λ (s : Sides). s.plain.begins) n);
+        tracing_begins = omega (arith, ap (λ (s : Sides). s.tracing.begins) n);
+        same_side = ap (λ (s : Sides). s.processor) n;
+        mail = m;
       }
+
+  -- the same, where it neither sends nor takes a parcel
+  pub works-quiet : (h k : H) (e : Entry) (us : List Token) → IsQuiet e → Goes faces waits stays h k → known k ≡ known h → Appends (log (holds h).recorder) (faces h).level e (log (holds k).recorder) → (holds k).processor ≡ (holds h).processor → shown (holds k) ≡ effect (faces h).level e us (shown (holds h)) → ((c : ℕ) → ((effect (faces h).level e us (shown (holds h))).rows c).active ≡ ((shown (holds h)).rows c).active) → raises e ≡ false → Works log faces waits stays holds known 0 0 (λ l. Say l (IsOne e)) h k
+  works-quiet h k e us z g n r q t a f =
+      let l = (faces h).level in
+      let x = log (holds h).recorder in
+      let y = log (holds k).recorder in
+      works-entry h k e us g (ap (λ (w : Known). w.grace) n) r q t a f (delivered-records l (known h).grace.processor (e ∷ []) (known h).parcels (known k).parcels x y (z, tt) (ap (λ (w : Known). w.parcels) n) (Records-one l e x y r))
 
 -- where a log is told, a step that names a list names it whole
 pub appends-whole : {R : Type 0} (log : R → Option Log) (l : ℕ) (e : Units → Entry) (xs : List ℕ) (us : List Token) (y z : Caches R) → TookUnits log l e xs us y z → Appends (log y.recorder) l (e (Whole xs)) (log z.recorder)

@@ -9,8 +9,8 @@ pub record Alike (before now : Known) : Type 0 where
   pub processor : now.grace.processor ≡ before.grace.processor
   pub words : (d : Domain) → (side d now).word % 2 ≡ (side d before).word % 2
 
--- Handlers begin and finish no period: what this side has in progress, and how many periods it may still begin, is as it
--- was.
+-- Handlers begin and finish no period, and send and receive nothing: what this side has in progress, how many periods it may
+-- still begin, and the parcels in its own inboxes are as they were.
 pub record GoesOn (before now : Known) : Type 0 where
   pub alike : Alike before now
   pub number : (d : Domain) → (side d now).number ≡ (side d before).number
@@ -18,3 +18,4 @@ pub record GoesOn (before now : Known) : Type 0 where
   pub later : (d : Domain) → (side d now).later ≡ (side d before).later
   pub begins : (d : Domain) → (side d now).begins ≡ (side d before).begins
   pub seen : (d : Domain) → (side d before).seen ≤ (side d now).seen
+  pub parcels : now.parcels ≡ before.parcels

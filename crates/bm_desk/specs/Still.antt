@@ -11,6 +11,7 @@ goes-still a b e = subst (λ (x : Known). GoesOn a x) (sym e) record {
   later = λ d. refl;
   begins = λ d. refl;
   seen = λ d. omega arith;
+  parcels = refl;
 }
 
 -- and so it is over two calls

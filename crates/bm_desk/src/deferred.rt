@@ -156,6 +156,7 @@ fn work_through<R: Recorder, H: Desk<R>>(
     requires stamped { is_unstamped ((shown (H.Host.held host.old)).rows class).deferred.plain ≡ false }
     ensures ok { OnOk result (Works R.log H.Host.face H.Host.pending H.stays H.Host.held (λ h. H.W.Knows.known (H.shared h)) 1 1 (λ l. Work l class) host.old host.new) }
     ensures err { OnErr result (Stopped R.log R.counts H.Host.face H.Host.held (λ l. WorkStop l class) host.old host.new) }
+    ensures lowered { OnOk result (H.Host.pending host.new ≡ H.Host.pending host.old → ((shown (H.Host.held host.new)).rows class).raised ≡ false) }
     ensures stamped { OnOk result (is_unstamped ((shown (H.Host.held host.new)).rows class).deferred.plain ≡ false) }
     ensures kept { OnOk result ((k : ℕ) → k ≢ class → ((shown (H.Host.held host.new)).rows k).deferred ≡ ((shown (H.Host.held host.old)).rows k).deferred) }
     ensures side { OnOk result ((shown (H.Host.held host.new)).sides (H.Host.face host.old).level ≡ idle_side) }
@@ -182,6 +183,7 @@ pub fn work<R: Recorder, H: Desk<R>>(alloc: Global, host: &mut H, class: Class) 
     requires stamped { is_unstamped ((shown (H.Host.held host.old)).rows class).deferred.plain ≡ false }
     ensures done { result ≡ worked.Done → Works R.log H.Host.face H.Host.pending H.stays H.Host.held (λ h. H.W.Knows.known (H.shared h)) 1 1 (λ l. Work l class) host.old host.new }
     ensures memory { result ≡ worked.NoMemory → Stopped R.log R.counts H.Host.face H.Host.held (λ l. WorkStop l class) host.old host.new }
+    ensures lowered { result ≡ worked.Done → H.Host.pending host.new ≡ H.Host.pending host.old → ((shown (H.Host.held host.new)).rows class).raised ≡ false }
     ensures stamped { result ≡ worked.Done → is_unstamped ((shown (H.Host.held host.new)).rows class).deferred.plain ≡ false }
     ensures kept { result ≡ worked.Done → (k : ℕ) → k ≢ class → ((shown (H.Host.held host.new)).rows k).deferred ≡ ((shown (H.Host.held host.old)).rows k).deferred }
     ensures side { result ≡ worked.Done → (shown (H.Host.held host.new)).sides (H.Host.face host.old).level ≡ idle_side }

@@ -7,13 +7,16 @@ ghost use Rattle.bm_journal.specs.declared.units.Units.TheVariants.{Whole};
 ghost use Rattle.bm_law.specs.Stands.{stands, times};
 ghost use Rattle.bm_law.specs.State.{seen};
 ghost use Rattle.bm_cache.specs.Each.{Sits};
+ghost use Rattle.bm_cache.specs.Listed.{TookUnits};
 ghost use Rattle.bm_cache.specs.Shown.{shown};
 ghost use Rattle.bm_cache.specs.Tests.{Reusable};
 ghost use Rattle.bm_cache.specs.Tokens.{Token, number_of};
 ghost use Rattle.bm_deferred.specs.Parts.{Say};
-ghost use Rattle.bm_deferred.specs.WorkPhrases.{IsOne, Receive};
+ghost use Rattle.bm_deferred.specs.Inboxes.{Carries};
+ghost use Rattle.bm_deferred.specs.WorkPhrases.{Receive};
+ghost use Rattle.bm_post.specs.Rights.{numbers};
 ghost use Rattle.bm_desk.specs.Periods.{GetsParcel};
-ghost use Rattle.bm_desk.specs.Works.{Posted, Stands, Works};
+ghost use Rattle.bm_desk.specs.Works.{Handled, Posted, Stands, Works};
 
 use crate::Desk;
 use crate::polls::pause;
@@ -28,6 +31,7 @@ use std::alloc::Global;
 fn get_parcel<R: Recorder, H: Desk<R>>(alloc: Global, host: &mut H, class: Class) -> Vec<Unit>
     requires stands { Stands R.log R.counts H.Host.sound H.Host.tests H.Host.face H.Host.held host.old }
     ensures posted { Posted H.Host.face H.Host.pending H.stays H.Host.held (λ h. H.W.Knows.known (H.shared h)) H.Host.tests [] host.old host.new }
+    ensures mail { Carries (H.W.Knows.known (H.shared host.old)).grace.processor (entry.Receive class (Whole (numbers result.items))) (H.W.Knows.known (H.shared host.old)).parcels (H.W.Knows.known (H.shared host.new)).parcels }
     ensures sit { All (Sits class) result.items }
     ensures fresh { (n : ℕ) → stands n (seen number_of (shown (H.Host.held host.new))) + times n (map number_of result.items) ≤ 1 }
     ensures reusable { All (Reusable (H.Host.tests host.new)) result.items }
@@ -45,7 +49,8 @@ fn note_parcel<R: Recorder, H: Desk<R>>(host: &mut H, class: Class, units: Vec<U
     requires sit { All (Sits class) units.items }
     requires fresh { (n : ℕ) → stands n (seen number_of (shown (H.Host.held host.old))) + times n (map number_of units.items) ≤ 1 }
     requires reusable { All (Reusable (H.Host.tests host.old)) units.items }
-    ensures works { Works R.log H.Host.face H.Host.pending H.stays H.Host.held (λ h. H.W.Knows.known (H.shared h)) 0 0 (λ l. Say l (IsOne (entry.Receive class (Whole (map number_of units.items))))) host.old host.new }
+    ensures step { TookUnits R.log (H.Host.face host.old).level (entry.Receive class) (map number_of units.items) units.items (H.Host.held host.old) (H.Host.held host.new) }
+    ensures handled { Handled H.Host.face H.Host.pending H.stays H.shared H.Host.tests host.old host.new }
     ensures deferred { ((shown (H.Host.held host.new)).rows class).deferred ≡ record ((shown (H.Host.held host.old)).rows class).deferred { ready = units.items ++ ((shown (H.Host.held host.old)).rows class).deferred.ready } }
     ensures kept { (k : ℕ) → k ≢ class → ((shown (H.Host.held host.new)).rows k).deferred ≡ ((shown (H.Host.held host.old)).rows k).deferred }
     ensures side { (shown (H.Host.held host.new)).sides (H.Host.face host.old).level ≡ (shown (H.Host.held host.old)).sides (H.Host.face host.old).level }

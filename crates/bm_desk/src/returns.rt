@@ -45,6 +45,7 @@ fn give_back<R: Recorder, H: Desk<R>>(host: &mut H, units: Vec<Unit>)
     requires mine { Holds (H.W.Knows.rights (H.shared host.old)) units.items }
     requires fit { All (MayLeave (H.W.Knows.rights (H.shared host.old))) units.items }
     ensures posted { Posted H.Host.face H.Host.pending H.stays H.Host.held (λ h. H.W.Knows.known (H.shared h)) H.Host.tests (numbers units.items) host.old host.new }
+    ensures mail { (H.W.Knows.known (H.shared host.new)).parcels ≡ (H.W.Knows.known (H.shared host.old)).parcels }
     ensures sound { H.Host.sound host.new }
 {
     host.world().put_back(units);

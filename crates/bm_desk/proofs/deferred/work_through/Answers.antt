@@ -1,9 +1,9 @@
-use Rattle.std.proofs.Common.{ℕ, inl, inr}
+use Rattle.std.proofs.Common.{ℕ, inl, inr, arith}
 use Rattle.bm_journal.specs.declared.entry.Entry.TheVariants as entry
 use Rattle.bm_deferred.specs.Parts.{Part, Say, Then}
 use Rattle.bm_deferred.specs.WorkPhrases.{Balance, FirstStage, IsOne, Receive, SecondStage}
 use Rattle.bm_desk.specs.Stops.{BalanceStop, FirstStop, Or, SecondStop, WorkStop}
-use Rattle.bm_desk.proofs.Sides.{on-err, on-err-any, on-ok, works-stopped, works-then}
+use Rattle.bm_desk.proofs.Sides.{flag-down, on-err, on-err-any, on-ok, works-stopped, works-then}
 use Rattle.bm_desk.proofs.Thens.{then-of}
 use Rattle.bm_desk.proofs.deferred.work_through.Goals as goal
 
@@ -107,3 +107,16 @@ returns-clause-err g c =
     (works-stopped g.R.Recorder.log g.R.Recorder.counts g.H.Host.face g.H.Host.pending g.H.Desk.stays g.H.Host.held (λ h. g.H.W.Knows.known (g.H.Desk.shared h)) 0 0 R (λ l. Then (B l) (O1 l)) (λ l. Then (R l) (O l)) b x v (λ l s one two p q. then-of (R l) (O l) s one two p (inr q)) pb px c.receive_up_to.ensures.works
     (works-stopped g.R.Recorder.log g.R.Recorder.counts g.H.Host.face g.H.Host.pending g.H.Desk.stays g.H.Host.held (λ h. g.H.W.Knows.known (g.H.Desk.shared h)) 0 0 B O2 (λ l. Then (B l) (O1 l)) x y v (λ l s one two p q. then-of (B l) (O1 l) s one two p (inr q)) px py c.in_ok-balance.ensures.ok
     (works-stopped g.R.Recorder.log g.R.Recorder.counts g.H.Host.face g.H.Host.pending g.H.Desk.stays g.H.Host.held (λ h. g.H.W.Knows.known (g.H.Desk.shared h)) 1 0 F (λ l. SecondStop l i) O2 y z v (λ l s one two p q. then-of (F l) (SecondStop l i) s one two p q) py pz c.in_ok-first_stage.ensures.ok w)))) c.second_stage.ensures.err
+
+pub returns-clause-lowered : goal.returns-clause-lowered
+returns-clause-lowered g c =
+    let i = c.args.class in
+    let a = c.lower_flag.ensures.works in
+    let x = c.receive_up_to.ensures.works in
+    let y = c.in_ok-balance.ensures.ok in
+    let z = c.in_ok-first_stage.ensures.ok in
+    on-ok c.second_stage.result (λ w h.
+    (let down = flag-down i x.flags (omega (arith, h, a.goes.pending, x.goes.pending, y.goes.pending, z.goes.pending, w.goes.pending)) c.lower_flag.ensures.lowered in
+    let balanced = flag-down i y.flags (omega (arith, h, a.goes.pending, x.goes.pending, y.goes.pending, z.goes.pending, w.goes.pending)) down in
+    let staged = flag-down i z.flags (omega (arith, h, a.goes.pending, x.goes.pending, y.goes.pending, z.goes.pending, w.goes.pending)) balanced in
+    flag-down i w.flags (omega (arith, h, a.goes.pending, x.goes.pending, y.goes.pending, z.goes.pending, w.goes.pending)) staged)) c.second_stage.ensures.ok

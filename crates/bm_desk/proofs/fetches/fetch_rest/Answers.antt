@@ -1,4 +1,5 @@
-use Rattle.std.proofs.Common.{◌≡◌, ◌-◌, [], ℕ, suc, List, map, sym, subst, ap, arith}
+use Rattle.std.proofs.Common.{◌≡◌, ◌≤◌, ◌-◌, [], ℕ, suc, List, length, map, sym, subst, ap, arith}
+use Rattle.std.proofs.lemmas.List.{length-map}
 use Rattle.bm_journal.specs.declared.units.Units.TheVariants.{Whole}
 use Rattle.bm_journal.specs.declared.entry.Entry.TheVariants as entry
 use Rattle.bm_law.specs.State.{Side}
@@ -10,7 +11,7 @@ use Rattle.bm_deferred.specs.WorkPhrases.{AddAll, IsOne}
 use Rattle.bm_work.specs.FromLists.{Fetched}
 use Rattle.bm_work.proofs.Grown.{then-after}
 use Rattle.bm_desk.specs.Works.{Works}
-use Rattle.bm_desk.proofs.Sides.{posted-works, works-join, works-then}
+use Rattle.bm_desk.proofs.Sides.{on-err-any, posted-works, works-posted, works-join, works-then}
 use Rattle.bm_desk.proofs.fetches.fetch_rest.Goals as goal
 
 pub returns-clause-ok : goal.returns-clause-ok
@@ -34,6 +35,10 @@ returns-clause-ok g c =
     let E : ℕ → Type 0 = λ m. Works g.R.Recorder.log g.H.Host.face g.H.Host.pending g.H.Desk.stays g.H.Host.held (λ h. g.H.W.Knows.known (g.H.Desk.shared h)) 0 0 (λ l. Say l (IsOne (entry.Fetch i m (Whole ns)))) x y in
     let P : ℕ → Part = λ l. Say l (IsOne (entry.Fetch i (suc n) (Whole ns))) in
     let Q : ℕ → Part = λ l. Then (P l) (AddAll l i ns) in
+    let few : length ns ≤ suc n = omega (arith, c.in_ok-units.ensures.few, w, length-map us number_of) in
     let t = works-then g.R.Recorder.log g.R.Recorder.counts g.H.Host.face g.H.Host.pending g.H.Desk.stays g.H.Host.held (λ h. g.H.W.Knows.known (g.H.Desk.shared h)) j 0 0 0 0 P (λ l. AddAll l i ns) x y z c.get_fetched.ensures.stands.fine.placed c.note_fetched.ensures.stands.fine.placed (subst E (sym w) c.note_fetched.ensures.works) (subst N (ap (λ (m : List Token). map number_of m) h) c.add_all.ensures.works) in
-    let u = posted-works g.R.Recorder.log g.R.Recorder.counts g.H.Host.face g.H.Host.pending g.H.Desk.stays g.H.Host.held (λ h. g.H.W.Knows.known (g.H.Desk.shared h)) g.H.Host.tests j [] 0 0 Q b x z c.pause.ensures.stands.fine.placed c.get_fetched.ensures.stands.fine.placed c.get_fetched.ensures.posted t in
-    subst V w (works-join g.R.Recorder.log g.R.Recorder.counts g.H.Host.face g.H.Host.pending g.H.Desk.stays g.H.Host.held (λ h. g.H.W.Knows.known (g.H.Desk.shared h)) j 0 0 0 0 (λ l. Stand l []) Q (λ l. Fetched l i (suc n)) a b z (λ l s one two p q. (ns, then-after l (IsOne (entry.Fetch i (suc n) (Whole ns))) (AddAll l i ns) s one two p q)) c.requires.stands.fine.placed c.pause.ensures.stands.fine.placed c.pause.ensures.works u)
+    let u = posted-works g.R.Recorder.log g.R.Recorder.counts g.H.Host.face g.H.Host.pending g.H.Desk.stays g.H.Host.held (λ h. g.H.W.Knows.known (g.H.Desk.shared h)) g.H.Host.tests j [] 0 0 Q b x z c.pause.ensures.stands.fine.placed c.get_fetched.ensures.stands.fine.placed c.get_fetched.ensures.mail c.get_fetched.ensures.posted t in
+    subst V w (works-join g.R.Recorder.log g.R.Recorder.counts g.H.Host.face g.H.Host.pending g.H.Desk.stays g.H.Host.held (λ h. g.H.W.Knows.known (g.H.Desk.shared h)) j 0 0 0 0 (λ l. Stand l []) Q (λ l. Fetched l i (suc n)) a b z (λ l s one two p q. (ns, few, then-after l (IsOne (entry.Fetch i (suc n) (Whole ns))) (AddAll l i ns) s one two p q)) c.requires.stands.fine.placed c.pause.ensures.stands.fine.placed c.pause.ensures.works u)
+
+pub returns-in_err-units-clause-err : goal.returns-in_err-units-clause-err
+returns-in_err-units-clause-err g c = on-err-any c.from_residual.result (works-posted g.R.Recorder.log g.R.Recorder.counts g.H.Host.face g.H.Host.pending g.H.Desk.stays g.H.Host.held (λ h. g.H.W.Knows.known (g.H.Desk.shared h)) g.H.Host.tests g.met.H.Desk.stays_join [] 0 0 (λ l. Stand l []) c.args.host.now c.pause.new.host c.get_fetched.new.host c.pause.ensures.works c.get_fetched.ensures.mail c.get_fetched.ensures.posted)

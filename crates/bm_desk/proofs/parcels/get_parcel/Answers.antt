@@ -1,11 +1,15 @@
-use Rattle.std.proofs.Common.{◌≤◌, ◌+◌, ℕ, map, sym, subst}
+use Rattle.std.proofs.Common.{◌≡◌, ◌≤◌, ◌+◌, ℕ, [], map, refl, sym, subst, ap}
+use Rattle.bm_journal.specs.declared.units.Units.TheVariants.{Whole}
+use Rattle.bm_journal.specs.declared.entry.Entry.TheVariants as entry
 use Rattle.bm_law.specs.Stands.{stands, times}
 use Rattle.bm_law.specs.State.{seen}
 use Rattle.bm_cache.specs.Shown.{shown}
 use Rattle.bm_cache.specs.Tokens.{number_of}
 use Rattle.bm_cache.specs.declared.caches.Caches.{Caches}
 use Rattle.bm_post.specs.Rights.{numbers}
+use Rattle.bm_desk.proofs.Alike.{alike-mails}
 use Rattle.bm_desk.proofs.Came.{gains-fresh, gains-onward, same-onward, takes-reusable}
+use Rattle.bm_desk.proofs.Mail.{carries-shared, carries-taken}
 use Rattle.bm_desk.proofs.Sides.{passes-shared, proper-shared, stands-posted}
 use Rattle.bm_desk.proofs.parcels.get_parcel.Goals as goal
 
@@ -24,9 +28,28 @@ returns-in-Some-clause-reusable g c =
 pub returns-in-Some-clause-stands : goal.returns-in-Some-clause-stands
 returns-in-Some-clause-stands g c =
     let e = c.in-Some.ensures in
-    stands-posted g.R.Recorder.log g.R.Recorder.counts g.H.Host.sound g.H.Host.tests g.H.Host.face g.H.Host.held g.H.Desk.shared g.H.Desk.with_shared g.H.W.Knows.known g.H.W.Knows.rights g.met.H.Desk.shared_back g.met.H.Desk.held_apart g.met.H.Desk.face_apart g.met.H.Desk.sound_apart g.met.H.Desk.tests_are g.H.W.Knows.tells c.args.host.now c.world.result.now c.receive.new.self c.world.ensures.held e.known (gains-onward (g.H.W.Knows.rights c.world.result.now) (g.H.W.Knows.rights c.receive.new.self) (numbers c.in-Some.units.items) e.some.takes.gains e.lasts) c.requires.stands
+    stands-posted g.R.Recorder.log g.R.Recorder.counts g.H.Host.sound g.H.Host.tests g.H.Host.face g.H.Host.held g.H.Desk.shared g.H.Desk.with_shared g.H.W.Knows.known g.H.W.Knows.rights g.met.H.Desk.shared_back g.met.H.Desk.held_apart g.met.H.Desk.face_apart g.met.H.Desk.sound_apart g.met.H.Desk.tests_are c.args.host.now c.world.result.now c.receive.new.self c.world.ensures.held (alike-mails _ _ _ _ e.mails) (gains-onward (g.H.W.Knows.rights c.world.result.now) (g.H.W.Knows.rights c.receive.new.self) (numbers c.in-Some.units.items) e.some.takes.gains e.lasts) c.requires.stands
 
 pub returns-in-None-clause-stands : goal.returns-in-None-clause-stands
 returns-in-None-clause-stands g c =
     let e = c.in-None.ensures in
-    stands-posted g.R.Recorder.log g.R.Recorder.counts g.H.Host.sound g.H.Host.tests g.H.Host.face g.H.Host.held g.H.Desk.shared g.H.Desk.with_shared g.H.W.Knows.known g.H.W.Knows.rights g.met.H.Desk.shared_back g.met.H.Desk.held_apart g.met.H.Desk.face_apart g.met.H.Desk.sound_apart g.met.H.Desk.tests_are g.H.W.Knows.tells c.args.host.now c.world.result.now c.receive.new.self c.world.ensures.held e.known (same-onward (g.H.W.Knows.rights c.world.result.now) (g.H.W.Knows.rights c.receive.new.self) e.none e.lasts) c.requires.stands
+    stands-posted g.R.Recorder.log g.R.Recorder.counts g.H.Host.sound g.H.Host.tests g.H.Host.face g.H.Host.held g.H.Desk.shared g.H.Desk.with_shared g.H.W.Knows.known g.H.W.Knows.rights g.met.H.Desk.shared_back g.met.H.Desk.held_apart g.met.H.Desk.face_apart g.met.H.Desk.sound_apart g.met.H.Desk.tests_are c.args.host.now c.world.result.now c.receive.new.self c.world.ensures.held (alike-mails _ _ _ _ e.mails) (same-onward (g.H.W.Knows.rights c.world.result.now) (g.H.W.Knows.rights c.receive.new.self) e.none e.lasts) c.requires.stands
+
+pub returns-in-Some-clause-mail : goal.returns-in-Some-clause-mail
+returns-in-Some-clause-mail g c =
+    let h = c.args.host.now in
+    let v = c.world.result.now in
+    let w = c.receive.new.self in
+    let known = g.H.W.Knows.known in
+    let us = numbers c.in-Some.units.items in
+    carries-shared g.H.Desk.shared g.H.Desk.with_shared known g.met.H.Desk.shared_back (entry.Receive c.args.class (Whole us)) h v w c.world.ensures.held (carries-taken g.H.W.Knows.tells (known v).grace.processor c.args.class us us (known v) (known w) refl c.in-Some.ensures.mails c.in-Some.ensures.oldest_told)
+
+pub returns-in-None-clause-mail : goal.returns-in-None-clause-mail
+returns-in-None-clause-mail g c =
+    let h = c.args.host.now in
+    let v = c.world.result.now in
+    let w = c.receive.new.self in
+    let known = g.H.W.Knows.known in
+    let us = numbers c.new.result.items in
+    let e : us ≡ [] = ap numbers c.new.ensures.items in
+    carries-shared g.H.Desk.shared g.H.Desk.with_shared known g.met.H.Desk.shared_back (entry.Receive c.args.class (Whole us)) h v w c.world.ensures.held (carries-taken g.H.W.Knows.tells (known v).grace.processor c.args.class us [] (known v) (known w) e c.in-None.ensures.mails c.in-None.ensures.oldest_told)

@@ -9,7 +9,8 @@ use Rattle.bm_deferred.specs.Parts.{Part, Say, Stand}
 use Rattle.bm_deferred.specs.WorkPhrases.{IsOne}
 use Rattle.bm_work.proofs.Grown.{say-after}
 use Rattle.bm_desk.specs.Periods.{GetsParcel}
-use Rattle.bm_desk.proofs.Sides.{posted-works, works-join}
+use Rattle.bm_desk.proofs.Mail.{works-received}
+use Rattle.bm_desk.proofs.Sides.{works-join}
 use Rattle.bm_desk.proofs.Came.{gets-parcel}
 use Rattle.bm_desk.proofs.parcels.receive_one.Goals as goal
 
@@ -20,7 +21,7 @@ returns-clause-works g c =
     let us = c.get_parcel-units.result.items in
     let P : ℕ → Part = λ l. Say l (IsOne (entry.Receive i (Whole (map number_of us)))) in
     let Q : ℕ → Part = λ l. Say l (GetsParcel i (not c.is_empty-some.result)) in
-    let t = posted-works g.R.Recorder.log g.R.Recorder.counts g.H.Host.face g.H.Host.pending g.H.Desk.stays g.H.Host.held (λ h. g.H.W.Knows.known (g.H.Desk.shared h)) g.H.Host.tests j [] 0 0 P c.pause.new.host c.get_parcel-units.new.host c.note_parcel.new.host c.pause.ensures.stands.fine.placed c.get_parcel-units.ensures.stands.fine.placed c.get_parcel-units.ensures.posted c.note_parcel.ensures.works in
+    let t = works-received g.R.Recorder.log g.H.Host.face g.H.Host.pending g.H.Desk.stays g.H.Host.held g.H.Desk.shared g.H.W.Knows.known g.H.Host.tests j c.pause.new.host c.get_parcel-units.new.host c.note_parcel.new.host i us c.get_parcel-units.ensures.posted c.get_parcel-units.ensures.mail c.note_parcel.ensures.handled c.note_parcel.ensures.step in
     let n : vec_len c.get_parcel-units.result ≡ length us = omega (arith, c.get_parcel-units.result.ok.0) in
     let b : c.is_empty-some.result ≡ nat_eq (length us) 0 = c.is_empty-some.ensures ∙ ap (λ m. nat_eq m 0) n in
     let f : (own : List Entry) → IsOne (entry.Receive i (Whole (map number_of us))) own → GetsParcel i (not c.is_empty-some.result) own = λ own e. gets-parcel i us c.is_empty-some.result own b e in

@@ -22,8 +22,9 @@ use Rattle.bm_work.specs.Fit.{Fit}
 use Rattle.bm_desk.specs.Dated.{DatedRow, Dated}
 use Rattle.bm_desk.proofs.sends.send_hand_now.Given.{Over}
 use Rattle.bm_desk.specs.Onward.{Onward}
-use Rattle.bm_desk.proofs.Gone.{hand-deferred, holds-fit, sends-hand, sent-active, sent-apart, sent-once, stands-sent}
+use Rattle.bm_desk.proofs.Gone.{hand-deferred, hand-side, holds-fit, sends-hand, sent-active, sent-apart, sent-once, stands-sent}
 use Rattle.bm_desk.proofs.Sides.{works-map}
+use Rattle.bm_desk.proofs.Mail.{mail-sent}
 use Rattle.bm_desk.proofs.Steps.{works-entry}
 use Rattle.bm_desk.proofs.sends.send_hand_now.Goals as goal
 
@@ -97,7 +98,10 @@ returns-in-Ok-clause-ok g c =
     let n : K (g.H.Desk.shared y) ≡ K (g.H.Desk.shared a) = ap K c.end_send.ensures.handled.shared_is ∙ p.known_is ∙ ap K (c.target_of-to.ensures.handled.shared_is ∙ c.lend_hand.ensures.handled.shared_is) in
     let m = c.in_ok-units.ensures.lent in
     let o : shown (g.H.Host.held y) ≡ effect l e [] s = lists-sent g c in
-    let v = works-entry log g.H.Host.face g.H.Host.pending g.H.Desk.stays g.H.Host.held (λ h. g.H.W.Knows.known (g.H.Desk.shared h)) a y (g.H.Host.held y) e refl (goes-join j gl (goes-join j gw (goes-join j gx gy))) n (subst A m.recorder q) (st.processor ∙ ap (λ (z : Caches g.row.R.Denot). z.processor) d ∙ m.processor) (λ k. ap (λ (z : State Token). (z.rows k).active) o ∙ sent-active l i to ns s k) in
+    let r : Appends (log (g.H.Host.held a).recorder) l e (log (g.H.Host.held y).recorder) = subst A m.recorder q in
+    let ms : List ℕ = numbers c.in_ok-units.units.items in
+    let k = mail-sent log g.H.Host.face g.H.Host.pending g.H.Desk.stays g.H.Host.held g.H.Desk.shared g.H.W.Knows.known a w x y i to ms ns (c.target_of-to.ensures.handled.shared_is ∙ c.lend_hand.ensures.handled.shared_is) c.end_send.ensures.handled.shared_is (sym c.write_numbers.ensures.items) c.in-Ok.ensures.mail r in
+    let v = works-entry log g.H.Host.face g.H.Host.pending g.H.Desk.stays g.H.Host.held (λ h. g.H.W.Knows.known (g.H.Desk.shared h)) a y e [] (goes-join j gl (goes-join j gw (goes-join j gx gy))) n r (st.processor ∙ ap (λ (z : Caches g.row.R.Denot). z.processor) d ∙ m.processor) o (sent-active l i to ns s) refl k in
     works-map g.R.Recorder.log g.H.Host.face g.H.Host.pending g.H.Desk.stays g.H.Host.held (λ h. g.H.W.Knows.known (g.H.Desk.shared h)) 0 0 (λ l. Say l (IsOne e)) (λ l. Say l (IsSend i)) a y (λ l s part h. (h.0, (to, ns, h.1), h.2)) v
 
 pub returns-in-Ok-clause-back : goal.returns-in-Ok-clause-back
@@ -126,3 +130,14 @@ returns-in-Ok-clause-back g c =
     let q = hand-deferred l i to ns s c.requires.some in
     let D : Dated (T a) (effect l (entry.Send i to (Whole ns)) [] s) = (λ m. subst (DatedRow (T a)) (sym (q m)) (c.requires.stands.dated m)) in
     stands-sent g.R.Recorder.log g.R.Recorder.counts g.H.Host.sound T g.H.Host.face g.H.Host.held a y i to ns f c.end_send.ensures.sound c.end_send.ensures.placed (lists-sent g c) (c.end_send.ensures.step.processor ∙ ap (λ (z : Caches g.row.R.Denot). z.processor) d ∙ c.in_ok-units.ensures.lent.processor) (sent-apart l i to ns s k c.requires.stands.fine.placed.once e) (subst O n o2) D c.requires.stands
+
+pub returns-in-Ok-clause-deferred : goal.returns-in-Ok-clause-deferred
+returns-in-Ok-clause-deferred g c k =
+    let a = c.args.host.now in
+    ap (λ (z : State Token). (z.rows k).deferred) (lists-sent g c) ∙ hand-deferred (g.H.Host.face a).level c.args.class c.target_of-to.result c.write_numbers.new.numbers.items (shown (g.H.Host.held a)) c.requires.some k
+
+pub returns-in-Ok-clause-side : goal.returns-in-Ok-clause-side
+returns-in-Ok-clause-side g c =
+    let a = c.args.host.now in
+    let l = (g.H.Host.face a).level in
+    ap (λ (z : State Token). z.sides l) (lists-sent g c) ∙ hand-side l c.args.class c.target_of-to.result c.write_numbers.new.numbers.items (shown (g.H.Host.held a)) c.requires.some
