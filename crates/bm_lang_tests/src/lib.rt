@@ -1,4 +1,4 @@
-//! Tests of the language of scenarios.
+//! Tests of the language of scenarios, and its definition of faults computed on worked texts.
 #![tactic(auto)]
 
 #[cfg(test)]
@@ -9,5 +9,8 @@ mod limit_tests;
 mod long_tests;
 #[cfg(test)]
 mod tests;
+mod worked;
 #[cfg(test)]
 mod worked_tests;
+
+pub use worked::worked_faults;
