@@ -9,7 +9,7 @@ use Rattle.bm_law.specs.Spans.{Records}
 use Rattle.bm_law.proofs.Spans.{Records-one, Records-join}
 use Rattle.bm_lawful.specs.Calls.{Allocates}
 use Rattle.bm_cache.specs.Tokens.{Token, seal_numbers}
-use Rattle.bm_exec.specs.declared.slots.Slots.{Slots}
+use Rattle.bm_world.specs.declared.slots.Slots.{Slots}
 use Rattle.bm_exec.specs.Living.{Lives, with_life, Created}
 use Rattle.bm_exec.specs.Slots.{lives_of}
 

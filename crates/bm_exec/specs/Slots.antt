@@ -1,22 +1,11 @@
 -- The units that live, by their numbers.
-use Rattle.std.specs.Prelude.{◌≡◌, ◌≤◌, true, ◌<◌, ℕ, ◌^◌, not, ◌&&◌, List, length, Option, Some, None, nat_le, slice_get, is_some}
+use Rattle.std.specs.Prelude.{◌≡◌, ◌≤◌, true, ◌<◌, ℕ, ◌^◌, not, ◌&&◌, List, length, Option, Some, None, nat_le, is_some}
 use Rattle.bm_page.specs.declared.units.Stocked.{Stocked}
 use Rattle.bm_page.specs.Stock.{stocked_at}
 use Rattle.bm_cache.specs.Tokens.{Token}
 use Rattle.bm_cache.specs.Tests.{Tests}
+pub use Rattle.bm_world.specs.Slots.{joined, unit_at, AllEmpty}
 use Rattle.bm_exec.specs.Living.{Living, Lives}
-
-abbrev pub joined : Option (Option Token) → Option Token
-joined None = None
-joined (Some slot) = slot
-
--- the unit in the slot of its number
-abbrev pub unit_at : List (Option Token) → ℕ → Option Token
-unit_at slots n = joined (slice_get slots n)
-
--- no unit lives
-abbrev pub AllEmpty : List (Option Token) → Type 0
-AllEmpty slots = (n : ℕ) → unit_at slots n ≡ None
 
 abbrev pub living_of : Option Token → Option Living
 living_of None = None

@@ -11,12 +11,12 @@ ghost use Rattle.bm_exec.specs.Slots.{lives_of, tests_of};
 ghost use Rattle.bm_exec.specs.Sound.{Sound};
 
 use crate::machine::Machine;
-use crate::slots::Slots;
 use bm_cache::{Caches, Given, Host, alloc, free};
 use bm_class::Class;
 use bm_journal::{Entry, Keep, Level, ObjId, Values};
 use bm_page::{Pool, Unit};
 use bm_word::Name;
+use bm_world::Slots;
 
 /// One processor at level 0, where ordinary code runs: its caches, the units that live, the stock, and how many objects
 /// were asked for. No handler runs on it by now.

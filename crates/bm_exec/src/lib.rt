@@ -7,7 +7,6 @@ mod level0;
 mod machine;
 mod names;
 mod running;
-mod slots;
 
 pub use frame::{Frame, Open};
 pub use holding::Holding;
@@ -15,4 +14,3 @@ pub use level0::Machine0;
 pub use machine::Machine;
 pub use names::NameTable;
 pub use running::{Stopped, Types, resume, run_script};
-pub use slots::Slots;

@@ -8,10 +8,11 @@ ghost use Rattle.bm_lawful.specs.Fills.{fresh_stock};
 use crate::filling::{fill, give_up_fills};
 use bm_cache::Caches;
 use bm_class::Class;
-use bm_exec::{Machine0, Slots};
+use bm_exec::Machine0;
 use bm_journal::Keep;
 use bm_page::Pool;
 use bm_word::NoMemory;
+use bm_world::Slots;
 use std::alloc::Global;
 
 /// A processor whose caches of these classes, ascending, are filled from a stock of so many pages. Want of memory is

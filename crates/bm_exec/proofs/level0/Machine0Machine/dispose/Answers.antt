@@ -1,6 +1,6 @@
 use Rattle.std.proofs.Common.{◌∙◌, ap, arith, refl}
 use Rattle.bm_exec.proofs.Disposing.{alive-apart, freed-suits, within, disposed}
-use Rattle.bm_exec.specs.declared.slots.Slots.{Slots}
+use Rattle.bm_world.specs.declared.slots.Slots.{Slots}
 use Rattle.bm_exec.specs.Slots.{lives_of}
 use Rattle.bm_exec.proofs.Undisturbed.{after-one}
 use Rattle.bm_exec.proofs.level0.Machine0Machine.dispose.Goals as goal

@@ -1,4 +1,0 @@
-use Rattle.bm_exec.proofs.slots.give_up_slots.Given as goal
-
-abbrev pub decreases-loop-slot : goal.decreases-loop-slot
-decreases-loop-slot l = goal.left-loop-slot l
