@@ -1,5 +1,5 @@
 -- Where no deferred work runs, a log is lawful exactly where its entries are so by the grammar of entries of one level.
-use Rattle.std.proofs.Common.{◌≡◌, ◌≢◌, ◌≤◌, ℕ, zero, suc, ◌+◌, Bool, true, false, not, ◌||◌, nat_eq, eqb, if◌then◌else◌, List, [], ◌∷◌, ◌++◌, length, drop, None, refl, sym, ap, ◌∙◌, subst, arith, append_assoc, append-nil}
+use Rattle.std.proofs.Common.{◌≡◌, ◌≢◌, ◌≤◌, ℕ, zero, suc, ◌+◌, Bool, true, false, not, ◌||◌, nat_eq, eqb, ◌==◌, if◌then◌else◌, List, [], ◌∷◌, ◌++◌, length, drop, None, refl, sym, ap, ◌∙◌, subst, arith, append_assoc, append-nil}
 use Rattle.std.specs.List.{concat, filter, list_any}
 use Rattle.std.proofs.Math.Seq.{drop-append_seam}
 use Rattle.bm_journal.specs.declared.ids.Domain.{Domain}
@@ -25,7 +25,8 @@ use Rattle.bm_lawful.specs.Opened.{opened_classes, uses_class}
 use Rattle.bm_lawful.specs.Works.{UntilDown, WorkBehind}
 use Rattle.bm_lawful.specs.Runs.{RunsBlock}
 use Rattle.bm_lawful.specs.Closing.{close_of, in_progress, EndsOne, EndsPeriods, SweepOf, SweepWhere, AreSweeps, Closing}
-use Rattle.bm_lawful.specs.Parcels.{Inboxes, no_parcels, inboxes_after, ParcelsFit, sends_alone}
+use Rattle.bm_deferred.specs.Inboxes.{Inboxes, inboxes_after}
+use Rattle.bm_lawful.specs.Parcels.{no_parcels, ParcelsFit, sends_alone}
 use Rattle.bm_lawful.specs.Grammar.{behind_statement, behind_script, IsBody, IsScript, AreScripts, lines_of, Front}
 use Rattle.bm_lawful.specs.OwnGrammar.{ordinary}
 use Rattle.bm_lawful.specs.OwnGrammar as own
@@ -144,8 +145,8 @@ brought-is : (c : ℕ) (s : State ℕ) (swept more : List ℕ) → swept ≡ sev
 brought-is c s swept more e = ap (λ us. drop (length (seven_lists (s.rows c))) us) e ∙ drop-append_seam (seven_lists (s.rows c)) more
 
 -- a sweep leaves no parcel
-swept-empty : (c : ℕ) (swept : List ℕ) (boxes : Inboxes) → Empty boxes → Empty (inboxes_after (entry.Sweep c (Whole swept)) boxes)
-swept-empty c swept boxes z k = elim (eqb k c) as (λ b. (if b then [] else boxes k) ≡ []) [ true ↦ refl | false ↦ z k ]
+swept-empty : (p c : ℕ) (swept : List ℕ) (boxes : Inboxes) → Empty boxes → Empty (inboxes_after p (entry.Sweep c (Whole swept)) boxes)
+swept-empty p c swept boxes z k = elim (k == c) as (λ b. (if b then [] else boxes k) ≡ []) [ true ↦ refl | false ↦ z k ]
 
 sweep-fit : (p c : ℕ) (cs : List ℕ) (before s : State ℕ) (boxes : Inboxes) (units : List ℕ) (es : List Entry) → Empty boxes → seven_lists (s.rows c) ≡ units → ((k : ℕ) → c + 1 ≤ k → s.rows k ≡ before.rows k) →
     ((t : State ℕ) (more : Inboxes) (w : List Entry) → Empty more → ((k : ℕ) → c + 1 ≤ k → t.rows k ≡ before.rows k) → own.AreSweeps before cs w → ParcelsFit p t more (ordinary w)) →
@@ -159,7 +160,7 @@ sweep-fit p c cs before s boxes (u ∷ us) es z e same go h =
     let same' : (k : ℕ) → c + 1 ≤ k → (after s (ordinary (first ∷ tail))).rows k ≡ before.rows k = λ k le. spared k (first ∷ tail) s (subst (AllSpare k) x.own_is (spare-sweep k c h.0 (apart k c le) x)) ∙ same k le in
     let takes : brought first s ≡ concat (boxes c) = brought-is c s x.swept [] (h.3.taken ∙ sym e ∙ sym (append-nil (seven_lists (s.rows c)))) ∙ sym (ap concat (z c)) in
     subst (ParcelsFit p s boxes) whole
-    (takes, quiet-fit p (next s (0, first)) (inboxes_after first boxes) tail (ordinary h.1) (quiet-behind c x.stamp x.poll x.returned x.polls) (swept-empty c x.swept boxes z) (λ more y. go (after s (ordinary (first ∷ tail))) more h.1 y same' h.4))
+    (takes, quiet-fit p (next s (0, first)) (inboxes_after p first boxes) tail (ordinary h.1) (quiet-behind c x.stamp x.poll x.returned x.polls) (swept-empty p c x.swept boxes z) (λ more y. go (after s (ordinary (first ∷ tail))) more h.1 y same' h.4))
 
 sweeps-fit : (p n : ℕ) (cs : List ℕ) (before s : State ℕ) (boxes : Inboxes) (es : List Entry) → Empty boxes → From n cs → ((k : ℕ) → n ≤ k → s.rows k ≡ before.rows k) → own.AreSweeps before cs es → ParcelsFit p s boxes (ordinary es)
 sweeps-fit p n [] before s boxes es z f same h = subst (λ v. ParcelsFit p s boxes (ordinary v)) (sym h) z
@@ -188,7 +189,7 @@ sweep-owned p c cs before s boxes inbox (u ∷ us) v w z e row same go h fit =
     let whole : ordinary (v ++ w) ≡ (0, first) ∷ (ordinary tail ++ ordinary w) = ap ordinary (ap (λ q. q ++ w) x.own_is) ∙ ap (λ q. (0, first) ∷ q) (level-append 0 tail w) in
     let fit' = subst (ParcelsFit p s boxes) whole fit in
     let none : inbox ≡ [] = sym (brought-is c s x.swept inbox (y.taken ∙ sym e)) ∙ fit'.0 ∙ ap concat (z c) in
-    let rest = quiet-fitted p (next s (0, first)) (inboxes_after first boxes) tail (ordinary w) (quiet-behind c x.stamp x.poll x.returned x.polls) (swept-empty c x.swept boxes z) fit'.1 in
+    let rest = quiet-fitted p (next s (0, first)) (inboxes_after p first boxes) tail (ordinary w) (quiet-behind c x.stamp x.poll x.returned x.polls) (swept-empty p c x.swept boxes z) fit'.1 in
     let same' : (k : ℕ) → c + 1 ≤ k → (after s (ordinary v)).rows k ≡ before.rows k = λ k le. spared k v s (spare-sweep k c v (apart k c le) x) ∙ same k le in
     let units : seven_lists (before.rows c) ≡ u ∷ us = sym row ∙ sym (append-nil (seven_lists (s.rows c))) ∙ ap (λ q. seven_lists (s.rows c) ++ q) (sym none) ∙ e in
     let behind : ParcelsFit p (after s (ordinary v)) rest.0 (ordinary w) = subst (λ q. ParcelsFit p (after s (ordinary q)) rest.0 (ordinary w)) (sym x.own_is) rest.2 in

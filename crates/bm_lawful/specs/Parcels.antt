@@ -1,7 +1,7 @@
 -- Parcels between processors, as far as one log tells them: where no other processor sends any, each parcel that is
 -- received or swept is one that the log itself sent. (This project's own. In kernel/bpf/memalloc.c units are put on the
 -- list free_by_rcu_ttrace of the target's cache, which any processor may do.)
-use Rattle.std.specs.Prelude.{◌≡◌, ℕ, Bool, not, ◌||◌, nat_eq, eqb, if◌then◌else◌, List, [], ◌∷◌, ◌++◌, drop}
+use Rattle.std.specs.Prelude.{◌≡◌, ℕ, Bool, not, ◌||◌, nat_eq, [], ◌∷◌}
 use Rattle.std.specs.List.{concat}
 use Rattle.bm_journal.specs.declared.entry.Entry.{Entry}
 use Rattle.bm_journal.specs.declared.entry.Entry.TheVariants as entry
@@ -9,29 +9,11 @@ use Rattle.bm_journal.specs.EntryText.{unit_list}
 use Rattle.bm_lang.specs.declared.scenario.Parts.{Parts}
 use Rattle.bm_law.specs.State.{State, opening}
 use Rattle.bm_law.specs.Lists.{Log, brought, next}
+use Rattle.bm_deferred.specs.Inboxes.{Inboxes, inboxes_after, oldest}
 
--- the parcels in the inbox of each class, the oldest first
-abbrev pub Inboxes : Type 0
-Inboxes = ℕ → List (List ℕ)
-
+-- no inbox holds a parcel
 abbrev pub no_parcels : Inboxes
 no_parcels = λ c. []
-
--- the inboxes with this one changed so
-abbrev pub on_inbox : ℕ → (List (List ℕ) → List (List ℕ)) → Inboxes → Inboxes
-on_inbox c f boxes = λ k. if eqb k c then f (boxes k) else boxes k
-
--- after an entry: what is sent comes last, the oldest is received, and a sweep leaves none
-abbrev pub inboxes_after : Entry → Inboxes → Inboxes
-inboxes_after (entry.Send c to us) boxes = on_inbox c (λ parcels. parcels ++ unit_list us ∷ []) boxes
-inboxes_after (entry.Receive c us) boxes = on_inbox c (λ parcels. drop 1 parcels) boxes
-inboxes_after (entry.Sweep c us) boxes = on_inbox c (λ parcels. []) boxes
-inboxes_after _ boxes = boxes
-
--- the units of the oldest parcel, if there is one
-abbrev pub oldest : List (List ℕ) → List ℕ
-oldest [] = []
-oldest (parcel ∷ parcels) = parcel
 
 -- Processor p sends to itself, as there is no other. It receives exactly the oldest parcel, and none exactly where there
 -- is none. A sweep takes all parcels, behind the units of the lists.
@@ -44,7 +26,7 @@ ParcelFits p _ s boxes = Unit {0}
 -- all entries of a log fit, and at its end no parcel is left
 abbrev pub ParcelsFit : ℕ → State ℕ → Inboxes → Log → Type 0
 ParcelsFit p s boxes [] = (c : ℕ) → boxes c ≡ []
-ParcelsFit p s boxes (e ∷ es) = ParcelFits p e.1 s boxes × ParcelsFit p (next s e) (inboxes_after e.1 boxes) es
+ParcelsFit p s boxes (e ∷ es) = ParcelFits p e.1 s boxes × ParcelsFit p (next s e) (inboxes_after p e.1 boxes) es
 
 -- the law, over the log of processor p
 abbrev pub ParcelLaw : ℕ → Log → Type 0

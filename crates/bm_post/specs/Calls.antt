@@ -6,7 +6,7 @@ use Rattle.bm_grace.specs.Known.{Known}
 use Rattle.bm_grace.specs.Calls.{told}
 use Rattle.bm_grace.specs.declared.step.TableStep.{TableStep}
 use Rattle.bm_grace.specs.Rights.{Rights}
-use Rattle.bm_post.specs.Parcels.{Boxes}
+use Rattle.bm_post.specs.Parcels.{Inboxes}
 use Rattle.bm_post.specs.Rights.{Gains, Loses, IsSettled, numbers}
 
 -- a unit is of a class
@@ -43,7 +43,7 @@ pub record Posts (tells : Bool) (before now : Known) : Type 0 where
   pub known : now ≡ record before { steps = told tells before.steps steps }
 
 -- .. and the parcels that are told, if they are, went so
-pub record Mails (tells : Bool) (change : Boxes → Boxes) (before now : Known) : Type 0 where
+pub record Mails (tells : Bool) (change : Inboxes → Inboxes) (before now : Known) : Type 0 where
   pub steps : List TableStep
   pub known : now ≡ record before { steps = told tells before.steps steps; parcels = option_map change before.parcels }
 

@@ -7,7 +7,7 @@ use Rattle.bm_page.specs.Stock.{Stock, stocked_at, returned}
 use Rattle.bm_grace.specs.Known.{Known, no_side}
 use Rattle.bm_grace.specs.Rights.{Rights}
 use Rattle.bm_post.specs.HasRoom.{has_room}
-use Rattle.bm_post.specs.Parcels.{Boxes}
+use Rattle.bm_post.specs.Parcels.{Inboxes}
 use Rattle.bm_post.specs.Rights.{numbers}
 
 -- The parcels of an inbox, oldest first.
@@ -62,7 +62,7 @@ abbrev pub is_mine : PostState → ℕ → Bool
 is_mine state n = (stocked_at state.pool.units n).out && eqb (waits n state.inboxes) 0
 
 -- The parcels in the inboxes of the processor whose side it is, by the numbers of their units; there are eleven classes.
-abbrev pub told_in : PostState → Boxes
+abbrev pub told_in : PostState → Inboxes
 told_in state = λ c. if nat_lt c 11 then map numbers (inbox state.processor c state) else []
 
 -- A post knows among how many processors it is, and whose side, and tells its parcels; of grace periods it knows nothing.
