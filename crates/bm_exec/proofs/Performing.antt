@@ -1,5 +1,5 @@
 -- Statements that were performed.
-use Rattle.std.proofs.Common.{◌≡◌, ◌≤◌, ℕ, suc, zero, ◌+◌, ◌*◌, Bool, true, false, ◌&&◌, List, [], ◌∷◌, refl, sym, ap, ◌∙◌, Option, Some, None, IfSome, slice_get, arith, inl, max, not}
+use Rattle.std.proofs.Common.{◌≡◌, ◌≤◌, ℕ, suc, zero, ◌+◌, ◌*◌, Bool, true, false, ◌&&◌, List, [], ◌∷◌, length, ◌<◌, refl, sym, ap, ◌∙◌, Option, Some, None, IfSome, slice_get, arith, inl, max, not}
 use Rattle.std.specs.List.{list_all}
 use Rattle.bm_journal.specs.declared.entry.Entry.TheVariants as entry
 use Rattle.bm_journal.specs.declared.ids.ObjId.{ObjId}
@@ -12,16 +12,15 @@ use Rattle.bm_law.specs.State.{State}
 use Rattle.bm_law.specs.Lists.{Log, Leaves}
 use Rattle.bm_lawful.specs.Held.{Nothing, Null, Object, Names, with_name}
 use Rattle.bm_lawful.specs.Opened.{OfClass}
-use Rattle.bm_deferred.specs.Parts as Parts
 use Rattle.bm_deferred.specs.Grown.{GrewBy}
 use Rattle.bm_deferred.proofs.Grown.{grew-say, grew-map, grew-join}
 use Rattle.bm_lawful.specs.Calls.{answered, RunsNew, RunsDrop}
-use Rattle.bm_lawful.specs.Runs.{Done, Followed, Times, RunsAction, RunsBlock}
+use Rattle.bm_lawful.specs.Runs.{Done, Followed, Leaving, Times, RunsAction, RunsBlock}
 use Rattle.bm_check.specs.Statements.{Setting}
 use Rattle.bm_check.specs.Values as safe
 use Rattle.bm_exec.specs.declared.frame.Open.{Open}
 use Rattle.bm_exec.specs.Stores.{store_of, value_of}
-use Rattle.bm_exec.specs.Lists.{block_list, RunsStatement, RunsList}
+use Rattle.bm_exec.specs.Lists.{block_list, Behind, RunsStatement, RunsList}
 use Rattle.bm_exec.specs.Cost.{open_cost}
 use Rattle.bm_exec.specs.Stack.{RunsOpen, RunsStack, SafeStack}
 use Rattle.bm_exec.specs.Steps.{Pushed}
@@ -31,33 +30,36 @@ use Rattle.bm_exec.specs.Living.{Lives, Created, Disposed, Holds, reply_of}
 use Rattle.bm_exec.specs.Running.{Performed}
 use Rattle.bm_exec.proofs.Objects.{class-at, store-with, holds-reply, holds-less}
 use Rattle.bm_lang.specs.declared.scenario.Statement.{Statement}
-use Rattle.bm_exec.proofs.Then.{done-last, undone-first, undone-last, front, map-first}
+use Rattle.bm_exec.proofs.Then.{undone-first, undone-last, front, map-first}
 
 -- what the reply leaves is safe, whatever it was
 safe-reply : (e : Setting) (os : List Open) (names : Names) (x : List ℕ) (t : TypeId) (values : List ℕ) (reply : Option ObjId) → safe.SafeAction e (store_of names) (New x t values) (λ r. SafeStack e r os) → SafeStack e (store_of (with_name x (answered t (reply_of reply)) names)) os
 safe-reply e os names x t values None s = rw (store-with x Null names) (s.1.1 false)
 safe-reply e os names x t values (Some o) s = rw (store-with x (Object t o.unit o.life) names) (s.1.1 true)
 
--- what a call leaves, and then the rest
-called : (types : List TypeDeclaration) (l p : ℕ) (a : Action) (s s' : State ℕ) (names names' : Names) (os : List Open) (log log' : Option Log) → IfSome log (λ es. Leaves p es s) → IfSome log' (λ es. Leaves p es s') →
-    GrewBy (RunsAction types l Parts.Nothing a names names') s log log' → (last : Names) (final : Option Log) → GrewBy (RunsStack types l None os names' last) s' log' final → GrewBy (Followed (RunsStatement types l None a) (RunsStack types l None os) names last) s log final
-called types l p a s s' names names' os log log' x y g last final z =
-    grew-join (RunsAction types l Parts.Nothing a names names') (RunsStack types l None os names' last) (Followed (RunsStatement types l None a) (RunsStack types l None os) names last) p s s' log log' final
-    (λ one two i j. (names', record { one = one; two = two; part_is = refl; is_first = done-last (RunsAction types l Parts.Nothing a) names names' s one i; is_second = j })) x y g z
+-- what a call leaves, then the work behind it, and then the rest
+called : (types : List TypeDeclaration) (l : ℕ) (w : Option (List ℕ)) (p : ℕ) (a : Action) (s s1 s' : State ℕ) (names names' : Names) (os : List Open) (log log1 log' : Option Log) → IfSome log (λ es. Leaves p es s) → IfSome log1 (λ es. Leaves p es s1) → IfSome log' (λ es. Leaves p es s') →
+    GrewBy (RunsAction types l (Behind w) a names names') s log log1 → GrewBy (Behind w) s1 log1 log' → (last : Names) (final : Option Log) → GrewBy (RunsStack types l w os names' last) s' log' final → GrewBy (Followed (RunsStatement types l w a) (RunsStack types l w os) names last) s log final
+called types l w p a s s1 s' names names' os log log1 log' x x1 x' y b last final z =
+    let g : GrewBy (RunsStatement types l w a names names') s log log' =
+    grew-join (RunsAction types l (Behind w) a names names') (Behind w) (RunsStatement types l w a names names') p s s1 log log1 log' (λ one two i j. (names', record { one = one; two = two; part_is = refl; is_first = i; is_second = (refl, j) })) x x1 y b in
+    grew-join (RunsStatement types l w a names names') (RunsStack types l w os names' last) (Followed (RunsStatement types l w a) (RunsStack types l w os) names last) p s s' log log' final
+    (λ one two i j. (names', record { one = one; two = two; part_is = refl; is_first = i; is_second = j })) x x' g z
 
-pub new-performed : (types : List TypeDeclaration) (classes : List ℕ) (l p : ℕ) (s s' : State ℕ) (x : List ℕ) (t : TypeId) (values : List ℕ) (names names' : Names) (lives lives' : Lives) (asked asked' : ℕ) (log log' : Option Log) (reply : Option ObjId) (d : TypeDeclaration) (c : ℕ) →
-    IfSome log (λ es. Leaves p es s) → IfSome log' (λ es. Leaves p es s') → Classes types classes → slice_get types t.0 ≡ Some d → slice_get classes t.0 ≡ Some c → safe.is_owning (value_of (names x)) ≡ false → Holds types lives names → Created l c d.name values log log' lives lives' reply → names' ≡ with_name x (answered t (reply_of reply)) names → asked' ≡ asked + 1 →
-    (os : List Open) → Performed types l s s' (New x t values) names names' os os lives' asked asked' log log'
-new-performed types classes l p s s' x t values names names' lives lives' asked asked' log log' reply d c leaves leaves' cs f g free h made e n os =
+pub new-performed : (types : List TypeDeclaration) (classes : List ℕ) (l : ℕ) (w : Option (List ℕ)) (p : ℕ) (s s1 s' : State ℕ) (x : List ℕ) (t : TypeId) (values : List ℕ) (names names' : Names) (lives lives' lives'' : Lives) (asked asked' : ℕ) (log log1 log' : Option Log) (reply : Option ObjId) (d : TypeDeclaration) (c : ℕ) →
+    IfSome log (λ es. Leaves p es s) → IfSome log1 (λ es. Leaves p es s1) → IfSome log' (λ es. Leaves p es s') → Classes types classes → slice_get types t.0 ≡ Some d → slice_get classes t.0 ≡ Some c → safe.is_owning (value_of (names x)) ≡ false → Holds types lives names → Created l c d.name values log log1 lives lives' reply → names' ≡ with_name x (answered t (reply_of reply)) names → asked' ≡ asked + 1 →
+    lives'' ≡ lives' → GrewBy (Behind w) s1 log1 log' → Behind w s' [] → (os : List Open) → Performed types l w s s' (New x t values) names names' os os lives'' asked asked' log log'
+new-performed types classes l w p s s1 s' x t values names names' lives lives' lives'' asked asked' log log1 log' reply d c leaves leaves1 leaves' cs f g free h made e n same work down os =
     let of = class-at types classes t.0 d c cs f g in record {
-      grew = called types l p (New x t values) s s' names names' os log log' leaves leaves'
-          (grew-say l (λ own. RunsNew types x t values names own names') (entry.New d.name values ∷ made.own) s log log' made.records
-          (record { class = c; declared = d; of_class = of; own = made.own; reply = reply_of reply; part_is = refl; allocates = made.allocates; after_is = e }));
+      grew = called types l w p (New x t values) s s1 s' names names' os log log1 log' leaves leaves1 leaves'
+          (grew-say l (λ own. RunsNew types x t values names own names') (entry.New d.name values ∷ made.own) s log log1 made.records
+          (record { class = c; declared = d; of_class = of; own = made.own; reply = reply_of reply; part_is = refl; allocates = made.allocates; after_is = e })) work;
       safe = λ s y. rw e (safe-reply s os names x t values reply y);
-      holds = rw e (holds-reply types lives lives' names x t c d reply of free made.begins h);
+      holds = rw same (rw e (holds-reply types lives lives' names x t c d reply of free made.begins h));
       can = λ a b. b;
       cost = omega (arith, n);
       weight = omega arith;
+      down = down;
     }
 
 not-true : (b a : Bool) → (not b && a) ≡ true → b ≡ false
@@ -74,18 +76,19 @@ plain-at [] t d e f = cc
 plain-at (x ∷ xs) zero d e f = let q : x ≡ d = cc in rw q at (not-true x.counted _ e)
 plain-at (x ∷ xs) (suc t) d e f = plain-at xs t d (all-behind x.counted _ e) f
 
-pub drop-performed : (types : List TypeDeclaration) (classes : List ℕ) (l p : ℕ) (s s' : State ℕ) (x : List ℕ) (t : TypeId) (o : ObjId) (names names' : Names) (lives lives' : Lives) (asked asked' : ℕ) (log log' : Option Log) (c : ℕ) (d : TypeDeclaration) →
-    IfSome log (λ es. Leaves p es s) → IfSome log' (λ es. Leaves p es s') → Classes types classes → OfClass types t.0 c d → names x ≡ Object t o.unit o.life → Holds types lives names → Disposed l c o log log' lives lives' → names' ≡ with_name x Nothing names → asked' ≡ asked →
-    (os : List Open) → Performed types l s s' (Drop x) names names' os os lives' asked asked' log log'
-drop-performed types classes l p s s' x t o names names' lives lives' asked asked' log log' c d leaves leaves' cs of held h gone e n os = record {
-  grew = called types l p (Drop x) s s' names names' os log log' leaves leaves'
-      (grew-say l (λ own. RunsDrop types x names own names') (entry.Drop o.unit o.life ∷ entry.Last ∷ gone.own) s log log' gone.records
-      (record { type = t; unit = o.unit; life = o.life; held = held; class = c; declared = d; of_class = of; plain = plain-at types t.0 d cs.plain of.found; home = gone.home; own = gone.own; part_is = refl; frees = gone.frees; after_is = e }));
+pub drop-performed : (types : List TypeDeclaration) (classes : List ℕ) (l : ℕ) (w : Option (List ℕ)) (p : ℕ) (s s1 s' : State ℕ) (x : List ℕ) (t : TypeId) (o : ObjId) (names names' : Names) (lives lives' lives'' : Lives) (asked asked' : ℕ) (log log1 log' : Option Log) (c : ℕ) (d : TypeDeclaration) →
+    IfSome log (λ es. Leaves p es s) → IfSome log1 (λ es. Leaves p es s1) → IfSome log' (λ es. Leaves p es s') → Classes types classes → OfClass types t.0 c d → names x ≡ Object t o.unit o.life → Holds types lives names → Disposed l c o log log1 lives lives' → names' ≡ with_name x Nothing names → asked' ≡ asked →
+    lives'' ≡ lives' → GrewBy (Behind w) s1 log1 log' → Behind w s' [] → (os : List Open) → Performed types l w s s' (Drop x) names names' os os lives'' asked asked' log log'
+drop-performed types classes l w p s s1 s' x t o names names' lives lives' lives'' asked asked' log log1 log' c d leaves leaves1 leaves' cs of held h gone e n same work down os = record {
+  grew = called types l w p (Drop x) s s1 s' names names' os log log1 log' leaves leaves1 leaves'
+      (grew-say l (λ own. RunsDrop types x names own names') (entry.Drop o.unit o.life ∷ entry.Last ∷ gone.own) s log log1 gone.records
+      (record { type = t; unit = o.unit; life = o.life; held = held; class = c; declared = d; of_class = of; plain = plain-at types t.0 d cs.plain of.found; home = gone.home; own = gone.own; part_is = refl; frees = gone.frees; after_is = e })) work;
   safe = λ s y. rw e (rw (store-with x Nothing names) y.1.3);
-  holds = rw e (holds-less types lives lives' names x t o.unit o.life held gone.ends h);
+  holds = rw same (rw e (holds-less types lives lives' names x t o.unit o.life held gone.ends h));
   can = λ a b. b;
   cost = omega (arith, n);
   weight = omega arith;
+  down = down;
 }
 
 -- what a name that owns holds
@@ -93,25 +96,25 @@ pub owned-object : (types : List TypeDeclaration) (lives : Lives) (names : Names
 owned-object types lives names x t o held h = let l = h.living x t o.unit o.life held in (l.0, l.3)
 
 -- a block that runs once
-pub block-once : (types : List TypeDeclaration) (l : ℕ) (o : Open) (body : Block) → o.rest.now ≡ block_list body → o.repeats ≡ 0 → (names last : Names) (s : State ℕ) (part : Log) → RunsOpen types l None o names last s part → RunsBlock types l Parts.Nothing body names last s part
-block-once types l o body r n names last s part x =
-    let y : Followed (RunsList types l None (block_list body)) Done names last s part = rw n at (rw r at x) in
-    rw (block-runs types l None body) (undone-last (RunsList types l None (block_list body)) names last s part y)
+pub block-once : (types : List TypeDeclaration) (l : ℕ) (w : Option (List ℕ)) (o : Open) (body : Block) → o.rest.now ≡ block_list body → o.repeats ≡ 0 → (names last : Names) (s : State ℕ) (part : Log) → RunsOpen types l w o names last s part → RunsBlock types l (Behind w) body names last s part
+block-once types l w o body r n names last s part x =
+    let y : Followed (RunsList types l w (block_list body)) Done names last s part = rw n at (rw r at x) in
+    rw (block-runs types l w body) (undone-last (RunsList types l w (block_list body)) names last s part y)
 
-block-times : (types : List TypeDeclaration) (l : ℕ) (o : Open) (k : ℕ) (body : Block) → o.rest.now ≡ [] → o.repeats ≡ k → o.body.now ≡ body → (names last : Names) (s : State ℕ) (part : Log) → RunsOpen types l None o names last s part → Times (RunsBlock types l Parts.Nothing body) k names last s part
-block-times types l o k body r n b names last s part x =
-    let y : Followed Done (Times (RunsBlock types l Parts.Nothing body) k) names last s part = rw b at (rw n at (rw r at x)) in
-    undone-first (Times (RunsBlock types l Parts.Nothing body) k) names last s part y
+block-times : (types : List TypeDeclaration) (l : ℕ) (w : Option (List ℕ)) (o : Open) (k : ℕ) (body : Block) → o.rest.now ≡ [] → o.repeats ≡ k → o.body.now ≡ body → (names last : Names) (s : State ℕ) (part : Log) → RunsOpen types l w o names last s part → Times (RunsBlock types l (Behind w) body) k names last s part
+block-times types l w o k body r n b names last s part x =
+    let y : Followed Done (Times (RunsBlock types l (Behind w) body) k) names last s part = rw b at (rw n at (rw r at x)) in
+    undone-first (Times (RunsBlock types l (Behind w) body) k) names last s part y
 
--- a block that a statement opened, and what is around it
-opened : (types : List TypeDeclaration) (l : ℕ) (a : Action) (o : Open) (before : List Open) (names last : Names) (s : State ℕ) (part : Log) → ((m : Names) (p : Log) → RunsOpen types l None o names m s p → RunsAction types l Parts.Nothing a names m s p) →
-    RunsStack types l None (o ∷ before) names last s part → Followed (RunsStatement types l None a) (RunsStack types l None before) names last s part
-opened types l a o [] names last s part f x =
-    done-last (RunsStatement types l None a) names last s part (done-last (RunsAction types l Parts.Nothing a) names last s part (f last part (undone-last (RunsOpen types l None o) names last s part x)))
-opened types l a o (p ∷ ps) names last s part f x =
-    map-first (Followed (RunsOpen types l None o) Done) (RunsStatement types l None a) (RunsStack types l None (p ∷ ps)) names last s part
-    (λ m q y. map-first (RunsOpen types l None o) (RunsAction types l Parts.Nothing a) Done names m s q f y)
-    (front (RunsOpen types l None o) Done (RunsStack types l None (p ∷ ps)) names last s part x)
+-- a block that a statement opened, and what is around it: the block of that statement, at least
+opened : (types : List TypeDeclaration) (l : ℕ) (w : Option (List ℕ)) (a : Action) (o : Open) (before : List Open) (names last : Names) (s : State ℕ) (part : Log) → 0 < length before → ((m : Names) (p : Log) → RunsOpen types l w o names m s p → RunsAction types l (Behind w) a names m s p) →
+    RunsStack types l w (o ∷ before) names last s part → Followed (RunsStatement types l w a) (RunsStack types l w before) names last s part
+opened types l w a o [] names last s part some f x = absurd (omega (arith, some))
+opened types l w a o (p ∷ ps) names last s part some f x =
+    let B = Leaving (Behind w) in
+    map-first (Followed (RunsOpen types l w o) B) (RunsStatement types l w a) (RunsStack types l w (p ∷ ps)) names last s part
+    (λ m q y. map-first (RunsOpen types l w o) (RunsAction types l (Behind w) a) B names m s q f y)
+    (front (RunsOpen types l w o) B (RunsStack types l w (p ∷ ps)) names last s part x)
 
 pub once-safe : (e : Setting) (o : Open) (os : List Open) (names : Names) (body : Block) → o.rest.now ≡ block_list body → o.repeats ≡ 0 → safe.SafeBlock e (store_of names) body (λ r. SafeStack e r os) → SafeStack e (store_of names) (o ∷ os)
 once-safe e o os names body r n x = rw r (rw n (rw (block-safe e names body (λ s. SafeStack e s os)) at x))
@@ -138,19 +141,20 @@ max-right : (a b : ℕ) → b ≤ max a b
 max-right a b = omega arith
 
 -- a statement that opens a block
-push-performed : (types : List TypeDeclaration) (l : ℕ) (s : State ℕ) (a : Action) (names : Names) (before now : List Open) (rest : List Statement) (n : ℕ) (body : Block) (lives : Lives) (asked : ℕ) (log : Option Log) → (o : Pushed before now rest n body) → Holds types lives names →
-    ((m : Names) (p : Log) → RunsOpen types l None o.top names m s p → RunsAction types l Parts.Nothing a names m s p) →
+push-performed : (types : List TypeDeclaration) (l : ℕ) (w : Option (List ℕ)) (s : State ℕ) (a : Action) (names : Names) (before now : List Open) (rest : List Statement) (n : ℕ) (body : Block) (lives : Lives) (asked : ℕ) (log : Option Log) → 0 < length before → Behind w s [] → (o : Pushed before now rest n body) → Holds types lives names →
+    ((m : Names) (p : Log) → RunsOpen types l w o.top names m s p → RunsAction types l (Behind w) a names m s p) →
     ((e : Setting) → safe.SafeAction e (store_of names) a (λ r. SafeStack e r before) → SafeStack e (store_of names) (o.top ∷ before)) →
     (can_run_action types a ≡ true → (can_run_list types o.top.rest.now ≡ true) × (can_run_block types o.top.body.now ≡ true)) →
     suc (open_cost o.top) ≤ action_cost a →
-    Performed types l s s a names names before now lives asked asked log log
-push-performed types l s a names before now rest n body lives asked log o h runs safe can cost = record {
-  grew = λ last final z. grew-map (RunsStack types l None (o.top ∷ before) names last) (Followed (RunsStatement types l None a) (RunsStack types l None before) names last) s log final (λ part y. opened types l a o.top before names last s part runs y) (rw o.now_is at z);
+    Performed types l w s s a names names before now lives asked asked log log
+push-performed types l w s a names before now rest n body lives asked log some down o h runs safe can cost = record {
+  grew = λ last final z. grew-map (RunsStack types l w (o.top ∷ before) names last) (Followed (RunsStatement types l w a) (RunsStack types l w before) names last) s log final (λ part y. opened types l w a o.top before names last s part some runs y) (rw o.now_is at z);
   safe = λ e y. rw o.now_is (safe e y);
   holds = h;
   can = λ x y. rw o.now_is (let c = can x in both (can_run_list types o.top.rest.now) (can_run_block types o.top.body.now && can_run_stack types before) c.0 (both (can_run_block types o.top.body.now) (can_run_stack types before) c.1 y));
   cost = rw o.now_is (omega (arith, cost));
   weight = rw o.now_is (omega (arith, cost));
+  down = down;
 }
 
 pub once-cost : (types : List TypeDeclaration) (o : Open) (body : Block) → o.rest.now ≡ block_list body → o.repeats ≡ 0 → open_cost o ≡ block_cost body
@@ -159,40 +163,41 @@ once-cost types o body r n = rw r (rw n (omega (arith, block-cost body)))
 times-cost : (o : Open) (k : ℕ) (body : Block) → o.rest.now ≡ [] → o.repeats ≡ k → o.body.now ≡ body → open_cost o ≡ k * (1 + block_cost body)
 times-cost o k body r n b = rw r (rw n (rw b (omega arith)))
 
-pub repeat-performed : (types : List TypeDeclaration) (l : ℕ) (s : State ℕ) (k : ℕ) (body : Block) (names : Names) (before now : List Open) (lives : Lives) (asked : ℕ) (log : Option Log) → Pushed before now [] k body → Holds types lives names → Performed types l s s (Repeat k body) names names before now lives asked asked log log
-repeat-performed types l s k body names before now lives asked log o h =
-    push-performed types l s (Repeat k body) names before now [] k body lives asked log o h
-    (λ m p y. block-times types l o.top k body o.rest_is o.repeats_is o.body_is names m s p y)
+pub repeat-performed : (types : List TypeDeclaration) (l : ℕ) (w : Option (List ℕ)) (s : State ℕ) (k : ℕ) (body : Block) (names : Names) (before now : List Open) (lives : Lives) (asked : ℕ) (log : Option Log) → 0 < length before → Behind w s [] → Pushed before now [] k body → Holds types lives names → Performed types l w s s (Repeat k body) names names before now lives asked asked log log
+repeat-performed types l w s k body names before now lives asked log some down o h =
+    push-performed types l w s (Repeat k body) names before now [] k body lives asked log some down o h
+    (λ m p y. block-times types l w o.top k body o.rest_is o.repeats_is o.body_is names m s p y)
     (λ e y. times-safe e o.top before names k body o.rest_is o.repeats_is o.body_is y)
     (λ y. (rw o.rest_is refl, rw o.body_is y))
     (let c = times-cost o.top k body o.rest_is o.repeats_is o.body_is in omega (arith, c))
 
-pub first-performed : (types : List TypeDeclaration) (l : ℕ) (s : State ℕ) (x : List ℕ) (t : TypeId) (u n : ℕ) (body : Block) (otherwise : Held-Action-If-2) (names : Names) (before now : List Open) (lives : Lives) (asked : ℕ) (log : Option Log) → names x ≡ Object t u n → Pushed before now (block_list body) 0 body → Holds types lives names → Performed types l s s (If' x body otherwise) names names before now lives asked asked log log
-first-performed types l s x t u n body otherwise names before now lives asked log held o h =
-    push-performed types l s (If' x body otherwise) names before now (block_list body) 0 body lives asked log o h
-    (λ m p y. rw held (block-once types l o.top body o.rest_is o.repeats_is names m s p y))
+pub first-performed : (types : List TypeDeclaration) (l : ℕ) (w : Option (List ℕ)) (s : State ℕ) (x : List ℕ) (t : TypeId) (u n : ℕ) (body : Block) (otherwise : Held-Action-If-2) (names : Names) (before now : List Open) (lives : Lives) (asked : ℕ) (log : Option Log) → 0 < length before → Behind w s [] → names x ≡ Object t u n → Pushed before now (block_list body) 0 body → Holds types lives names → Performed types l w s s (If' x body otherwise) names names before now lives asked asked log log
+first-performed types l w s x t u n body otherwise names before now lives asked log some down held o h =
+    push-performed types l w s (If' x body otherwise) names before now (block_list body) 0 body lives asked log some down o h
+    (λ m p y. rw held (block-once types l w o.top body o.rest_is o.repeats_is names m s p y))
     (λ e y. once-safe e o.top before names body o.rest_is o.repeats_is (y.1 t (inl (ap value_of held))))
     (λ y. let c = left (can_run_block types body) (can_run_else types otherwise) y in (rw o.rest_is (sym (block-can types body) ∙ c), rw o.body_is c))
     (let c = once-cost types o.top body o.rest_is o.repeats_is in omega (arith, c, max-left (block_cost body) (else_cost otherwise)))
 
-pub other-performed : (types : List TypeDeclaration) (l : ℕ) (s : State ℕ) (x : List ℕ) (body other : Block) (otherwise : Held-Action-If-2) (names : Names) (before now : List Open) (lives : Lives) (asked : ℕ) (log : Option Log) → names x ≡ Null → otherwise ≡ Some' other → Pushed before now (block_list other) 0 other → Holds types lives names → Performed types l s s (If' x body otherwise) names names before now lives asked asked log log
-other-performed types l s x body other otherwise names before now lives asked log held q o h =
-    push-performed types l s (If' x body otherwise) names before now (block_list other) 0 other lives asked log o h
-    (λ m p y. rw held (rw q (block-once types l o.top other o.rest_is o.repeats_is names m s p y)))
+pub other-performed : (types : List TypeDeclaration) (l : ℕ) (w : Option (List ℕ)) (s : State ℕ) (x : List ℕ) (body other : Block) (otherwise : Held-Action-If-2) (names : Names) (before now : List Open) (lives : Lives) (asked : ℕ) (log : Option Log) → 0 < length before → Behind w s [] → names x ≡ Null → otherwise ≡ Some' other → Pushed before now (block_list other) 0 other → Holds types lives names → Performed types l w s s (If' x body otherwise) names names before now lives asked asked log log
+other-performed types l w s x body other otherwise names before now lives asked log some down held q o h =
+    push-performed types l w s (If' x body otherwise) names before now (block_list other) 0 other lives asked log some down o h
+    (λ m p y. rw held (rw q (block-once types l w o.top other o.rest_is o.repeats_is names m s p y)))
     (λ e y. once-safe e o.top before names other o.rest_is o.repeats_is (rw q at (y.0 (ap value_of held))))
     (λ y. let c = rw q at (right (can_run_block types body) (can_run_else types otherwise) y) in (rw o.rest_is (sym (block-can types other) ∙ c), rw o.body_is c))
     (let c = once-cost types o.top other o.rest_is o.repeats_is in let d : else_cost otherwise ≡ block_cost other = ap else_cost q in omega (arith, c, d, max-right (block_cost body) (else_cost otherwise)))
 
-skip-runs : (types : List TypeDeclaration) (l : ℕ) (s : State ℕ) (x : List ℕ) (body : Block) (otherwise : Held-Action-If-2) (names : Names) → names x ≡ Null → otherwise ≡ None' → RunsAction types l Parts.Nothing (If' x body otherwise) names names s []
-skip-runs types l s x body otherwise names held q = rw held (rw q (refl, refl))
+skip-runs : (types : List TypeDeclaration) (l : ℕ) (w : Option (List ℕ)) (s : State ℕ) (x : List ℕ) (body : Block) (otherwise : Held-Action-If-2) (names : Names) → names x ≡ Null → otherwise ≡ None' → RunsAction types l (Behind w) (If' x body otherwise) names names s []
+skip-runs types l w s x body otherwise names held q = rw held (rw q (refl, refl))
 
-pub skip-performed : (types : List TypeDeclaration) (l : ℕ) (s : State ℕ) (x : List ℕ) (body : Block) (otherwise : Held-Action-If-2) (names : Names) (before : List Open) (lives : Lives) (asked : ℕ) (log : Option Log) → names x ≡ Null → otherwise ≡ None' → Holds types lives names → Performed types l s s (If' x body otherwise) names names before before lives asked asked log log
-skip-performed types l s x body otherwise names before lives asked log held q h = record {
-  grew = λ last final z. grew-map (RunsStack types l None before names last) (Followed (RunsStatement types l None (If' x body otherwise)) (RunsStack types l None before) names last) s log final
-      (λ part y. (names, record { one = []; two = part; part_is = refl; is_first = done-last (RunsAction types l Parts.Nothing (If' x body otherwise)) names names s [] (skip-runs types l s x body otherwise names held q); is_second = y })) z;
+pub skip-performed : (types : List TypeDeclaration) (l : ℕ) (w : Option (List ℕ)) (s : State ℕ) (x : List ℕ) (body : Block) (otherwise : Held-Action-If-2) (names : Names) (before : List Open) (lives : Lives) (asked : ℕ) (log : Option Log) → Behind w s [] → names x ≡ Null → otherwise ≡ None' → Holds types lives names → Performed types l w s s (If' x body otherwise) names names before before lives asked asked log log
+skip-performed types l w s x body otherwise names before lives asked log down held q h = record {
+  grew = λ last final z. grew-map (RunsStack types l w before names last) (Followed (RunsStatement types l w (If' x body otherwise)) (RunsStack types l w before) names last) s log final
+      (λ part y. (names, record { one = []; two = part; part_is = refl; is_first = (names, record { one = []; two = []; part_is = refl; is_first = skip-runs types l w s x body otherwise names held q; is_second = (refl, down) }); is_second = y })) z;
   safe = λ e y. rw q at (y.0 (ap value_of held));
   holds = h;
   can = λ x y. y;
   cost = omega arith;
   weight = omega arith;
+  down = down;
 }

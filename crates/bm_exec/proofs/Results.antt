@@ -6,6 +6,14 @@ pub on-ok : {X E : Type 0} (r : Result X E) (A B : Type 0) → OnOk r A → (A �
 on-ok (Ok x) A B a f = f a
 on-ok (Err e) A B a f = tt
 
+pub both-ok : {X E : Type 0} (r : Result X E) (A B : Type 0) → OnOk r A → OnOk r B → OnOk r (A × B)
+both-ok (Ok x) A B a b = (a, b)
+both-ok (Err e) A B a b = tt
+
+pub ok-any : {X E : Type 0} (r : Result X E) (A : Type 0) → A → OnOk r A
+ok-any (Ok x) A a = a
+ok-any (Err e) A a = tt
+
 pub get-is : {A : Type 0} (xs : List A) (i : ℕ) (x : A) → i < length xs → x ≡ slice_index_or xs i x → slice_get xs i ≡ Some x
 get-is [] i x lt e = absurd (omega arith)
 get-is (y ∷ ys) zero x lt e = ap Some (sym e)

@@ -161,6 +161,7 @@ taken before o p os s ss x e r k b =
       can = λ types y. let c = rw e at (x.can types y) in rw r (rw b (both (can_run_list types ss) (can_run_block types o.body.now && can_run_stack types os) (and-right (can_run_action types s.action) (can_run_list types ss) (and-left (can_run_list types (s ∷ ss)) (can_run_block types o.body.now && can_run_stack types os) c)) (and-right (can_run_list types (s ∷ ss)) (can_run_block types o.body.now && can_run_stack types os) c)));
       cost = omega (arith, x.cost, cost);
       weight = omega (arith, x.weight, cost);
+      some = omega arith;
     }
 
 -- nothing is left

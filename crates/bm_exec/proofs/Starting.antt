@@ -6,13 +6,12 @@ use Rattle.bm_lang.specs.Limits.{block_cost}
 use Rattle.bm_lawful.specs.Held.{Names, no_names}
 use Rattle.bm_law.specs.State.{State}
 use Rattle.bm_law.specs.Lists.{Log}
-use Rattle.bm_deferred.specs.Parts.{Nothing}
 use Rattle.bm_lawful.specs.Runs.{RunsBlock}
 use Rattle.bm_check.specs.Statements.{Setting}
 use Rattle.bm_check.specs.Values as safe
 use Rattle.bm_exec.specs.declared.frame.Open.{Open}
 use Rattle.bm_exec.specs.Stores.{store_of}
-use Rattle.bm_exec.specs.Lists.{block_list}
+use Rattle.bm_exec.specs.Lists.{block_list, Behind}
 use Rattle.bm_exec.specs.Cost.{stack_cost}
 use Rattle.bm_exec.specs.Stack.{RunsOpen, RunsStack, SafeStack}
 use Rattle.bm_exec.specs.Runnable.{can_run_block, can_run_list, can_run_stack}
@@ -32,8 +31,8 @@ start-can types b now p e = rw p.now_is (rw p.rest_is (rw p.body_is (both (can_r
 pub start-safe : (e : Setting) (b : Block) (now : List Open) (names : Names) → names ≡ no_names → Pushed [] now (block_list b) 0 b → safe.SafeBlock e safe.empty_store b safe.OwnsNothing → SafeStack e (store_of names) now
 start-safe e b now names q p s = rw q (rw p.now_is (once-safe e p.top [] no_names b p.rest_is p.repeats_is s))
 
-pub start-runs : (types : List TypeDeclaration) (l : ℕ) (b : Block) (now : List Open) → Pushed [] now (block_list b) 0 b → (names last : Names) (s : State ℕ) (part : Log) → RunsStack types l None now names last s part → RunsBlock types l Nothing b names last s part
-start-runs types l b now p names last s part x = block-once types l p.top b p.rest_is p.repeats_is names last s part (undone-last (RunsOpen types l None p.top) names last s part (rw p.now_is at x))
+pub start-runs : (types : List TypeDeclaration) (l : ℕ) (w : Option (List ℕ)) (b : Block) (now : List Open) → Pushed [] now (block_list b) 0 b → (names last : Names) (s : State ℕ) (part : Log) → RunsStack types l w now names last s part → RunsBlock types l (Behind w) b names last s part
+start-runs types l w b now p names last s part x = block-once types l w p.top b p.rest_is p.repeats_is names last s part (undone-last (RunsOpen types l w p.top) names last s part (rw p.now_is at x))
 
 pub start-holds : (types : List TypeDeclaration) (lives : Lives) (names : Names) → names ≡ no_names → ((u : ℕ) → lives u ≡ None) → Holds types lives names
 start-holds types lives names e none = rw e (record {

@@ -1,5 +1,5 @@
 -- One statement is taken off the open blocks of a frame.
-use Rattle.std.specs.Prelude.{◌≡◌, ◌≤◌, ℕ, ◌+◌, ◌*◌, true, List, [], ◌∷◌, length, Option, Some, None}
+use Rattle.std.specs.Prelude.{◌≡◌, ◌<◌, ◌≤◌, ℕ, ◌+◌, ◌*◌, true, List, [], ◌∷◌, length, Option, Some, None}
 use Rattle.std.specs.Borrow.{Bor}
 use Rattle.bm_lang.specs.declared.scenario.Block.{Block}
 use Rattle.bm_lang.specs.declared.scenario.Statement.{Statement}
@@ -31,7 +31,7 @@ pub record Passed (before now : List Open) : Type 0 where
   pub cost : stack_cost now ≤ stack_cost before
   pub weight : weight now ≤ weight before
 
--- A statement was taken: it runs first, and the rest runs after it.
+-- A statement was taken: it runs first, and the rest runs after it. Its own block is still open.
 pub record Taken (before now : List Open) (s : Statement) : Type 0 where
   pub runs : (types : List TypeDeclaration) (l : ℕ) (w : Option (List ℕ)) (names after : Names) (t : State ℕ) (part : Log) → Behind w t [] → Followed (RunsStatement types l w s.action) (RunsStack types l w now) names after t part → RunsStack types l w before names after t part
   pub safe : (e : Setting) (names : Names) → SafeStack e (store_of names) before → SafeAction e (store_of names) s.action (λ r. SafeStack e r now)
@@ -39,6 +39,7 @@ pub record Taken (before now : List Open) (s : Statement) : Type 0 where
   pub can : (types : List TypeDeclaration) → can_run_stack types before ≡ true → can_run_stack types now ≡ true
   pub cost : action_cost s.action + stack_cost now ≤ stack_cost before
   pub weight : 2 * action_cost s.action + weight now ≤ weight before
+  pub some : 0 < length now
 
 -- All ended: nothing is left to run.
 pub record Ended (before : List Open) : Type 0 where

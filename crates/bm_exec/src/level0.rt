@@ -15,7 +15,7 @@ use bm_cache::{Caches, Given, Host, alloc, free};
 use bm_class::Class;
 use bm_journal::{Entry, Keep, Level, ObjId, Values};
 use bm_page::{Pool, Unit};
-use bm_word::Name;
+use bm_word::{Name, NoMemory};
 use bm_world::Slots;
 
 /// One processor at level 0, where ordinary code runs: its caches, the units that live, the stock, and how many objects
@@ -76,6 +76,7 @@ impl Host<Keep> for Machine0 {
 }
 
 impl Machine for Machine0 {
+    ghost use Rattle.std.specs.Prelude.{None};
     ghost use Rattle.bm_law.specs.State.{seen};
     ghost use Rattle.bm_cache.specs.Shown.{shown};
     ghost use Rattle.bm_cache.specs.Tokens.{number_of};
@@ -95,6 +96,8 @@ impl Machine for Machine0 {
     ghost lives = { λ m. lives_of m.slots.slots.items };
 
     ghost asked = { λ m. m.asked };
+
+    ghost behind = { λ _. None };
 
     ghost sound = { λ m. Sound m };
 
@@ -122,6 +125,10 @@ impl Machine for Machine0 {
         self.caches.note(Level::ordinary(), Entry::Last);
         let unit = self.slots.take(object.unit);
         free(self, unit);
+    }
+
+    fn settle(&mut self) -> Result<(), NoMemory> {
+        Ok(())
     }
 }
 

@@ -1,13 +1,15 @@
 //! Machines: what statements run on.
 
-ghost use Rattle.std.specs.Prelude.{◌≡◌, ◌+◌, ◌<◌, ◌^◌, ℕ, IfSome, Option, Some};
+ghost use Rattle.std.specs.Prelude.{◌≡◌, ◌+◌, ◌<◌, ◌^◌, ℕ, [], IfSome, List, OnOk, Option, Some};
 ghost use Rattle.bm_law.specs.State.{State};
 ghost use Rattle.bm_law.specs.Lists.{Log, Leaves};
+ghost use Rattle.bm_deferred.specs.Grown.{GrewBy};
+ghost use Rattle.bm_exec.specs.Lists.{Behind};
 ghost use Rattle.bm_exec.specs.Living.{Lives, Created, Disposed, Undisturbed};
 
 use bm_class::Class;
 use bm_journal::{ObjId, Values};
-use bm_word::Name;
+use bm_word::{Name, NoMemory};
 
 /// A processor at one level, as the statements of a script use it: it makes objects and gives them up. Machines are this
 /// project's own.
@@ -33,6 +35,9 @@ pub trait Machine {
     /// How many objects were asked for.
     ghost asked: { Self → ℕ };
 
+    /// The classes for which deferred work runs behind each statement, until no flag is up; none where none runs.
+    ghost behind: { Self → Option (List ℕ) };
+
     /// What the machine needs and leaves.
     ghost sound: { Self → Type 0 };
 
@@ -46,6 +51,7 @@ pub trait Machine {
         ensures level { level self.new ≡ level self.old }
         ensures asked { asked self.new ≡ asked self.old + 1 }
         ensures processor { processor self.new ≡ processor self.old }
+        ensures behind { behind self.new ≡ behind self.old }
         ensures alone { Undisturbed level pending log self.old self.new };
 
     /// Gives up the one reference to an object that lives.
@@ -57,7 +63,22 @@ pub trait Machine {
         ensures level { level self.new ≡ level self.old }
         ensures asked { asked self.new ≡ asked self.old }
         ensures processor { processor self.new ≡ processor self.old }
+        ensures behind { behind self.new ≡ behind self.old }
         ensures alone { Undisturbed level pending log self.old self.new };
+
+    /// Runs the deferred work that stands behind a statement, until no flag is up. Want of memory is the only refusal. In
+    /// kernel/bpf/memalloc.c it runs behind the code that asked for it, by irq_work_raise.
+    fn settle(&mut self) -> Result<(), NoMemory>
+        requires sound { sound self.old }
+        ensures settled { OnOk result (GrewBy (Behind (behind self.old)) (lists self.old) (log self.old) (log self.new)) }
+        ensures down { OnOk result (Behind (behind self.old) (lists self.new) []) }
+        ensures sound { OnOk result (sound self.new) }
+        ensures lives { OnOk result (lives self.new ≡ lives self.old) }
+        ensures asked { OnOk result (asked self.new ≡ asked self.old) }
+        ensures level { OnOk result (level self.new ≡ level self.old) }
+        ensures processor { OnOk result (processor self.new ≡ processor self.old) }
+        ensures behind { OnOk result (behind self.new ≡ behind self.old) }
+        ensures alone { OnOk result (Undisturbed level pending log self.old self.new) };
 
     /// A log that is told leaves these lists.
     ghost told: { (m : Self) → sound m → IfSome (log m) (λ es. Leaves (processor m) es (lists m)) };

@@ -13,6 +13,7 @@ ghost use Rattle.bm_exec.specs.Stores.{store_of, value_of};
 ghost use Rattle.bm_exec.specs.Stack.{SafeStack};
 ghost use Rattle.bm_exec.specs.Cost.{stack_cost};
 ghost use Rattle.bm_exec.specs.Runnable.{Classes, can_run_action, can_run_block, can_run_stack};
+ghost use Rattle.bm_exec.specs.Lists.{Behind};
 ghost use Rattle.bm_exec.specs.Living.{Holds, Undisturbed};
 ghost use Rattle.bm_exec.specs.declared.frame.Open.{Open};
 ghost use Rattle.bm_exec.specs.Running.{Performed, Ran, RanScript};
@@ -45,7 +46,7 @@ pub enum Stopped {
     NoMemory,
 }
 
-// `new x T v..`: asks for an object, which the name then holds, or null.
+// `new x T v..`: asks for an object, which the name then holds, or null. Deferred work runs behind it.
 fn perform_new<'s, M: Machine>(
     names: &mut NameTable<'s>,
     machine: &mut M,
@@ -60,12 +61,13 @@ fn perform_new<'s, M: Machine>(
     requires holds { Holds types.now.declared.now (M.lives machine.old) (names_of names.old) }
     requires can { can_run_action types.now.declared.now (action.New name.now type_id values.now) ≡ true }
     requires free { is_owning (value_of (names_of names.old name.now)) ≡ false }
-    ensures performed { OnOk result ((os : List Open) → Performed types.now.declared.now (M.level machine.old) (M.lists machine.old) (M.lists machine.new) (action.New name.now type_id values.now) (names_of names.old) (names_of names.new) os os (M.lives machine.new) (M.asked machine.old) (M.asked machine.new) (M.log machine.old) (M.log machine.new)) }
-    ensures sound { M.sound machine.new }
-    ensures level { M.level machine.new ≡ M.level machine.old }
-    ensures processor { M.processor machine.new ≡ M.processor machine.old }
-    ensures asked { M.asked machine.new ≤ M.asked machine.old + 1 }
-    ensures alone { Undisturbed M.level M.pending M.log machine.old machine.new }
+    ensures performed { OnOk result ((os : List Open) → Performed types.now.declared.now (M.level machine.old) (M.behind machine.old) (M.lists machine.old) (M.lists machine.new) (action.New name.now type_id values.now) (names_of names.old) (names_of names.new) os os (M.lives machine.new) (M.asked machine.old) (M.asked machine.new) (M.log machine.old) (M.log machine.new)) }
+    ensures sound { OnOk result (M.sound machine.new) }
+    ensures level { OnOk result (M.level machine.new ≡ M.level machine.old) }
+    ensures processor { OnOk result (M.processor machine.new ≡ M.processor machine.old) }
+    ensures behind { OnOk result (M.behind machine.new ≡ M.behind machine.old) }
+    ensures asked { OnOk result (M.asked machine.new ≤ M.asked machine.old + 1) }
+    ensures alone { OnOk result (Undisturbed M.level M.pending M.log machine.old machine.new) }
 {
     let Some(declared) = types.declared.get(type_id.0) else {
         unreachable!();
@@ -77,10 +79,11 @@ fn perform_new<'s, M: Machine>(
         unreachable!();
     };
     let reply = machine.create(*class, declared.name.duplicate(), values);
-    names.put(name.as_bytes(), holding_of(type_id, reply))
+    names.put(name.as_bytes(), holding_of(type_id, reply))?;
+    machine.settle()
 }
 
-// `drop x`: gives up the object that the name holds.
+// `drop x`: gives up the object that the name holds. Deferred work runs behind it.
 fn perform_drop<'s, M: Machine>(
     names: &mut NameTable<'s>,
     machine: &mut M,
@@ -91,21 +94,23 @@ fn perform_drop<'s, M: Machine>(
     requires classes { Classes types.now.declared.now types.now.classes.now }
     requires holds { Holds types.now.declared.now (M.lives machine.old) (names_of names.old) }
     requires owned { is_owning (value_of (names_of names.old name.now)) ≡ true }
-    ensures performed { OnOk result ((os : List Open) → Performed types.now.declared.now (M.level machine.old) (M.lists machine.old) (M.lists machine.new) (action.Drop name.now) (names_of names.old) (names_of names.new) os os (M.lives machine.new) (M.asked machine.old) (M.asked machine.new) (M.log machine.old) (M.log machine.new)) }
-    ensures sound { M.sound machine.new }
-    ensures level { M.level machine.new ≡ M.level machine.old }
-    ensures processor { M.processor machine.new ≡ M.processor machine.old }
-    ensures asked { M.asked machine.new ≤ M.asked machine.old + 1 }
-    ensures alone { Undisturbed M.level M.pending M.log machine.old machine.new }
+    ensures performed { OnOk result ((os : List Open) → Performed types.now.declared.now (M.level machine.old) (M.behind machine.old) (M.lists machine.old) (M.lists machine.new) (action.Drop name.now) (names_of names.old) (names_of names.new) os os (M.lives machine.new) (M.asked machine.old) (M.asked machine.new) (M.log machine.old) (M.log machine.new)) }
+    ensures sound { OnOk result (M.sound machine.new) }
+    ensures level { OnOk result (M.level machine.new ≡ M.level machine.old) }
+    ensures processor { OnOk result (M.processor machine.new ≡ M.processor machine.old) }
+    ensures behind { OnOk result (M.behind machine.new ≡ M.behind machine.old) }
+    ensures asked { OnOk result (M.asked machine.new ≤ M.asked machine.old + 1) }
+    ensures alone { OnOk result (Undisturbed M.level M.pending M.log machine.old machine.new) }
 {
     let Holding::Object(_, object) = names.holding(name.as_bytes()) else {
         unreachable!();
     };
     machine.dispose(object);
-    names.put(name.as_bytes(), Holding::Nothing)
+    names.put(name.as_bytes(), Holding::Nothing)?;
+    machine.settle()
 }
 
-// Performs a statement that was taken off the open blocks.
+// Performs a statement that was taken off the open blocks, where no work is left to run. Deferred work runs behind a call.
 fn perform<'s, M: Machine>(
     frame: &mut Frame<'s>,
     machine: &mut M,
@@ -117,13 +122,16 @@ fn perform<'s, M: Machine>(
     requires room { M.asked machine.old + 1 < 2 ^ 31 }
     requires holds { Holds types.now.declared.now (M.lives machine.old) (names_of frame.old.names) }
     requires can { can_run_action types.now.declared.now statement.now.action ≡ true }
+    requires down { Behind (M.behind machine.old) (M.lists machine.old) [] }
+    requires open { 0 < length (reverse frame.old.blocks.items) }
     requires needed { (e : Setting) × SafeAction e (store_of (names_of frame.old.names)) statement.now.action (λ r. SafeStack e r (reverse frame.old.blocks.items)) }
-    ensures performed { OnOk result (Performed types.now.declared.now (M.level machine.old) (M.lists machine.old) (M.lists machine.new) statement.now.action (names_of frame.old.names) (names_of frame.new.names) (reverse frame.old.blocks.items) (reverse frame.new.blocks.items) (M.lives machine.new) (M.asked machine.old) (M.asked machine.new) (M.log machine.old) (M.log machine.new)) }
-    ensures sound { M.sound machine.new }
-    ensures level { M.level machine.new ≡ M.level machine.old }
-    ensures processor { M.processor machine.new ≡ M.processor machine.old }
-    ensures asked { M.asked machine.new ≤ M.asked machine.old + 1 }
-    ensures alone { Undisturbed M.level M.pending M.log machine.old machine.new }
+    ensures performed { OnOk result (Performed types.now.declared.now (M.level machine.old) (M.behind machine.old) (M.lists machine.old) (M.lists machine.new) statement.now.action (names_of frame.old.names) (names_of frame.new.names) (reverse frame.old.blocks.items) (reverse frame.new.blocks.items) (M.lives machine.new) (M.asked machine.old) (M.asked machine.new) (M.log machine.old) (M.log machine.new)) }
+    ensures sound { OnOk result (M.sound machine.new) }
+    ensures level { OnOk result (M.level machine.new ≡ M.level machine.old) }
+    ensures processor { OnOk result (M.processor machine.new ≡ M.processor machine.old) }
+    ensures behind { OnOk result (M.behind machine.new ≡ M.behind machine.old) }
+    ensures asked { OnOk result (M.asked machine.new ≤ M.asked machine.old + 1) }
+    ensures alone { OnOk result (Undisturbed M.level M.pending M.log machine.old machine.new) }
 {
     match &statement.action {
         Action::New {
@@ -149,23 +157,26 @@ fn perform<'s, M: Machine>(
     }
 }
 
-/// Runs a script from where its frame stands to its end: one statement after the other. A script that the checker accepts
-/// is never stuck, whatever the machine replies, and owns nothing at its end. Want of memory is the only other way to
-/// stop.
+/// Runs a script from where its frame stands to its end: one statement after the other, each with the deferred work behind
+/// it. No work is left to run before it, nor at its end. A script that the checker accepts is never stuck, whatever the machine
+/// replies, and owns nothing at its end. Want of memory is the only other way to stop; the machine is of no further use then.
 pub fn resume<'s, M: Machine>(frame: &mut Frame<'s>, machine: &mut M, types: &Types<'s>) -> Stopped
     requires sound { M.sound machine.old }
     requires classes { Classes types.now.declared.now types.now.classes.now }
     requires room { M.asked machine.old + stack_cost (reverse frame.old.blocks.items) < 2 ^ 31 }
     requires holds { Holds types.now.declared.now (M.lives machine.old) (names_of frame.old.names) }
     requires can { can_run_stack types.now.declared.now (reverse frame.old.blocks.items) ≡ true }
+    requires down { Behind (M.behind machine.old) (M.lists machine.old) [] }
     requires accepted { (e : Setting) × SafeStack e (store_of (names_of frame.old.names)) (reverse frame.old.blocks.items) }
-    ensures ended { result ≡ stopped.Ended → Ran types.now.declared.now (M.level machine.old) (M.lists machine.old) (names_of frame.old.names) (names_of frame.new.names) (reverse frame.old.blocks.items) (M.pending machine.old) (M.pending machine.new) (M.log machine.old) (M.log machine.new) }
+    ensures ended { result ≡ stopped.Ended → Ran types.now.declared.now (M.level machine.old) (M.behind machine.old) (M.lists machine.old) (names_of frame.old.names) (names_of frame.new.names) (reverse frame.old.blocks.items) (M.pending machine.old) (M.pending machine.new) (M.log machine.old) (M.log machine.new) }
     ensures none { result ≡ stopped.Ended → (u : ℕ) → M.lives machine.new u ≡ None }
-    ensures asked { M.asked machine.new ≤ M.asked machine.old + stack_cost (reverse frame.old.blocks.items) }
-    ensures sound { M.sound machine.new }
-    ensures level { M.level machine.new ≡ M.level machine.old }
-    ensures processor { M.processor machine.new ≡ M.processor machine.old }
-    ensures alone { Undisturbed M.level M.pending M.log machine.old machine.new }
+    ensures asked { result ≡ stopped.Ended → M.asked machine.new ≤ M.asked machine.old + stack_cost (reverse frame.old.blocks.items) }
+    ensures down { result ≡ stopped.Ended → Behind (M.behind machine.old) (M.lists machine.new) [] }
+    ensures sound { result ≡ stopped.Ended → M.sound machine.new }
+    ensures level { result ≡ stopped.Ended → M.level machine.new ≡ M.level machine.old }
+    ensures processor { result ≡ stopped.Ended → M.processor machine.new ≡ M.processor machine.old }
+    ensures behind { result ≡ stopped.Ended → M.behind machine.new ≡ M.behind machine.old }
+    ensures alone { result ≡ stopped.Ended → Undisturbed M.level M.pending M.log machine.old machine.new }
 {
     loop {
         let Ok(next) = next_statement(&mut frame.blocks) else {
@@ -181,8 +192,9 @@ pub fn resume<'s, M: Machine>(frame: &mut Frame<'s>, machine: &mut M, types: &Ty
 }
 
 /// Runs a script that the checker accepted, from its beginning to its end. It is never stuck, whatever the machine
-/// replies; what it leaves in the log is a run of its block from names that hold nothing, and at its end its names own
-/// nothing. Want of memory is the only other way to stop.
+/// replies; what it leaves in the log is a run of its block from names that hold nothing, with the deferred work behind each
+/// statement, and at its end its names own nothing. Want of memory is the only other way to stop; the machine is of no further
+/// use then.
 pub fn run_script<'s, M: Machine>(
     alloc: Global,
     machine: &mut M,
@@ -195,14 +207,17 @@ pub fn run_script<'s, M: Machine>(
     requires room { M.asked machine.old + block_cost script.now.body < 2 ^ 31 }
     requires none { (u : ℕ) → M.lives machine.old u ≡ None }
     requires can { can_run_block types.now.declared.now script.now.body ≡ true }
+    requires down { Behind (M.behind machine.old) (M.lists machine.old) [] }
     requires accepted { Accepted scenario.now script.now }
-    ensures ended { result ≡ stopped.Ended → RanScript types.now.declared.now (M.level machine.old) (M.lists machine.old) script.now (M.pending machine.old) (M.pending machine.new) (M.log machine.old) (M.log machine.new) }
+    ensures ended { result ≡ stopped.Ended → RanScript types.now.declared.now (M.level machine.old) (M.behind machine.old) (M.lists machine.old) script.now (M.pending machine.old) (M.pending machine.new) (M.log machine.old) (M.log machine.new) }
     ensures none { result ≡ stopped.Ended → (u : ℕ) → M.lives machine.new u ≡ None }
-    ensures asked { M.asked machine.new ≤ M.asked machine.old + block_cost script.now.body }
-    ensures sound { M.sound machine.new }
-    ensures level { M.level machine.new ≡ M.level machine.old }
-    ensures processor { M.processor machine.new ≡ M.processor machine.old }
-    ensures alone { Undisturbed M.level M.pending M.log machine.old machine.new }
+    ensures asked { result ≡ stopped.Ended → M.asked machine.new ≤ M.asked machine.old + block_cost script.now.body }
+    ensures down { result ≡ stopped.Ended → Behind (M.behind machine.old) (M.lists machine.new) [] }
+    ensures sound { result ≡ stopped.Ended → M.sound machine.new }
+    ensures level { result ≡ stopped.Ended → M.level machine.new ≡ M.level machine.old }
+    ensures processor { result ≡ stopped.Ended → M.processor machine.new ≡ M.processor machine.old }
+    ensures behind { result ≡ stopped.Ended → M.behind machine.new ≡ M.behind machine.old }
+    ensures alone { result ≡ stopped.Ended → Undisturbed M.level M.pending M.log machine.old machine.new }
 {
     accepted_scripts_are_safe();
     let mut frame = Frame {

@@ -56,8 +56,8 @@ fn run_line<'s>(
     requires word { word + 2 < 2 ^ 32 }
     ensures ended { result ≡ stopped.Ended → WroteScript scenario.now script.now (word + 1) (seen number_of (shown machine.old.caches)) machine.old.caches.recorder.told machine.new.caches.recorder.told }
     ensures none { result ≡ stopped.Ended → (u : ℕ) → lives_of machine.new.slots.slots.items u ≡ None }
-    ensures asked { machine.new.asked ≤ machine.old.asked + block_cost script.now.body }
-    ensures sound { Sound machine.new }
+    ensures asked { result ≡ stopped.Ended → machine.new.asked ≤ machine.old.asked + block_cost script.now.body }
+    ensures sound { result ≡ stopped.Ended → Sound machine.new }
 {
     note(machine, Entry::Script(script.name.duplicate()));
     note(machine, Entry::In(Domain::Plain, word + 1));
@@ -91,7 +91,7 @@ pub(crate) fn run_lines<'s>(
     ensures wrote { IfOk result (λ _. WroteLines scenario.now (seen number_of (shown machine.old.caches)) machine.old.caches.recorder.told machine.new.caches.recorder.told) }
     ensures none { IfOk result (λ _. (u : ℕ) → lives_of machine.new.slots.slots.items u ≡ None) }
     ensures word { IfOk result (λ w. w < 2 ^ 31) }
-    ensures sound { Sound machine.new }
+    ensures sound { IfOk result (λ _. Sound machine.new) }
 {
     let mut word = 0;
     for run in scenario.runs.as_slice() {

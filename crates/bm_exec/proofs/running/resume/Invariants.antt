@@ -6,11 +6,14 @@ use Rattle.bm_exec.specs.Steps.{weight}
 use Rattle.bm_exec.proofs.running.resume.Given as goal
 
 abbrev pub invariant-loop-next : goal.invariant-loop-next
-invariant-loop-next g l =
-    Went l.types.declared.now (g.M.Machine.level l.initial.machine) (g.M.Machine.lists l.initial.machine) (g.M.Machine.lists l.machine) (names_of l.initial.frame.names) (names_of l.frame.names) (reverse l.initial.frame.blocks.items) (reverse l.frame.blocks.items) (g.M.Machine.lives l.machine) (g.M.Machine.asked l.initial.machine) (g.M.Machine.asked l.machine) (g.M.Machine.log l.initial.machine) (g.M.Machine.log l.machine)
-    × g.M.Machine.sound l.machine × (g.M.Machine.level l.machine ≡ g.M.Machine.level l.initial.machine)
-    × Undisturbed g.M.Machine.level g.M.Machine.pending g.M.Machine.log l.initial.machine l.machine
-    × (g.M.Machine.processor l.machine ≡ g.M.Machine.processor l.initial.machine)
+invariant-loop-next g l = record {
+  went : Went l.types.declared.now (g.M.Machine.level l.initial.machine) (g.M.Machine.behind l.initial.machine) (g.M.Machine.lists l.initial.machine) (g.M.Machine.lists l.machine) (names_of l.initial.frame.names) (names_of l.frame.names) (reverse l.initial.frame.blocks.items) (reverse l.frame.blocks.items) (g.M.Machine.lives l.machine) (g.M.Machine.asked l.initial.machine) (g.M.Machine.asked l.machine) (g.M.Machine.log l.initial.machine) (g.M.Machine.log l.machine);
+  sound : g.M.Machine.sound l.machine;
+  level : g.M.Machine.level l.machine ≡ g.M.Machine.level l.initial.machine;
+  behind : g.M.Machine.behind l.machine ≡ g.M.Machine.behind l.initial.machine;
+  processor : g.M.Machine.processor l.machine ≡ g.M.Machine.processor l.initial.machine;
+  alone : Undisturbed g.M.Machine.level g.M.Machine.pending g.M.Machine.log l.initial.machine l.machine;
+}
 
 abbrev pub decreases-loop-next : goal.decreases-loop-next
 decreases-loop-next g l = weight (reverse l.frame.blocks.items)

@@ -3,7 +3,6 @@ use Rattle.bm_check.specs.Statements.{setting_of}
 use Rattle.bm_deferred.proofs.Grown.{grew-map}
 use Rattle.bm_exec.proofs.Results.{not-err}
 use Rattle.bm_exec.proofs.Starting.{start-cost, start-can, start-safe, start-runs, start-holds}
-use Rattle.bm_exec.proofs.Undisturbed.{undisturbed-none}
 use Rattle.bm_exec.proofs.running.run_script.Goals as goal
 
 -- src/running.rt:207:5
@@ -36,7 +35,7 @@ returns-clause-ended g c =
     λ e. (let r = c.resume.ensures.ended e in
     record {
       after = _;
-      grew = grew-map _ _ (g.M.Machine.lists c.args.machine.now) (g.M.Machine.log c.args.machine.now) _ (λ part y. start-runs c.args.types.now.declared.now (g.M.Machine.level c.args.machine.now) _ _ o _ _ (g.M.Machine.lists c.args.machine.now) part y) (rw c.new-2.ensures at r.grew);
+      grew = grew-map _ _ (g.M.Machine.lists c.args.machine.now) (g.M.Machine.log c.args.machine.now) _ (λ part y. start-runs c.args.types.now.declared.now (g.M.Machine.level c.args.machine.now) (g.M.Machine.behind c.args.machine.now) _ _ o _ _ (g.M.Machine.lists c.args.machine.now) part y) (rw c.new-2.ensures at r.grew);
       alone = r.alone;
       owns_nothing = r.owns_nothing;
     })
@@ -45,7 +44,4 @@ returns-clause-ended g c =
 pub returns-clause-asked : goal.returns-clause-asked
 returns-clause-asked g c =
     let o = rw c.new.ensures.items at (not-err c.open_block.result _ c.if-is_err.ensures.value c.open_block.ensures.pushed) in
-    omega (arith, c.resume.ensures.asked, start-cost c.args.types.now.declared.now _ _ o)
-
-pub returns-then-is_err-clause-alone : goal.returns-then-is_err-clause-alone
-returns-then-is_err-clause-alone g c = undisturbed-none g.M.Machine.level g.M.Machine.pending g.M.Machine.log c.args.machine.now
+    λ e. omega (arith, c.resume.ensures.asked e, start-cost c.args.types.now.declared.now _ _ o)

@@ -43,12 +43,11 @@ loop-run-preserved c =
           let e = get-is _ _ w.in-Some.script.now look.3.0 (look.3.1 _) in
           let here = rw c.as_slice-run-items.ensures at w.if-run-eq0.true in
           let r = line-room s.scripts s.runs n _ w.in-Some.script.now c.loop-run.machine.asked c.loop-run.word lt here e cost in
-          let x = w.run_line.ensures in
           record {
-            sound = rw w.machine-is x.sound;
+            sound = rw w.machine-is (w.in-Ended.ensures.sound refl);
             none = rw w.machine-is (w.in-Ended.ensures.none refl);
-            cost = rw (w.machine-is, w.word-is, c.as_slice-run-items.ensures) (omega (arith, r, x.asked));
-            wrote = rw (w.machine-is, w.word-is, c.as_slice-run-items.ensures) (lines-line s n _ w.in-Some.script.now c.loop-run.word (seen number_of (shown c.args.machine.now.caches)) (seen number_of (shown c.loop-run.machine.caches)) (seen number_of (shown w.run_line.new.machine.caches)) c.args.machine.now.caches.recorder.told c.loop-run.machine.caches.recorder.told w.run_line.new.machine.caches.recorder.told lt here e (sound_told c.loop-run.machine v.sound) (sound_told w.run_line.new.machine x.sound) wrote (w.in-Ended.ensures.ended refl));
+            cost = rw (w.machine-is, w.word-is, c.as_slice-run-items.ensures) (let q = w.in-Ended.ensures.asked refl in omega (arith, r, q));
+            wrote = rw (w.machine-is, w.word-is, c.as_slice-run-items.ensures) (lines-line s n _ w.in-Some.script.now c.loop-run.word (seen number_of (shown c.args.machine.now.caches)) (seen number_of (shown c.loop-run.machine.caches)) (seen number_of (shown w.run_line.new.machine.caches)) c.args.machine.now.caches.recorder.told c.loop-run.machine.caches.recorder.told w.run_line.new.machine.caches.recorder.told lt here e (sound_told c.loop-run.machine v.sound) (sound_told w.run_line.new.machine (w.in-Ended.ensures.sound refl)) wrote (w.in-Ended.ensures.ended refl));
           }
       | else-run-eq0 w ↦ record {
         sound = rw w.machine-is v.sound;
