@@ -5,15 +5,15 @@ use Rattle.bm_journal.specs.declared.ids.Domain.{Domain}
 use Rattle.bm_journal.specs.declared.entry.Entry.{Entry}
 use Rattle.bm_journal.specs.declared.entry.Entry.TheVariants as entry
 use Rattle.bm_law.specs.State.{State}
-use Rattle.bm_law.specs.Lists.{Log, after}
+use Rattle.bm_law.specs.Lists.{Log}
 use Rattle.bm_law.specs.Spans.{own_entries, Records}
-use Rattle.bm_law.specs.Phrases.{AddPhrase}
 use Rattle.bm_law.specs.SweepPhrases.{MayBegin, MayFinish, PollPhrase}
 use Rattle.bm_law.proofs.Spans.{own-append}
-use Rattle.bm_deferred.specs.Parts.{Part, Nothing, Stand, Say, Then, If, When}
+use Rattle.bm_deferred.specs.Parts.{Part}
 use Rattle.bm_deferred.specs.Grown.{GrewBy}
-use Rattle.bm_deferred.specs.WorkPhrases.{AddAll, Brings, IsOne, Moved, Unloads, take_of, takes}
-use Rattle.bm_deferred.specs.Inboxes.{Inboxes, inboxes_after, inboxes_over, TakesOldest, AllOldest, Carries, Delivers, Delivered}
+use Rattle.bm_deferred.proofs.Begun.{IsStill}
+use Rattle.bm_deferred.proofs.Each.{AllOf, PartOf, of-append}
+use Rattle.bm_deferred.specs.Inboxes.{Inboxes, inboxes_after, inboxes_over, TakesOldest, AllOldest, IsWithin, AllWithin, Carries, Delivers, Delivered}
 
 -- two lists of entries, one after the other
 pub over-append : (p : ℕ) (v w : List Entry) (boxes : Inboxes) → inboxes_over p (v ++ w) boxes ≡ inboxes_over p w (inboxes_over p v boxes)
@@ -24,13 +24,17 @@ pub oldest-append : (p : ℕ) (v w : List Entry) (boxes : Inboxes) → AllOldest
 oldest-append p [] w boxes h k = k
 oldest-append p (e ∷ v) w boxes h k = (h.0, oldest-append p v w (inboxes_after p e boxes) h.1 k)
 
+pub within-append : (n : ℕ) (v w : List Entry) → AllWithin n v → AllWithin n w → AllWithin n (v ++ w)
+within-append n [] w h k = k
+within-append n (e ∷ v) w h k = (h.0, within-append n v w h.1 k)
+
 -- two stretches, one after the other
-pub delivered-join : (l p : ℕ) (x y z : Option Inboxes) (a b c : Option Log) → Delivered l p x y a b → Delivered l p y z b c → Delivered l p x z a c
-delivered-join l p x y None a b c f g = tt
-delivered-join l p x y (Some z) a b None f g = tt
-delivered-join l p x y (Some z) a b (Some c) f g =
-    let D : Option Inboxes → Option Log → Type 0 = λ m o. Delivered l p x m a o in
-    let h : Delivers l p x g.boxes a g.log = subst (λ m. D m (Some g.log)) g.boxes_told (subst (D y) g.told f) in
+pub delivered-join : (l n p : ℕ) (x y z : Option Inboxes) (a b c : Option Log) → Delivered l n p x y a b → Delivered l n p y z b c → Delivered l n p x z a c
+delivered-join l n p x y None a b c f g = tt
+delivered-join l n p x y (Some z) a b None f g = tt
+delivered-join l n p x y (Some z) a b (Some c) f g =
+    let D : Option Inboxes → Option Log → Type 0 = λ m o. Delivered l n p x m a o in
+    let h : Delivers l n p x g.boxes a g.log = subst (λ m. D m (Some g.log)) g.boxes_told (subst (D y) g.told f) in
     let v = own_entries l h.added in
     let w = own_entries l g.added in
     let e : own_entries l (h.added ++ g.added) ≡ v ++ w = own-append l h.added g.added in
@@ -44,14 +48,15 @@ delivered-join l p x y (Some z) a b (Some c) f g =
       added = h.added ++ g.added;
       now_is = g.now_is ∙ ap (λ m. m ++ g.added) h.now_is ∙ append_assoc h.log h.added g.added;
       received = subst E (sym e) (oldest-append p v w h.boxes h.received (subst O h.left g.received));
+      sent = subst (AllWithin n) (sym e) (within-append n v w h.sent g.sent);
       left = g.left ∙ ap (inboxes_over p w) h.left ∙ sym (over-append p v w h.boxes) ∙ ap (λ es. inboxes_over p es h.boxes) (sym e);
     }
 
 -- nothing was added, and the parcels are as they were
-pub delivered-none : (l p : ℕ) (x y : Option Inboxes) (a : Option Log) → y ≡ x → Delivered l p x y a a
-delivered-none l p x None a e = tt
-delivered-none l p x (Some y) None e = tt
-delivered-none l p x (Some y) (Some a) e = record {
+pub delivered-none : (l n p : ℕ) (x y : Option Inboxes) (a : Option Log) → y ≡ x → Delivered l n p x y a a
+delivered-none l n p x None a e = tt
+delivered-none l n p x (Some y) None e = tt
+delivered-none l n p x (Some y) (Some a) e = record {
   boxes = y;
   boxes_told = sym e;
   log = a;
@@ -59,6 +64,7 @@ delivered-none l p x (Some y) (Some a) e = record {
   added = [];
   now_is = grind (arith, common_steps);
   received = tt;
+  sent = tt;
   left = refl;
 }
 
@@ -70,8 +76,7 @@ IsQuiet (entry.Sweep c us) = ⊥
 IsQuiet _ = Unit {0}
 
 abbrev pub AllQuiet : List Entry → Type 0
-AllQuiet [] = Unit {0}
-AllQuiet (e ∷ es) = IsQuiet e × AllQuiet es
+AllQuiet es = AllOf IsQuiet es
 
 after-quiet : (p : ℕ) (e : Entry) (boxes : Inboxes) → IsQuiet e → inboxes_after p e boxes ≡ boxes
 after-quiet p (entry.Send c to us) boxes h = absurd h
@@ -83,6 +88,15 @@ oldest-quiet : (e : Entry) (boxes : Inboxes) → IsQuiet e → TakesOldest e box
 oldest-quiet (entry.Receive c us) boxes h = absurd h
 oldest-quiet _ boxes h = tt
 
+within-quiet : (n : ℕ) (e : Entry) → IsQuiet e → IsWithin n e
+within-quiet n (entry.Send c to us) h = absurd h
+within-quiet n (entry.Sweep c us) h = absurd h
+within-quiet n _ h = tt
+
+pub all-within : (n : ℕ) (es : List Entry) → AllQuiet es → AllWithin n es
+all-within n [] h = tt
+all-within n (e ∷ es) h = (within-quiet n e h.0, all-within n es h.1)
+
 pub over-quiet : (p : ℕ) (es : List Entry) (boxes : Inboxes) → AllQuiet es → inboxes_over p es boxes ≡ boxes
 over-quiet p [] boxes h = refl
 over-quiet p (e ∷ es) boxes h = over-quiet p es (inboxes_after p e boxes) h.1 ∙ after-quiet p e boxes h.0
@@ -91,20 +105,25 @@ pub all-quiet : (p : ℕ) (es : List Entry) (boxes : Inboxes) → AllQuiet es �
 all-quiet p [] boxes h = tt
 all-quiet p (e ∷ es) boxes h = (oldest-quiet e boxes h.0, all-quiet p es (inboxes_after p e boxes) h.1)
 
-pub quiet-append : (v w : List Entry) → AllQuiet v → AllQuiet w → AllQuiet (v ++ w)
-quiet-append [] w h k = k
-quiet-append (e ∷ v) w h k = (h.0, quiet-append v w h.1 k)
-
 -- A part whose entries of level l are quiet.
 abbrev pub QuietPart : ℕ → Part → Type 0
-QuietPart l P = (s : State ℕ) (part : Log) → P s part → AllQuiet (own_entries l part)
+QuietPart l P = PartOf IsQuiet l P
+
+-- what is still is quiet
+pub still-quiet : (e : Entry) → IsStill e → IsQuiet e
+still-quiet (entry.Send c to us) h = absurd h
+still-quiet (entry.Receive c us) h = absurd h
+still-quiet (entry.Sweep c us) h = absurd h
+still-quiet (entry.Begin d n) h = absurd h
+still-quiet (entry.Finish period) h = absurd h
+still-quiet _ h = tt
 
 -- such a part was added, and the parcels are as they were
-pub delivered-grew : (l p : ℕ) (P : Part) (s : State ℕ) (x y : Option Inboxes) (a b : Option Log) → QuietPart l P → y ≡ x → GrewBy P s a b → Delivered l p x y a b
-delivered-grew l p P s x None a b q e g = tt
-delivered-grew l p P s x (Some y) a None q e g = tt
-delivered-grew l p P s x (Some y) a (Some b) q e g =
-    let n = q s g.added g.is_part in
+pub delivered-grew : (l n p : ℕ) (P : Part) (s : State ℕ) (x y : Option Inboxes) (a b : Option Log) → QuietPart l P → y ≡ x → GrewBy P s a b → Delivered l n p x y a b
+delivered-grew l n p P s x None a b q e g = tt
+delivered-grew l n p P s x (Some y) a None q e g = tt
+delivered-grew l n p P s x (Some y) a (Some b) q e g =
+    let z = q s g.added g.is_part in
     record {
       boxes = y;
       boxes_told = sym e;
@@ -112,16 +131,17 @@ delivered-grew l p P s x (Some y) a (Some b) q e g =
       told = g.told;
       added = g.added;
       now_is = g.now_is;
-      received = all-quiet p (own_entries l g.added) y n;
-      left = sym (over-quiet p (own_entries l g.added) y n);
+      received = all-quiet p (own_entries l g.added) y z;
+      sent = all-within n (own_entries l g.added) z;
+      left = sym (over-quiet p (own_entries l g.added) y z);
     }
 
 -- quiet entries of a call's own
-pub delivered-records : (l p : ℕ) (own : List Entry) (x y : Option Inboxes) (a b : Option Log) → AllQuiet own → y ≡ x → Records l own a b → Delivered l p x y a b
-delivered-records l p own x None a b q e g = tt
-delivered-records l p own x (Some y) a None q e g = tt
-delivered-records l p own x (Some y) a (Some b) q e g =
-    let n : AllQuiet (own_entries l g.added) = subst AllQuiet (sym g.owned) q in
+pub delivered-records : (l n p : ℕ) (own : List Entry) (x y : Option Inboxes) (a b : Option Log) → AllQuiet own → y ≡ x → Records l own a b → Delivered l n p x y a b
+delivered-records l n p own x None a b q e g = tt
+delivered-records l n p own x (Some y) a None q e g = tt
+delivered-records l n p own x (Some y) a (Some b) q e g =
+    let z : AllQuiet (own_entries l g.added) = subst AllQuiet (sym g.owned) q in
     record {
       boxes = y;
       boxes_told = sym e;
@@ -129,15 +149,16 @@ delivered-records l p own x (Some y) a (Some b) q e g =
       told = g.told;
       added = g.added;
       now_is = g.now_is;
-      received = all-quiet p (own_entries l g.added) y n;
-      left = sym (over-quiet p (own_entries l g.added) y n);
+      received = all-quiet p (own_entries l g.added) y z;
+      sent = all-within n (own_entries l g.added) z;
+      left = sym (over-quiet p (own_entries l g.added) y z);
     }
 
 -- an entry that sends a parcel or takes the oldest one
-pub delivered-one : (l p : ℕ) (e : Entry) (x y : Option Inboxes) (a b : Option Log) → Carries p e x y → Records l (e ∷ []) a b → Delivered l p x y a b
-delivered-one l p e x None a b m g = tt
-delivered-one l p e x (Some y) a None m g = tt
-delivered-one l p e x (Some y) a (Some b) m g =
+pub delivered-one : (l n p : ℕ) (e : Entry) (x y : Option Inboxes) (a b : Option Log) → Carries p e x y → IsWithin n e → Records l (e ∷ []) a b → Delivered l n p x y a b
+delivered-one l n p e x None a b m t g = tt
+delivered-one l n p e x (Some y) a None m t g = tt
+delivered-one l n p e x (Some y) a (Some b) m t g =
     let O : List Entry → Type 0 = λ es. AllOldest p es m.boxes in
     record {
       boxes = m.boxes;
@@ -147,62 +168,9 @@ delivered-one l p e x (Some y) a (Some b) m g =
       added = g.added;
       now_is = g.now_is;
       received = subst O (sym g.owned) (m.received, tt);
+      sent = subst (AllWithin n) (sym g.owned) (t, tt);
       left = m.left ∙ ap (λ es. inboxes_over p es m.boxes) (sym g.owned);
     }
-
--- parts of parts
-pub quiet-stand : (l : ℕ) (own : List Entry) → AllQuiet own → QuietPart l (Stand l own)
-quiet-stand l own q s part h = subst AllQuiet (sym h.own_is) q
-
-pub quiet-say : (l : ℕ) (phrase : List Entry → Type 0) → ((own : List Entry) → phrase own → AllQuiet own) → QuietPart l (Say l phrase)
-quiet-say l phrase q s part h = quiet-stand l h.0 (q h.0 h.1) s part h.2
-
-pub quiet-nothing : (l : ℕ) → QuietPart l Nothing
-quiet-nothing l s part h = let F : Log → Type 0 = λ z. AllQuiet (own_entries l z) in subst F (sym h) tt
-
-pub quiet-then : (l : ℕ) (P Q : Part) → QuietPart l P → QuietPart l Q → QuietPart l (Then P Q)
-quiet-then l P Q f g s part h =
-    let F : Log → Type 0 = λ z. AllQuiet (own_entries l z) in
-    subst F (sym h.part_is) (subst AllQuiet (sym (own-append l h.one h.two)) (quiet-append (own_entries l h.one) (own_entries l h.two) (f s h.one h.is_first) (g (after s h.one) h.two h.is_second)))
-
-quiet-if : (l : ℕ) (b : Bool) (P Q : Part) → QuietPart l P → QuietPart l Q → QuietPart l (If b P Q)
-quiet-if l true P Q f g = f
-quiet-if l false P Q f g = g
-
-pub quiet-when : (l : ℕ) (test : State ℕ → Bool) (P : Part) → QuietPart l P → QuietPart l (When test P)
-quiet-when l test P f s part h = quiet-if l (test s) P Nothing f (quiet-nothing l) s part h
-
--- one quiet entry
-pub quiet-one : (l : ℕ) (e : Entry) → IsQuiet e → QuietPart l (Say l (IsOne e))
-quiet-one l e q = quiet-say l (IsOne e) (λ own h. subst AllQuiet (sym h) (q, tt))
-
--- additions
-add-quiet : (c u : ℕ) (own : List Entry) → AddPhrase c u own → AllQuiet own
-add-quiet c u own (k, a, e) = subst AllQuiet (sym e) (tt, (tt, (tt, (tt, tt))))
-
-pub quiet-add : (l c u : ℕ) → QuietPart l (Say l (AddPhrase c u))
-quiet-add l c u = quiet-say l (AddPhrase c u) (add-quiet c u)
-
-pub quiet-brings : (l c : ℕ) (e : Entry) (u : ℕ) → IsQuiet e → QuietPart l (Brings l c e u)
-quiet-brings l c e u q = quiet-then l (Say l (IsOne e)) (Say l (AddPhrase c u)) (quiet-one l e q) (quiet-add l c u)
-
-pub quiet-add-all : (l c : ℕ) (us : List ℕ) → QuietPart l (AddAll l c us)
-quiet-add-all l c [] = quiet-nothing l
-quiet-add-all l c (u ∷ us) = quiet-then l (Say l (AddPhrase c u)) (AddAll l c us) (quiet-add l c u) (quiet-add-all l c us)
-
--- takes of a drain
-takes-quiet : (c : ℕ) (xs : List Moved) → AllQuiet (takes c xs)
-takes-quiet c [] = tt
-takes-quiet c (x ∷ xs) = quiet-append (take_of c x) (takes c xs) (tt, (tt, (tt, (tt, tt)))) (takes-quiet c xs)
-
-pub unloads-quiet : (c middle : ℕ) (own : List Entry) → Unloads c middle own → AllQuiet own
-unloads-quiet c middle own h = subst AllQuiet (sym h.own_is) (quiet-append (takes c h.over) h.last (takes-quiet c h.over) last)
-  where
-    last : AllQuiet h.last
-    last = elim h.is_last [
-      | inl a ↦ subst AllQuiet (sym a.2) (tt, (tt, (tt, (tt, tt))))
-      | inr a ↦ subst AllQuiet (sym a.1) (tt, (tt, (tt, tt)))
-    ]
 
 -- polls
 may-finish-quiet : (d : Domain) (own : List Entry) → MayFinish d own → AllQuiet own
@@ -214,4 +182,4 @@ may-begin-quiet d own (inl h) = subst AllQuiet (sym h) tt
 may-begin-quiet d own (inr (n, rest, h, f)) = subst AllQuiet (sym h) (tt, may-finish-quiet d rest f)
 
 pub poll-quiet : (c : ℕ) (d : Domain) (own : List Entry) → PollPhrase c d own → AllQuiet own
-poll-quiet c d own h = subst AllQuiet (sym h.own_is) (quiet-append h.ended (h.begun ++ entry.Pass c d h.seen ∷ []) (may-finish-quiet d h.ended h.may_finish) (quiet-append h.begun (entry.Pass c d h.seen ∷ []) (may-begin-quiet d h.begun h.may_begin) (tt, tt)))
+poll-quiet c d own h = subst AllQuiet (sym h.own_is) (of-append IsQuiet h.ended (h.begun ++ entry.Pass c d h.seen ∷ []) (may-finish-quiet d h.ended h.may_finish) (of-append IsQuiet h.begun (entry.Pass c d h.seen ∷ []) (may-begin-quiet d h.begun h.may_begin) (tt, tt)))

@@ -1,6 +1,6 @@
 -- Parcels that come to a processor's inboxes and leave them, as entries of its own log tell it. (This project's own. In
 -- kernel/bpf/memalloc.c units are put on the list free_by_rcu_ttrace of the target's cache.)
-use Rattle.std.specs.Prelude.{◌≡◌, ℕ, ◌==◌, if◌then◌else◌, List, [], ◌∷◌, ◌++◌, drop, Option, Some, None}
+use Rattle.std.specs.Prelude.{◌≡◌, ◌<◌, ℕ, ◌==◌, if◌then◌else◌, List, [], ◌∷◌, ◌++◌, drop, Option, Some, None}
 use Rattle.bm_journal.specs.declared.entry.Entry.{Entry}
 use Rattle.bm_journal.specs.declared.entry.Entry.TheVariants as entry
 use Rattle.bm_journal.specs.EntryText.{unit_list}
@@ -43,6 +43,17 @@ abbrev pub AllOldest : ℕ → List Entry → Inboxes → Type 0
 AllOldest p [] boxes = Unit {0}
 AllOldest p (e ∷ es) boxes = TakesOldest e boxes × AllOldest p es (inboxes_after p e boxes)
 
+-- Before the closing a parcel is sent to one of n processors, and nothing is swept.
+abbrev pub IsWithin : ℕ → Entry → Type 0
+IsWithin n (entry.Send c to us) = to < n
+IsWithin n (entry.Sweep c us) = ⊥
+IsWithin n _ = Unit {0}
+
+-- the same of each of these entries
+abbrev pub AllWithin : ℕ → List Entry → Type 0
+AllWithin n [] = Unit {0}
+AllWithin n (e ∷ es) = IsWithin n e × AllWithin n es
+
 -- Parcels of processor p, its own, were told, and an entry has come about: if it took one, that was the oldest, and these are
 -- left.
 pub record Carried (p : ℕ) (e : Entry) (before : Option Inboxes) (now : Inboxes) : Type 0 where
@@ -56,9 +67,10 @@ abbrev pub Carries : ℕ → Entry → Option Inboxes → Option Inboxes → Typ
 Carries p e before None = Unit {0}
 Carries p e before (Some now) = Carried p e before now
 
--- A log was told, and so were the parcels of processor p, its own. The log has grown, and by the entries of level l that were
--- added each parcel that came was the oldest one, and these are the parcels that are left.
-pub record Delivers (l p : ℕ) (before : Option Inboxes) (now : Inboxes) (log_before : Option Log) (log_now : Log) : Type 0 where
+-- A log was told, and so were the parcels of processor p, its own, of n processors. The log has grown, and by the entries of
+-- level l that were added each parcel that came was the oldest one, each that went goes to one of the n, nothing was swept, and
+-- these are the parcels that are left.
+pub record Delivers (l n p : ℕ) (before : Option Inboxes) (now : Inboxes) (log_before : Option Log) (log_now : Log) : Type 0 where
   pub boxes : Inboxes
   pub boxes_told : before ≡ Some boxes
   pub log : Log
@@ -66,10 +78,11 @@ pub record Delivers (l p : ℕ) (before : Option Inboxes) (now : Inboxes) (log_b
   pub added : Log
   pub now_is : log_now ≡ log ++ added
   pub received : AllOldest p (own_entries l added) boxes
+  pub sent : AllWithin n (own_entries l added)
   pub left : now ≡ inboxes_over p (own_entries l added) boxes
 
 -- the same, where log and parcels are told now
-abbrev pub Delivered : ℕ → ℕ → Option Inboxes → Option Inboxes → Option Log → Option Log → Type 0
-Delivered l p before None log_before log_now = Unit {0}
-Delivered l p before (Some now) log_before None = Unit {0}
-Delivered l p before (Some now) log_before (Some log_now) = Delivers l p before now log_before log_now
+abbrev pub Delivered : ℕ → ℕ → ℕ → Option Inboxes → Option Inboxes → Option Log → Option Log → Type 0
+Delivered l n p before None log_before log_now = Unit {0}
+Delivered l n p before (Some now) log_before None = Unit {0}
+Delivered l n p before (Some now) log_before (Some log_now) = Delivers l n p before now log_before log_now

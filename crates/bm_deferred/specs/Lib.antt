@@ -3,3 +3,4 @@ pub mod WorkPhrases
 pub mod WorkedParts
 pub mod Grown
 pub mod Inboxes
+pub mod Begun

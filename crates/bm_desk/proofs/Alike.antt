@@ -1,5 +1,5 @@
 -- What calls of a side leave of what it knows.
-use Rattle.std.proofs.Common.{◌≡◌, ℕ, ◌%◌, Bool, List, Option, refl, sym, subst}
+use Rattle.std.proofs.Common.{◌≡◌, ℕ, Bool, List, Option, refl, sym, subst}
 use Rattle.std.specs.Prelude.{option_map}
 use Rattle.bm_journal.specs.declared.ids.Domain.{Domain}
 use Rattle.bm_journal.specs.declared.ids.Domain.TheVariants.{Plain, Tracing}
@@ -14,16 +14,16 @@ use Rattle.bm_desk.specs.Goes.{Alike}
 
 -- a side of one domain with the same word
 pub alike-changed : (t : Bool) (d : Domain) (s : Side) (steps : List TableStep) (k : Known) → s.word ≡ (side d k).word → Alike k (changed t d s steps k)
-alike-changed t Plain s steps k e = record { processors = refl; processor = refl; words = w }
+alike-changed t Plain s steps k e = record { processors = refl; processor = refl; words = w; objects = refl }
   where
-    w : (d : Domain) → (side d (changed t Plain s steps k)).word % 2 ≡ (side d k).word % 2
-    w Plain = rw e refl
+    w : (d : Domain) → (side d (changed t Plain s steps k)).word ≡ (side d k).word
+    w Plain = e
     w Tracing = refl
-alike-changed t Tracing s steps k e = record { processors = refl; processor = refl; words = w }
+alike-changed t Tracing s steps k e = record { processors = refl; processor = refl; words = w; objects = refl }
   where
-    w : (d : Domain) → (side d (changed t Tracing s steps k)).word % 2 ≡ (side d k).word % 2
+    w : (d : Domain) → (side d (changed t Tracing s steps k)).word ≡ (side d k).word
     w Plain = refl
-    w Tracing = rw e refl
+    w Tracing = e
 
 pub alike-looked : (t : Bool) (d : Domain) (words : List ℕ) (k : Known) → Alike k (looked t d words k)
 alike-looked t d words k = alike-changed t d _ _ k refl
@@ -40,9 +40,9 @@ alike-finished t d k = alike-changed t d _ _ k refl
 
 -- a post's call may add steps, and change the parcels
 alike-but : (k : Known) (steps : List TableStep) (parcels : Option Inboxes) → Alike k (record k { steps = steps; parcels = parcels })
-alike-but k steps parcels = record { processors = refl; processor = refl; words = w }
+alike-but k steps parcels = record { processors = refl; processor = refl; words = w; objects = refl }
   where
-    w : (d : Domain) → (side d (record k { steps = steps; parcels = parcels })).word % 2 ≡ (side d k).word % 2
+    w : (d : Domain) → (side d (record k { steps = steps; parcels = parcels })).word ≡ (side d k).word
     w Plain = refl
     w Tracing = refl
 

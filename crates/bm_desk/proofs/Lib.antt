@@ -2,9 +2,10 @@ pub mod Rests
 pub mod Tests
 pub mod Onward
 pub mod Alike
-pub mod Quiet
+pub mod Still
 pub mod Points
 pub mod Steps
+mod Turning
 pub mod Mail
 pub mod Batches
 pub mod Came

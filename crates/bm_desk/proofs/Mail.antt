@@ -1,5 +1,5 @@
 -- Parcels that come, and those that go.
-use Rattle.std.proofs.Common.{◌≡◌, ℕ, Bool, List, [], map, Option, None, Some, IfSome, refl, sym, ◌∙◌, ap, subst, arith, inl, inr}
+use Rattle.std.proofs.Common.{◌≡◌, ◌<◌, ℕ, Bool, List, [], map, Option, None, Some, IfSome, refl, sym, ◌∙◌, ap, subst, arith, inl, inr}
 use Rattle.std.proofs.lemmas.Bool.Decides.{eqb_tells}
 use Rattle.std.specs.Prelude.{option_map}
 use Rattle.bm_journal.specs.Recording.{Appends}
@@ -11,6 +11,7 @@ use Rattle.bm_law.specs.Effect.{effect}
 use Rattle.bm_law.specs.Lists.{Log}
 use Rattle.bm_law.specs.State.{State}
 use Rattle.bm_law.proofs.Spans.{Records-one}
+use Rattle.bm_cache.specs.Lent.{with_first, with_hand}
 use Rattle.bm_cache.specs.Listed.{TookUnits}
 use Rattle.bm_cache.specs.Shown.{shown}
 use Rattle.bm_cache.specs.Span.{Face, Goes}
@@ -61,6 +62,20 @@ received-active l c ns us s k =
       | inr y ↦ rw y.0 refl
     ]
 
+-- what is lent leaves the target
+pub hand-target : (l c n : ℕ) (s t : State Token) (to : ℕ) → t ≡ with_hand l [] s → to ≡ (t.rows c).target → ((k : ℕ) → (s.rows k).target < n) → to < n
+hand-target l c n s t to e h a = subst (λ x. x < n) (sym (h ∙ ap (λ (z : State Token). (z.rows c).target) e)) (a c)
+
+first-target : (c k : ℕ) (us : List Token) (s : State Token) → ((with_first c us s).rows k).target ≡ (s.rows k).target
+first-target c k us s =
+    elim (eqb_tells k c) [
+      | inl y ↦ rw (y.0, y.1) refl
+      | inr y ↦ rw y.0 refl
+    ]
+
+pub batch-target : (c n : ℕ) (s t : State Token) (to : ℕ) → t ≡ with_first c [] s → to ≡ (t.rows c).target → ((k : ℕ) → (s.rows k).target < n) → to < n
+batch-target c n s t to e h a = subst (λ x. x < n) (sym (h ∙ ap (λ (z : State Token). (z.rows c).target) e ∙ first-target c c [] s)) (a c)
+
 module _ {H R W : Type 0} (log : R → Option Log) (faces : H → Face) (waits : H → ℕ) (stays : H → H → Type 0) (holds : H → Caches R) (shared : H → W) (known : W → Known) where
   -- the post gave the oldest parcel, or told that there is none, and that was recorded
   pub works-received : (tests : H → Tests) (join : (a b c : H) → stays a b → stays b c → stays a c) (h x k : H) (c : ℕ) (us : List Token) → Posted faces waits stays holds (λ z. known (shared z)) tests [] h x → Carries (known (shared h)).grace.processor (entry.Receive c (Whole (map number_of us))) (known (shared h)).parcels (known (shared x)).parcels → Handled faces waits stays shared tests x k → TookUnits log (faces x).level (entry.Receive c) (map number_of us) us (holds x) (holds k) → Works log faces waits stays holds (λ z. known (shared z)) 0 0 (λ l. Say l (IsOne (entry.Receive c (Whole (map number_of us))))) h k
@@ -78,14 +93,14 @@ module _ {H R W : Type 0} (log : R → Option Log) (faces : H → Face) (waits :
       let r = appends-whole log l (entry.Receive c) ns us (holds h) (holds k) v in
       let gx : Goes faces waits stays h x = record { face = p.face; pending = omega (arith, p.pending); keeps = p.stays } in
       let gk : Goes faces waits stays x k = record { face = d.face; pending = omega (arith, d.pending); keeps = d.stays } in
-      works-entry log faces waits stays holds (λ z. known (shared z)) h k e us (goes-join join gx gk) (ap K d.shared_is ∙ p.known_is) r v.processor v.after (received-active l c ns us (shown (holds h))) refl (delivered-one l n e (B (shared h)) (B (shared k)) a b (subst M (sym (ap B d.shared_is)) m) (Records-one l e a b r))
+      works-entry log faces waits stays holds (λ z. known (shared z)) h k e us tt (goes-join join gx gk) (ap K d.shared_is ∙ p.known_is) r v.processor v.after (received-active l c ns us (shown (holds h))) refl (delivered-one l (faces h).processors n e (B (shared h)) (B (shared k)) a b (subst M (sym (ap B d.shared_is)) m) tt (Records-one l e a b r))
 
   -- the post took a parcel, and that was recorded
-  pub mail-sent : (a w x y : H) (i to : ℕ) (ms ns : List ℕ) → shared w ≡ shared a → shared y ≡ shared x → ms ≡ ns → Carries (known (shared w)).grace.processor (entry.Send i to (Whole ms)) (known (shared w)).parcels (known (shared x)).parcels → Appends (log (holds a).recorder) (faces a).level (entry.Send i to (Whole ns)) (log (holds y).recorder) → Delivered (faces a).level (known (shared a)).grace.processor (known (shared a)).parcels (known (shared y)).parcels (log (holds a).recorder) (log (holds y).recorder)
-  mail-sent a w x y i to ms ns p q n m r =
+  pub mail-sent : (a w x y : H) (i to : ℕ) (ms ns : List ℕ) → to < (faces a).processors → shared w ≡ shared a → shared y ≡ shared x → ms ≡ ns → Carries (known (shared w)).grace.processor (entry.Send i to (Whole ms)) (known (shared w)).parcels (known (shared x)).parcels → Appends (log (holds a).recorder) (faces a).level (entry.Send i to (Whole ns)) (log (holds y).recorder) → Delivered (faces a).level (faces a).processors (known (shared a)).grace.processor (known (shared a)).parcels (known (shared y)).parcels (log (holds a).recorder) (log (holds y).recorder)
+  mail-sent a w x y i to ms ns f p q n m r =
       let l = (faces a).level in
       let e = entry.Send i to (Whole ns) in
       let B : W → Option Inboxes = λ v. (known v).parcels in
       let M : W → List ℕ → W → Type 0 = λ v us z. Carries (known v).grace.processor (entry.Send i to (Whole us)) (B v) (B z) in
       let c : M (shared a) ns (shared y) = subst (λ v. M v ns (shared y)) p (subst (λ us. M (shared w) us (shared y)) n (subst (M (shared w) ms) (sym q) m)) in
-      delivered-one l (known (shared a)).grace.processor e (B (shared a)) (B (shared y)) (log (holds a).recorder) (log (holds y).recorder) c (Records-one l e (log (holds a).recorder) (log (holds y).recorder) r)
+      delivered-one l (faces a).processors (known (shared a)).grace.processor e (B (shared a)) (B (shared y)) (log (holds a).recorder) (log (holds y).recorder) c f (Records-one l e (log (holds a).recorder) (log (holds y).recorder) r)

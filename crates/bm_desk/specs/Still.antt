@@ -5,7 +5,9 @@ use Rattle.bm_desk.specs.Goes.{Alike, GoesOn}
 
 pub goes-still : (a b : Known) → b ≡ a → GoesOn a b
 goes-still a b e = subst (λ (x : Known). GoesOn a x) (sym e) record {
-  alike = record { processors = refl; processor = refl; words = λ d. refl };
+  processors = refl;
+  processor = refl;
+  words = λ d. refl;
   number = λ d. refl;
   first = λ d. refl;
   later = λ d. refl;
@@ -14,6 +16,10 @@ goes-still a b e = subst (λ (x : Known). GoesOn a x) (sym e) record {
   parcels = refl;
 }
 
--- and so it is over two calls
+-- and so it is alike
+pub alike-still : (a b : Known) → b ≡ a → Alike a b
+alike-still a b e = subst (λ (x : Known). Alike a x) (sym e) record { processors = refl; processor = refl; words = λ d. refl; objects = refl }
+
+-- also over two calls
 pub alike-joined : (a b c : Known) → Alike a b → Alike b c → Alike a c
-alike-joined a b c x y = record { processors = y.processors ∙ x.processors; processor = y.processor ∙ x.processor; words = λ d. y.words d ∙ x.words d }
+alike-joined a b c x y = record { processors = y.processors ∙ x.processors; processor = y.processor ∙ x.processor; words = λ d. y.words d ∙ x.words d; objects = y.objects ∙ x.objects }

@@ -5,7 +5,7 @@ ghost use Rattle.std.proofs.Common.{◌∙◌, ap};
 ghost use Rattle.bm_cache.specs.Span.{Face};
 ghost use Rattle.bm_desk.specs.DeskTests.{tests_by};
 ghost use Rattle.bm_desk.specs.Goes.{Alike};
-ghost use Rattle.bm_desk.specs.Still.{alike-joined, goes-still};
+ghost use Rattle.bm_desk.specs.Still.{alike-joined, alike-still, goes-still};
 ghost use Rattle.bm_journal.specs.Recording.{none-is_none};
 
 use crate::Desk;
@@ -94,7 +94,7 @@ impl<R: Recorder, S: World> Desk<R> for TestDesk<R, S> {
 
     ghost known_goes = { λ a b k. goes-still (S.Knows.known a.side) (S.Knows.known b.side) k };
 
-    ghost keeps_stays = { λ a b k. (goes-still (S.Knows.known a.side) (S.Knows.known b.side) k).alike };
+    ghost keeps_stays = { λ a b k. alike-still (S.Knows.known a.side) (S.Knows.known b.side) k };
 
     ghost stays_join = { λ a b c k m. alike-joined (S.Knows.known a.side) (S.Knows.known b.side) (S.Knows.known c.side) k m };
 }

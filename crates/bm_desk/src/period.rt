@@ -3,18 +3,18 @@
 ghost use Rattle.std.specs.Prelude.{◌≡◌, ◌+◌, ◌<◌, ◌%◌, ◌^◌, ◌-◌, true, false};
 ghost use Rattle.bm_law.specs.SweepPhrases.{MayBegin, MayFinish};
 ghost use Rattle.bm_grace.specs.Answers.{Answers, CanFinish, number_in};
-ghost use Rattle.bm_grace.specs.Calls.{read};
+ghost use Rattle.bm_grace.specs.Calls.{began, finished, read};
 ghost use Rattle.bm_grace.specs.Known.{side};
 ghost use Rattle.bm_grace.specs.Rights.{Ages};
 ghost use Rattle.bm_grace.specs.declared.answer.Look.TheVariants as look_answer;
 ghost use Rattle.bm_cache.specs.Shown.{shown};
 ghost use Rattle.bm_cache.specs.Tokens.{Token};
 ghost use Rattle.bm_deferred.specs.Parts.{Say};
-ghost use Rattle.bm_deferred.specs.WorkPhrases.{IsOne};
+ghost use Rattle.bm_journal.specs.Recording.{Appends};
 ghost use Rattle.bm_journal.specs.declared.entry.Entry.TheVariants as entry;
 ghost use Rattle.bm_desk.specs.DeskTests.{Ripened};
 ghost use Rattle.bm_desk.specs.Periods.{Ends};
-ghost use Rattle.bm_desk.specs.Works.{Called, Stands, Works, plain_of, tracing_of};
+ghost use Rattle.bm_desk.specs.Works.{Called, Handled, Stands, Turned, Works, plain_of, tracing_of};
 
 use crate::Desk;
 use bm_cache::Host;
@@ -48,7 +48,8 @@ fn finish_now<R: Recorder, H: Desk<R>>(host: &mut H, domain: Domain) -> Period
     requires stands { Stands R.log R.counts H.Host.sound H.Host.tests H.Host.face H.Host.held host.old }
     requires passed { CanFinish domain (H.W.Knows.known (H.shared host.old)) }
     ensures domain { result.domain ≡ domain }
-    ensures called { Called H.Host.face H.Host.pending H.stays H.Host.held (λ h. H.W.Knows.known (H.shared h)) (λ h. H.W.Knows.rights (H.shared h)) 0 0 host.old host.new }
+    ensures known { H.W.Knows.known (H.shared host.new) ≡ finished H.W.Knows.tells domain (H.W.Knows.known (H.shared host.old)) }
+    ensures turned { Turned H.Host.face H.Host.pending H.stays H.Host.held (λ h. H.W.Knows.known (H.shared h)) (λ h. H.W.Knows.rights (H.shared h)) 0 0 host.old host.new }
     ensures stands { Stands R.log R.counts H.Host.sound H.Host.tests H.Host.face H.Host.held host.new }
 {
     host.world().finish(domain)
@@ -57,10 +58,10 @@ fn finish_now<R: Recorder, H: Desk<R>>(host: &mut H, domain: Domain) -> Period
 /// Records that a period has ended.
 fn note_finished<R: Recorder, H: Desk<R>>(host: &mut H, period: Period)
     requires stands { Stands R.log R.counts H.Host.sound H.Host.tests H.Host.face H.Host.held host.old }
-    ensures works { Works R.log H.Host.face H.Host.pending H.stays H.Host.held (λ h. H.W.Knows.known (H.shared h)) 0 0 (λ l. Say l (IsOne (entry.Finish period))) host.old host.new }
+    ensures step { Appends (R.log (H.Host.held host.old).recorder) (H.Host.face host.old).level (entry.Finish period) (R.log (H.Host.held host.new).recorder) }
     ensures lists { shown (H.Host.held host.new) ≡ shown (H.Host.held host.old) }
-    ensures quiet { H.Host.pending host.new ≡ H.Host.pending host.old }
-    ensures ages { Ages (H.W.Knows.rights (H.shared host.old)) (H.W.Knows.rights (H.shared host.new)) }
+    ensures processor { (H.Host.held host.new).processor ≡ (H.Host.held host.old).processor }
+    ensures handled { Handled H.Host.face H.Host.pending H.stays H.shared H.Host.tests host.old host.new }
     ensures stands { Stands R.log R.counts H.Host.sound H.Host.tests H.Host.face H.Host.held host.new }
 {
     let level = host.level();
@@ -114,7 +115,8 @@ fn try_begin<R: Recorder, H: Desk<R>>(host: &mut H, domain: Domain, even: u32) -
     requires even { even % 2 ≡ 0 }
     requires idle { (side domain (H.W.Knows.known (H.shared host.old))).number ≡ 0 }
     requires room { 0 < (side domain (H.W.Knows.known (H.shared host.old))).begins }
-    ensures called { Called H.Host.face H.Host.pending H.stays H.Host.held (λ h. H.W.Knows.known (H.shared h)) (λ h. H.W.Knows.rights (H.shared h)) (plain_of domain) (tracing_of domain) host.old host.new }
+    ensures known { H.W.Knows.known (H.shared host.new) ≡ began H.W.Knows.tells domain result even (H.W.Knows.known (H.shared host.old)) }
+    ensures turned { Turned H.Host.face H.Host.pending H.stays H.Host.held (λ h. H.W.Knows.known (H.shared h)) (λ h. H.W.Knows.rights (H.shared h)) (plain_of domain) (tracing_of domain) host.old host.new }
     ensures stands { Stands R.log R.counts H.Host.sound H.Host.tests H.Host.face H.Host.held host.new }
 {
     host.world().begin(domain, even)
@@ -123,10 +125,10 @@ fn try_begin<R: Recorder, H: Desk<R>>(host: &mut H, domain: Domain, even: u32) -
 /// Records that a period has begun, by which the number of a domain is `number`.
 fn note_begun<R: Recorder, H: Desk<R>>(host: &mut H, domain: Domain, number: u32)
     requires stands { Stands R.log R.counts H.Host.sound H.Host.tests H.Host.face H.Host.held host.old }
-    ensures works { Works R.log H.Host.face H.Host.pending H.stays H.Host.held (λ h. H.W.Knows.known (H.shared h)) 0 0 (λ l. Say l (IsOne (entry.Begin domain number))) host.old host.new }
+    ensures step { Appends (R.log (H.Host.held host.old).recorder) (H.Host.face host.old).level (entry.Begin domain number) (R.log (H.Host.held host.new).recorder) }
     ensures lists { shown (H.Host.held host.new) ≡ shown (H.Host.held host.old) }
-    ensures quiet { H.Host.pending host.new ≡ H.Host.pending host.old }
-    ensures ages { Ages (H.W.Knows.rights (H.shared host.old)) (H.W.Knows.rights (H.shared host.new)) }
+    ensures processor { (H.Host.held host.new).processor ≡ (H.Host.held host.old).processor }
+    ensures handled { Handled H.Host.face H.Host.pending H.stays H.shared H.Host.tests host.old host.new }
     ensures stands { Stands R.log R.counts H.Host.sound H.Host.tests H.Host.face H.Host.held host.new }
 {
     let level = host.level();
@@ -146,9 +148,12 @@ fn begin_at<R: Recorder, H: Desk<R>>(host: &mut H, domain: Domain, even: u32)
     ensures ages { Ages (H.W.Knows.rights (H.shared host.old)) (H.W.Knows.rights (H.shared host.new)) }
     ensures stands { Stands R.log R.counts H.Host.sound H.Host.tests H.Host.face H.Host.held host.new }
 {
-    if try_begin(host, domain, even) == Began::Won {
-        note_begun(host, domain, even + 1);
-        finish_if_passed(host, domain);
+    match try_begin(host, domain, even) {
+        Began::Won => {
+            note_begun(host, domain, even + 1);
+            finish_if_passed(host, domain);
+        }
+        Began::Moved(_) => {}
     }
 }
 

@@ -1,4 +1,4 @@
--- What a processor's side knows of the words that all processors share.
+-- What a processor's side knows of what all processors share.
 use Rattle.std.specs.Prelude.{ℕ, Option, None, List, []}
 use Rattle.bm_journal.specs.declared.ids.Domain.{Domain}
 use Rattle.bm_journal.specs.declared.ids.Domain.TheVariants.{Plain, Tracing}
@@ -25,6 +25,21 @@ pub record Sides : Type 0 where
   pub plain : Side
   pub tracing : Side
 
+-- An object that lives: the class of its unit, and which life of the unit it is.
+pub record Living : Type 0 where
+  pub class : ℕ
+  pub life : ℕ
+
+-- by the numbers of units
+abbrev pub Lives : Type 0
+Lives = ℕ → Option Living
+
+-- The objects that live on a side, and how many were asked for there. No call on grace periods, parcels or the stock
+-- changes them.
+pub record Objects : Type 0 where
+  pub lives : Lives
+  pub asked : ℕ
+
 -- all of it
 pub record Known : Type 0 where
   pub grace : Sides
@@ -32,10 +47,15 @@ pub record Known : Type 0 where
   pub steps : List TableStep
   -- the parcels in its own inbox of each class, by the numbers of their units, the oldest first, where they are told
   pub parcels : Option (ℕ → List (List ℕ))
+  pub objects : Objects
 
 abbrev pub side : Domain → Known → Side
 side Plain known = known.grace.plain
 side Tracing known = known.grace.tracing
+
+-- where none lives, and none was asked for
+abbrev pub no_objects : Objects
+no_objects = record { lives = λ n. None; asked = 0 }
 
 -- of what has no part in grace periods
 abbrev pub no_side : Side
@@ -46,4 +66,5 @@ no_known = record {
   grace = record { processors = 0; processor = 0; plain = no_side; tracing = no_side };
   steps = [];
   parcels = None;
+  objects = no_objects;
 }

@@ -4,7 +4,7 @@ use Rattle.bm_journal.specs.declared.ids.Domain.{Domain}
 use Rattle.bm_journal.specs.declared.ids.Domain.TheVariants.{Plain, Tracing}
 use Rattle.bm_grace.specs.declared.answer.Began.{Began}
 use Rattle.bm_grace.specs.declared.answer.Began.TheVariants.{Won, Moved}
-use Rattle.bm_grace.specs.Known.{Known, Side}
+use Rattle.bm_grace.specs.Known.{Known, Side, no_objects}
 use Rattle.bm_grace.specs.Calls.{first_or}
 
 -- One domain: by processor its section word and how many periods it may still begin, 0 and 2^27 for those of the eight
@@ -88,7 +88,7 @@ side_in processor here =
       seen = here.number;
     }
 
--- What the processor whose side it is knows. No steps are told, and no parcels.
+-- What the processor whose side it is knows. No steps are told, no parcels, and no objects.
 abbrev pub known_in : PlainState → Known
 known_in state = record {
   grace = record {
@@ -99,4 +99,5 @@ known_in state = record {
   };
   steps = [];
   parcels = None;
+  objects = no_objects;
 }

@@ -10,6 +10,7 @@ use Rattle.bm_journal.specs.declared.entry.Entry.TheVariants as entry
 use Rattle.bm_law.specs.State.{seven_lists}
 use Rattle.bm_law.specs.Lists.{Log}
 use Rattle.bm_law.specs.SweepPhrases.{SweepPhrase}
+pub use Rattle.bm_deferred.specs.Begun.{begun_after}
 use Rattle.bm_deferred.specs.Parts.{Part, Nothing, Stand, Say, Then}
 
 -- processor 0 begins the closing
@@ -17,18 +18,7 @@ abbrev pub close_of : ℕ → List Entry
 close_of zero = entry.Close ∷ []
 close_of (suc p) = []
 
--- this where the domains are the same one, and else that
-abbrev pub for_domain : {A : Type 0} → Domain → Domain → A → A → A
-for_domain Plain Plain this that = this
-for_domain Tracing Tracing this that = this
-for_domain _ _ this that = that
-
--- the number with which the period of this domain that is in progress began, if one is: after one entry, and after a log
-abbrev pub begun_after : Domain → Option ℕ → Entry → Option ℕ
-begun_after d begun (entry.Begin e n) = for_domain d e (Some n) begun
-begun_after d begun (entry.Finish period) = for_domain d period.domain None begun
-begun_after d begun _ = begun
-
+-- the number with which the period of this domain that is in progress began, if one is, after a log
 abbrev pub in_progress : Domain → Option ℕ → Log → Option ℕ
 in_progress d begun [] = begun
 in_progress d begun (e ∷ es) = in_progress d (begun_after d begun e.1) es

@@ -4,10 +4,11 @@ use Rattle.std.specs.Prelude.{◌≡◌, ℕ, ◌+◌, ◌%◌, ◌^◌, ◌<◌
 use Rattle.std.specs.List.{All}
 use Rattle.std.proofs.lemmas.Bool.{and_parts}
 use Rattle.bm_journal.specs.declared.ids.Domain.{Domain}
+use Rattle.bm_journal.specs.declared.ids.Domain.TheVariants.{Plain, Tracing}
 use Rattle.bm_page.specs.declared.units.Seal.{Seal}
 use Rattle.bm_page.specs.UnitState.{UnitState}
 use Rattle.bm_page.specs.Stock.{stocked_at}
-use Rattle.bm_grace.specs.Known.{side}
+use Rattle.bm_grace.specs.Known.{Known, Living, Lives, side}
 use Rattle.bm_grace.specs.Rights.{Rights}
 use Rattle.bm_post.specs.HasRoom.{has_room, room-of}
 use Rattle.bm_post.specs.PostState.{PostState, is_mine}
@@ -19,6 +20,18 @@ pub record LivingState : Type 0 where
   pub side : SideState
   pub slots : List (Option UnitState)
   pub asked : ℕ
+
+-- the object that a unit is, where it lives
+abbrev pub living_of : Option UnitState → Option Living
+living_of None = None
+living_of (Some unit) = Some (record { class = unit.class; life = unit.life })
+
+abbrev pub lives_of : List (Option UnitState) → Lives
+lives_of slots = λ n. living_of (unit_at slots n)
+
+-- It knows what its side knows, and tells what lives.
+abbrev pub known_living : LivingState → Known
+known_living world = record (known_of world.side) { objects = record { lives = lives_of world.slots; asked = world.asked } }
 
 -- Whether a unit with these lives so far may be used again: it has room for one life more, and has had no more lives than
 -- objects were asked for.
@@ -85,5 +98,6 @@ pub record AreLiving (post : PostState) (slots : List (Option UnitState)) (asked
 pub room-living : (p : LivingState) (n life : ℕ) (seal : Option Seal) → (rights_living p).settled n life seal ≡ true → (n < 2 ^ 16) × (life + 1 < 2 ^ 32)
 room-living p n life seal h = room-of n life seal (and_parts (has_room n life) (nat_le life p.asked) h).0
 
-pub idle-living : (world : LivingState) (d : Domain) (n : ℕ) → LivingAtRest world d n → n % 2 ≡ 0 → (side d (known_of world.side)).number ≡ 0
-idle-living world = idle-of world.side
+pub idle-living : (world : LivingState) (d : Domain) (n : ℕ) → LivingAtRest world d n → n % 2 ≡ 0 → (side d (known_living world)).number ≡ 0
+idle-living world Plain n rest even = idle-of world.side Plain n rest even
+idle-living world Tracing n rest even = idle-of world.side Tracing n rest even

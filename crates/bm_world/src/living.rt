@@ -16,9 +16,8 @@ ghost use Rattle.bm_post.specs.PostState.{all_returned, inbox, sent_to, taken_by
 ghost use Rattle.bm_post.specs.Calls.{Fetches, GivesBack, IsOf, Mails, Posts, Receives};
 ghost use Rattle.bm_post.specs.Parcels.{oldest, parcel_sent, parcel_taken};
 ghost use Rattle.bm_post.specs.Rights.{AreSame, Gains, Holds, IsSettled, Lasting, Loses, MayLeave, numbers};
-ghost use Rattle.bm_world.specs.SideState.{known_of};
 ghost use Rattle.bm_world.specs.Slots.{AllEmpty, unit_at};
-ghost use Rattle.bm_world.specs.LivingState.{HaveLived, LivingAtRest, idle-living, next_life, rights_living, room-living, with_asked, with_begun, with_ended};
+ghost use Rattle.bm_world.specs.LivingState.{HaveLived, LivingAtRest, idle-living, known_living, next_life, rights_living, room-living, with_asked, with_begun, with_ended};
 
 use crate::slots::Slots;
 use crate::{OneSide, World};
@@ -125,7 +124,7 @@ impl LivingSide {
         requires room { self.old.asked + 1 < 2 ^ 31 }
         requires mine { (rights_living self.old).mine unit.number ≡ true }
         requires settled { IsSettled (rights_living self.old) unit }
-        requires home { unit.home < self.old.side.post.processors }
+        requires home { unit.home < self.old.side.grace.processors }
         ensures object { result ≡ record { unit = unit.number; life = unit.life + 1 } }
         ensures none { unit_at self.old.slots unit.number ≡ None }
         ensures state { self.new ≡ with_begun unit self.old }
@@ -134,6 +133,7 @@ impl LivingSide {
         ensures lasts { Lasting [] (rights_living self.old) (rights_living self.new) }
         ensures rest { StaysAtRest LivingAtRest self.old self.new }
     {
+        self.side.processors_agree();
         let mut unit = unit;
         unit.begin_life();
         let object = ObjId {
@@ -153,16 +153,17 @@ impl LivingSide {
         ensures state { self.new ≡ with_ended number self.old }
         ensures mine { Gains (number ∷ []) (rights_living self.old) (rights_living self.new) }
         ensures settled { IsSettled (rights_living self.new) result }
-        ensures home { result.home < self.old.side.post.processors }
+        ensures home { result.home < self.old.side.grace.processors }
         ensures lasts { Lasting [] (rights_living self.old) (rights_living self.new) }
         ensures rest { StaysAtRest LivingAtRest self.old self.new }
     {
+        self.side.processors_agree();
         self.slots.take(number)
     }
 }
 
 impl Knows for LivingSide {
-    ghost known = { λ world. known_of world.side };
+    ghost known = { known_living };
 
     ghost tells = { false };
 
@@ -173,15 +174,15 @@ impl Knows for LivingSide {
 
 impl Grace for LivingSide {
     fn enter(&mut self, domain: Domain) -> u32
-        requires outside { (side domain (known_of self.old.side)).word % 2 ≡ 0 }
-        requires room { (side domain (known_of self.old.side)).word < 2 ^ 28 }
+        requires outside { (side domain (known_living self.old)).word % 2 ≡ 0 }
+        requires room { (side domain (known_living self.old)).word < 2 ^ 28 }
         ensures post { self.new.side.post ≡ self.old.side.post }
         ensures slots { self.new.slots ≡ self.old.slots }
         ensures asked { self.new.asked ≡ self.old.asked }
         ensures grace { self.new.side.grace
             ≡ with_domain domain (word_moved self.old.side.grace.processor (domain_in domain self.old.side.grace)) self.old.side.grace }
-        ensures word { result ≡ (side domain (known_of self.old.side)).word + 1 }
-        ensures known { known_of self.new.side ≡ entered false domain (known_of self.old.side) }
+        ensures word { result ≡ (side domain (known_living self.old)).word + 1 }
+        ensures known { known_living self.new ≡ entered false domain (known_living self.old) }
         ensures rights { Ages (rights_living self.old) (rights_living self.new) }
         ensures same { AsBefore (rights_living self.old) (rights_living self.new) }
     {
@@ -189,14 +190,14 @@ impl Grace for LivingSide {
     }
 
     fn leave(&mut self, domain: Domain) -> u32
-        requires inside { (side domain (known_of self.old.side)).word % 2 ≡ 1 }
+        requires inside { (side domain (known_living self.old)).word % 2 ≡ 1 }
         ensures post { self.new.side.post ≡ self.old.side.post }
         ensures slots { self.new.slots ≡ self.old.slots }
         ensures asked { self.new.asked ≡ self.old.asked }
         ensures grace { self.new.side.grace
             ≡ with_domain domain (word_moved self.old.side.grace.processor (domain_in domain self.old.side.grace)) self.old.side.grace }
-        ensures word { result ≡ (side domain (known_of self.old.side)).word + 1 }
-        ensures known { known_of self.new.side ≡ left false domain (known_of self.old.side) }
+        ensures word { result ≡ (side domain (known_living self.old)).word + 1 }
+        ensures known { known_living self.new ≡ left false domain (known_living self.old) }
         ensures rights { Ages (rights_living self.old) (rights_living self.new) }
         ensures same { AsBefore (rights_living self.old) (rights_living self.new) }
     {
@@ -206,7 +207,7 @@ impl Grace for LivingSide {
     fn stamp(&mut self, domain: Domain) -> u32
         ensures stamp { result ≡ next (domain_in domain self.old.side.grace).number }
         ensures state { self.new ≡ self.old }
-        ensures known { Stamped false domain result (known_of self.old.side) (known_of self.new.side) }
+        ensures known { Stamped false domain result (known_living self.old) (known_living self.new) }
         ensures rights { Ages (rights_living self.old) (rights_living self.new) }
         ensures since { MineSince domain result (rights_living self.old) (rights_living self.new) }
         ensures rest { StaysAtRest LivingAtRest self.old self.new }
@@ -219,8 +220,8 @@ impl Grace for LivingSide {
         ensures number { number_in result ≡ (domain_in domain self.old.side.grace).number }
         ensures state { self.new ≡ self.old }
         ensures answer { Answers result stamp }
-        ensures seen { (side domain (known_of self.old.side)).seen ≤ number_in result }
-        ensures known { known_of self.new.side ≡ read false domain (number_in result) (known_of self.old.side) }
+        ensures seen { (side domain (known_living self.old)).seen ≤ number_in result }
+        ensures known { known_living self.new ≡ read false domain (number_in result) (known_living self.old) }
         ensures rights { Ages (rights_living self.old) (rights_living self.new) }
         ensures ripe { Ripens domain stamp result (rights_living self.old) (rights_living self.new) }
         ensures rest { StaysAtRest LivingAtRest self.old self.new }
@@ -231,8 +232,8 @@ impl Grace for LivingSide {
 
     fn begin(&mut self, domain: Domain, even: u32) -> Began
         requires even { even % 2 ≡ 0 }
-        requires idle { (side domain (known_of self.old.side)).number ≡ 0 }
-        requires room { 0 < (side domain (known_of self.old.side)).begins }
+        requires idle { (side domain (known_living self.old)).number ≡ 0 }
+        requires room { 0 < (side domain (known_living self.old)).begins }
         ensures found { found_at even result ≡ (domain_in domain self.old.side.grace).number }
         ensures post { self.new.side.post ≡ self.old.side.post }
         ensures slots { self.new.slots ≡ self.old.slots }
@@ -240,8 +241,8 @@ impl Grace for LivingSide {
         ensures grace { self.new.side.grace
             ≡ with_domain domain (period_begun self.old.side.grace.processor result (domain_in domain self.old.side.grace)) self.old.side.grace }
         ensures answer { BeganAt result even }
-        ensures seen { (side domain (known_of self.old.side)).seen ≤ found_at even result }
-        ensures known { known_of self.new.side ≡ began false domain result even (known_of self.old.side) }
+        ensures seen { (side domain (known_living self.old)).seen ≤ found_at even result }
+        ensures known { known_living self.new ≡ began false domain result even (known_living self.old) }
         ensures rights { Ages (rights_living self.old) (rights_living self.new) }
         ensures rest { MovesNumber LivingAtRest domain even (even + 1) self.old self.new }
         ensures at_rest { LivingAtRest self.old domain even → result ≡ Won }
@@ -250,16 +251,16 @@ impl Grace for LivingSide {
     }
 
     fn look(&mut self, domain: Domain) -> Look
-        requires driving { (side domain (known_of self.old.side)).number % 2 ≡ 1 }
+        requires driving { (side domain (known_living self.old)).number % 2 ≡ 1 }
         ensures post { self.new.side.post ≡ self.old.side.post }
         ensures slots { self.new.slots ≡ self.old.slots }
         ensures asked { self.new.asked ≡ self.old.asked }
         ensures grace { self.new.side.grace
             ≡ with_domain domain (period_looked (words_in domain self.old.side.grace) (domain_in domain self.old.side.grace)) self.old.side.grace }
-        ensures first { length (side domain (known_of self.new.side)).first ≡ looks domain self.old.side.grace.processors }
-        ensures later { length (side domain (known_of self.new.side)).later ≡ looks domain self.old.side.grace.processors }
-        ensures answer { let s = side domain (known_of self.new.side) in Verdict result domain s.first s.later }
-        ensures known { known_of self.new.side ≡ looked false domain (side domain (known_of self.new.side)).later (known_of self.old.side) }
+        ensures first { length (side domain (known_living self.new)).first ≡ looks domain self.old.side.grace.processors }
+        ensures later { length (side domain (known_living self.new)).later ≡ looks domain self.old.side.grace.processors }
+        ensures answer { let s = side domain (known_living self.new) in Verdict result domain s.first s.later }
+        ensures known { known_living self.new ≡ looked false domain (side domain (known_living self.new)).later (known_living self.old) }
         ensures rights { Ages (rights_living self.old) (rights_living self.new) }
         ensures rest { StaysAtRest LivingAtRest self.old self.new }
         ensures at_rest { (n : ℕ) → LivingAtRest self.old domain n → result ≡ AllPass }
@@ -268,13 +269,13 @@ impl Grace for LivingSide {
     }
 
     fn finish(&mut self, domain: Domain) -> Period
-        requires { CanFinish domain (known_of self.old.side) }
+        requires { CanFinish domain (known_living self.old) }
         ensures post { self.new.side.post ≡ self.old.side.post }
         ensures slots { self.new.slots ≡ self.old.slots }
         ensures asked { self.new.asked ≡ self.old.asked }
         ensures grace { self.new.side.grace ≡ with_domain domain (period_ended (domain_in domain self.old.side.grace)) self.old.side.grace }
-        ensures period { result ≡ ended domain (side domain (known_of self.old.side)) }
-        ensures known { known_of self.new.side ≡ finished false domain (known_of self.old.side) }
+        ensures period { result ≡ ended domain (side domain (known_living self.old)) }
+        ensures known { known_living self.new ≡ finished false domain (known_living self.old) }
         ensures rights { Ages (rights_living self.old) (rights_living self.new) }
         ensures rest { (n : ℕ) → MovesNumber LivingAtRest domain n (n + 1) self.old self.new }
     {
@@ -283,8 +284,8 @@ impl Grace for LivingSide {
 
     fn driving(&self, domain: Domain) -> bool
         ensures is { result ≡ is_processor self.now.side.grace.processor (domain_in domain self.now.side.grace).driver }
-        ensures none { result ≡ false → (side domain (known_of self.now.side)).number ≡ 0 }
-        ensures odd { result ≡ true → (side domain (known_of self.now.side)).number % 2 ≡ 1 }
+        ensures none { result ≡ false → (side domain (known_living self.now)).number ≡ 0 }
+        ensures odd { result ≡ true → (side domain (known_living self.now)).number % 2 ≡ 1 }
     {
         self.side.driving(domain)
     }
@@ -307,7 +308,7 @@ impl Post for LivingSide {
         ensures err { OnErr result (out.new.items ≡ out.old.items) }
         ensures same { OnErr result (AreSame (rights_living self.old) (rights_living self.new)) }
         ensures lasts { Lasting [] (rights_living self.old) (rights_living self.new) }
-        ensures known { Posts false (known_of self.old.side) (known_of self.new.side) }
+        ensures known { Posts false (known_living self.old) (known_living self.new) }
         ensures rest { StaysAtRest LivingAtRest self.old self.new }
     {
         self.side.fetch(class, want, out)
@@ -322,7 +323,7 @@ impl Post for LivingSide {
         ensures asked { self.new.asked ≡ self.old.asked }
         ensures back { GivesBack (numbers units.items) (rights_living self.old) (rights_living self.new) }
         ensures lasts { Lasting (numbers units.items) (rights_living self.old) (rights_living self.new) }
-        ensures known { Posts false (known_of self.old.side) (known_of self.new.side) }
+        ensures known { Posts false (known_living self.old) (known_living self.new) }
         ensures rest { StaysAtRest LivingAtRest self.old self.new }
     {
         self.side.put_back(units);
@@ -345,8 +346,8 @@ impl Post for LivingSide {
         ensures lasts { Lasting (numbers units.items) (rights_living self.old) (rights_living self.new) }
         ensures may { OnErr result (All (MayLeave (rights_living self.new)) units.items) }
         ensures mails { OnOk result
-            (Mails false (parcel_sent to self.old.side.grace.processor class (numbers units.items)) (known_of self.old.side) (known_of self.new.side)) }
-        ensures known { OnErr result (Posts false (known_of self.old.side) (known_of self.new.side)) }
+            (Mails false (parcel_sent to self.old.side.grace.processor class (numbers units.items)) (known_living self.old) (known_living self.new)) }
+        ensures known { OnErr result (Posts false (known_living self.old) (known_living self.new)) }
         ensures rest { StaysAtRest LivingAtRest self.old self.new }
     {
         self.side.send(to, class, units)
@@ -364,7 +365,7 @@ impl Post for LivingSide {
         ensures some { IfSome result (λ units. Receives class units.items (rights_living self.old) (rights_living self.new)) }
         ensures none { IfNone result (AreSame (rights_living self.old) (rights_living self.new)) }
         ensures lasts { Lasting [] (rights_living self.old) (rights_living self.new) }
-        ensures mails { Mails false (parcel_taken class) (known_of self.old.side) (known_of self.new.side) }
+        ensures mails { Mails false (parcel_taken class) (known_living self.old) (known_living self.new) }
         ensures oldest_told { oldest (told_in self.old.side.post class) ≡ option_map_or (λ units. numbers units.items) result [] }
         ensures none_told { IfNone result (told_in self.old.side.post class ≡ []) }
         ensures rest { StaysAtRest LivingAtRest self.old self.new }

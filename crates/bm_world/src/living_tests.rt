@@ -25,7 +25,7 @@ fn one_page(rt: &(impl Abort + AllocGlobal)) -> Pool
 /// The side of the one processor, where nothing lives and no object was asked for.
 fn living_side(rt: &(impl Abort + AllocGlobal)) -> LivingSide
     ensures asked { result.asked ≡ 0 }
-    ensures processors { result.side.post.processors ≡ 1 }
+    ensures processors { result.side.grace.processors ≡ 1 }
 {
     match PlainPost::create(rt.alloc(), one_page(rt), 1) {
         Ok(post) => match LivingSide::create(rt.alloc(), OneSide::new(post, PlainGrace::new(1))) {
@@ -42,7 +42,7 @@ fn fetch_one(rt: &(impl Abort + AllocGlobal), world: &mut LivingSide, class: Cla
     ensures settled { IsSettled (rights_living world.new) result }
     ensures home { result.home ≡ 0 }
     ensures asked { world.new.asked ≡ world.old.asked }
-    ensures processors { world.new.side.post.processors ≡ world.old.side.post.processors }
+    ensures processors { world.new.side.grace.processors ≡ world.old.side.grace.processors }
 {
     let mut units = Vec::new(rt.alloc());
     let count = world

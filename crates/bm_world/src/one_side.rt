@@ -65,6 +65,13 @@ impl OneSide {
         (post, grace)
     }
 
+    /// Both parts have as many processors.
+    pub fn processors_agree(&self)
+        ensures { self.now.post.processors ≡ self.now.grace.processors }
+    {
+        let _ = &self.post;
+    }
+
     /// Makes it the side of a processor.
     pub fn turn(&mut self, processor: u8)
         requires { processor < self.old.post.processors }

@@ -1,15 +1,24 @@
-use Rattle.std.proofs.Common.{◌+◌, ◌++◌, ℕ, List, ap, inr, arith}
+use Rattle.std.proofs.Common.{◌≡◌, ◌+◌, ◌++◌, ◌∙◌, ℕ, List, [], ap, inl, inr, arith, refl, subst, sym}
+use Rattle.bm_journal.specs.declared.ids.Domain.{Domain}
 use Rattle.bm_journal.specs.declared.entry.Entry.{Entry}
 use Rattle.bm_journal.specs.declared.entry.Entry.TheVariants as entry
+use Rattle.bm_grace.specs.Calls.{began}
+use Rattle.bm_grace.specs.Known.{Known, side}
+use Rattle.bm_grace.specs.declared.answer.Began.{Began}
+use Rattle.bm_grace.specs.declared.answer.Began.TheVariants.{Moved, Won}
 use Rattle.bm_law.specs.SweepPhrases.{MayBegin, MayFinish}
-use Rattle.bm_deferred.specs.Parts.{Part, Say}
+use Rattle.bm_deferred.specs.Begun.{begun_after, begun_by}
+use Rattle.bm_law.specs.Lists.{Log}
+use Rattle.bm_law.specs.State.{State}
+use Rattle.bm_deferred.specs.Parts.{Nothing, Part, Say}
 use Rattle.bm_deferred.specs.WorkPhrases.{IsOne}
 use Rattle.bm_desk.specs.Works.{plain_of, tracing_of}
-use Rattle.bm_desk.proofs.Sides.{works-at-most, called-works, works-join, say-join}
+use Rattle.bm_desk.proofs.Sides.{works-at-most, works-called, works-join, works-map, say-join}
+use Rattle.bm_desk.proofs.Turning.{begun-won, called-turned, numbers-moved, works-turned}
 use Rattle.bm_desk.proofs.period.begin_at.Goals as goal
 
-pub returns-then-eq-clause-works : goal.returns-then-eq-clause-works
-returns-then-eq-clause-works g c =
+pub returns-in-Won-clause-works : goal.returns-in-Won-clause-works
+returns-in-Won-clause-works g c =
     let d = c.args.domain in
     let n = c.args.even + 1 in
     let P : ℕ → Part = λ l. Say l (IsOne (entry.Begin d n)) in
@@ -21,6 +30,25 @@ returns-then-eq-clause-works g c =
     let y = c.finish_if_passed.new.host in
     let j = g.met.H.Desk.stays_join in
     let f : (v w : List Entry) → IsOne (entry.Begin d n) v → MayFinish d w → MayBegin d (v ++ w) = λ v w i m. inr (n, w, ap (λ z. z ++ w) i, m) in
-    let t = works-join g.R.Recorder.log g.R.Recorder.counts g.H.Host.face g.H.Host.pending g.H.Desk.stays g.H.Host.held (λ h. g.H.W.Knows.known (g.H.Desk.shared h)) j 0 0 0 0 P Q W b x y (λ l s one two. say-join l (IsOne (entry.Begin d n)) (MayFinish d) (MayBegin d) s _ one two f) c.try_begin.ensures.stands.fine.placed c.note_begun.ensures.stands.fine.placed c.note_begun.ensures.works c.finish_if_passed.ensures.works in
-    works-at-most g.R.Recorder.log g.R.Recorder.counts g.H.Host.face g.H.Host.pending g.H.Desk.stays g.H.Host.held (λ h. g.H.W.Knows.known (g.H.Desk.shared h)) (λ h. g.H.W.Knows.rights (g.H.Desk.shared h)) (plain_of d + 0) (tracing_of d + 0) (plain_of d) (tracing_of d) W a y (omega (arith)) (omega (arith))
-    (called-works g.R.Recorder.log g.R.Recorder.counts g.H.Host.face g.H.Host.pending g.H.Desk.stays g.H.Host.held (λ h. g.H.W.Knows.known (g.H.Desk.shared h)) (λ h. g.H.W.Knows.rights (g.H.Desk.shared h)) j (plain_of d) (tracing_of d) 0 0 W a b y c.requires.stands.fine.placed c.try_begin.ensures.stands.fine.placed c.try_begin.ensures.called t)
+    let N = g.H.W.Knows.known in
+    let won : c.try_begin.result ≡ Won = c.in-Won.is in
+    let k : N (g.H.Desk.shared b) ≡ began g.H.W.Knows.tells d Won c.args.even (N (g.H.Desk.shared a)) = c.try_begin.ensures.known ∙ ap (λ (z : Began). began g.H.W.Knows.tells d z c.args.even (N (g.H.Desk.shared a))) won in
+    let m : (e : Domain) → begun_by (side e (N (g.H.Desk.shared b))).number ≡ begun_after e (begun_by (side e (N (g.H.Desk.shared a))).number) (entry.Begin d n) = λ e. ap (λ (z : Known). begun_by (side e z).number) k ∙ begun-won g.H.W.Knows.tells e d c.args.even (N (g.H.Desk.shared a)) in
+    let v = works-turned g.R.Recorder.log g.H.Host.face g.H.Host.pending g.H.Desk.stays g.H.Host.held g.H.Desk.shared N (λ h. g.H.W.Knows.rights (g.H.Desk.shared h)) g.H.Host.tests j (plain_of d) (tracing_of d) (entry.Begin d n) a b x tt c.try_begin.ensures.turned c.note_begun.ensures.step c.note_begun.ensures.lists c.note_begun.ensures.processor c.note_begun.ensures.handled m in
+    let t = works-join g.R.Recorder.log g.R.Recorder.counts g.H.Host.face g.H.Host.pending g.H.Desk.stays g.H.Host.held (λ h. N (g.H.Desk.shared h)) j (plain_of d) (tracing_of d) 0 0 P Q W a x y (λ l s one two. say-join l (IsOne (entry.Begin d n)) (MayFinish d) (MayBegin d) s _ one two f) c.requires.stands.fine.placed c.note_begun.ensures.stands.fine.placed v c.finish_if_passed.ensures.works in
+    works-at-most g.R.Recorder.log g.R.Recorder.counts g.H.Host.face g.H.Host.pending g.H.Desk.stays g.H.Host.held (λ h. N (g.H.Desk.shared h)) (λ h. g.H.W.Knows.rights (g.H.Desk.shared h)) (plain_of d + 0) (tracing_of d + 0) (plain_of d) (tracing_of d) W a y (omega (arith)) (omega (arith)) t
+
+nothing-began : (d : Domain) (l : ℕ) (s : State ℕ) (part : Log) → Nothing s part → Say l (MayBegin d) s part
+nothing-began d l s part e = subst (Say l (MayBegin d) s) (sym e) ([], inl refl, record { from = tt; own_is = refl })
+
+pub returns-in-Moved-clause-works : goal.returns-in-Moved-clause-works
+returns-in-Moved-clause-works g c =
+    let d = c.args.domain in
+    let a = c.args.host.now in
+    let b = c.try_begin.new.host in
+    let N = g.H.W.Knows.known in
+    let k : N (g.H.Desk.shared b) ≡ began g.H.W.Knows.tells d (Moved c.in-Moved.field-0) c.args.even (N (g.H.Desk.shared a)) = c.try_begin.ensures.known ∙ ap (λ (z : Began). began g.H.W.Knows.tells d z c.args.even (N (g.H.Desk.shared a))) c.in-Moved.is in
+    let m : (e : Domain) → (side e (N (g.H.Desk.shared b))).number ≡ (side e (N (g.H.Desk.shared a))).number = λ e. ap (λ (z : Known). (side e z).number) k ∙ numbers-moved g.H.W.Knows.tells e d c.in-Moved.field-0 c.args.even (N (g.H.Desk.shared a)) in
+    let t = called-turned g.R.Recorder.log g.H.Host.face g.H.Host.pending g.H.Desk.stays g.H.Host.held g.H.Desk.shared N (λ h. g.H.W.Knows.rights (g.H.Desk.shared h)) g.H.Host.tests g.met.H.Desk.stays_join (plain_of d) (tracing_of d) a b c.try_begin.ensures.turned m in
+    works-map g.R.Recorder.log g.H.Host.face g.H.Host.pending g.H.Desk.stays g.H.Host.held (λ h. N (g.H.Desk.shared h)) (plain_of d) (tracing_of d) (λ l. Nothing) (λ l. Say l (MayBegin d)) a b (nothing-began d)
+    (works-called g.R.Recorder.log g.R.Recorder.counts g.H.Host.face g.H.Host.pending g.H.Desk.stays g.H.Host.held (λ h. N (g.H.Desk.shared h)) (λ h. g.H.W.Knows.rights (g.H.Desk.shared h)) (plain_of d) (tracing_of d) a b t)

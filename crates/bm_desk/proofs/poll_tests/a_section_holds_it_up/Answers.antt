@@ -16,7 +16,7 @@ pub leave-requires : goal.leave-requires
 leave-requires g c =
     let known = g.S.Knows.known in
     record {
-      inside = c.stamp_and_poll.ensures.stays.words Plain ∙ (ap (λ s. (side Plain (known s)).word % 2) c.desk_over-desk.ensures.side ∙ (ap (λ (k : Known). (side Plain k).word % 2) c.enter.ensures.known ∙ ap (λ (w : ℕ). (w + 1) % 2) c.requires.outside));
+      inside = ap (λ (w : ℕ). w % 2) (c.stamp_and_poll.ensures.stays.words Plain) ∙ (ap (λ s. (side Plain (known s)).word % 2) c.desk_over-desk.ensures.side ∙ (ap (λ (k : Known). (side Plain k).word % 2) c.enter.ensures.known ∙ ap (λ (w : ℕ). (w + 1) % 2) c.requires.outside));
     }
 
 pub poll-requires-clause-stands : goal.poll-requires-clause-stands

@@ -11,7 +11,7 @@ invariant_of-self c =
     let u = c.args.unit in
     let mine = subst (λ (s : LivingState). (rights_living s).mine u.number ≡ true) (sym c.self.view_is) c.requires.mine in
     let settled = subst (λ (s : LivingState). may_live s.asked u.number u.life ≡ true) (sym c.self.view_is) c.requires.settled in
-    let home = subst (λ (s : LivingState). u.home < s.side.post.processors) (sym c.self.view_is) c.requires.home in
+    let home = subst (λ k. u.home < k) (sym c.processors_agree.ensures) (subst (λ (s : LivingState). u.home < s.side.grace.processors) (sym c.self.view_is) c.requires.home) in
     let room = subst (λ (s : LivingState). s.asked + 1 < 2 ^ 31) (sym c.self.view_is) c.requires.room in
     let put = rw c.begin_life.ensures at c.put.ensures in
     rw put (living-begun i.side.post i.slots.slots.items i.asked u room mine settled home c.self.invariant)

@@ -1,0 +1,109 @@
+-- Periods that begin and end, and the entries that say so.
+use Rattle.std.proofs.Common.{◌≡◌, ◌+◌, ℕ, suc, Bool, true, List, [], ◌∷◌, Option, Some, None, refl, sym, ◌∙◌, ap, subst, arith}
+use Rattle.bm_journal.specs.Recording.{Appends}
+use Rattle.bm_journal.specs.declared.ids.Domain.{Domain}
+use Rattle.bm_journal.specs.declared.ids.Domain.TheVariants.{Plain, Tracing}
+use Rattle.bm_journal.specs.declared.entry.Entry.{Entry}
+use Rattle.bm_journal.specs.declared.entry.Entry.TheVariants as entry
+use Rattle.bm_journal.specs.declared.period.Period.{Period}
+use Rattle.bm_grace.specs.Calls.{began, finished, looked, read}
+use Rattle.bm_grace.specs.Known.{Known, Sides, side}
+use Rattle.bm_grace.specs.Rights.{Rights}
+use Rattle.bm_grace.specs.declared.answer.Began.{Began}
+use Rattle.bm_grace.specs.declared.answer.Began.TheVariants.{Won, Moved}
+use Rattle.bm_law.specs.Lists.{Log}
+use Rattle.bm_law.specs.State.{State, seen}
+use Rattle.bm_law.proofs.Spans.{Records-one}
+use Rattle.bm_law.proofs.Alone.{Alone-one}
+use Rattle.bm_cache.specs.Shown.{shown}
+use Rattle.bm_cache.specs.Span.{Face, Goes}
+use Rattle.bm_cache.specs.Tests.{Tests}
+use Rattle.bm_cache.specs.Tokens.{Token, number_of}
+use Rattle.bm_cache.specs.declared.caches.Caches.{Caches}
+use Rattle.bm_cache.proofs.Moments.{goes-join}
+use Rattle.bm_deferred.specs.Begun.{begun_after, begun_by}
+use Rattle.bm_deferred.specs.Inboxes.{Inboxes}
+use Rattle.bm_deferred.specs.Parts.{Say}
+use Rattle.bm_deferred.specs.WorkPhrases.{IsOne}
+use Rattle.bm_deferred.proofs.Begun.{progressed-records}
+use Rattle.bm_deferred.proofs.Inboxes.{IsQuiet, delivered-records}
+use Rattle.bm_work.proofs.Grown.{grew-say}
+use Rattle.bm_desk.specs.Works.{Called, Handled, Turned, Works}
+
+-- ---- the numbers of both sides after a call
+
+begun-suc : (n : ℕ) → begun_by (n + 1) ≡ Some (n + 1)
+begun-suc n =
+    let e : suc n ≡ n + 1 = omega arith in
+    let F : ℕ → Type 0 = λ k. begun_by k ≡ Some k in
+    subst F e refl
+
+-- a period began, as its entry says
+pub begun-won : (t : Bool) (d b : Domain) (even : ℕ) (k : Known) → begun_by (side d (began t b Won even k)).number ≡ begun_after d (begun_by (side d k).number) (entry.Begin b (even + 1))
+begun-won t Plain Plain even k = begun-suc even
+begun-won t Plain Tracing even k = refl
+begun-won t Tracing Plain even k = refl
+begun-won t Tracing Tracing even k = begun-suc even
+
+-- none began
+pub numbers-moved : (t : Bool) (d b : Domain) (n even : ℕ) (k : Known) → (side d (began t b (Moved n) even k)).number ≡ (side d k).number
+numbers-moved t Plain Plain n even k = refl
+numbers-moved t Plain Tracing n even k = refl
+numbers-moved t Tracing Plain n even k = refl
+numbers-moved t Tracing Tracing n even k = refl
+
+-- one ended
+pub ended-by : (t : Bool) (d b : Domain) (k : Known) (p : Period) → p.domain ≡ b → begun_by (side d (finished t b k)).number ≡ begun_after d (begun_by (side d k).number) (entry.Finish p)
+ended-by t Plain Plain k p e = rw e refl
+ended-by t Plain Tracing k p e = rw e refl
+ended-by t Tracing Plain k p e = rw e refl
+ended-by t Tracing Tracing k p e = rw e refl
+
+-- words were looked at, or a number was read
+pub numbers-looked : (t : Bool) (d b : Domain) (words : List ℕ) (k : Known) → (side d (looked t b words k)).number ≡ (side d k).number
+numbers-looked t Plain Plain words k = refl
+numbers-looked t Plain Tracing words k = refl
+numbers-looked t Tracing Plain words k = refl
+numbers-looked t Tracing Tracing words k = refl
+
+pub numbers-read : (t : Bool) (d b : Domain) (n : ℕ) (k : Known) → (side d (read t b n k)).number ≡ (side d k).number
+numbers-read t Plain Plain n k = refl
+numbers-read t Plain Tracing n k = refl
+numbers-read t Tracing Plain n k = refl
+numbers-read t Tracing Tracing n k = refl
+
+-- ---- a call, and its entry
+
+module _ {H R W : Type 0} (log : R → Option Log) (faces : H → Face) (waits : H → ℕ) (stays : H → H → Type 0) (holds : H → Caches R) (shared : H → W) (known : W → Known) (rights : H → Rights) (tests : H → Tests) (join : (a b c : H) → stays a b → stays b c → stays a c) where
+  -- the side was called, and then an entry was recorded that says what periods are in progress now
+  pub works-turned : (p t : ℕ) (e : Entry) (a b c : H) → IsQuiet e → Turned faces waits stays holds (λ h. known (shared h)) rights p t a b → Appends (log (holds b).recorder) (faces b).level e (log (holds c).recorder) → shown (holds c) ≡ shown (holds b) → (holds c).processor ≡ (holds b).processor → Handled faces waits stays shared tests b c → ((d : Domain) → begun_by (side d (known (shared b))).number ≡ begun_after d (begun_by (side d (known (shared a))).number) e) → Works log faces waits stays holds (λ h. known (shared h)) p t (λ l. Say l (IsOne e)) a c
+  works-turned p t e a b c z u r v w h n =
+      let l = (faces a).level in
+      let x = log (holds a).recorder in
+      let y = log (holds c).recorder in
+      let q : (faces b).level ≡ l = ap (λ (f : Face). f.level) u.face in
+      let F : ℕ → Caches R → Type 0 = λ k d. Appends (log d.recorder) k e y in
+      let s : Appends x l e y = subst (λ k. F k (holds a)) q (subst (F (faces b).level) u.held r) in
+      let m = Records-one l e x y s in
+      let B : W → Option Inboxes = λ k. (known k).parcels in
+      let K : W → Sides = λ k. (known k).grace in
+      let o : shown (holds c) ≡ shown (holds a) = v ∙ ap (λ (d : Caches R). shown d) u.held in
+      let gu : Goes faces waits stays a b = record { face = u.face; pending = omega (arith, u.pending); keeps = u.stays } in
+      let gh : Goes faces waits stays b c = record { face = h.face; pending = omega (arith, h.pending); keeps = h.stays } in
+      record {
+        phrase = grew-say l (IsOne e) (e ∷ []) (seen number_of (shown (holds a))) x y m refl;
+        goes = goes-join join gu gh;
+        alone = record { alone = λ _. Alone-one l e x y s };
+        flags = record { flags = λ _ i k. (let U : State Token → Type 0 = λ d. (d.rows i).raised ≡ true in subst U o k) };
+        processor = w ∙ ap (λ (d : Caches R). d.processor) u.held;
+        active = λ i. ap (λ (d : State Token). (d.rows i).active) o;
+        plain_begins = omega (arith, u.plain_begins, ap (λ k. (K k).plain.begins) h.shared_is);
+        tracing_begins = omega (arith, u.tracing_begins, ap (λ k. (K k).tracing.begins) h.shared_is);
+        same_side = ap (λ k. (K k).processor) h.shared_is ∙ u.same_side;
+        periods = λ d. progressed-records l d (e ∷ []) (begun_by (side d (known (shared a))).number) (begun_by (side d (known (shared c))).number) x y (ap (λ k. begun_by (side d (known k)).number) h.shared_is ∙ n d) m;
+        mail = delivered-records l (faces a).processors (known (shared a)).grace.processor (e ∷ []) (B (shared a)) (B (shared c)) x y (z, tt) (ap B h.shared_is ∙ u.parcels) m;
+      }
+
+  -- none began or ended
+  pub called-turned : (p t : ℕ) (a b : H) → Turned faces waits stays holds (λ h. known (shared h)) rights p t a b → ((d : Domain) → (side d (known (shared b))).number ≡ (side d (known (shared a))).number) → Called faces waits stays holds (λ h. known (shared h)) rights p t a b
+  called-turned p t a b u n = record { held = u.held; face = u.face; pending = u.pending; stays = u.stays; ages = u.ages; same_side = u.same_side; parcels = u.parcels; numbers = n; plain_begins = u.plain_begins; tracing_begins = u.tracing_begins }
