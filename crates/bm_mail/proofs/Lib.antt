@@ -1,0 +1,9 @@
+pub mod Quiet
+pub mod Sends
+pub mod Blocks
+pub mod Scripts
+pub mod Stretch
+pub mod Fits
+pub mod Inside
+pub mod Closed
+pub mod Delivered

@@ -1,0 +1,2 @@
+pub mod SweepsTold
+pub mod WorkedInboxes

@@ -1,0 +1,29 @@
+//! The law of parcels, from what deferred work says of them.
+
+ghost use Rattle.std.specs.Prelude.{ℕ, ◌++◌, List, Some};
+ghost use Rattle.bm_lang.specs.declared.scenario.Parts.{Parts};
+ghost use Rattle.bm_law.specs.State.{State, opening};
+ghost use Rattle.bm_law.specs.Lists.{Log, after};
+ghost use Rattle.bm_law.specs.Alone.{AllAt};
+ghost use Rattle.bm_deferred.specs.Parts.{Say};
+ghost use Rattle.bm_deferred.specs.Inboxes.{Delivers, Inboxes};
+ghost use Rattle.bm_lawful.specs.Closing.{AreSweeps};
+ghost use Rattle.bm_lawful.specs.Fills.{AreFills, fresh_stock};
+ghost use Rattle.bm_lawful.specs.Grammar.{AreScripts, lines_of};
+ghost use Rattle.bm_lawful.specs.Opened.{opened_classes};
+ghost use Rattle.bm_lawful.specs.Parcels.{ParcelLaw, no_parcels};
+ghost use Rattle.bm_mail.specs.SweepsTold.{ClosingTold, SweepsTold};
+
+/// Sweeps of the lists and of inboxes whose parcels are told are sweeps of the closing. A log of ordinary code alone of the
+/// one processor that there is fits the law of parcels, where each parcel that its scripts receive is the oldest one that
+/// they sent, and the closing sweeps what is left of them.
+pub fn parcels_law()
+    ensures sweeps { (classes : List ℕ) (boxes : Inboxes) (s : State ℕ) (part : Log) → SweepsTold classes boxes s part → AreSweeps classes s part }
+    ensures law { (s : Parts) (fills scripts closing : Log) (boxes : Inboxes) →
+        AllAt 0 ((fills ++ scripts) ++ closing) →
+        Say 0 (AreFills (opened_classes s.types) (fresh_stock s.pages)) (opening 0) fills →
+        AreScripts s (lines_of 0 s.runs) 0 (after (opening 0) fills) scripts →
+        Delivers 0 1 0 (Some no_parcels) boxes (Some fills) (fills ++ scripts) →
+        ClosingTold 0 (opened_classes s.types) (fills ++ scripts) boxes (after (opening 0) (fills ++ scripts)) closing →
+        ParcelLaw 0 ((fills ++ scripts) ++ closing) }
+{}
