@@ -1,0 +1,4 @@
+mod Toward
+mod Left
+mod Going
+mod Each
