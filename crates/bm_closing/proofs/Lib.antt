@@ -1,0 +1,6 @@
+mod AtEnds
+mod Batched
+mod Received
+mod Returning
+mod Sweeping
+mod Swept

@@ -1,0 +1,78 @@
+use Rattle.std.proofs.Common.{◌≡◌, ◌∙◌, ◌<◌, ◌+◌, ◌++◌, List, length, map, sym, ap, subst, arith}
+use Rattle.std.specs.List.{flat_map}
+use Rattle.bm_journal.specs.declared.ids.Domain.TheVariants.{Tracing}
+use Rattle.bm_grace.specs.Rest.{MovesNumber}
+use Rattle.bm_law.specs.State.{seven_lists}
+use Rattle.bm_post.specs.Rights.{Loses}
+use Rattle.bm_cache.specs.Shown.{shown}
+use Rattle.bm_cache.specs.Tokens.{Token, number_of}
+use Rattle.bm_cache.specs.declared.caches.Caches.{Caches}
+use Rattle.bm_cache.specs.Span.{Goes}
+use Rattle.bm_closing.proofs.AtEnds.{when-ok, with-ok}
+use Rattle.bm_closing.proofs.Swept.{all-gone, emptied-still, sweeps-none, sweeps-some}
+use Rattle.bm_closing.proofs.closing.sweep.Goals as goal
+
+pub returns-then-hold_nothing-clause-sweeps : goal.returns-then-hold_nothing-clause-sweeps
+returns-then-hold_nothing-clause-sweeps g c =
+    let a = c.args.host.now in
+    let b = c.empty_inbox.new.host in
+    let d = c.hold_nothing.new.host in
+    let us = flat_map (λ p. p.items) c.in_ok-parcels.parcels.items in
+    let K = λ (h : g.row.H.Denot). g.H.W.Knows.known (g.H.Desk.shared h) in
+    let R = λ (h : g.row.H.Denot). g.H.W.Knows.rights (g.H.Desk.shared h) in
+    let q = c.hold_nothing.ensures in
+    let n = q.nothing c.if-hold_nothing.true in
+    let go : Goes g.H.Host.face g.H.Host.pending g.H.Desk.stays b d = record { face = q.handled.face; pending = omega (arith, q.handled.pending); keeps = q.handled.stays } in
+    let e = emptied-still g.R.Recorder.log g.H.Host.face g.H.Host.pending g.H.Desk.stays g.H.Host.held K g.met.H.Desk.stays_join R c.args.class us a b d q.same (ap g.H.W.Knows.known q.handled.shared_is) (ap g.H.W.Knows.rights q.handled.shared_is) go c.in_ok-parcels.ensures.emptied in
+    sweeps-none g.R.Recorder.log g.H.Host.face g.H.Host.pending g.H.Desk.stays g.H.Host.held K g.met.H.Desk.stays_join R c.args.class us a d e (ap (λ (x : Caches g.row.R.Denot). seven_lists ((shown x).rows c.args.class)) q.same ∙ n.0) (ap (flat_map (λ p. p.items)) n.1)
+
+pub returns-clause-gone : goal.returns-clause-gone
+returns-clause-gone g c =
+    let a = c.args.host.now in
+    let b = c.empty_inbox.new.host in
+    let d = c.hold_nothing.new.host in
+    let f = c.sweep_all.new.host in
+    let i = c.args.class in
+    let us = flat_map (λ p. p.items) c.in_ok-parcels.parcels.items in
+    let N = g.H.W.Knows.known in
+    let R = g.H.W.Knows.rights in
+    let side = g.H.Desk.shared in
+    let r = c.sweep_all.result in
+    let q = c.hold_nothing.ensures in
+    let e = c.in_ok-parcels.ensures.emptied in
+    let xs = seven_lists ((shown (g.H.Host.held a)).rows i) in
+    let lists : seven_lists ((shown (g.H.Host.held d)).rows i) ≡ xs = ap (λ (x : Caches g.row.R.Denot). seven_lists ((shown x).rows i)) (q.same ∙ e.held) in
+    let F : List Token → Type 0 = λ ys. Loses (map number_of (ys ++ us)) (R (side d)) (R (side f)) in
+    let G : g.row.H-W.Denot → Type 0 = λ x. Loses (map number_of (xs ++ us)) (R x) (R (side f)) in
+    with-ok r _ (λ o. all-gone i xs us (R (side a)) (R (side b)) (R (side f)) (N (side a)) (N (side b)) e.came (subst G q.handled.shared_is (subst F lists (when-ok r _ o c.sweep_all.ensures.gone))))
+
+pub returns-clause-sweeps : goal.returns-clause-sweeps
+returns-clause-sweeps g c =
+    let a = c.args.host.now in
+    let b = c.empty_inbox.new.host in
+    let d = c.hold_nothing.new.host in
+    let f = c.sweep_all.new.host in
+    let i = c.args.class in
+    let us = flat_map (λ p. p.items) c.in_ok-parcels.parcels.items in
+    let K = λ (h : g.row.H.Denot). g.H.W.Knows.known (g.H.Desk.shared h) in
+    let R = λ (h : g.row.H.Denot). g.H.W.Knows.rights (g.H.Desk.shared h) in
+    let r = c.sweep_all.result in
+    let q = c.hold_nothing.ensures in
+    let go : Goes g.H.Host.face g.H.Host.pending g.H.Desk.stays b d = record { face = q.handled.face; pending = omega (arith, q.handled.pending); keeps = q.handled.stays } in
+    let e = emptied-still g.R.Recorder.log g.H.Host.face g.H.Host.pending g.H.Desk.stays g.H.Host.held K g.met.H.Desk.stays_join R i us a b d q.same (ap g.H.W.Knows.known q.handled.shared_is) (ap g.H.W.Knows.rights q.handled.shared_is) go c.in_ok-parcels.ensures.emptied in
+    let S : Caches g.row.R.Denot → Type 0 = λ x. 0 < length (seven_lists ((shown x).rows i) ++ us) in
+    let some : S (g.H.Host.held d) = subst S (sym q.same) (q.something c.if-hold_nothing.false) in
+    with-ok r _ (λ o. sweeps-some g.R.Recorder.log g.H.Host.face g.H.Host.pending g.H.Desk.stays g.H.Host.held K g.met.H.Desk.stays_join R i us a d e f some (when-ok r _ o c.sweep_all.ensures.swept))
+
+pub returns-clause-rest : goal.returns-clause-rest
+returns-clause-rest g c =
+    let side = g.H.Desk.shared in
+    let b = c.empty_inbox.new.host in
+    let f = c.sweep_all.new.host in
+    let r = c.sweep_all.result in
+    let q = c.hold_nothing.ensures in
+    let still = c.in_ok-parcels.ensures.rest in
+    with-ok r _ (λ o n two.
+    let F : g.row.H-W.Denot → Type 0 = λ x. MovesNumber g.H.W.Knows.rest Tracing n (n + 2) x (side f) in
+    let m : MovesNumber g.H.W.Knows.rest Tracing n (n + 2) (side b) (side f) = subst F q.handled.shared_is (when-ok r _ o c.sweep_all.ensures.rest n two) in
+    (n + 2, (omega (arith, two), record { moves = λ h. m.moves (still Tracing n h); other = λ d k ne h. m.other d k ne (still d k h) })))

@@ -1,0 +1,18 @@
+use Rattle.std.specs.List.{flat_map}
+use Rattle.bm_closing.proofs.AtEnds.{when-ok, with-ok}
+use Rattle.bm_closing.proofs.Swept.{swept-of}
+use Rattle.bm_closing.proofs.closing.sweep_all.Goals as goal
+
+pub returns-clause-swept : goal.returns-clause-swept
+returns-clause-swept g c =
+    let a = c.args.host.now in
+    let b = c.gather_all.new.host in
+    let d = c.send_back.new.host in
+    let us = flat_map (λ p. p.items) c.args.parcels.items in
+    let r = c.send_back.result in
+    let one = c.gather_all.ensures in
+    let two = c.send_back.ensures in
+    let w = one.gathered.0 in
+    let rest = c.requires.rest in
+    let at = one.gathered.1 rest.0 rest.1.0 rest.1.1 in
+    with-ok r _ (λ e. swept-of g.R.Recorder.log g.H.Host.face g.H.Host.pending g.H.Desk.stays g.H.Host.held (λ h. g.H.W.Knows.known (g.H.Desk.shared h)) g.met.H.Desk.stays_join c.args.class us w a b d at.domain one.gathered.2 (when-ok r _ e two.sent) one.goes (when-ok r _ e two.goes) one.alike (when-ok r _ e two.alike) one.parcels (when-ok r _ e two.parcels) (when-ok r _ e two.grace) one.plain one.begins)

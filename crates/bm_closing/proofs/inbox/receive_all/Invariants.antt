@@ -1,0 +1,15 @@
+use Rattle.std.proofs.Common.{◌-◌, ◌≤◌, length}
+use Rattle.std.specs.List.{flat_map}
+use Rattle.bm_grace.specs.Rest.{StaysAtRest}
+use Rattle.bm_closing.proofs.Received.{So_far}
+use Rattle.bm_closing.proofs.inbox.receive_all.Given as goal
+
+abbrev pub invariant-loop-units : goal.invariant-loop-units
+invariant-loop-units g l = record {
+  so_far : So_far l.class (flat_map (λ p. p.items) l.initial.parcels.items) (flat_map (λ p. p.items) l.parcels.items) (g.P.Knows.rights l.initial.post) (g.P.Knows.rights l.post) (g.P.Knows.known l.initial.post) (g.P.Knows.known l.post);
+  some : length l.parcels.items ≤ length (flat_map (λ p. p.items) l.parcels.items);
+  rest : StaysAtRest g.P.Knows.rest l.initial.post l.post;
+}
+
+abbrev pub decreases-loop-units : goal.decreases-loop-units
+decreases-loop-units g l = 65536 - length (flat_map (λ p. p.items) l.parcels.items)

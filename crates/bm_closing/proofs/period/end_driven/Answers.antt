@@ -1,0 +1,18 @@
+use Rattle.bm_desk.specs.Still.{alike-joined}
+use Rattle.bm_desk.proofs.Alike.{alike-finished, alike-looked}
+use Rattle.bm_closing.proofs.AtEnds.{alike-told}
+use Rattle.bm_closing.proofs.period.end_driven.Goals as goal
+
+pub returns-clause-rest : goal.returns-clause-rest
+returns-clause-rest g c n = record {
+  moves = λ h. (c.finish.ensures.rest n).moves (c.look.ensures.rest c.args.domain n h);
+  other = λ d k ne h. (c.finish.ensures.rest n).other d k ne (c.look.ensures.rest d k h);
+}
+
+pub returns-clause-alike : goal.returns-clause-alike
+returns-clause-alike g c =
+    let K = g.W.Knows.known in
+    let a = K c.args.world.now in
+    let b = K c.look.new.self in
+    let d = K c.finish.new.self in
+    alike-joined a b d (alike-told a b _ c.look.ensures.known (alike-looked _ _ _ a)) (alike-told b d _ c.finish.ensures.known (alike-finished _ _ b))

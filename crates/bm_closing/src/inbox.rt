@@ -1,0 +1,68 @@
+//! The parcels of an inbox.
+
+ghost use Rattle.std.specs.Prelude.{◌≡◌, ◌≤◌, [], IfOk, OnOk, length, map};
+ghost use Rattle.std.specs.List.{flat_map};
+ghost use Rattle.bm_grace.specs.Rest.{StaysAtRest};
+ghost use Rattle.bm_post.specs.Rights.{Lasting};
+ghost use Rattle.bm_cache.specs.Tokens.{number_of};
+ghost use Rattle.bm_closing.specs.Arrived.{Arrived, Came};
+
+use bm_class::Class;
+use bm_grace::Knows;
+use bm_page::Unit;
+use bm_post::Post;
+use bm_word::NoMemory;
+use std::alloc::Global;
+
+/// Ends units.
+pub(crate) fn give_up_units(units: Vec<Unit>) {
+    let mut units = units;
+    while let Some(unit) = units.pop() {
+        unit.give_up();
+    }
+    units.destroy_empty();
+}
+
+/// Ends the units of parcels.
+pub(crate) fn give_up_parcels(parcels: Vec<Vec<Unit>>) {
+    let mut parcels = parcels;
+    while let Some(units) = parcels.pop() {
+        give_up_units(units);
+    }
+    parcels.destroy_empty();
+}
+
+/// Takes all parcels out of this processor's inbox of a class, behind those that came before. Each holds a unit, so that there
+/// are at least as many units as parcels. Want of memory is the only refusal.
+pub(crate) fn receive_all<P: Post>(
+    post: &mut P,
+    class: Class,
+    parcels: &mut Vec<Vec<Unit>>,
+) -> Result<(), NoMemory>
+    requires arrived { Arrived class (P.Knows.rights post.old) (flat_map (λ p. p.items) parcels.old.items) }
+    requires some { length parcels.old.items ≤ length (flat_map (λ p. p.items) parcels.old.items) }
+    ensures some { OnOk result (length parcels.new.items ≤ length (flat_map (λ p. p.items) parcels.new.items)) }
+    ensures arrived { OnOk result (Arrived class (P.Knows.rights post.new) (flat_map (λ p. p.items) parcels.new.items)) }
+    ensures came { OnOk result (Came class (flat_map (λ p. p.items) parcels.old.items) (flat_map (λ p. p.items) parcels.new.items) (P.Knows.rights post.old) (P.Knows.rights post.new) (P.Knows.known post.old) (P.Knows.known post.new)) }
+    ensures lasts { OnOk result (Lasting [] (P.Knows.rights post.old) (P.Knows.rights post.new)) }
+    ensures rest { OnOk result (StaysAtRest P.Knows.rest post.old post.new) }
+{
+    while let Some(units) = post.receive(class) {
+        if let Err(refused) = parcels.push(units) {
+            give_up_units(refused.value);
+            return Err(NoMemory);
+        }
+    }
+    Ok(())
+}
+
+/// The numbers of units. Want of memory is the only refusal.
+pub(crate) fn numbers_of(alloc: Global, units: &Vec<Unit>) -> Result<Vec<u16>, NoMemory>
+    ensures { IfOk result (λ numbers. numbers.items ≡ map number_of units.now.items) }
+{
+    let mut numbers = Vec::new(alloc);
+    for unit in units {
+        numbers.push(unit.number())?;
+    }
+    Ok(numbers)
+}

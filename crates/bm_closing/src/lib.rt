@@ -1,0 +1,14 @@
+//! The closing of a processor whose scripts have ended, on a desk: the grace periods that it has in progress end, and all its
+//! units go back to the stock. No handler runs there.
+#![tactic(auto)]
+
+mod closing;
+#[cfg(test)]
+mod closing_tests;
+mod gathering;
+mod inbox;
+#[cfg(test)]
+mod machines;
+mod period;
+
+pub use closing::{end_period, sweep};

@@ -1,0 +1,124 @@
+//! A desk for tests: one that owns its caches and its side, and on which no handler runs. And a recorder that is borrowed.
+
+ghost use Rattle.std.specs.Prelude.{◌≡◌, is_none, refl};
+ghost use Rattle.std.proofs.Common.{◌∙◌, ap};
+ghost use Rattle.bm_cache.specs.Span.{Face};
+ghost use Rattle.bm_desk.specs.DeskTests.{tests_by};
+ghost use Rattle.bm_desk.specs.Goes.{Alike};
+ghost use Rattle.bm_desk.specs.Still.{alike-joined, alike-still, goes-still};
+ghost use Rattle.bm_journal.specs.Recording.{none-is_none};
+
+use bm_cache::{Caches, Host};
+use bm_desk::Desk;
+use bm_journal::{Entry, Keep, Level, Recorder};
+use bm_world::World;
+
+/// Caches at level 0 and a side, and no handler.
+pub(crate) struct TestDesk<R, S> {
+    pub(crate) caches: Caches<R>,
+    pub(crate) side: S,
+}
+
+impl<R: Recorder, S: World> Host<R> for TestDesk<R, S> {
+    ghost held = { λ m. m.caches };
+
+    ghost with_held = { λ m c. record m { caches = c } };
+
+    ghost face = { λ m. record { level = 0; processors = (S.Knows.known m.side).grace.processors; through = 0 } };
+
+    ghost pending = { λ m. 0 };
+
+    ghost tests = { λ m. tests_by (S.Knows.rights m.side) };
+
+    ghost sound = { λ m. Unit {0} };
+
+    ghost keeps = { λ a b. b.side ≡ a.side };
+
+    ghost held_back = { λ h c. refl };
+
+    ghost face_back = { λ h c. refl };
+
+    ghost pending_back = { λ h c. refl };
+
+    ghost tests_back = { λ h c. refl };
+
+    ghost sound_back = { λ h c s. s };
+
+    ghost keeps_back = { λ h c. refl };
+
+    ghost keeps_same = { λ h. refl };
+
+    ghost keeps_join = { λ a b c k m. m ∙ k };
+
+    fn caches(&mut self) -> &mut Caches<R> {
+        &mut self.caches
+    }
+
+    fn level(&self) -> Level {
+        Level::ordinary()
+    }
+
+    fn point(&mut self) {}
+}
+
+impl<R: Recorder, S: World> Desk<R> for TestDesk<R, S> {
+    type W = S;
+
+    ghost shared = { λ m. m.side };
+
+    ghost with_shared = { λ m w. record m { side = w } };
+
+    ghost stays = { λ a b. Alike (S.Knows.known a.side) (S.Knows.known b.side) };
+
+    fn world(&mut self) -> &mut S {
+        &mut self.side
+    }
+
+    ghost shared_back = { λ h w. refl };
+
+    ghost held_apart = { λ h w. refl };
+
+    ghost shared_apart = { λ h c. refl };
+
+    ghost face_apart = { λ h w a. ap (λ n. let f : Face = record { level = 0; processors = n; through = 0 } in f) a.processors };
+
+    ghost pending_apart = { λ h w. refl };
+
+    ghost sound_apart = { λ h w a s. s };
+
+    ghost stays_apart = { λ h w a. a };
+
+    ghost tests_are = { λ h. refl };
+
+    ghost processors_are = { λ h. refl };
+
+    ghost known_goes = { λ a b k. goes-still (S.Knows.known a.side) (S.Knows.known b.side) (ap (λ s. S.Knows.known s) k) };
+
+    ghost keeps_stays = { λ a b k. alike-still (S.Knows.known a.side) (S.Knows.known b.side) (ap (λ s. S.Knows.known s) k) };
+
+    ghost stays_join = { λ a b c k m. alike-joined (S.Knows.known a.side) (S.Knows.known b.side) (S.Knows.known c.side) k m };
+}
+
+/// A recorder that is borrowed, so that its log is there when the caches have ended.
+#[derive(Drop)]
+pub(crate) struct Lent<'a> {
+    pub(crate) keep: &'a mut Keep,
+}
+
+impl<'a> Recorder for Lent<'a> {
+    ghost log = { λ r. r.keep.now.told };
+
+    ghost counts = { λ r. r.keep.now.counted };
+
+    ghost has_failed = { λ r. is_none r.keep.now.told };
+
+    ghost tells_none = { λ r. none-is_none r.keep.now.told };
+
+    fn put(&mut self, level: Level, entry: Entry) {
+        self.keep.put(level, entry);
+    }
+
+    fn failed(&self) -> bool {
+        self.keep.failed()
+    }
+}
