@@ -1,0 +1,7 @@
+pub mod Together
+pub mod Lives
+pub mod Returns
+pub mod GraceLaw
+pub mod StampLaw
+pub mod Worked
+pub mod Wrong

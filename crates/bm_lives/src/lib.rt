@@ -1,0 +1,8 @@
+//! Laws of all logs of a journal together: lives of units, what goes out of the stock and comes back, grace periods over all
+//! processors, and stamps. They are definitions, computed on worked journals; nothing in this crate runs, and no run is proved to
+//! meet them by now.
+#![tactic(auto)]
+
+mod worked;
+
+pub use worked::{worked_grace, worked_lives, worked_returns, worked_stamps};
