@@ -48,6 +48,8 @@ pub plain-moved : (p q : ℕ) (plain tracing moved : DomainState) → moved ≡ 
 plain-moved p q plain tracing moved e is = subst (λ here. IsPlain p q here tracing) (sym e) record {
   processor_limit = is.processor_limit;
   turn = is.turn;
+  plain_driver = is.plain_driver;
+  tracing_driver = is.tracing_driver;
   plain_words = is.plain_words;
   tracing_words = is.tracing_words;
   plain_grown = at_most-trans plain.first (take p plain.words) (take p (word_moved q plain).words) is.plain_grown grown;
@@ -62,6 +64,8 @@ pub tracing-moved : (p q : ℕ) (plain tracing moved : DomainState) → moved �
 tracing-moved p q plain tracing moved e is = subst (λ here. IsPlain p q plain here) (sym e) record {
   processor_limit = is.processor_limit;
   turn = is.turn;
+  plain_driver = is.plain_driver;
+  tracing_driver = is.tracing_driver;
   plain_words = is.plain_words;
   tracing_words = is.tracing_words;
   plain_grown = is.plain_grown;
@@ -80,6 +84,8 @@ pub plain-looked : (p q : ℕ) (plain tracing looked : DomainState) (words : Lis
 plain-looked p q plain tracing looked words e w l is = subst (λ here. IsPlain p q here tracing) (sym e) record {
   processor_limit = is.processor_limit;
   turn = is.turn;
+  plain_driver = is.plain_driver;
+  tracing_driver = is.tracing_driver;
   plain_words = alike-first_or words plain.first p l is.plain_words;
   tracing_words = is.tracing_words;
   plain_grown = subst (λ xs. AreAtMost (first_or words plain.first) xs) w (at_most-first_or words plain.first (subst (λ xs. AreAtMost plain.first xs) (sym w) is.plain_grown));
@@ -90,6 +96,8 @@ pub tracing-looked : (p q : ℕ) (plain tracing looked : DomainState) (words : L
 tracing-looked p q plain tracing looked words e w l is = subst (λ here. IsPlain p q plain here) (sym e) record {
   processor_limit = is.processor_limit;
   turn = is.turn;
+  plain_driver = is.plain_driver;
+  tracing_driver = is.tracing_driver;
   plain_words = is.plain_words;
   tracing_words = alike-first_or words tracing.first (2 * p) l is.tracing_words;
   plain_grown = is.plain_grown;

@@ -1,14 +1,16 @@
 -- What calls do where all processors on one thread are at rest.
-use Rattle.std.proofs.Common.{◌≡◌, ℕ, zero, suc, ◌%◌, ◌≤◌, List, [], ◌∷◌, take, slice_index, refl, sym, ◌∙◌, ap, subst, inl, inr, arith}
+use Rattle.std.proofs.Common.{◌≡◌, ℕ, zero, suc, ◌%◌, ◌≤◌, ◌<◌, ◌==◌, true, Option, None, Some, IfSome, List, [], ◌∷◌, take, slice_index, if◌then◌else◌, refl, sym, ◌∙◌, ap, subst, inl, inr, arith}
 use Rattle.std.proofs.lemmas.Bool.{cases_lt}
+use Rattle.std.proofs.lemmas.Bool.Decides.{Decides-eqb}
 use Rattle.bm_journal.specs.declared.ids.Domain.{Domain}
 use Rattle.bm_journal.specs.declared.ids.Domain.TheVariants.{Plain, Tracing}
 use Rattle.bm_grace.specs.declared.answer.Look.{Look}
 use Rattle.bm_grace.specs.declared.answer.Look.TheVariants.{All, Waits}
 use Rattle.bm_grace.specs.Answers.{IsPassed, Verdict}
-use Rattle.bm_grace.specs.AtRest.{AreEven, IsAtRest}
-use Rattle.bm_grace.specs.Kept.{AreAtMost}
-use Rattle.bm_grace.specs.PlainState.{DomainState, PlainState, domain_in, in_turn, period_looked, words_in}
+use Rattle.bm_grace.specs.AtRest.{AreEven, IsAtRest, IsSole}
+use Rattle.bm_grace.specs.Kept.{AreAtMost, parity}
+use Rattle.bm_grace.specs.Known.{side}
+use Rattle.bm_grace.specs.PlainState.{DomainState, PlainState, domain_in, in_turn, is_processor, known_in, period_looked, words_in}
 use Rattle.bm_grace.proofs.Grown.{at_most-at, at_most-first_or}
 
 -- the words of the first n processors are even, and past them there are none
@@ -46,3 +48,37 @@ pub look-passes : (r : Look) (domain : Domain) (g : PlainState) (looked : Domain
 look-passes r domain g looked words w e v h n rest =
     let first : AreAtMost looked.first words = subst (λ (s : DomainState). AreAtMost s.first words) (sym e) (at_most-first_or words (domain_in domain g).first (subst (λ xs. AreAtMost (domain_in domain g).first xs) (sym w) h)) in
     all-pass r domain looked.first words v first (subst (λ xs. (i : ℕ) → slice_index xs i % 2 ≡ 0) (sym w) (even-words domain g n rest))
+
+-- ---- one processor
+
+one-even : (processors processor : ℕ) (words : List ℕ) → processors ≡ 1 → processor < processors → slice_index words processor % 2 ≡ 0 → AreEven processors words
+one-even processors processor words one turn even i lt = subst (λ k. slice_index words k % 2 ≡ 0) (let e : processor ≡ i = omega (arith, one, turn, lt) in e) even
+
+none-driven : (o : Option ℕ) (number : ℕ) → number % 2 ≡ parity o → number % 2 ≡ 0 → o ≡ None
+none-driven None number p even = refl
+none-driven (Some q) number p even = absurd (omega (arith, p, even))
+
+sole-by : (o : Option ℕ) (number processors processor : ℕ) → processors ≡ 1 → processor < processors → number % 2 ≡ parity o → IfSome o (λ q. q < processors) → IsSole (if is_processor processor o then number else 0) number
+sole-by None number processors processor one turn p few = inl (p, refl)
+sole-by (Some q) number processors processor one turn p few =
+    let same : q ≡ processor = omega (arith, one, turn, few) in
+    inr (p, rw (same-yes q processor same) refl)
+  where
+    same-yes : (a b : ℕ) → a ≡ b → (a == b) ≡ true
+    same-yes a b e = (Decides-eqb a b).1 e
+
+pub one-rests : (g : PlainState) → g.processors ≡ 1 → g.processor < g.processors → g.plain.number % 2 ≡ parity g.plain.driver → g.tracing.number % 2 ≡ parity g.tracing.driver → ((d : Domain) → (side d (known_in g)).word % 2 ≡ 0) → (d : Domain) → IsAtRest g d (domain_in d g).number
+one-rests g one turn p t out d = record {
+  plain = one-even g.processors g.processor g.plain.words one turn (out Plain);
+  tracing = one-even g.processors g.processor g.tracing.words one turn (out Tracing);
+  number_is = refl;
+  no_driver = undriven d;
+}
+  where
+    undriven : (d : Domain) → (domain_in d g).number % 2 ≡ 0 → (domain_in d g).driver ≡ None
+    undriven Plain = none-driven g.plain.driver g.plain.number p
+    undriven Tracing = none-driven g.tracing.driver g.tracing.number t
+
+pub one-sole : (g : PlainState) → g.processors ≡ 1 → g.processor < g.processors → g.plain.number % 2 ≡ parity g.plain.driver → g.tracing.number % 2 ≡ parity g.tracing.driver → IfSome g.plain.driver (λ q. q < g.processors) → IfSome g.tracing.driver (λ q. q < g.processors) → (d : Domain) → IsSole (side d (known_in g)).number (domain_in d g).number
+one-sole g one turn p t few many Plain = sole-by g.plain.driver g.plain.number g.processors g.processor one turn p few
+one-sole g one turn p t few many Tracing = sole-by g.tracing.driver g.tracing.number g.processors g.processor one turn t many

@@ -1,5 +1,5 @@
 -- When all processors on one thread are at rest. (This project's own.)
-use Rattle.std.specs.Prelude.{◌≡◌, ℕ, ◌%◌, ◌<◌, Option, None, List, slice_index, if◌then◌else◌}
+use Rattle.std.specs.Prelude.{◌≡◌, ◌⊎◌, ℕ, ◌%◌, ◌<◌, Option, None, List, slice_index, if◌then◌else◌}
 use Rattle.std.proofs.Common.{ap}
 use Rattle.bm_journal.specs.declared.ids.Domain.{Domain}
 use Rattle.bm_journal.specs.declared.ids.Domain.TheVariants.{Plain, Tracing}
@@ -16,6 +16,10 @@ pub record IsAtRest (state : PlainState) (domain : Domain) (number : ℕ) : Type
   pub tracing : AreEven state.processors state.tracing.words
   pub number_is : (domain_in domain state).number ≡ number
   pub no_driver : number % 2 ≡ 0 → (domain_in domain state).driver ≡ None
+
+-- A side has the period that is in progress, if one is: its number is the domain's where that is odd, and else 0.
+abbrev pub IsSole : ℕ → ℕ → Type 0
+IsSole own number = ((number % 2 ≡ 0) × (own ≡ 0)) ⊎ ((number % 2 ≡ 1) × (own ≡ number))
 
 -- what nobody has in progress, this side hasn't
 no-driver : (here : DomainState) (processor : ℕ) → here.driver ≡ None → (side_in processor here).number ≡ 0

@@ -1,5 +1,5 @@
 -- What the words and numbers of all processors keep true.
-use Rattle.std.specs.Prelude.{◌≡◌, ◌⊎◌, ℕ, ◌+◌, ◌*◌, ◌%◌, ◌^◌, ◌<◌, ◌≤◌, Option, None, Some, List, [], ◌∷◌, length, sum, take, All}
+use Rattle.std.specs.Prelude.{◌≡◌, ◌⊎◌, ℕ, ◌+◌, ◌*◌, ◌%◌, ◌^◌, ◌<◌, ◌≤◌, Option, None, Some, IfSome, List, [], ◌∷◌, length, sum, take, All}
 use Rattle.bm_grace.specs.PlainState.{DomainState, in_turn}
 
 -- the number is odd where a period is in progress
@@ -23,11 +23,13 @@ AreAtMost [] words = Unit {0}
 AreAtMost (first ∷ firsts) [] = ⊥
 AreAtMost (first ∷ firsts) (word ∷ words) = (first ≤ word) × AreAtMost firsts words
 
--- Both domains: there are 1 to 8 processors, and a period that was looked at has as many words as it looks at, each of
--- them at most the word that stands there now.
+-- Both domains: there are 1 to 8 processors, a period in progress is that of one of them, and a period that was looked at has
+-- as many words as it looks at, each of them at most the word that stands there now.
 pub record IsPlain (processors processor : ℕ) (plain tracing : DomainState) : Type 0 where
   pub processor_limit : processors ≤ 8
   pub turn : processor < processors
+  pub plain_driver : IfSome plain.driver (λ p. p < processors)
+  pub tracing_driver : IfSome tracing.driver (λ p. p < processors)
   pub plain_words : (plain.first ≡ []) ⊎ (length plain.first ≡ processors)
   pub tracing_words : (tracing.first ≡ []) ⊎ (length tracing.first ≡ 2 * processors)
   pub plain_grown : AreAtMost plain.first (take processors plain.words)

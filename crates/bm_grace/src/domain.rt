@@ -4,6 +4,7 @@ ghost use Rattle.std.specs.Prelude.{◌≡◌, ◌≢◌, ◌⊎◌, ◌+◌, �
 ghost use Rattle.bm_grace.specs.PlainState.{idle, in_turn, is_processor, period_begun, period_ended, period_looked, word_moved};
 ghost use Rattle.bm_grace.specs.Answers.{ArePassed, BeganAt, IsNamed, Verdict, Waiting};
 ghost use Rattle.bm_grace.specs.Calls.{found_at};
+ghost use Rattle.bm_grace.specs.Kept.{parity};
 
 use crate::answer::{Began, Look};
 use arrayvec::ArrayVec;
@@ -83,6 +84,13 @@ impl OneDomain {
         ensures limit { result ≤ 2 ^ 31 }
     {
         self.number
+    }
+
+    /// The number is odd exactly where a period is in progress.
+    pub fn parity_agrees(&self)
+        ensures { self.now.number % 2 ≡ parity self.now.driver }
+    {
+        let _ = &self.number;
     }
 
     /// Makes the section word of a processor one greater.

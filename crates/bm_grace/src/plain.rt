@@ -5,7 +5,8 @@ ghost use Rattle.bm_grace.specs.Known.{side};
 ghost use Rattle.bm_grace.specs.Calls.{began, entered, finished, found_at, left, looked, looks, read};
 ghost use Rattle.bm_grace.specs.Rights.{no_rights};
 ghost use Rattle.bm_grace.specs.Answers.{Answers, BeganAt, CanFinish, Stamped, Verdict, ended, next, number_in};
-ghost use Rattle.bm_grace.specs.AtRest.{IsAtRest, idle-at-rest};
+ghost use Rattle.bm_grace.specs.AtRest.{IsAtRest, IsSole, idle-at-rest};
+ghost use Rattle.bm_journal.specs.declared.ids.Domain.{Domain as DomainValue};
 ghost use Rattle.bm_grace.specs.Rest.{MovesNumber, StaysAtRest};
 ghost use Rattle.bm_grace.specs.declared.answer.Began.TheVariants.{Won};
 ghost use Rattle.bm_grace.specs.declared.answer.Look.TheVariants.{All};
@@ -64,6 +65,17 @@ impl PlainGrace {
         ensures { self.new ≡ record self.old { processor = processor } }
     {
         self.processor = processor;
+    }
+
+    /// Where there is one processor, and it is in no section, all is at rest; and if a period is in progress, it is this side's.
+    pub fn one_at_rest(&self)
+        requires one { self.now.processors ≡ 1 }
+        requires outside { (d : DomainValue) → (side d (known_in self.now)).word % 2 ≡ 0 }
+        ensures rest { (d : DomainValue) → IsAtRest self.now d (domain_in d self.now).number }
+        ensures sole { (d : DomainValue) → IsSole (side d (known_in self.now)).number (domain_in d self.now).number }
+    {
+        self.plain.parity_agrees();
+        self.tracing.parity_agrees();
     }
 
     /// The number of a domain.

@@ -10,7 +10,9 @@ ghost use Rattle.bm_grace.specs.Rights.{Ages, AsBefore, MineSince, Ripens};
 ghost use Rattle.bm_grace.specs.Rest.{MovesNumber, StaysAtRest};
 ghost use Rattle.bm_grace.specs.declared.answer.Began.TheVariants.{Won};
 ghost use Rattle.bm_grace.specs.declared.answer.Look.TheVariants.{All as AllPass};
+ghost use Rattle.bm_grace.specs.AtRest.{IsSole};
 ghost use Rattle.bm_grace.specs.Known.{side};
+ghost use Rattle.bm_journal.specs.declared.ids.Domain.{Domain as DomainValue};
 ghost use Rattle.bm_grace.specs.PlainState.{domain_in, is_processor, period_begun, period_ended, period_looked, with_domain, word_moved, words_in};
 ghost use Rattle.bm_post.specs.PostState.{all_returned, inbox, sent_to, taken_by, told_in};
 ghost use Rattle.bm_post.specs.Calls.{Fetches, GivesBack, IsOf, Mails, Posts, Receives};
@@ -106,6 +108,16 @@ impl LivingSide {
         } }
     {
         self.side.turn(processor);
+    }
+
+    /// Where there is one processor, and it is in no section, all is at rest; and if a period is in progress, it is this side's.
+    pub fn one_at_rest(&self)
+        requires one { self.now.side.grace.processors ≡ 1 }
+        requires outside { (d : DomainValue) → (side d (known_living self.now)).word % 2 ≡ 0 }
+        ensures rest { (d : DomainValue) → LivingAtRest self.now d (domain_in d self.now.side.grace).number }
+        ensures sole { (d : DomainValue) → IsSole (side d (known_living self.now)).number (domain_in d self.now.side.grace).number }
+    {
+        self.side.one_at_rest();
     }
 
     /// An object is asked for, and there is none to give.

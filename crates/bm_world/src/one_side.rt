@@ -10,7 +10,9 @@ ghost use Rattle.bm_grace.specs.Rights.{Ages, AsBefore, MineSince, Ripens};
 ghost use Rattle.bm_grace.specs.Rest.{MovesNumber, StaysAtRest};
 ghost use Rattle.bm_grace.specs.declared.answer.Began.TheVariants.{Won};
 ghost use Rattle.bm_grace.specs.declared.answer.Look.TheVariants.{All as AllPass};
+ghost use Rattle.bm_grace.specs.AtRest.{IsSole};
 ghost use Rattle.bm_grace.specs.Known.{side};
+ghost use Rattle.bm_journal.specs.declared.ids.Domain.{Domain as DomainValue};
 ghost use Rattle.bm_grace.specs.PlainState.{domain_in, is_processor, period_begun, period_ended, period_looked, with_domain, word_moved, words_in};
 ghost use Rattle.bm_post.specs.PostState.{all_returned, inbox, rights_in, sent_to, taken_by, told_in};
 ghost use Rattle.bm_post.specs.HasRoom.{room-of};
@@ -70,6 +72,16 @@ impl OneSide {
         ensures { self.now.post.processors ≡ self.now.grace.processors }
     {
         let _ = &self.post;
+    }
+
+    /// Where there is one processor, and it is in no section, all is at rest; and if a period is in progress, it is this side's.
+    pub fn one_at_rest(&self)
+        requires one { self.now.grace.processors ≡ 1 }
+        requires outside { (d : DomainValue) → (side d (known_of self.now)).word % 2 ≡ 0 }
+        ensures rest { (d : DomainValue) → SideAtRest self.now d (domain_in d self.now.grace).number }
+        ensures sole { (d : DomainValue) → IsSole (side d (known_of self.now)).number (domain_in d self.now.grace).number }
+    {
+        self.grace.one_at_rest();
     }
 
     /// Makes it the side of a processor.
