@@ -4,3 +4,4 @@ mod Received
 mod Returning
 mod Sweeping
 mod Swept
+mod Classes

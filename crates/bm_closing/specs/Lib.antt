@@ -6,3 +6,5 @@ pub mod Emptied
 pub mod SentBack
 pub mod Swept
 pub mod Sweeps
+pub mod EndsBegun
+pub mod SweepsEach

@@ -1,6 +1,6 @@
 //! The closing of a processor on a desk: periods that end, and sweeps.
 
-ghost use Rattle.std.specs.Prelude.{◌≡◌, ◌+◌, ◌++◌, ◌%◌, ◌<◌, ◌≤◌, ℕ, [], true, false, length, map, IfOk, OnOk, IsTrue, is_some};
+ghost use Rattle.std.specs.Prelude.{◌≡◌, ◌≢◌, ◌+◌, ◌++◌, ◌%◌, ◌<◌, ◌≤◌, ℕ, [], true, false, length, map, IfOk, OnOk, IsTrue, is_some};
 ghost use Rattle.std.specs.List.{All, flat_map};
 ghost use Rattle.bm_journal.specs.declared.ids.Domain.TheVariants.{Plain, Tracing};
 ghost use Rattle.bm_law.specs.Stands.{stands, times};
@@ -52,6 +52,7 @@ pub fn end_period<R: Recorder, H: Desk<R>>(host: &mut H, domain: Domain)
     ensures lists { shown (H.Host.held host.new) ≡ shown (H.Host.held host.old) }
     ensures processor { (H.Host.held host.new).processor ≡ (H.Host.held host.old).processor }
     ensures ended { (side domain (H.W.Knows.known (H.shared host.new))).number ≡ 0 }
+    ensures other { (d : DomainValue) → d ≢ domain → side d (H.W.Knows.known (H.shared host.new)) ≡ side d (H.W.Knows.known (H.shared host.old)) }
     ensures begins { (d : DomainValue) → (side d (H.W.Knows.known (H.shared host.new))).begins ≡ (side d (H.W.Knows.known (H.shared host.old))).begins }
     ensures alike { Alike (H.W.Knows.known (H.shared host.old)) (H.W.Knows.known (H.shared host.new)) }
     ensures parcels { (H.W.Knows.known (H.shared host.new)).parcels ≡ (H.W.Knows.known (H.shared host.old)).parcels }

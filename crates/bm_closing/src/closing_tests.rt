@@ -1,7 +1,7 @@
 //! The closing of a processor that has the machine to itself, over a stock of four pages. In the class of 4096 bytes a page is one
 //! unit.
 
-ghost use Rattle.std.specs.Prelude.{◌≡◌, ◌+◌, ◌<◌, ◌≤◌, ◌^◌, ℕ, [], length, map, IfSome};
+ghost use Rattle.std.specs.Prelude.{◌≡◌, ◌+◌, ◌%◌, ◌<◌, ◌≤◌, ◌^◌, ℕ, [], length, map, IfSome};
 ghost use Rattle.std.specs.List.{All};
 ghost use Rattle.bm_journal.specs.Counts.{no_counts};
 ghost use Rattle.bm_journal.specs.declared.ids.Domain.{Domain as DomainValue};
@@ -21,10 +21,10 @@ ghost use Rattle.bm_grace.specs.Rest.{StaysAtRest};
 ghost use Rattle.bm_post.specs.Calls.{Posts, Takes};
 ghost use Rattle.bm_post.specs.Kept.{IsRoomy};
 ghost use Rattle.bm_world.specs.SideState.{SideAtRest, known_of};
-ghost use Rattle.bm_closing.specs.AtEnd.{AtEnd};
+ghost use Rattle.bm_closing.specs.AtEnd.{AtEnd, ended_at};
 
 use crate::machines::{Lent, TestDesk};
-use crate::{end_period, sweep};
+use crate::{close, end_period, sweep};
 use bm_cache::{Caches, Given, alloc, free_delayed};
 use bm_class::Class;
 use bm_desk::Desk;
@@ -72,6 +72,24 @@ processor 0\n\
 0 pass 4096 tracing 2\n\
 0 return 4096 512 256 768 0\n\
 total steps 12\n";
+
+/// A plain period was in progress, and no tracing one. Of the class of 2048 bytes there is nothing; of that of 4096 bytes three units
+/// are on Free, and the oldest of all waits in the inbox as a parcel.
+const CLOSED: &str = "\
+processors 1 pages 4\n\
+types\n\
+maps\n\
+scripts\n\
+processor 0\n\
+0 fill 4096 256 512 768\n\
+0 finish plain 2 first 0 later 0\n\
+0 sweep 4096 768 512 256 0\n\
+0 stamp 4096 tracing 2\n\
+0 begin tracing 1\n\
+0 finish tracing 2 first 0 0 later 0 0\n\
+0 pass 4096 tracing 2\n\
+0 return 4096 768 512 256 0\n\
+total steps 4\n";
 
 /// A pool of four pages.
 fn four_pages(rt: &(impl Abort + AllocGlobal)) -> Pool
@@ -253,5 +271,35 @@ fn all_units_of_a_class_are_swept(rt: HostRuntime) {
     let TestDesk { caches, side } = desk;
     caches.give_up();
     has_log(&rt, keep, SWEPT);
+    give_up(side);
+}
+
+/// A period of the plain domain begins.
+fn begin_plain<S: World>(rt: &impl Abort, lent: &mut S)
+    requires rest { (d : DomainValue) → S.Knows.rest lent.old d 0 }
+    requires begins { 0 < (side Plain (S.Knows.known lent.old)).begins }
+    ensures rest { (d : DomainValue) → (n : ℕ) × (S.Knows.rest lent.new d n × (ended_at (side d (S.Knows.known lent.new)).number n % 2 ≡ 0)) }
+    ensures begins { (side Tracing (S.Knows.known lent.new)).begins ≡ (side Tracing (S.Knows.known lent.old)).begins }
+    ensures processors { (S.Knows.known lent.new).grace.processors ≡ (S.Knows.known lent.old).grace.processors }
+{
+    match lent.begin(Domain::Plain, 0) {
+        Began::Won => {}
+        Began::Moved(_) => panic!(rt; "nobody else calls"),
+    }
+}
+
+#[test]
+fn a_processor_is_closed(rt: HostRuntime) {
+    let empty = Class::new(9).expect(&rt, "the class of 2048 bytes");
+    let class = Class::new(10).expect(&rt, "the class of 4096 bytes");
+    let mut lent = side_with_parcel(&rt, class);
+    begin_plain(&rt, &mut lent);
+    let free = fetched(&rt, &mut lent, class, 3);
+    let mut keep = Keep::new(rt.alloc());
+    let mut desk = desk_over(&rt, Lent { keep: &mut keep }, class, free, lent);
+    close(rt.alloc(), &mut desk, &[empty, class]).expect(&rt, "memory");
+    let TestDesk { caches, side } = desk;
+    caches.give_up();
+    has_log(&rt, keep, CLOSED);
     give_up(side);
 }

@@ -10,5 +10,7 @@ mod inbox;
 #[cfg(test)]
 mod machines;
 mod period;
+mod whole;
 
 pub use closing::{end_period, sweep};
+pub use whole::close;

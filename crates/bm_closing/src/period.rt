@@ -1,6 +1,6 @@
 //! Grace periods while all is at rest.
 
-ghost use Rattle.std.specs.Prelude.{◌≡◌, ◌+◌, ◌%◌, ◌<◌, ◌≤◌, ℕ};
+ghost use Rattle.std.specs.Prelude.{◌≡◌, ◌≢◌, ◌+◌, ◌%◌, ◌<◌, ◌≤◌, ℕ};
 ghost use Rattle.bm_journal.specs.declared.ids.Domain.{Domain as DomainValue};
 ghost use Rattle.bm_journal.specs.declared.ids.Domain.TheVariants.{Plain, Tracing};
 ghost use Rattle.bm_grace.specs.Rest.{MovesNumber};
@@ -29,6 +29,7 @@ pub(crate) fn end_driven<W: Grace>(world: &mut W, domain: Domain) -> Period
     ensures domain { result.domain ≡ domain }
     ensures number { result.number ≡ (side domain (W.Knows.known world.old)).number + 1 }
     ensures ended { (side domain (W.Knows.known world.new)).number ≡ 0 }
+    ensures other { (d : DomainValue) → d ≢ domain → side d (W.Knows.known world.new) ≡ side d (W.Knows.known world.old) }
     ensures alike { Alike (W.Knows.known world.old) (W.Knows.known world.new) }
     ensures begins { (d : DomainValue) → (side d (W.Knows.known world.new)).begins ≡ (side d (W.Knows.known world.old)).begins }
     ensures parcels { (W.Knows.known world.new).parcels ≡ (W.Knows.known world.old).parcels }

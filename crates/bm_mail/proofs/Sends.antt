@@ -151,10 +151,10 @@ sends-work cs c m =
 -- ---- works
 
 -- a class stands first, or behind another one
-first-among : (c d : ℕ) (cs : List ℕ) → c ≡ d → among c (d ∷ cs) ≡ true
+pub first-among : (c d : ℕ) (cs : List ℕ) → c ≡ d → among c (d ∷ cs) ≡ true
 first-among c d cs e = rw (eq-eqb c d e) refl
 
-later-among : (c d : ℕ) (cs : List ℕ) → among c cs ≡ true → among c (d ∷ cs) ≡ true
+pub later-among : (c d : ℕ) (cs : List ℕ) → among c cs ≡ true → among c (d ∷ cs) ≡ true
 later-among c d cs e = either (nat_eq c d) e
   where
     either : (x : Bool) {y : Bool} → y ≡ true → (x || y) ≡ true
@@ -166,7 +166,7 @@ found-first : (found : Bool) (c d : ℕ) (cs : List ℕ) (rest : Option ℕ) →
 found-first true c d cs rest f e = first-among c d cs (cc)
 found-first false c d cs rest f e = later-among c d cs (f e)
 
-found-among : (test : ℕ → Bool) (cs : List ℕ) (c : ℕ) → find test cs ≡ Some c → among c cs ≡ true
+pub found-among : (test : ℕ → Bool) (cs : List ℕ) (c : ℕ) → find test cs ≡ Some c → among c cs ≡ true
 found-among test [] c e = absurd (cc)
 found-among test (d ∷ cs) c e = found-first (test d) c d cs (find test cs) (found-among test cs c) e
 

@@ -1,6 +1,9 @@
+use Rattle.std.proofs.Common.{◌∙◌, ap}
+use Rattle.bm_grace.specs.Known.{Known, side}
 use Rattle.bm_desk.specs.Still.{alike-joined}
 use Rattle.bm_desk.proofs.Alike.{alike-finished, alike-looked}
 use Rattle.bm_closing.proofs.AtEnds.{alike-told}
+use Rattle.bm_closing.proofs.Classes.{other-changed}
 use Rattle.bm_closing.proofs.period.end_driven.Goals as goal
 
 pub returns-clause-rest : goal.returns-clause-rest
@@ -16,3 +19,9 @@ returns-clause-alike g c =
     let b = K c.look.new.self in
     let d = K c.finish.new.self in
     alike-joined a b d (alike-told a b _ c.look.ensures.known (alike-looked _ _ _ a)) (alike-told b d _ c.finish.ensures.known (alike-finished _ _ b))
+
+pub returns-clause-other : goal.returns-clause-other
+returns-clause-other g c d ne =
+    let K = g.W.Knows.known in
+    let F = λ (k : Known). side d k in
+    ap F c.finish.ensures.known ∙ (other-changed _ c.args.domain d _ _ (K c.look.new.self) ne ∙ (ap F c.look.ensures.known ∙ other-changed _ c.args.domain d _ _ (K c.args.world.now) ne))

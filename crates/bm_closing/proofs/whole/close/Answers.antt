@@ -1,0 +1,36 @@
+use Rattle.bm_lawful.specs.Closing.{AreSweeps}
+use Rattle.bm_law.proofs.Alone.{Alone-join}
+use Rattle.bm_work.proofs.Grown.{grew-then}
+use Rattle.bm_closing.specs.EndsBegun.{EndsBegun}
+use Rattle.bm_closing.proofs.AtEnds.{when-ok, with-ok}
+use Rattle.bm_closing.proofs.Classes.{told-behind}
+use Rattle.bm_closing.proofs.whole.close.Goals as goal
+
+pub returns-clause-closes : goal.returns-clause-closes
+returns-clause-closes g c =
+    let a = c.args.host.now in
+    let b = c.end_periods.new.host in
+    let d = c.sweep_each.new.host in
+    let N = λ (h : g.row.H.Denot). g.H.W.Knows.known (g.H.Desk.shared h) in
+    let held = g.H.Host.held in
+    let r = c.sweep_each.result in
+    let e = c.end_periods.ensures in
+    with-ok r _ (λ o. told-behind g.R.Recorder.log g.R.Recorder.counts (EndsBegun (N a)) c.args.classes.now (held a) (held b) (g.R.Recorder.log (held d).recorder) (N a).parcels (N b).parcels e.parcels e.processor c.requires.at_end.fine.placed e.at_end.fine.placed e.ends (when-ok r _ o c.sweep_each.ensures.sweeps).told)
+
+pub returns-clause-sweeps : goal.returns-clause-sweeps
+returns-clause-sweeps g c =
+    let a = c.args.host.now in
+    let b = c.end_periods.new.host in
+    let d = c.sweep_each.new.host in
+    let N = λ (h : g.row.H.Denot). g.H.W.Knows.known (g.H.Desk.shared h) in
+    let held = g.H.Host.held in
+    let r = c.sweep_each.result in
+    let e = c.end_periods.ensures in
+    with-ok r _ (λ o. grew-then g.R.Recorder.log g.R.Recorder.counts (EndsBegun (N a)) (AreSweeps c.args.classes.now) (held a) (held b) (g.R.Recorder.log (held d).recorder) e.processor c.requires.at_end.fine.placed e.at_end.fine.placed e.ends (when-ok r _ o c.sweep_each.ensures.sweeps).sweeps)
+
+pub returns-clause-alone : goal.returns-clause-alone
+returns-clause-alone g c =
+    let held = g.H.Host.held in
+    let L = λ (h : g.row.H.Denot). g.R.Recorder.log (held h).recorder in
+    let r = c.sweep_each.result in
+    with-ok r _ (λ o. Alone-join 0 (L c.args.host.now) (L c.end_periods.new.host) (L c.sweep_each.new.host) c.end_periods.ensures.alone (when-ok r _ o c.sweep_each.ensures.sweeps).alone)
