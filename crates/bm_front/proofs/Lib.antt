@@ -1,0 +1,6 @@
+pub mod OfWork
+pub mod Parts
+pub mod Blocks
+pub mod Fronts
+pub mod Replied
+pub mod Spared

@@ -1,0 +1,2 @@
+pub mod WorkEntries
+pub mod Owed
