@@ -92,9 +92,9 @@ ats_built : (scripts : List ScriptForm) (ats : List AtLine) (rest : List Word) �
 ats_built scripts [] rest b = refl
 ats_built scripts (a ∷ as') rest b = cc
 
-switch_built : (deferred : Bool) (rest : List Word) → built false (reserved (on_or_off deferred) ∷ rest) ≡ true → (deferred ≡ false) × (built false rest ≡ true)
-switch_built true rest b = cc
-switch_built false rest b = (refl, b)
+switch_built : (deferred : Bool) (rest : List Word) → built false (reserved (on_or_off deferred) ∷ rest) ≡ true → built false rest ≡ true
+switch_built true rest b = b
+switch_built false rest b = b
 
 one : (n : ℕ) (b : Bool) → (not (not (n == 1)) && b) ≡ true → (n ≡ 1) × (b ≡ true)
 one n b h = grind (arith, nat_tests)
@@ -120,15 +120,14 @@ words_run s fine limits b =
     let types = flat_map spell_type s.types in
     let few = few_fields (nat_lt 8 s.processors) (nat_lt 256 s.pages) (nat_lt 32 (length s.types)) (has_many s.types) _ _ _ _ _ limits in
     let alone = one s.processors _ b in
-    let off = switch_built s.deferred ((types ++ (maps ++ (scripts ++ (runs ++ (ats ++ last))))) ++ end) alone.1 in
-    let uncounted = types_built s.types ((maps ++ (scripts ++ (runs ++ (ats ++ last)))) ++ end) (along types (maps ++ (scripts ++ (runs ++ (ats ++ last)))) end off.1) in
+    let switched = switch_built s.deferred ((types ++ (maps ++ (scripts ++ (runs ++ (ats ++ last))))) ++ end) alone.1 in
+    let uncounted = types_built s.types ((maps ++ (scripts ++ (runs ++ (ats ++ last)))) ++ end) (along types (maps ++ (scripts ++ (runs ++ (ats ++ last)))) end switched) in
     let unmapped = maps_built d.types s.maps ((scripts ++ (runs ++ (ats ++ last))) ++ end) (along maps (scripts ++ (runs ++ (ats ++ last))) end uncounted.1) in
     let plain = script_built s.types d.maps [] s.scripts ((runs ++ (ats ++ last)) ++ end) few fine.scripts (along scripts (runs ++ (ats ++ last)) end unmapped.1) in
     let run = runs_built d.scripts s.runs ((ats ++ last) ++ end) (along runs (ats ++ last) end plain.1) in
     let unhandled = ats_built d.scripts s.ats (last ++ end) (along ats last end run) in
     record {
       one = alone.0;
-      off = off.0;
       no_maps = unmapped.0;
       no_handlers = unhandled;
       uncounted = uncounted.0;

@@ -1,16 +1,15 @@
 -- Which scenarios run by now. (The table is this project's own. It gets shorter as forms are built.)
-use Rattle.std.specs.Prelude.{◌≡◌, ℕ, true, false, not, [], Some, slice_get}
+use Rattle.std.specs.Prelude.{◌≡◌, ℕ, true, not, [], Some, slice_get}
 use Rattle.std.specs.List.{list_all}
 use Rattle.bm_lang.specs.declared.scenario.Parts.{Parts}
 use Rattle.bm_lang.specs.declared.scenario.Script.{Script}
 use Rattle.bm_lang.specs.declared.scenario.ScriptKind.TheVariants.{Plain}
 use Rattle.bm_exec.specs.Runnable.{can_run_block}
 
--- One processor, without deferred work, shared maps and handlers; types without a reference count; and plain scripts of
+-- One processor, without shared maps and handlers; types without a reference count; and plain scripts of
 -- `new`, `drop`, `if` and `repeat`.
 pub record RunsYet (s : Parts) : Type 0 where
   pub one : s.processors ≡ 1
-  pub off : s.deferred ≡ false
   pub no_maps : s.maps ≡ []
   pub no_handlers : s.ats ≡ []
   pub uncounted : list_all (λ t. not t.counted) s.types ≡ true

@@ -61,7 +61,7 @@ fn texts_with_the_place_of_their_first_form(rt: HostRuntime) -> Result<(), Fail>
         (
             "scenario {\n processors 1\n pages 2\n deferred on\n",
             None,
-            Some((4, 11)),
+            None,
         ),
         // types
         ("type item counted { a }", None, Some((1, 11))),

@@ -7,8 +7,8 @@ mod Objects
 mod Performing
 mod Going
 mod Undisturbed
+mod Still
+mod Rights
+pub mod Sounds
 mod Lives
-mod Apart
 mod Starting
-mod Creating
-mod Disposing

@@ -1,95 +1,83 @@
--- The units that live.
-use Rattle.std.proofs.Common.{◌≡◌, ◌≢◌, ℕ, suc, zero, ◌+◌, ◌<◌, ◌≤◌, ◌^◌, Bool, true, false, not, ◌&&◌, List, [], ◌∷◌, length, refl, sym, ap, ◌∙◌, Option, Some, None, arith, replicate, slice_get, inl, inr, ◌⊎◌, nat_le, is_some, length-set}
-use Rattle.std.proofs.Math.ListN.{set}
-use Rattle.std.proofs.lemmas.Bool.Decides.{Decides-eqb, nat_tests}
-use Rattle.std.proofs.Math.Dec.{eqb}
-use Rattle.bm_exec.proofs.Tables.{is_or_not}
-use Rattle.bm_cache.specs.Tests.{Passes, Reusable}
-use Rattle.bm_page.specs.declared.units.Stocked.{Stocked}
-use Rattle.bm_page.specs.Stock.{stocked_at}
-use Rattle.bm_cache.specs.Tokens.{Token}
-use Rattle.bm_exec.specs.Slots.{joined, unit_at, AllEmpty, Kept, tests_of}
+-- Objects that begin to live, and that live no more.
+use Rattle.std.proofs.Common.{◌≡◌, ◌<◌, ◌+◌, ℕ, List, [], ◌∷◌, length, sym, refl, ap, ◌∙◌, subst, Option, Some, None, inl, inr, set}
+use Rattle.std.proofs.lemmas.Bool.Decides.{eqb_tells}
+use mathlib.Core.Path.{fun_ext}
+use Rattle.bm_journal.specs.declared.entry.Entry.{Entry}
+use Rattle.bm_journal.specs.declared.entry.Entry.TheVariants as entry
+use Rattle.bm_journal.specs.declared.ids.ObjId.{ObjId}
+use Rattle.bm_journal.specs.Recording.{Appends}
+use Rattle.bm_page.specs.UnitState.{UnitState}
+use Rattle.bm_law.specs.Lists.{Log}
+use Rattle.bm_law.specs.Phrases.{alloc_took, FreePhrase}
+use Rattle.bm_law.specs.Spans.{Records}
+use Rattle.bm_law.proofs.Spans.{Records-one, Records-join}
+use Rattle.bm_lawful.specs.Calls.{Allocates}
+use Rattle.bm_cache.specs.Answers.{RestFreed}
+use Rattle.bm_cache.specs.Tokens.{seal_numbers}
+use Rattle.bm_world.specs.Slots.{unit_at}
+use Rattle.bm_world.specs.LivingState.{living_of, lives_of, next_life}
+use Rattle.bm_world.proofs.SlotLemmas.{Slotted, at-other, at-same}
+use Rattle.bm_exec.specs.Living.{Living, Lives, with_life, Created, Disposed}
 
-none-in : (k n : ℕ) → unit_at (replicate k None) n ≡ None
-none-in zero n = refl
-none-in (suc k) zero = refl
-none-in (suc k) (suc n) = none-in k n
+-- the object of one number, after its slot was written
+pub lives-set : (slots : Slotted) (n : ℕ) (x : Option UnitState) → unit_at (set slots n x) n ≡ x → lives_of (set slots n x) ≡ with_life n (living_of x) (lives_of slots)
+lives-set slots n x e = fun_ext (λ v. elim (eqb_tells n v) [
+  | inl y ↦ (let F : ℕ → Type 0 = λ k. living_of (unit_at (set slots n x) k) ≡ living_of x in let h : F v = subst F y.1 (ap living_of e) in rw y.0 h)
+  | inr y ↦ (let h : unit_at (set slots n x) v ≡ unit_at slots v = at-other slots n v x (λ q. y.1 (sym q)) in rw y.0 (ap living_of h))
+])
 
-pub all-empty : (k : ℕ) (slots : List (Option Token)) → slots ≡ replicate k None → AllEmpty slots
-all-empty k slots e n = ap (λ s. unit_at s n) e ∙ none-in k n
+pub created-one : (class : ℕ) (name values : List ℕ) (log0 log1 log2 : Option Log) (u : UnitState) (k a : ℕ) (slots slots' : Slotted) →
+    Appends log0 0 (entry.New name values) log1 → Records 0 (alloc_took class u.number (u.life + 1) (seal_numbers u.seal) k a) log1 log2 → u.class ≡ class →
+    unit_at slots u.number ≡ None → slots' ≡ set slots u.number (Some (next_life u)) → unit_at slots' u.number ≡ Some (next_life u) →
+    Created 0 class name values log0 log2 (lives_of slots) (lives_of slots') (Some (record { unit = u.number; life = u.life + 1 }))
+created-one class name values log0 log1 log2 u k a slots slots' n r c none is there =
+    let there' : unit_at (set slots u.number (Some (next_life u))) u.number ≡ Some (next_life u) = ap (λ (s : Slotted). unit_at s u.number) (sym is) ∙ there in
+    let living : lives_of slots' ≡ with_life u.number (Some (record { class = u.class; life = u.life + 1 })) (lives_of slots) = ap lives_of is ∙ lives-set slots u.number (Some (next_life u)) there' in
+    let F : ℕ → Type 0 = λ z. lives_of slots' ≡ with_life u.number (Some (record { class = z; life = u.life + 1 })) (lives_of slots) in
+    record {
+      own = alloc_took class u.number (u.life + 1) (seal_numbers u.seal) k a;
+      records = Records-join 0 (entry.New name values ∷ []) (alloc_took class u.number (u.life + 1) (seal_numbers u.seal) k a) log0 log1 log2 (Records-one 0 (entry.New name values) log0 log1 n) r;
+      allocates = (seal_numbers u.seal, k, a, refl);
+      begins = (ap living_of none, subst F c living);
+    }
 
-pub first : (a b : Bool) → (a && b) ≡ true → a ≡ true
-first true b e = refl
-first false b e = e
-
-second : (a b : Bool) → (a && b) ≡ true → b ≡ true
-second true b e = e
-second false b e = cc
-
-pub join : (a b : Bool) → a ≡ true → b ≡ true → (a && b) ≡ true
-join true b e f = f
-join false b e f = e
-
-pub none-of : (x : Option Token) → not (is_some x) ≡ true → x ≡ None
-none-of None e = refl
-none-of (Some u) e = cc
-
-some-one : (v u : Token) → Some v ≡ Some u → v ≡ u
-some-one v u e = cc
-
-pub nat_same : (m n : ℕ) → (m ≡ n) ⊎ (m ≢ n)
-nat_same m n = elim (is_or_not (eqb m n)) [ inl same ↦ inl ((Decides-eqb m n).0 same) | inr other ↦ inr (λ e. absurd (differs ((Decides-eqb m n).1 e) other)) ]
-  where
-    differs : {b : Bool} → b ≡ true → b ≡ false → ⊥
-    differs e f = cc
-
--- one slot is written
-slot-same : {A : Type 0} (xs : List A) (i : ℕ) (x : A) → i < length xs → slice_get (set xs i x) i ≡ Some x
-slot-same [] i x lt = absurd (omega arith)
-slot-same (y ∷ ys) zero x lt = refl
-slot-same (y ∷ ys) (suc i) x lt = slot-same ys i x (omega arith)
-
-slot-other : {A : Type 0} (xs : List A) (i j : ℕ) (x : A) → j ≢ i → slice_get (set xs i x) j ≡ slice_get xs j
-slot-other [] i j x ne = refl
-slot-other (y ∷ ys) zero zero x ne = absurd (ne refl)
-slot-other (y ∷ ys) zero (suc j) x ne = refl
-slot-other (y ∷ ys) (suc i) zero x ne = refl
-slot-other (y ∷ ys) (suc i) (suc j) x ne = slot-other ys i j x (λ e. ne (ap suc e))
-
-pub at-same : (slots : List (Option Token)) (i : ℕ) (x : Option Token) → i < length slots → unit_at (set slots i x) i ≡ x
-at-same slots i x lt = ap joined (slot-same slots i x lt)
-
-pub at-other : (slots : List (Option Token)) (i j : ℕ) (x : Option Token) → j ≢ i → unit_at (set slots i x) j ≡ unit_at slots j
-at-other slots i j x ne = ap joined (slot-other slots i j x ne)
-
--- the slots after a unit was put into one
-pub kept-put : (processors asked n : ℕ) (u : Token) (slots : List (Option Token)) (stock : List Stocked) → Kept processors asked slots stock → asked + 1 < 2 ^ 31 → n < length slots → u.number ≡ n → u.life ≤ asked + 1 → u.home < processors → (stocked_at stock n).out ≡ true → Kept processors (asked + 1) (set slots n (Some u)) stock
-kept-put processors asked n u slots stock k room lt number life home out = record {
-  size = length-set slots n (Some u) ∙ k.size;
-  number = λ m v e. elim (nat_same m n) [ inl same ↦ (let q = one m v e same in rw q (number ∙ sym same)) | inr other ↦ k.number m v (sym (at-other slots n m (Some u) other) ∙ e) ];
-  life = λ m v e. elim (nat_same m n) [ inl same ↦ (let q = one m v e same in rw q life) | inr other ↦ (let h = k.life m v (sym (at-other slots n m (Some u) other) ∙ e) in omega (arith, h)) ];
-  home = λ m v e. elim (nat_same m n) [ inl same ↦ (let q = one m v e same in rw q home) | inr other ↦ k.home m v (sym (at-other slots n m (Some u) other) ∙ e) ];
-  out = λ m v e. elim (nat_same m n) [ inl same ↦ rw same out | inr other ↦ k.out m v (sym (at-other slots n m (Some u) other) ∙ e) ];
-  few = room;
+pub created-none : (class : ℕ) (name values : List ℕ) (log0 log1 log2 : Option Log) (own : List Entry) (lives lives' : Lives) →
+    Appends log0 0 (entry.New name values) log1 → Records 0 own log1 log2 → Allocates class own None → lives' ≡ lives →
+    Created 0 class name values log0 log2 lives lives' None
+created-none class name values log0 log1 log2 own lives lives' n r a same = record {
+  own = own;
+  records = Records-join 0 (entry.New name values ∷ []) own log0 log1 log2 (Records-one 0 (entry.New name values) log0 log1 n) r;
+  allocates = a;
+  begins = same;
 }
-  where
-    one : (m : ℕ) (v : Token) → unit_at (set slots n (Some u)) m ≡ Some v → m ≡ n → v ≡ u
-    one m v e same = let f = rw same at e in let g = at-same slots n (Some u) lt in some-one v u (sym f ∙ g)
 
-pub life-below : (slots : List (Option Token)) (asked : ℕ) (stock : List Stocked) (u : Token) → Reusable (tests_of slots asked stock) u → u.life ≤ asked
-life-below slots asked stock u e = let h = first (nat_le u.life asked) (stocked_at stock u.number).out (second (not (is_some (unit_at slots u.number))) (nat_le u.life asked && (stocked_at stock u.number).out) e) in grind (arith, nat_tests, h)
+-- ---- an object that is given up
 
--- what passes a test is out of the stock
-pub is-out : (slots : List (Option Token)) (asked j : ℕ) (stock : List Stocked) (u : Token) → Passes (tests_of slots asked stock) j u → (stocked_at stock u.number).out ≡ true
-is-out slots asked j stock u e = second (nat_le u.life asked) (stocked_at stock u.number).out (second (not (is_some (unit_at slots u.number))) (nat_le u.life asked && (stocked_at stock u.number).out) e)
+pub some-living : (o : Option UnitState) (l : Living) → living_of o ≡ Some l → (u : UnitState) × (o ≡ Some u)
+some-living None l e = absurd (cc)
+some-living (Some u) l e = (u, refl)
 
-pub lives-not : (slots : List (Option Token)) (asked : ℕ) (stock : List Stocked) (u : Token) → Reusable (tests_of slots asked stock) u → unit_at slots u.number ≡ None
-lives-not slots asked stock u e = none-of (unit_at slots u.number) (first (not (is_some (unit_at slots u.number))) (nat_le u.life asked && (stocked_at stock u.number).out) e)
+rest-phrase : (fell c u home : ℕ) (rest : List Entry) → RestFreed fell c u rest → FreePhrase c u home (entry.Free u home ∷ rest)
+rest-phrase fell c u home rest (inl x) = inl (x.0, x.1, ap (λ z. entry.Free u home ∷ z) x.2)
+rest-phrase fell c u home rest (inr x) = inr (x.0, x.1, x.2, x.3, x.4, ap (λ z. entry.Free u home ∷ z) x.6)
 
--- a unit that isn't the one that began a life is told as before
-pub begun-test : (slots : List (Option Token)) (asked n : ℕ) (stock : List Stocked) (x : Option Token) (j : ℕ) (v : Token) → v.number ≢ n → Passes (tests_of slots asked stock) j v → Passes (tests_of (set slots n x) (asked + 1) stock) j v
-begun-test slots asked n stock x j v other e =
-    let a = first (not (is_some (unit_at slots v.number))) (nat_le v.life asked && (stocked_at stock v.number).out) e in
-    let b = life-below slots asked stock v e in
-    let c : nat_le v.life (asked + 1) ≡ true = grind (arith, nat_tests, b) in
-    rw (at-other slots n v.number x other) (join (not (is_some (unit_at slots v.number))) (nat_le v.life (asked + 1) && (stocked_at stock v.number).out) a (join (nat_le v.life (asked + 1)) (stocked_at stock v.number).out c (is-out slots asked j stock v e)))
+some-is : {A : Type 0} (x y : A) → Some x ≡ Some y → x ≡ y
+some-is x y e = cc
+
+living-class : (u : UnitState) (c n : ℕ) → living_of (Some u) ≡ Some (record { class = c; life = n }) → u.class ≡ c
+living-class u c n e = ap (λ (l : Living). l.class) (some-is _ _ e)
+
+pub disposed : (fell c : ℕ) (o : ObjId) (u : UnitState) (rest : List Entry) (log0 log1 log2 log3 : Option Log) (slots slots' : Slotted) →
+    unit_at slots o.unit ≡ Some u → u.number ≡ o.unit → lives_of slots o.unit ≡ Some (record { class = c; life = o.life }) →
+    Appends log0 0 (entry.Drop o.unit o.life) log1 → Appends log1 0 entry.Last log2 → Records 0 (entry.Free u.number u.home ∷ rest) log2 log3 → RestFreed fell u.class u.number rest →
+    slots' ≡ set slots o.unit None → o.unit < length slots → Disposed 0 c o log0 log3 (lives_of slots) (lives_of slots')
+disposed fell c o u rest log0 log1 log2 log3 slots slots' e number alive n m r f is lt =
+    let class : u.class ≡ c = living-class u c o.life (ap living_of (sym e) ∙ alive) in
+    record {
+      home = u.home;
+      own = entry.Free u.number u.home ∷ rest;
+      records = Records-join 0 (entry.Drop o.unit o.life ∷ []) (entry.Last ∷ entry.Free u.number u.home ∷ rest) log0 log1 log3 (Records-one 0 (entry.Drop o.unit o.life) log0 log1 n)
+          (Records-join 0 (entry.Last ∷ []) (entry.Free u.number u.home ∷ rest) log1 log2 log3 (Records-one 0 entry.Last log1 log2 m) r);
+      frees = subst (λ k. FreePhrase k o.unit u.home (entry.Free u.number u.home ∷ rest)) class (subst (λ k. FreePhrase u.class k u.home (entry.Free u.number u.home ∷ rest)) number (rest-phrase fell u.class u.number u.home rest f));
+      ends = ap lives_of is ∙ lives-set slots o.unit None (at-same slots o.unit None lt);
+    }

@@ -47,7 +47,7 @@ called types l w p a s s1 s' names names' os log log1 log' x x1 x' y b last fina
     (λ one two i j. (names', record { one = one; two = two; part_is = refl; is_first = i; is_second = j })) x x' g z
 
 pub new-performed : (types : List TypeDeclaration) (classes : List ℕ) (l : ℕ) (w : Option (List ℕ)) (p : ℕ) (s s1 s' : State ℕ) (x : List ℕ) (t : TypeId) (values : List ℕ) (names names' : Names) (lives lives' lives'' : Lives) (asked asked' : ℕ) (log log1 log' : Option Log) (reply : Option ObjId) (d : TypeDeclaration) (c : ℕ) →
-    IfSome log (λ es. Leaves p es s) → IfSome log1 (λ es. Leaves p es s1) → IfSome log' (λ es. Leaves p es s') → Classes types classes → slice_get types t.0 ≡ Some d → slice_get classes t.0 ≡ Some c → safe.is_owning (value_of (names x)) ≡ false → Holds types lives names → Created l c d.name values log log1 lives lives' reply → names' ≡ with_name x (answered t (reply_of reply)) names → asked' ≡ asked + 1 →
+    IfSome log (λ es. Leaves p es s) → IfSome log1 (λ es. Leaves p es s1) → IfSome log' (λ es. Leaves p es s') → Classes types classes → slice_get types t.0 ≡ Some d → slice_get classes t.0 ≡ Some c → safe.is_owning (value_of (names x)) ≡ false → Holds types lives names → Created l c d.name values log log1 lives lives' reply → names' ≡ with_name x (answered t (reply_of reply)) names → asked' ≤ asked + 2 →
     lives'' ≡ lives' → GrewBy (Behind w) s1 log1 log' → Behind w s' [] → (os : List Open) → Performed types l w s s' (New x t values) names names' os os lives'' asked asked' log log'
 new-performed types classes l w p s s1 s' x t values names names' lives lives' lives'' asked asked' log log1 log' reply d c leaves leaves1 leaves' cs f g free h made e n same work down os =
     let of = class-at types classes t.0 d c cs f g in record {
@@ -77,7 +77,7 @@ plain-at (x ∷ xs) zero d e f = let q : x ≡ d = cc in rw q at (not-true x.cou
 plain-at (x ∷ xs) (suc t) d e f = plain-at xs t d (all-behind x.counted _ e) f
 
 pub drop-performed : (types : List TypeDeclaration) (classes : List ℕ) (l : ℕ) (w : Option (List ℕ)) (p : ℕ) (s s1 s' : State ℕ) (x : List ℕ) (t : TypeId) (o : ObjId) (names names' : Names) (lives lives' lives'' : Lives) (asked asked' : ℕ) (log log1 log' : Option Log) (c : ℕ) (d : TypeDeclaration) →
-    IfSome log (λ es. Leaves p es s) → IfSome log1 (λ es. Leaves p es s1) → IfSome log' (λ es. Leaves p es s') → Classes types classes → OfClass types t.0 c d → names x ≡ Object t o.unit o.life → Holds types lives names → Disposed l c o log log1 lives lives' → names' ≡ with_name x Nothing names → asked' ≡ asked →
+    IfSome log (λ es. Leaves p es s) → IfSome log1 (λ es. Leaves p es s1) → IfSome log' (λ es. Leaves p es s') → Classes types classes → OfClass types t.0 c d → names x ≡ Object t o.unit o.life → Holds types lives names → Disposed l c o log log1 lives lives' → names' ≡ with_name x Nothing names → asked' ≤ asked + 2 →
     lives'' ≡ lives' → GrewBy (Behind w) s1 log1 log' → Behind w s' [] → (os : List Open) → Performed types l w s s' (Drop x) names names' os os lives'' asked asked' log log'
 drop-performed types classes l w p s s1 s' x t o names names' lives lives' lives'' asked asked' log log1 log' c d leaves leaves1 leaves' cs of held h gone e n same work down os = record {
   grew = called types l w p (Drop x) s s1 s' names names' os log log1 log' leaves leaves1 leaves'

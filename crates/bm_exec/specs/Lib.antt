@@ -7,5 +7,4 @@ pub mod Runnable
 pub mod Living
 pub mod Steps
 pub mod Running
-pub mod Slots
 pub mod Sound

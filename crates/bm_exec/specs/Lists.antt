@@ -1,5 +1,6 @@
 -- What is said of the statements of a block, said of a list of statements.
 use Rattle.std.specs.Prelude.{ℕ, Option, Some, None, List, [], ◌∷◌}
+use Rattle.std.specs.Borrow.{Bor}
 use Rattle.bm_lang.specs.declared.scenario.Action.{Action}
 use Rattle.bm_lang.specs.declared.scenario.Block.{Block, Block', items-the_row-Statement}
 use Rattle.bm_lang.specs.declared.scenario.Statement.{Statement}
@@ -13,6 +14,11 @@ use Rattle.bm_lawful.specs.Runs.{Run, Leaving, Done, Followed, RunsAction}
 -- the statements of a block
 abbrev pub block_list : Block → List Statement
 block_list (Block' shape row end_line) = items-the_row-Statement _ row
+
+-- the classes for which works run, as a list
+abbrev pub behind_of : Option (Bor (List ℕ)) → Option (List ℕ)
+behind_of None = None
+behind_of (Some classes) = Some classes.now
 
 -- what stands behind each statement: works for these classes until no flag is up, or nothing
 abbrev pub Behind : Option (List ℕ) → Part

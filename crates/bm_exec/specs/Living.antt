@@ -1,25 +1,22 @@
 -- The objects that live, by their units.
 use Rattle.std.specs.Prelude.{◌≡◌, ◌≤◌, ℕ, List, ◌∷◌, Option, Some, None, eqb, if◌then◌else◌}
+use Rattle.bm_journal.specs.declared.ids.Domain.{Domain}
 use Rattle.bm_journal.specs.declared.entry.Entry.{Entry}
 use Rattle.bm_journal.specs.declared.entry.Entry.TheVariants as entry
 use Rattle.bm_journal.specs.declared.ids.ObjId.{ObjId}
 use Rattle.bm_lang.specs.declared.scenario.TypeDeclaration.{TypeDeclaration}
 use Rattle.bm_lang.specs.declared.scenario.TypeId.{TypeId}
+pub use Rattle.bm_grace.specs.Known.{Living, Lives}
+use Rattle.bm_grace.specs.Known.{Known, side}
 use Rattle.bm_law.specs.Lists.{Log}
 use Rattle.bm_law.specs.Phrases.{FreePhrase}
 use Rattle.bm_law.specs.Spans.{Records}
 use Rattle.bm_law.specs.Alone.{Alone}
+use Rattle.bm_deferred.specs.Begun.{Progressed, begun_by}
+use Rattle.bm_deferred.specs.Inboxes.{Delivered}
 use Rattle.bm_lawful.specs.Held.{Names, Object}
 use Rattle.bm_lawful.specs.Opened.{OfClass}
 use Rattle.bm_lawful.specs.Calls.{Allocates}
-
--- an object: the class of its unit, and which life of the unit it is
-pub record Living : Type 0 where
-  pub class : ℕ
-  pub life : ℕ
-
-abbrev pub Lives : Type 0
-Lives = ℕ → Option Living
 
 abbrev pub with_life : ℕ → Option Living → Lives → Lives
 with_life u l lives = λ v. if eqb u v then l else lives v
@@ -48,10 +45,18 @@ pub record Disposed (l c : ℕ) (o : ObjId) (log log' : Option Log) (lives lives
   pub frees : FreePhrase c o.unit home own
   pub ends : lives' ≡ with_life o.unit None lives
 
--- No handler was added to those that wait; and where none ran, the log has grown by entries of the machine's level alone.
-pub record Undisturbed {M : Type 0} (levels waits : M → ℕ) (logs : M → Option Log) (before now : M) : Type 0 where
+-- No handler was added to those that wait; where none ran, the log has grown by entries of the machine's level alone, and no
+-- section began or ended. The side is the same one, and has those periods in progress that the entries tell; and of the parcels
+-- that are told, each that came was the oldest one, each that went goes to one of the processors, nothing was swept, and those
+-- that are left are what the entries tell.
+pub record Undisturbed {M : Type 0} (levels waits : M → ℕ) (logs : M → Option Log) (knows : M → Known) (before now : M) : Type 0 where
   pub pending : waits now ≤ waits before
   pub alone : waits now ≡ waits before → Alone (levels before) (logs before) (logs now)
+  pub words : waits now ≡ waits before → (d : Domain) → (side d (knows now)).word ≡ (side d (knows before)).word
+  pub processors : (knows now).grace.processors ≡ (knows before).grace.processors
+  pub processor : (knows now).grace.processor ≡ (knows before).grace.processor
+  pub periods : (d : Domain) → Progressed (levels before) d (begun_by (side d (knows before)).number) (begun_by (side d (knows now)).number) (logs before) (logs now)
+  pub mail : Delivered (levels before) (knows before).grace.processors (knows before).grace.processor (knows before).parcels (knows now).parcels (logs before) (logs now)
 
 -- Each name that holds an object holds one that lives, of its type's class, no two names hold one object, and each object
 -- that lives is held by a name.

@@ -30,7 +30,7 @@ pub record Performed (types : List TypeDeclaration) (l : ℕ) (w : Option (List 
   pub safe : (e : Setting) → SafeAction e (store_of names) a (λ r. SafeStack e r before) → SafeStack e (store_of names') now
   pub holds : Holds types lives' names'
   pub can : can_run_action types a ≡ true → can_run_stack types before ≡ true → can_run_stack types now ≡ true
-  pub cost : asked' + stack_cost now ≤ asked + (action_cost a + stack_cost before)
+  pub cost : asked' + 2 * stack_cost now ≤ asked + 2 * (action_cost a + stack_cost before)
   pub weight : weight now < 2 * action_cost a + weight before
   pub down : Behind w s' []
 
@@ -40,7 +40,7 @@ pub record Went (types : List TypeDeclaration) (l : ℕ) (w : Option (List ℕ))
   pub safe : (e : Setting) → SafeStack e (store_of names) before → SafeStack e (store_of names') now
   pub holds : Holds types lives' names'
   pub can : can_run_stack types before ≡ true → can_run_stack types now ≡ true
-  pub cost : asked' + stack_cost now ≤ asked + stack_cost before
+  pub cost : asked' + 2 * stack_cost now ≤ asked + 2 * stack_cost before
   pub down : Behind w s' []
 
 -- All was run, and the names own nothing: the log has grown by what the open blocks run, begun with the lists s. Of the

@@ -1,52 +1,47 @@
 //! The machine of ordinary code.
 
-ghost use Rattle.std.specs.Prelude.{◌≡◌, ◌+◌, ◌<◌, ◌^◌, Some, None};
-ghost use Rattle.bm_law.specs.State.{seen};
-ghost use Rattle.bm_law.specs.Stands.{stands};
-ghost use Rattle.bm_cache.specs.Shown.{shown};
-ghost use Rattle.bm_cache.specs.Tests.{Reusable};
-ghost use Rattle.bm_cache.specs.Tokens.{number_of};
-ghost use Rattle.bm_exec.specs.Living.{with_life};
-ghost use Rattle.bm_exec.specs.Slots.{lives_of, tests_of};
+ghost use Rattle.std.specs.Prelude.{◌≡◌, ◌+◌, None};
 ghost use Rattle.bm_exec.specs.Sound.{Sound};
 
 use crate::machine::Machine;
+use bm_behind::until_down;
 use bm_cache::{Caches, Given, Host, alloc, free};
 use bm_class::Class;
+use bm_desk::Desk;
 use bm_journal::{Entry, Keep, Level, ObjId, Values};
-use bm_page::{Pool, Unit};
 use bm_word::{Name, NoMemory};
-use bm_world::Slots;
+use bm_world::LivingSide;
+use std::alloc::Global;
 
-/// One processor at level 0, where ordinary code runs: its caches, the units that live, the stock, and how many objects
-/// were asked for. No handler runs on it by now.
+/// One processor at level 0, where ordinary code runs: its caches, and its side of all that processors share, with the units
+/// that live. No handler runs on it by now.
 pub struct Machine0 {
+    pub alloc: Global,
     pub caches: Caches<Keep>,
-    pub slots: Slots,
-    pub pool: Pool,
-    pub asked: u32,
-    pub processors: u8,
+    pub side: LivingSide,
+    /// How many times it was asked for the work behind a statement or a script.
+    pub settled: u32,
 }
 
 impl Host<Keep> for Machine0 {
     ghost use Rattle.std.specs.Prelude.{◌≡◌, refl};
     ghost use Rattle.std.proofs.Common.{◌∙◌};
-    ghost use Rattle.bm_cache.specs.Span.{Face};
-    ghost use Rattle.bm_exec.specs.Slots.{Kept, tests_of};
+    ghost use Rattle.bm_desk.specs.DeskTests.{tests_by};
+    ghost use Rattle.bm_world.specs.LivingState.{rights_living};
 
     ghost held = { λ m. m.caches };
 
     ghost with_held = { λ m c. record m { caches = c } };
 
-    ghost face = { λ m. record { level = 0; processors = m.processors; through = 0 } };
+    ghost face = { λ m. record { level = 0; processors = m.side.side.grace.processors; through = 0 } };
 
     ghost pending = { λ _. 0 };
 
-    ghost tests = { λ m. tests_of m.slots.slots.items m.asked m.pool.units };
+    ghost tests = { λ m. tests_by (rights_living m.side) };
 
-    ghost sound = { λ m. Kept m.processors m.asked m.slots.slots.items m.pool.units };
+    ghost sound = { λ _. Unit {0} };
 
-    ghost keeps = { λ a b. (b.slots ≡ a.slots) × (b.asked ≡ a.asked) × (b.pool ≡ a.pool) };
+    ghost keeps = { λ a b. (b.side ≡ a.side) × (b.settled ≡ a.settled) };
 
     ghost held_back = { λ h c. refl };
 
@@ -58,11 +53,11 @@ impl Host<Keep> for Machine0 {
 
     ghost sound_back = { λ h c s. s };
 
-    ghost keeps_back = { λ h c. (refl, refl, refl) };
+    ghost keeps_back = { λ h c. (refl, refl) };
 
-    ghost keeps_same = { λ h. (refl, refl, refl) };
+    ghost keeps_same = { λ h. (refl, refl) };
 
-    ghost keeps_join = { λ a b c x y. (y.0 ∙ x.0, y.1 ∙ x.1, y.2 ∙ x.2) };
+    ghost keeps_join = { λ a b c x y. (y.0 ∙ x.0, y.1 ∙ x.1) };
 
     fn caches(&mut self) -> &mut Caches<Keep> {
         &mut self.caches
@@ -75,12 +70,57 @@ impl Host<Keep> for Machine0 {
     fn point(&mut self) {}
 }
 
+impl Desk<Keep> for Machine0 {
+    ghost use Rattle.std.specs.Prelude.{◌≡◌, refl};
+    ghost use Rattle.std.proofs.Common.{◌∙◌, ap};
+    ghost use Rattle.bm_cache.specs.Span.{Face};
+    ghost use Rattle.bm_desk.specs.Goes.{Alike};
+    ghost use Rattle.bm_desk.specs.Still.{alike-joined, alike-still, goes-still};
+    ghost use Rattle.bm_world.specs.LivingState.{known_living};
+
+    type W = LivingSide;
+
+    ghost shared = { λ m. m.side };
+
+    ghost with_shared = { λ m w. record m { side = w } };
+
+    ghost stays = { λ a b. Alike (known_living a.side) (known_living b.side) × (b.settled ≡ a.settled) };
+
+    fn world(&mut self) -> &mut LivingSide {
+        &mut self.side
+    }
+
+    ghost shared_back = { λ h w. refl };
+
+    ghost held_apart = { λ h w. refl };
+
+    ghost shared_apart = { λ h c. refl };
+
+    ghost face_apart = { λ h w a. ap (λ n. let f : Face = record { level = 0; processors = n; through = 0 } in f) a.processors };
+
+    ghost pending_apart = { λ h w. refl };
+
+    ghost sound_apart = { λ h w a s. s };
+
+    ghost stays_apart = { λ h w a. (a, refl) };
+
+    ghost tests_are = { λ h. refl };
+
+    ghost processors_are = { λ h. refl };
+
+    ghost known_goes = { λ a b k. goes-still (known_living a.side) (known_living b.side) (ap known_living k.0) };
+
+    ghost keeps_stays = { λ a b k. (alike-still (known_living a.side) (known_living b.side) (ap known_living k.0), k.1) };
+
+    ghost stays_join = { λ a b c k m. (alike-joined (known_living a.side) (known_living b.side) (known_living c.side) k.0 m.0, m.1 ∙ k.1) };
+}
+
 impl Machine for Machine0 {
-    ghost use Rattle.std.specs.Prelude.{None};
+    ghost use Rattle.std.specs.Prelude.{◌+◌};
     ghost use Rattle.bm_law.specs.State.{seen};
     ghost use Rattle.bm_cache.specs.Shown.{shown};
     ghost use Rattle.bm_cache.specs.Tokens.{number_of};
-    ghost use Rattle.bm_exec.specs.Slots.{lives_of};
+    ghost use Rattle.bm_world.specs.LivingState.{known_living, lives_of};
     ghost use Rattle.bm_exec.specs.Sound.{Sound, sound_told};
 
     ghost log = { λ m. m.caches.recorder.told };
@@ -93,11 +133,11 @@ impl Machine for Machine0 {
 
     ghost pending = { λ _. 0 };
 
-    ghost lives = { λ m. lives_of m.slots.slots.items };
+    ghost lives = { λ m. lives_of m.side.slots };
 
-    ghost asked = { λ m. m.asked };
+    ghost asked = { λ m. m.side.asked + m.settled };
 
-    ghost behind = { λ _. None };
+    ghost known = { λ m. known_living m.side };
 
     ghost sound = { λ m. Sound m };
 
@@ -107,13 +147,13 @@ impl Machine for Machine0 {
         self.caches
             .note(Level::ordinary(), Entry::New(name, values));
         match alloc(self, class) {
-            Given::Unit(unit) => Some(begin_life(self, unit)),
+            Given::Unit(unit) => Some(self.side.begin_life(unit)),
             Given::Empty => {
-                self.asked += 1;
+                self.side.ask();
                 None
             }
             Given::Busy(_) => {
-                self.asked += 1;
+                self.side.ask();
                 None
             }
         }
@@ -123,37 +163,12 @@ impl Machine for Machine0 {
         self.caches
             .note(Level::ordinary(), Entry::Drop(object.unit, object.life));
         self.caches.note(Level::ordinary(), Entry::Last);
-        let unit = self.slots.take(object.unit);
+        let unit = self.side.end_life(object.unit);
         free(self, unit);
     }
 
-    fn settle(&mut self) -> Result<(), NoMemory> {
-        Ok(())
+    fn settle(&mut self, classes: &[Class]) -> Result<(), NoMemory> {
+        self.settled += 1;
+        until_down(self.alloc, self, classes)
     }
-}
-
-// A unit that was given begins its next life.
-fn begin_life(machine: &mut Machine0, unit: Unit) -> ObjId
-    requires sound { Sound machine.old }
-    requires room { machine.old.asked + 1 < 2 ^ 31 }
-    requires gone { stands unit.number (seen number_of (shown machine.old.caches)) ≡ 0 }
-    requires suits { Reusable (tests_of machine.old.slots.slots.items machine.old.asked machine.old.pool.units) unit }
-    requires home { unit.home < machine.old.processors }
-    ensures object { result ≡ record { unit = unit.number; life = unit.life + 1 } }
-    ensures none { lives_of machine.old.slots.slots.items unit.number ≡ None }
-    ensures lives { lives_of machine.new.slots.slots.items ≡ with_life unit.number (Some (record { class = unit.class; life = unit.life + 1 })) (lives_of machine.old.slots.slots.items) }
-    ensures asked { machine.new.asked ≡ machine.old.asked + 1 }
-    ensures caches { machine.new.caches ≡ machine.old.caches }
-    ensures pool { machine.new.pool ≡ machine.old.pool }
-    ensures sound { Sound machine.new }
-{
-    let mut unit = unit;
-    unit.begin_life();
-    let object = ObjId {
-        unit: unit.number(),
-        life: unit.life(),
-    };
-    machine.slots.put(unit);
-    machine.asked += 1;
-    object
 }

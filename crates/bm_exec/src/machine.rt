@@ -1,10 +1,11 @@
 //! Machines: what statements run on.
 
-ghost use Rattle.std.specs.Prelude.{◌≡◌, ◌+◌, ◌<◌, ◌^◌, ℕ, [], IfSome, List, OnOk, Option, Some};
+ghost use Rattle.std.specs.Prelude.{◌≡◌, ◌+◌, ◌<◌, ◌≤◌, ◌^◌, ℕ, IfSome, None, OnOk, Option, Some, length};
+ghost use Rattle.bm_grace.specs.Known.{Known};
 ghost use Rattle.bm_law.specs.State.{State};
 ghost use Rattle.bm_law.specs.Lists.{Log, Leaves};
 ghost use Rattle.bm_deferred.specs.Grown.{GrewBy};
-ghost use Rattle.bm_exec.specs.Lists.{Behind};
+ghost use Rattle.bm_lawful.specs.Works.{UntilDown, lowest_raised};
 ghost use Rattle.bm_exec.specs.Living.{Lives, Created, Disposed, Undisturbed};
 
 use bm_class::Class;
@@ -32,11 +33,11 @@ pub trait Machine {
     /// The objects that live.
     ghost lives: { Self → Lives };
 
-    /// How many objects were asked for.
+    /// How many times it was asked for an object, or for the work behind a statement.
     ghost asked: { Self → ℕ };
 
-    /// The classes for which deferred work runs behind each statement, until no flag is up; none where none runs.
-    ghost behind: { Self → Option (List ℕ) };
+    /// What its processor's side of all that processors share knows.
+    ghost known: { Self → Known };
 
     /// What the machine needs and leaves.
     ghost sound: { Self → Type 0 };
@@ -45,14 +46,13 @@ pub trait Machine {
     /// allocation answers null. It takes no memory but the recorder's.
     fn create(&mut self, class: Class, name: Name, values: Values) -> Option<ObjId>
         requires sound { sound self.old }
-        requires room { asked self.old + 1 < 2 ^ 31 }
+        requires room { asked self.old + 1 < 2 ^ 22 }
         ensures created { Created (level self.old) class name values (log self.old) (log self.new) (lives self.old) (lives self.new) result }
         ensures sound { sound self.new }
         ensures level { level self.new ≡ level self.old }
         ensures asked { asked self.new ≡ asked self.old + 1 }
         ensures processor { processor self.new ≡ processor self.old }
-        ensures behind { behind self.new ≡ behind self.old }
-        ensures alone { Undisturbed level pending log self.old self.new };
+        ensures alone { Undisturbed level pending log known self.old self.new };
 
     /// Gives up the one reference to an object that lives.
     fn dispose(&mut self, object: ObjId)
@@ -63,22 +63,23 @@ pub trait Machine {
         ensures level { level self.new ≡ level self.old }
         ensures asked { asked self.new ≡ asked self.old }
         ensures processor { processor self.new ≡ processor self.old }
-        ensures behind { behind self.new ≡ behind self.old }
-        ensures alone { Undisturbed level pending log self.old self.new };
+        ensures alone { Undisturbed level pending log known self.old self.new };
 
-    /// Runs the deferred work that stands behind a statement, until no flag is up. Want of memory is the only refusal. In
-    /// kernel/bpf/memalloc.c it runs behind the code that asked for it, by irq_work_raise.
-    fn settle(&mut self) -> Result<(), NoMemory>
+    /// Runs the deferred work that stands behind a statement: the work of the first of these classes whose flag is up, and again,
+    /// until no flag is up. Want of memory is the only refusal. In kernel/bpf/memalloc.c it runs behind the code that asked for it,
+    /// by irq_work_raise.
+    fn settle(&mut self, classes: &[Class]) -> Result<(), NoMemory>
         requires sound { sound self.old }
-        ensures settled { OnOk result (GrewBy (Behind (behind self.old)) (lists self.old) (log self.old) (log self.new)) }
-        ensures down { OnOk result (Behind (behind self.old) (lists self.new) []) }
+        requires room { asked self.old + 1 < 2 ^ 22 }
+        requires few { length classes.now ≤ 11 }
+        ensures settled { OnOk result (GrewBy (UntilDown classes.now) (lists self.old) (log self.old) (log self.new)) }
+        ensures down { OnOk result (lowest_raised classes.now (lists self.new) ≡ None) }
         ensures sound { OnOk result (sound self.new) }
         ensures lives { OnOk result (lives self.new ≡ lives self.old) }
-        ensures asked { OnOk result (asked self.new ≡ asked self.old) }
+        ensures asked { OnOk result (asked self.new ≡ asked self.old + 1) }
         ensures level { OnOk result (level self.new ≡ level self.old) }
         ensures processor { OnOk result (processor self.new ≡ processor self.old) }
-        ensures behind { OnOk result (behind self.new ≡ behind self.old) }
-        ensures alone { OnOk result (Undisturbed level pending log self.old self.new) };
+        ensures alone { OnOk result (Undisturbed level pending log known self.old self.new) };
 
     /// A log that is told leaves these lists.
     ghost told: { (m : Self) → sound m → IfSome (log m) (λ es. Leaves (processor m) es (lists m)) };

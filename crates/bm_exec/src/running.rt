@@ -1,6 +1,6 @@
 //! Running a script.
 
-ghost use Rattle.std.specs.Prelude.{◌≡◌, ◌+◌, ◌<◌, ◌≤◌, ◌^◌, ◌∷◌, [], OnOk, IfOk, true, false, Some, None, ℕ, List, Option, reverse, length, slice_get};
+ghost use Rattle.std.specs.Prelude.{◌≡◌, ◌+◌, ◌*◌, ◌<◌, ◌≤◌, ◌^◌, ◌∷◌, [], OnOk, IfOk, true, false, Some, None, ℕ, List, Option, IfSome, reverse, length, slice_get};
 ghost use Rattle.bm_lang.specs.declared.scenario.Action.TheVariants as action;
 ghost use Rattle.bm_lang.specs.declared.scenario.TypeDeclaration.{TypeDeclaration};
 ghost use Rattle.bm_lang.specs.Limits.{block_cost};
@@ -13,7 +13,8 @@ ghost use Rattle.bm_exec.specs.Stores.{store_of, value_of};
 ghost use Rattle.bm_exec.specs.Stack.{SafeStack};
 ghost use Rattle.bm_exec.specs.Cost.{stack_cost};
 ghost use Rattle.bm_exec.specs.Runnable.{Classes, can_run_action, can_run_block, can_run_stack};
-ghost use Rattle.bm_exec.specs.Lists.{Behind};
+ghost use Rattle.bm_deferred.specs.Grown.{GrewBy};
+ghost use Rattle.bm_exec.specs.Lists.{Behind, behind_of};
 ghost use Rattle.bm_exec.specs.Living.{Holds, Undisturbed};
 ghost use Rattle.bm_exec.specs.declared.frame.Open.{Open};
 ghost use Rattle.bm_exec.specs.Running.{Performed, Ran, RanScript};
@@ -30,11 +31,13 @@ use bm_lang::{Action, Items, Parts, Script, Statement, TypeDeclaration, TypeId};
 use bm_word::{Name, NoMemory};
 use std::alloc::Global;
 
-/// A scenario's types, and the class of each.
+/// A scenario's types, the class of each, and the classes for which deferred work runs behind each statement, until no flag is
+/// up; none where none runs.
 #[derive(Clone, Copy)]
 pub struct Types<'s> {
     pub declared: &'s [TypeDeclaration],
     pub classes: &'s [Class],
+    pub behind: Option<&'s [Class]>,
 }
 
 /// Why a script stopped.
@@ -44,6 +47,26 @@ pub enum Stopped {
     Ended,
     /// Memory ran out.
     NoMemory,
+}
+
+// Runs the deferred work behind a statement, if any runs.
+fn settle<'s, M: Machine>(machine: &mut M, types: &Types<'s>) -> Result<(), NoMemory>
+    requires sound { M.sound machine.old }
+    requires room { M.asked machine.old + 1 < 2 ^ 22 }
+    requires few { IfSome types.now.behind (λ classes. length classes.now ≤ 11) }
+    ensures settled { OnOk result (GrewBy (Behind (behind_of types.now.behind)) (M.lists machine.old) (M.log machine.old) (M.log machine.new)) }
+    ensures down { OnOk result (Behind (behind_of types.now.behind) (M.lists machine.new) []) }
+    ensures sound { OnOk result (M.sound machine.new) }
+    ensures lives { OnOk result (M.lives machine.new ≡ M.lives machine.old) }
+    ensures asked { OnOk result (M.asked machine.new ≤ M.asked machine.old + 1) }
+    ensures level { OnOk result (M.level machine.new ≡ M.level machine.old) }
+    ensures processor { OnOk result (M.processor machine.new ≡ M.processor machine.old) }
+    ensures alone { OnOk result (Undisturbed M.level M.pending M.log M.known machine.old machine.new) }
+{
+    match types.behind {
+        Some(classes) => machine.settle(classes),
+        None => Ok(()),
+    }
 }
 
 // `new x T v..`: asks for an object, which the name then holds, or null. Deferred work runs behind it.
@@ -57,17 +80,17 @@ fn perform_new<'s, M: Machine>(
 ) -> Result<(), NoMemory>
     requires sound { M.sound machine.old }
     requires classes { Classes types.now.declared.now types.now.classes.now }
-    requires room { M.asked machine.old + 1 < 2 ^ 31 }
+    requires few { IfSome types.now.behind (λ classes. length classes.now ≤ 11) }
+    requires room { M.asked machine.old + 2 < 2 ^ 22 }
     requires holds { Holds types.now.declared.now (M.lives machine.old) (names_of names.old) }
     requires can { can_run_action types.now.declared.now (action.New name.now type_id values.now) ≡ true }
     requires free { is_owning (value_of (names_of names.old name.now)) ≡ false }
-    ensures performed { OnOk result ((os : List Open) → Performed types.now.declared.now (M.level machine.old) (M.behind machine.old) (M.lists machine.old) (M.lists machine.new) (action.New name.now type_id values.now) (names_of names.old) (names_of names.new) os os (M.lives machine.new) (M.asked machine.old) (M.asked machine.new) (M.log machine.old) (M.log machine.new)) }
+    ensures performed { OnOk result ((os : List Open) → Performed types.now.declared.now (M.level machine.old) (behind_of types.now.behind) (M.lists machine.old) (M.lists machine.new) (action.New name.now type_id values.now) (names_of names.old) (names_of names.new) os os (M.lives machine.new) (M.asked machine.old) (M.asked machine.new) (M.log machine.old) (M.log machine.new)) }
     ensures sound { OnOk result (M.sound machine.new) }
     ensures level { OnOk result (M.level machine.new ≡ M.level machine.old) }
     ensures processor { OnOk result (M.processor machine.new ≡ M.processor machine.old) }
-    ensures behind { OnOk result (M.behind machine.new ≡ M.behind machine.old) }
-    ensures asked { OnOk result (M.asked machine.new ≤ M.asked machine.old + 1) }
-    ensures alone { OnOk result (Undisturbed M.level M.pending M.log machine.old machine.new) }
+    ensures asked { OnOk result (M.asked machine.new ≤ M.asked machine.old + 2) }
+    ensures alone { OnOk result (Undisturbed M.level M.pending M.log M.known machine.old machine.new) }
 {
     let Some(declared) = types.declared.get(type_id.0) else {
         unreachable!();
@@ -80,7 +103,7 @@ fn perform_new<'s, M: Machine>(
     };
     let reply = machine.create(*class, declared.name.duplicate(), values);
     names.put(name.as_bytes(), holding_of(type_id, reply))?;
-    machine.settle()
+    settle(machine, types)
 }
 
 // `drop x`: gives up the object that the name holds. Deferred work runs behind it.
@@ -92,22 +115,23 @@ fn perform_drop<'s, M: Machine>(
 ) -> Result<(), NoMemory>
     requires sound { M.sound machine.old }
     requires classes { Classes types.now.declared.now types.now.classes.now }
+    requires few { IfSome types.now.behind (λ classes. length classes.now ≤ 11) }
+    requires room { M.asked machine.old + 2 < 2 ^ 22 }
     requires holds { Holds types.now.declared.now (M.lives machine.old) (names_of names.old) }
     requires owned { is_owning (value_of (names_of names.old name.now)) ≡ true }
-    ensures performed { OnOk result ((os : List Open) → Performed types.now.declared.now (M.level machine.old) (M.behind machine.old) (M.lists machine.old) (M.lists machine.new) (action.Drop name.now) (names_of names.old) (names_of names.new) os os (M.lives machine.new) (M.asked machine.old) (M.asked machine.new) (M.log machine.old) (M.log machine.new)) }
+    ensures performed { OnOk result ((os : List Open) → Performed types.now.declared.now (M.level machine.old) (behind_of types.now.behind) (M.lists machine.old) (M.lists machine.new) (action.Drop name.now) (names_of names.old) (names_of names.new) os os (M.lives machine.new) (M.asked machine.old) (M.asked machine.new) (M.log machine.old) (M.log machine.new)) }
     ensures sound { OnOk result (M.sound machine.new) }
     ensures level { OnOk result (M.level machine.new ≡ M.level machine.old) }
     ensures processor { OnOk result (M.processor machine.new ≡ M.processor machine.old) }
-    ensures behind { OnOk result (M.behind machine.new ≡ M.behind machine.old) }
-    ensures asked { OnOk result (M.asked machine.new ≤ M.asked machine.old + 1) }
-    ensures alone { OnOk result (Undisturbed M.level M.pending M.log machine.old machine.new) }
+    ensures asked { OnOk result (M.asked machine.new ≤ M.asked machine.old + 2) }
+    ensures alone { OnOk result (Undisturbed M.level M.pending M.log M.known machine.old machine.new) }
 {
     let Holding::Object(_, object) = names.holding(name.as_bytes()) else {
         unreachable!();
     };
     machine.dispose(object);
     names.put(name.as_bytes(), Holding::Nothing)?;
-    machine.settle()
+    settle(machine, types)
 }
 
 // Performs a statement that was taken off the open blocks, where no work is left to run. Deferred work runs behind a call.
@@ -119,19 +143,19 @@ fn perform<'s, M: Machine>(
 ) -> Result<(), NoMemory>
     requires sound { M.sound machine.old }
     requires classes { Classes types.now.declared.now types.now.classes.now }
-    requires room { M.asked machine.old + 1 < 2 ^ 31 }
+    requires few { IfSome types.now.behind (λ classes. length classes.now ≤ 11) }
+    requires room { M.asked machine.old + 2 < 2 ^ 22 }
     requires holds { Holds types.now.declared.now (M.lives machine.old) (names_of frame.old.names) }
     requires can { can_run_action types.now.declared.now statement.now.action ≡ true }
-    requires down { Behind (M.behind machine.old) (M.lists machine.old) [] }
+    requires down { Behind (behind_of types.now.behind) (M.lists machine.old) [] }
     requires open { 0 < length (reverse frame.old.blocks.items) }
     requires needed { (e : Setting) × SafeAction e (store_of (names_of frame.old.names)) statement.now.action (λ r. SafeStack e r (reverse frame.old.blocks.items)) }
-    ensures performed { OnOk result (Performed types.now.declared.now (M.level machine.old) (M.behind machine.old) (M.lists machine.old) (M.lists machine.new) statement.now.action (names_of frame.old.names) (names_of frame.new.names) (reverse frame.old.blocks.items) (reverse frame.new.blocks.items) (M.lives machine.new) (M.asked machine.old) (M.asked machine.new) (M.log machine.old) (M.log machine.new)) }
+    ensures performed { OnOk result (Performed types.now.declared.now (M.level machine.old) (behind_of types.now.behind) (M.lists machine.old) (M.lists machine.new) statement.now.action (names_of frame.old.names) (names_of frame.new.names) (reverse frame.old.blocks.items) (reverse frame.new.blocks.items) (M.lives machine.new) (M.asked machine.old) (M.asked machine.new) (M.log machine.old) (M.log machine.new)) }
     ensures sound { OnOk result (M.sound machine.new) }
     ensures level { OnOk result (M.level machine.new ≡ M.level machine.old) }
     ensures processor { OnOk result (M.processor machine.new ≡ M.processor machine.old) }
-    ensures behind { OnOk result (M.behind machine.new ≡ M.behind machine.old) }
-    ensures asked { OnOk result (M.asked machine.new ≤ M.asked machine.old + 1) }
-    ensures alone { OnOk result (Undisturbed M.level M.pending M.log machine.old machine.new) }
+    ensures asked { OnOk result (M.asked machine.new ≤ M.asked machine.old + 2) }
+    ensures alone { OnOk result (Undisturbed M.level M.pending M.log M.known machine.old machine.new) }
 {
     match &statement.action {
         Action::New {
@@ -163,20 +187,20 @@ fn perform<'s, M: Machine>(
 pub fn resume<'s, M: Machine>(frame: &mut Frame<'s>, machine: &mut M, types: &Types<'s>) -> Stopped
     requires sound { M.sound machine.old }
     requires classes { Classes types.now.declared.now types.now.classes.now }
-    requires room { M.asked machine.old + stack_cost (reverse frame.old.blocks.items) < 2 ^ 31 }
+    requires few { IfSome types.now.behind (λ classes. length classes.now ≤ 11) }
+    requires room { M.asked machine.old + 2 * stack_cost (reverse frame.old.blocks.items) < 2 ^ 22 }
     requires holds { Holds types.now.declared.now (M.lives machine.old) (names_of frame.old.names) }
     requires can { can_run_stack types.now.declared.now (reverse frame.old.blocks.items) ≡ true }
-    requires down { Behind (M.behind machine.old) (M.lists machine.old) [] }
+    requires down { Behind (behind_of types.now.behind) (M.lists machine.old) [] }
     requires accepted { (e : Setting) × SafeStack e (store_of (names_of frame.old.names)) (reverse frame.old.blocks.items) }
-    ensures ended { result ≡ stopped.Ended → Ran types.now.declared.now (M.level machine.old) (M.behind machine.old) (M.lists machine.old) (names_of frame.old.names) (names_of frame.new.names) (reverse frame.old.blocks.items) (M.pending machine.old) (M.pending machine.new) (M.log machine.old) (M.log machine.new) }
+    ensures ended { result ≡ stopped.Ended → Ran types.now.declared.now (M.level machine.old) (behind_of types.now.behind) (M.lists machine.old) (names_of frame.old.names) (names_of frame.new.names) (reverse frame.old.blocks.items) (M.pending machine.old) (M.pending machine.new) (M.log machine.old) (M.log machine.new) }
     ensures none { result ≡ stopped.Ended → (u : ℕ) → M.lives machine.new u ≡ None }
-    ensures asked { result ≡ stopped.Ended → M.asked machine.new ≤ M.asked machine.old + stack_cost (reverse frame.old.blocks.items) }
-    ensures down { result ≡ stopped.Ended → Behind (M.behind machine.old) (M.lists machine.new) [] }
+    ensures asked { result ≡ stopped.Ended → M.asked machine.new ≤ M.asked machine.old + 2 * stack_cost (reverse frame.old.blocks.items) }
+    ensures down { result ≡ stopped.Ended → Behind (behind_of types.now.behind) (M.lists machine.new) [] }
     ensures sound { result ≡ stopped.Ended → M.sound machine.new }
     ensures level { result ≡ stopped.Ended → M.level machine.new ≡ M.level machine.old }
     ensures processor { result ≡ stopped.Ended → M.processor machine.new ≡ M.processor machine.old }
-    ensures behind { result ≡ stopped.Ended → M.behind machine.new ≡ M.behind machine.old }
-    ensures alone { result ≡ stopped.Ended → Undisturbed M.level M.pending M.log machine.old machine.new }
+    ensures alone { result ≡ stopped.Ended → Undisturbed M.level M.pending M.log M.known machine.old machine.new }
 {
     loop {
         let Ok(next) = next_statement(&mut frame.blocks) else {
@@ -204,20 +228,20 @@ pub fn run_script<'s, M: Machine>(
 ) -> Stopped
     requires sound { M.sound machine.old }
     requires classes { Classes types.now.declared.now types.now.classes.now }
-    requires room { M.asked machine.old + block_cost script.now.body < 2 ^ 31 }
+    requires few { IfSome types.now.behind (λ classes. length classes.now ≤ 11) }
+    requires room { M.asked machine.old + 2 * block_cost script.now.body < 2 ^ 22 }
     requires none { (u : ℕ) → M.lives machine.old u ≡ None }
     requires can { can_run_block types.now.declared.now script.now.body ≡ true }
-    requires down { Behind (M.behind machine.old) (M.lists machine.old) [] }
+    requires down { Behind (behind_of types.now.behind) (M.lists machine.old) [] }
     requires accepted { Accepted scenario.now script.now }
-    ensures ended { result ≡ stopped.Ended → RanScript types.now.declared.now (M.level machine.old) (M.behind machine.old) (M.lists machine.old) script.now (M.pending machine.old) (M.pending machine.new) (M.log machine.old) (M.log machine.new) }
+    ensures ended { result ≡ stopped.Ended → RanScript types.now.declared.now (M.level machine.old) (behind_of types.now.behind) (M.lists machine.old) script.now (M.pending machine.old) (M.pending machine.new) (M.log machine.old) (M.log machine.new) }
     ensures none { result ≡ stopped.Ended → (u : ℕ) → M.lives machine.new u ≡ None }
-    ensures asked { result ≡ stopped.Ended → M.asked machine.new ≤ M.asked machine.old + block_cost script.now.body }
-    ensures down { result ≡ stopped.Ended → Behind (M.behind machine.old) (M.lists machine.new) [] }
+    ensures asked { result ≡ stopped.Ended → M.asked machine.new ≤ M.asked machine.old + 2 * block_cost script.now.body }
+    ensures down { result ≡ stopped.Ended → Behind (behind_of types.now.behind) (M.lists machine.new) [] }
     ensures sound { result ≡ stopped.Ended → M.sound machine.new }
     ensures level { result ≡ stopped.Ended → M.level machine.new ≡ M.level machine.old }
     ensures processor { result ≡ stopped.Ended → M.processor machine.new ≡ M.processor machine.old }
-    ensures behind { result ≡ stopped.Ended → M.behind machine.new ≡ M.behind machine.old }
-    ensures alone { result ≡ stopped.Ended → Undisturbed M.level M.pending M.log machine.old machine.new }
+    ensures alone { result ≡ stopped.Ended → Undisturbed M.level M.pending M.log M.known machine.old machine.new }
 {
     accepted_scripts_are_safe();
     let mut frame = Frame {

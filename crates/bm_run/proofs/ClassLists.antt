@@ -4,11 +4,11 @@ use Rattle.std.specs.List.{list_any, filter}
 use Rattle.std.proofs.lemmas.List.{take_more}
 use Rattle.bm_class.specs.Sizes.{class_of_size}
 use Rattle.bm_lang.specs.declared.scenario.TypeDeclaration.{TypeDeclaration}
-use Rattle.bm_run.proofs.Basics.{nat_same}
+use Rattle.std.proofs.lemmas.Bool.{cases_eq}
 use Rattle.bm_lawful.specs.Opened.{object_size, is_class, uses_class}
 
 turned : (c x : ℕ) → nat_eq c x ≡ nat_eq x c
-turned c x = elim (nat_same c x) [
+turned c x = elim (cases_eq c x) [
   | inl same ↦ ap (λ k. nat_eq k x) same ∙ ap (λ k. nat_eq x k) (sym same)
   | inr other ↦ ne_eqb c x other ∙ sym (ne_eqb x c (λ e. other (sym e)))
 ]

@@ -1,86 +1,183 @@
 -- The log of a run is lawful.
-use Rattle.std.proofs.Common.{◌≡◌, ℕ, suc, zero, Bool, true, false, List, [], ◌∷◌, ◌++◌, map, refl, sym, ap, subst, ◌∙◌, append_assoc, Option, Some, None, IfSome, IsSome, arith, inl, inr, ne_eqb}
+use Rattle.std.proofs.Common.{◌≡◌, ℕ, suc, zero, Bool, true, false, List, [], ◌∷◌, ◌++◌, map, refl, sym, ap, subst, ◌∙◌, append_assoc, ne_eqb, Option, Some, None, IfSome, IsSome, arith}
 use Rattle.std.specs.List.{list_any}
+use Rattle.std.proofs.lemmas.List.{append_cancel_left}
+use Rattle.bm_journal.specs.declared.ids.Domain.{Domain}
 use Rattle.bm_journal.specs.declared.entry.Entry.{Entry}
 use Rattle.bm_journal.specs.declared.entry.Entry.TheVariants as entry
-use Rattle.bm_journal.specs.Recording.{Kept as Recorded}
-use Rattle.bm_page.specs.declared.units.Stocked.{Stocked}
-use Rattle.bm_page.specs.Stock.{Stock, fetched}
 use Rattle.bm_lang.specs.declared.scenario.Parts.{Parts}
-use Rattle.bm_law.specs.State.{State, Row, Side, seen, seven_lists, opening}
-use Rattle.bm_law.specs.Lists.{Log, Leaves, after}
-use Rattle.bm_law.specs.Null.{Nothing, RepliesFit}
+use Rattle.bm_page.specs.Stock.{Stock, fetched}
+use Rattle.bm_grace.specs.Known.{side}
+use Rattle.bm_post.specs.PostState.{told_in}
+use Rattle.bm_law.specs.Alone.{AllAt, Alone, GrewAt, at_level}
+use Rattle.bm_law.specs.Lists.{Leaves, Log, after}
+use Rattle.bm_law.specs.Null.{Asked, Nothing, RepliesFit}
 use Rattle.bm_law.specs.Spans.{own_entries}
 use Rattle.bm_law.specs.Stands.{times}
-use Rattle.bm_law.proofs.Null.{pops-fit}
+use Rattle.bm_law.specs.State.{Side, State, opening, seen, seen_row, seven_lists}
+use Rattle.bm_law.proofs.Alone.{at-append, level-from, level-own}
+use Rattle.bm_law.proofs.Folds.{after-append}
+use Rattle.bm_law.proofs.Null.{apart-answers, pops-fit, replies-append}
 use Rattle.bm_law.proofs.Seen.{map-seven}
+use Rattle.bm_law.proofs.Spans.{own-append}
 use Rattle.bm_cache.specs.Opening.{Fills, fill_log, named}
-use Rattle.bm_cache.specs.Placed.{Placed}
 use Rattle.bm_cache.specs.Shown.{shown}
 use Rattle.bm_cache.specs.Tokens.{Token, number_of}
-use Rattle.bm_cache.specs.declared.caches.Caches.{Caches}
-use Rattle.bm_lawful.specs.Opened.{uses_class, opened_classes}
+use Rattle.bm_deferred.specs.Begun.{Progressed, Progresses, begun_by, begun_over}
+use Rattle.bm_deferred.specs.Grown.{GrewBy, GrewPart}
+use Rattle.bm_deferred.specs.Inboxes.{Delivered, Delivers, Inboxes}
+use Rattle.bm_deferred.specs.Parts.{Part, Say, Stand, Then}
+use Rattle.bm_deferred.proofs.Begun.{IsIdle, begun-append, over-idle}
+use Rattle.bm_deferred.proofs.Each.{AllOf}
+use Rattle.bm_lawful.specs.Closing.{AreSweeps, EndsPeriods, in_progress}
 use Rattle.bm_lawful.specs.Fills.{AreFills, fresh_stock, prefill}
-use Rattle.bm_lawful.specs.OwnGrammar.{ordinary, AreSweeps, LawfulLog}
-use Rattle.bm_lawful.specs.Closing.{close_of}
-use Rattle.bm_lawful.specs.Grammar.{lines_of}
-use Rattle.bm_run.proofs.Basics.{is_or_not}
-use Rattle.bm_run.specs.Filling.{filling}
-use Rattle.bm_run.specs.Gained.{Gained}
-use Rattle.bm_run.specs.Lines.{WroteLines}
-use Rattle.bm_run.proofs.Scripting.{Entries_of, entries-of}
-use Rattle.bm_run.specs.Closing.{Closing, SweptAll}
-use Rattle.bm_run.proofs.Gaining.{ordinary-append, told-by}
-use Rattle.bm_run.proofs.LogAll.{fills-all, scripts-all, sweeps-all, log-all, Each_of}
-use Rattle.bm_run.proofs.Replies.{Fits, fits-covers}
-use Rattle.bm_lawful.proofs.Spares.{AllSpare, spared, spare-join}
-use Rattle.bm_run.proofs.Beside.{spare-covers}
-use Rattle.bm_run.proofs.OpenedList.{opened-has, opened-each}
+use Rattle.bm_lawful.specs.Grammar.{AreScripts, Front, lines_of}
+use Rattle.bm_lawful.specs.Lawful.{LawfulLog}
+use Rattle.bm_lawful.specs.Opened.{opened_classes, uses_class}
+use Rattle.bm_lawful.specs.Parcels.{ParcelLaw, no_parcels}
+use Rattle.bm_mail.specs.SweepsTold.{ClosingTold, SweepsTold}
+use Rattle.bm_front.specs.Owed.{AllReplied}
+use Rattle.bm_closing.specs.EndsBegun.{EndsBegun}
+use Rattle.bm_exec.specs.Sound.{Sound, sound_told}
+use Rattle.bm_exec.specs.declared.level0.Machine0.{Machine0}
+use Rattle.bm_world.specs.LivingState.{LivingState}
+use Rattle.bm_opening.specs.Filling.{filling}
+use Rattle.bm_opening.specs.Opened.{IsOpen}
+use Rattle.bm_run.specs.Closed.{Closed}
+use Rattle.bm_run.specs.Lines.{known_of, lists_of, log_of, Wrote}
+use Rattle.bm_run.proofs.Closes.{closing-apart, closing-is, ends-are, in-progress-own}
+use Rattle.bm_run.proofs.OpenedList.{opened-has, opened-none}
 
 -- ---- the entries of the opening
 
-abbrev pub fill_entries : Fills → List Entry
+abbrev fill_entries : Fills → List Entry
 fill_entries [] = []
 fill_entries (f ∷ fs) = entry.Fill f.0 (named f.1) ∷ fill_entries fs
 
-fill-ordinary : (fs : Fills) → fill_log fs ≡ ordinary (fill_entries fs)
-fill-ordinary [] = refl
-fill-ordinary (f ∷ fs) = ap (λ l. (0, entry.Fill f.0 (named f.1)) ∷ l) (fill-ordinary fs)
+fill-level : (fs : Fills) → fill_log fs ≡ at_level 0 (fill_entries fs)
+fill-level [] = refl
+fill-level (f ∷ fs) = ap (λ l. (0, entry.Fill f.0 (named f.1)) ∷ l) (fill-level fs)
 
 are-fills : (cs : List ℕ) (pool : Stock) → AreFills cs pool (fill_entries (filling cs pool).fills)
 are-fills [] pool = refl
 are-fills (c ∷ cs) pool = let f = fetched c (prefill c) pool in (fill_entries (filling cs f.pool).fills, refl, are-fills cs f.pool)
 
-each-any : (cs : List ℕ) → Each_of (λ c. Unit {0}) cs
-each-any [] = tt
-each-any (c ∷ cs) = (tt, each-any cs)
+fills-idle : (fs : Fills) → AllOf IsIdle (fill_entries fs)
+fills-idle [] = tt
+fills-idle (f ∷ fs) = (tt, fills-idle fs)
 
--- ---- the entries of a level
+level-at : (own : List Entry) → AllAt 0 (at_level 0 own)
+level-at [] = tt
+level-at (e ∷ es) = (refl, level-at es)
 
-own-ordinary : (own : List Entry) → own_entries 0 (ordinary own) ≡ own
-own-ordinary [] = refl
-own-ordinary (e ∷ es) = ap (λ l. e ∷ l) (own-ordinary es)
+-- ---- what a run leaves, by its logs
 
-own-above : (k : ℕ) (own : List Entry) → own_entries (suc k) (ordinary own) ≡ []
-own-above k [] = refl
-own-above k (e ∷ es) = rw (ne_eqb 0 (suc k) (λ q. absurd (omega (arith, q)))) (own-above k es)
+pub record Told (s : Parts) (final : Log) : Type 0 where
+  pub fills : Log
+  pub scripts : Log
+  pub closing : Log
+  pub boxes : Inboxes
+  pub final_is : final ≡ (fills ++ scripts) ++ closing
+  pub at : AllAt 0 ((fills ++ scripts) ++ closing)
+  pub at_front : AllAt 0 (fills ++ scripts)
+  pub are_fills : Say 0 (AreFills (opened_classes s.types) (fresh_stock s.pages)) (opening 0) fills
+  pub are_scripts : AreScripts s (lines_of 0 s.runs) 0 (after (opening 0) fills) scripts
+  pub mail : Delivers 0 1 0 (Some no_parcels) boxes (Some fills) (fills ++ scripts)
+  pub closes : ClosingTold 0 (opened_classes s.types) (fills ++ scripts) boxes (after (opening 0) (fills ++ scripts)) closing
+  pub before : State ℕ
+  pub leaves : Leaves 0 (fills ++ scripts) before
 
-replies-at : (l : ℕ) (own : List Entry) → Fits own → RepliesFit Nothing (own_entries l (ordinary own))
-replies-at zero own f = subst (λ (o : List Entry). RepliesFit Nothing o) (sym (own-ordinary own)) f.replies
-replies-at (suc k) own f = subst (λ (o : List Entry). RepliesFit Nothing o) (sym (own-above k own)) tt
+same-some : {x y : Log} → Some x ≡ Some y → x ≡ y
+same-some q = cc
 
--- ---- all together
+-- what was added twice is the same
+same-added : (a : Option Log) (x y v w n : Log) → a ≡ Some x → a ≡ Some y → n ≡ x ++ v → n ≡ y ++ w → v ≡ w
+same-added a x y v w n e f p q =
+    let same : x ≡ y = same-some (sym e ∙ f) in
+    append_cancel_left y v w (ap (λ z. z ++ v) (sym same) ∙ sym p ∙ q)
 
-all-empty : {A : Type 0} (r : Row A) (p : ℕ) → r ≡ (opening {A = A} p).rows 0 → seven_lists r ≡ []
-all-empty r p e = ap seven_lists e
+added-at : (P : Part) (t : State ℕ) (a : Option Log) (n : Log) (g : GrewPart P t a n) → GrewAt 0 a n → AllAt 0 g.added
+added-at P t a n g h = subst (AllAt 0) (same-added a h.log g.log h.added g.added n h.told g.told h.now_is g.now_is) h.at
 
-no-seen : (us : List Token) → us ≡ [] → map number_of us ≡ []
-no-seen us e = ap (map number_of) e
+-- the opening's log
+fills-at : (fs : Fills) (fills : Log) → fills ≡ fill_log fs → AllAt 0 fills
+fills-at fs fills e = subst (AllAt 0) (sym (e ∙ fill-level fs)) (level-at (fill_entries fs))
 
-ended-at : (a b : Log) (w : List Entry) (final : Log) → final ≡ b ++ ordinary w → b ≡ a → final ≡ a ++ ordinary w
-ended-at a b w final e f = e ∙ ap (λ l. l ++ ordinary w) f
+fills-said : (cs : List ℕ) (pool : Stock) (fills : Log) → fills ≡ fill_log (filling cs pool).fills → Say 0 (AreFills cs pool) (opening 0) fills
+fills-said cs pool fills e =
+    let fs : Fills = (filling cs pool).fills in
+    (fill_entries fs, are-fills cs pool, subst (λ (l : Log). Stand 0 (fill_entries fs) (opening 0) l) (sym (e ∙ fill-level fs)) (record { from = level-from 0 (fill_entries fs); own_is = level-own 0 (fill_entries fs) }))
 
--- the lists of a class that no type uses are empty before the closing
+fills-begin : (fs : Fills) (fills : Log) → fills ≡ fill_log fs → (d : Domain) → begun_over d None (own_entries 0 fills) ≡ None
+fills-begin fs fills e d = ap (λ (l : Log). begun_over d None (own_entries 0 l)) (e ∙ fill-level fs) ∙ (ap (begun_over d None) (level-own 0 (fill_entries fs)) ∙ over-idle d None (fill_entries fs) (fills-idle fs))
+
+fills-leave : (m : Machine0) (fills : Log) → Sound m → log_of m ≡ Some fills → lists_of m ≡ after (opening 0) fills
+fills-leave m fills sound told = (let l = subst (λ (x : Option Log). IfSome x (λ es. Leaves 0 es (lists_of m))) told (sound_told m sound) in sym l.lists)
+
+fills-logged : (cs : List ℕ) (pool : Stock) (m : Machine0) (fills : Log) → IsOpen (filling cs pool) m → log_of m ≡ Some fills → fills ≡ fill_log (filling cs pool).fills
+fills-logged cs pool m fills o told = subst (λ (x : Option Log). IfSome x (λ es. es ≡ fill_log (filling cs pool).fills)) told o.told
+
+-- the periods in progress behind the scripts
+begun-told : (d : Domain) (m0 m2 : Machine0) (fills scripts log2 : Log) → (side d (known_of m0)).number ≡ 0 → log_of m0 ≡ Some fills → log_of m2 ≡ Some log2 → log2 ≡ fills ++ scripts → AllAt 0 (fills ++ scripts) → begun_over d None (own_entries 0 fills) ≡ None →
+    Progressed 0 d (begun_by (side d (known_of m0)).number) (begun_by (side d (known_of m2)).number) (log_of m0) (log_of m2) → begun_by (side d (known_of m2)).number ≡ in_progress d None (fills ++ scripts)
+begun-told d m0 m2 fills scripts log2 zero-first told0 told2 is at none p =
+    let x : Option ℕ = begun_by (side d (known_of m2)).number in
+    let q : Progresses 0 d (begun_by (side d (known_of m0)).number) x (log_of m0) log2 = subst (Progressed 0 d (begun_by (side d (known_of m0)).number) x (log_of m0)) told2 p in
+    let added : q.added ≡ scripts = same-added (log_of m0) q.log fills q.added scripts log2 q.told told0 q.now_is is in
+    let start : begun_by (side d (known_of m0)).number ≡ None = ap begun_by zero-first in
+    q.left ∙ ap (λ o. begun_over d o (own_entries 0 q.added)) start ∙ ap (λ (l : Log). begun_over d None (own_entries 0 l)) added
+    ∙ ap (λ o. begun_over d o (own_entries 0 scripts)) (sym none) ∙ sym (begun-append d None (own_entries 0 fills) (own_entries 0 scripts)) ∙ ap (begun_over d None) (sym (own-append 0 fills scripts)) ∙ sym (in-progress-own d None (fills ++ scripts) at)
+
+pub told-run : (s : Parts) (m0 m2 m3 : Machine0) (final : Log) → IsOpen (filling (opened_classes s.types) (fresh_stock s.pages)) m0 → Wrote (AreScripts s (lines_of 0 s.runs) 0) m0 m2 → Wrote (Stand 0 (entry.Ended ∷ entry.Close ∷ [])) m2 m3 → m3.side ≡ m2.side → Sound m2 → Sound m3 → Closed (opened_classes s.types) m3 final → (t : Told s final) × (t.before ≡ lists_of m2)
+told-run s m0 m2 m3 final o w e same sound2 sound3 closed =
+    let classes : List ℕ = opened_classes s.types in
+    let Scripts : Part = AreScripts s (lines_of 0 s.runs) 0 in
+    let Ends : Part = Stand 0 (entry.Ended ∷ entry.Close ∷ []) in
+    let Sweeps : LivingState → Part = λ v. SweepsTold classes (told_in v.side.post) in
+    let z = closed.closes in
+    let e' : GrewPart Ends (lists_of m2) (log_of m2) z.log = subst (GrewBy Ends (lists_of m2) (log_of m2)) z.told e.grew in
+    let w' : GrewPart Scripts (lists_of m0) (log_of m0) e'.log = subst (GrewBy Scripts (lists_of m0) (log_of m0)) e'.told w.grew in
+    let fills : Log = w'.log in
+    let scripts : Log = w'.added in
+    let front : Log = fills ++ scripts in
+    let told0 : log_of m0 ≡ Some fills = w'.told in
+    let logged : fills ≡ fill_log (filling classes (fresh_stock s.pages)).fills = fills-logged classes (fresh_stock s.pages) m0 fills o told0 in
+    let a0 : AllAt 0 fills = fills-at (filling classes (fresh_stock s.pages)).fills fills logged in
+    let a1 : AllAt 0 scripts = added-at Scripts (lists_of m0) (log_of m0) e'.log w' (subst (Alone 0 (log_of m0)) e'.told w.ordinary.alone) in
+    let a2 : AllAt 0 e'.added = added-at Ends (lists_of m2) (log_of m2) z.log e' (subst (Alone 0 (log_of m2)) z.told e.ordinary.alone) in
+    let a3 : AllAt 0 z.added = added-at (Then (EndsBegun (known_of m3)) (Sweeps m3.side)) (lists_of m3) (log_of m3) final z closed.alone in
+    let at_front : AllAt 0 front = at-append 0 fills scripts a0 a1 in
+    let begun : (d : Domain) → begun_by (side d (known_of m2)).number ≡ in_progress d None front = λ d. begun-told d m0 m2 fills scripts e'.log (o.numbers d) told0 e'.told w'.now_is at_front (fills-begin (filling classes (fresh_stock s.pages)).fills fills logged d) (w.ordinary.periods d) in
+    let ends : EndsBegun (known_of m3) ≡ EndsPeriods front = ends-are (known_of m3) front (λ d. rw same (begun d)) in
+    let middle : z.log ≡ front ++ e'.added = e'.now_is ∙ ap (λ l. l ++ e'.added) w'.now_is in
+    let leaves : Leaves 0 z.log (lists_of m3) = subst (λ (x : Option Log). IfSome x (λ es. Leaves 0 es (lists_of m3))) z.told (sound_told m3 sound3) in
+    let state : lists_of m3 ≡ after (after (opening 0) front) e'.added = sym leaves.lists ∙ ap (after (opening 0)) middle ∙ after-append (opening 0) front e'.added in
+    let rest : Then (EndsPeriods front) (Sweeps m2.side) (after (after (opening 0) front) e'.added) z.added =
+    subst (λ (t : State ℕ). Then (EndsPeriods front) (Sweeps m2.side) t z.added) state (subst (λ (v : LivingState). Then (EndsPeriods front) (Sweeps v) (lists_of m3) z.added) same (subst (λ (P : Part). Then P (Sweeps m3.side) (lists_of m3) z.added) ends z.is_part)) in
+    let boxes : Inboxes = told_in m2.side.side.post in
+    let M : Option Inboxes → Option Log → Log → Type 0 = λ b l n. Delivers 0 1 0 b boxes l n in
+    let mail : M (known_of m0).parcels (log_of m0) e'.log = subst (Delivered 0 1 0 (known_of m0).parcels (Some boxes) (log_of m0)) e'.told w.ordinary.mail in
+    let front2 : Leaves 0 e'.log (lists_of m2) = subst (λ (x : Option Log). IfSome x (λ es. Leaves 0 es (lists_of m2))) e'.told (sound_told m2 sound2) in (
+      record {
+        fills = fills;
+        scripts = scripts;
+        closing = e'.added ++ z.added;
+        boxes = boxes;
+        final_is = z.now_is ∙ ap (λ l. l ++ z.added) middle ∙ append_assoc front e'.added z.added;
+        at = at-append 0 front (e'.added ++ z.added) at_front (at-append 0 e'.added z.added a2 a3);
+        at_front = at_front;
+        are_fills = fills-said classes (fresh_stock s.pages) fills logged;
+        are_scripts = subst (λ (t : State ℕ). Scripts t scripts) (fills-leave m0 fills o.sound told0) w'.is_part;
+        mail = subst (λ n. M (Some no_parcels) (Some fills) n) w'.now_is (subst (λ l. M (Some no_parcels) l e'.log) told0 (subst (λ b. M b (log_of m0) e'.log) o.parcels mail));
+        closes = record { one = e'.added; two = z.added; part_is = refl; is_first = record { from = e'.is_part.from; own_is = e'.is_part.own_is }; is_second = rest };
+        before = lists_of m2;
+        leaves = subst (λ (l : Log). Leaves 0 l (lists_of m2)) w'.now_is front2;
+      },
+      refl,
+    )
+
+-- ---- the lists of classes that no type uses
+
 no-tokens : (us : List Token) → map number_of us ≡ [] → us ≡ []
 no-tokens [] e = refl
 no-tokens (u ∷ us) e = cc
@@ -89,118 +186,114 @@ never-used : (s : Parts) (c : ℕ) → times c (opened_classes s.types) ≡ 0 �
 never-used s c none true e = absurd (let h = opened-has s.types c e in omega (arith, h, none))
 never-used s c none false e = e
 
-spared-rows : (s : Parts) → s.deferred ≡ false → (pool : Stock) (c : ℕ) (c0 c2 : Caches Recorded) (l : Log) → c2.recorder.told ≡ Some l → IfSome c0.recorder.told (λ es. es ≡ fill_log (filling (opened_classes s.types) pool).fills) → WroteLines s (seen number_of (shown c0)) c0.recorder.told c2.recorder.told →
-    Placed (λ (k : Recorded). k.told) (λ k. k.counted) c2 → c2.processor ≡ 0 → list_any (uses_class c) s.types ≡ false → seven_lists ((shown c2).rows c) ≡ []
-spared-rows s off pool c c0 c2 l told opened wrote placed home never =
-    let classes = opened_classes s.types in
-    let fills = fill_entries (filling classes pool).fills in
-    let w2 : Entries_of s c0.recorder.told l = entries-of s off (seen number_of (shown c0)) c0.recorder.told c2.recorder.told l told wrote in
-    let z = told-by w2.own c0.recorder.told (Some l) l refl w2.gained in
-    let first : z.log ≡ ordinary fills = (let w = subst (λ (o : Option Log). IfSome o (λ es. es ≡ fill_log (filling classes pool).fills)) z.told opened in w ∙ fill-ordinary (filling classes pool).fills) in
-    let whole : l ≡ ordinary (fills ++ w2.own) = z.now_is ∙ (ap (λ k. k ++ ordinary w2.own) first ∙ sym (ordinary-append fills w2.own)) in
-    let leaves : Leaves 0 l (seen number_of (shown c2)) =
-    (let w = subst (λ (o : Option Log). IfSome o (λ es. Leaves c2.processor es (seen number_of (shown c2)))) told placed.told in
-    subst (λ p. Leaves p l (seen number_of (shown c2))) home w) in
-    let spare = spare-join c fills w2.own
-    (fills-all s (λ d. list_any (uses_class d) s.types ≡ true) (AllSpare c) (spare-covers s c never) classes pool fills (opened-each s.types) (are-fills classes pool))
-    (scripts-all s (λ d. list_any (uses_class d) s.types ≡ true) (AllSpare c) (spare-covers s c never) (lines_of 0 s.runs) 0 w2.own w2.are) in
-    let row : (seen number_of (shown c2)).rows c ≡ (opening {A = ℕ} 0).rows c =
-    ap (λ (t : State ℕ). t.rows c) (sym leaves.lists) ∙ (ap (λ (k : Log). (after (opening 0) k).rows c) whole ∙ spared c (fills ++ w2.own) (opening 0) spare) in
-    no-tokens (seven_lists ((shown c2).rows c)) (map-seven number_of ((shown c2).rows c) ∙ ap seven_lists row)
+-- Of the front of a log: the cache of a class that no type uses stays as it was.
+abbrev pub RowsKept : Type 0
+RowsKept = (s : Parts) (front : Log) → AllAt 0 front → Front s 0 (opening 0) front → (c : ℕ) → list_any (uses_class c) s.types ≡ false → (after (opening 0) front).rows c ≡ (opening 0).rows c
+
+front-of : (s : Parts) (fills scripts : Log) → Say 0 (AreFills (opened_classes s.types) (fresh_stock s.pages)) (opening 0) fills → AreScripts s (lines_of 0 s.runs) 0 (after (opening 0) fills) scripts → Front s 0 (opening 0) (fills ++ scripts)
+front-of s fills scripts f x = record { one = fills; two = scripts; part_is = refl; is_first = f; is_second = x }
+
+row-empty : (s : Parts) (front : Log) (m : Machine0) (c : ℕ) → RowsKept → AllAt 0 front → Front s 0 (opening 0) front → Leaves 0 front (lists_of m) → list_any (uses_class c) s.types ≡ false → seven_lists ((lists_of m).rows c) ≡ []
+row-empty s front m c kept at is leaves never =
+    let row : (lists_of m).rows c ≡ (opening {A = ℕ} 0).rows c = ap (λ (t : State ℕ). t.rows c) (sym leaves.lists) ∙ kept s front at is c never in
+    ap seven_lists row
 
 told-some : (o : Option Log) → IsSome o → (l : Log) × (o ≡ Some l)
 told-some None h = cc
 told-some (Some l) h = (l, refl)
 
-pub unused-rows : (s : Parts) → s.deferred ≡ false → (pool : Stock) (c0 c2 c3 : Caches Recorded) (told1 : Option Log) → IfSome c0.recorder.told (λ es. es ≡ fill_log (filling (opened_classes s.types) pool).fills) → WroteLines s (seen number_of (shown c0)) c0.recorder.told c2.recorder.told →
-    Gained (entry.Ended ∷ []) c2.recorder.told told1 → Gained (entry.Close ∷ []) told1 c3.recorder.told → shown c3 ≡ shown c2 →
-    Placed (λ (k : Recorded). k.told) (λ k. k.counted) c2 → c2.processor ≡ 0 → IsSome c3.recorder.told → (c : ℕ) → times c (opened_classes s.types) ≡ 0 → seven_lists ((shown c3).rows c) ≡ []
-unused-rows s off pool c0 c2 c3 told1 opened wrote g1 g2 same placed home some c none =
-    let t = told-some c3.recorder.told some in
-    let z3 = told-by (entry.Close ∷ []) told1 c3.recorder.told t.0 t.1 g2 in
-    let z2 = told-by (entry.Ended ∷ []) c2.recorder.told told1 z3.log z3.told g1 in
-    ap (λ (x : State Token). seven_lists (x.rows c)) same ∙ spared-rows s off pool c c0 c2 z2.log z2.told opened wrote placed home (never-used s c none (list_any (uses_class c) s.types) refl)
+-- .. before the closing
+pub unused-rows : (s : Parts) (m0 m2 m3 : Machine0) → RowsKept → IsOpen (filling (opened_classes s.types) (fresh_stock s.pages)) m0 → Wrote (AreScripts s (lines_of 0 s.runs) 0) m0 m2 → Sound m2 → Wrote (Stand 0 (entry.Ended ∷ entry.Close ∷ [])) m2 m3 → shown m3.caches ≡ shown m2.caches → IsSome (log_of m3) → (c : ℕ) → times c (opened_classes s.types) ≡ 0 → seven_lists ((shown m3.caches).rows c) ≡ []
+unused-rows s m0 m2 m3 kept o w sound2 e same some c none =
+    let Scripts : Part = AreScripts s (lines_of 0 s.runs) 0 in
+    let Ends : Part = Stand 0 (entry.Ended ∷ entry.Close ∷ []) in
+    let t = told-some (log_of m3) some in
+    let e' : GrewPart Ends (lists_of m2) (log_of m2) t.0 = subst (GrewBy Ends (lists_of m2) (log_of m2)) t.1 e.grew in
+    let w' : GrewPart Scripts (lists_of m0) (log_of m0) e'.log = subst (GrewBy Scripts (lists_of m0) (log_of m0)) e'.told w.grew in
+    let fills : Log = w'.log in
+    let scripts : Log = w'.added in
+    let told0 : log_of m0 ≡ Some fills = w'.told in
+    let a1 : AllAt 0 scripts = added-at Scripts (lists_of m0) (log_of m0) e'.log w' (subst (Alone 0 (log_of m0)) e'.told w.ordinary.alone) in
+    let classes : List ℕ = opened_classes s.types in
+    let logged : fills ≡ fill_log (filling classes (fresh_stock s.pages)).fills = fills-logged classes (fresh_stock s.pages) m0 fills o told0 in
+    let at : AllAt 0 (fills ++ scripts) = at-append 0 fills scripts (fills-at (filling classes (fresh_stock s.pages)).fills fills logged) a1 in
+    let is : Front s 0 (opening 0) (fills ++ scripts) = front-of s fills scripts (fills-said classes (fresh_stock s.pages) fills logged) (subst (λ (x : State ℕ). Scripts x scripts) (fills-leave m0 fills o.sound told0) w'.is_part) in
+    let leaves : Leaves 0 e'.log (lists_of m2) = subst (λ (x : Option Log). IfSome x (λ es. Leaves 0 es (lists_of m2))) e'.told (sound_told m2 sound2) in
+    let empty : seven_lists ((lists_of m2).rows c) ≡ [] = row-empty s (fills ++ scripts) m2 c kept at is (subst (λ (l : Log). Leaves 0 l (lists_of m2)) w'.now_is leaves) (never-used s c none (list_any (uses_class c) s.types) refl) in
+    rw same (no-tokens (seven_lists ((shown m2.caches).rows c)) (map-seven number_of ((shown m2.caches).rows c) ∙ empty))
 
--- a log that is told after entries was told before
-pub told-before : (own : List Entry) (a b : Option Log) → Gained own a b → IsSome b → IsSome a
-told-before own a b g some = let t = told-some b some in let z = told-by own a b t.0 t.1 g in subst (λ (o : Option Log). IsSome o) (sym z.told) refl
+-- ---- all together
 
-pub lawful-log : (s : Parts) → s.deferred ≡ false → (pool : Stock) → pool ≡ fresh_stock s.pages → (stock : List Stocked) (c0 c2 c3 c4 : Caches Recorded) (told1 : Option Log) (final : Log) →
-    IfSome c0.recorder.told (λ es. es ≡ fill_log (filling (opened_classes s.types) pool).fills) → WroteLines s (seen number_of (shown c0)) c0.recorder.told c2.recorder.told →
-    Gained (entry.Ended ∷ []) c2.recorder.told told1 → Gained (entry.Close ∷ []) told1 c3.recorder.told → shown c3 ≡ shown c2 →
-    SweptAll (seen number_of (shown c3)) (opened_classes s.types) c3 c4 →
-    Placed (λ (k : Recorded). k.told) (λ k. k.counted) c2 → c2.processor ≡ 0 → Closing stock c4 → c4.processor ≡ 0 → c4.recorder.told ≡ Some final → LawfulLog s 0 final
-lawful-log s off pool fresh stock c0 c2 c3 c4 told1 final opened wrote g1 g2 same swept placed2 home2 closing4 home4 last =
-    let classes = opened_classes s.types in
-    let fills = fill_entries (filling classes pool).fills in
-    let sweeps = swept.own in
-    let z4 = told-by sweeps c3.recorder.told c4.recorder.told final last swept.gained in
-    let z3 = told-by (entry.Close ∷ []) told1 c3.recorder.told z4.log z4.told g2 in
-    let z2 = told-by (entry.Ended ∷ []) c2.recorder.told told1 z3.log z3.told g1 in
-    let w2 : Entries_of s c0.recorder.told z2.log = entries-of s off (seen number_of (shown c0)) c0.recorder.told c2.recorder.told z2.log z2.told wrote in
-    let scripts = w2.own in
-    let z0 = told-by scripts c0.recorder.told (Some z2.log) z2.log refl w2.gained in
-    let first : z0.log ≡ ordinary fills = (let w = subst (λ (o : Option Log). IfSome o (λ es. es ≡ fill_log (filling classes pool).fills)) z0.told opened in w ∙ fill-ordinary (filling classes pool).fills) in
-    let middle : z2.log ≡ ordinary (fills ++ scripts) = z0.now_is ∙ (ap (λ l. l ++ ordinary scripts) first ∙ sym (ordinary-append fills scripts)) in
-    let own = fills ++ (scripts ++ (entry.Ended ∷ close_of 0 ++ sweeps)) in
-    let whole : final ≡ ordinary own =
-    z4.now_is ∙ (ap (λ l. l ++ ordinary sweeps) (z3.now_is ∙ ap (λ l. l ++ ordinary (entry.Close ∷ [])) (z2.now_is ∙ ap (λ l. l ++ ordinary (entry.Ended ∷ [])) middle))
-    ∙ joined fills scripts sweeps) in
-    let leaves2 : Leaves 0 (ordinary (fills ++ scripts)) (seen number_of (shown c2)) =
-    (let w = subst (λ (o : Option Log). IfSome o (λ es. Leaves c2.processor es (seen number_of (shown c2)))) z2.told placed2.told in
-    subst (λ (l : Log). Leaves 0 l (seen number_of (shown c2))) middle (subst (λ p. Leaves p z2.log (seen number_of (shown c2))) home2 w)) in
-    let leaves : Leaves 0 final (seen number_of (shown c4)) =
-    (let w = subst (λ (o : Option Log). IfSome o (λ es. Leaves c4.processor es (seen number_of (shown c4)))) last closing4.placed.told in
-    subst (λ p. Leaves p final (seen number_of (shown c4))) home4 w) in
-    let are_sweeps = subst (λ (t : State Token). AreSweeps (seen number_of t) classes sweeps) same swept.are in
-    let fits : Fits own = log-all s (λ c. Unit {0}) Fits (fits-covers s) fills scripts sweeps
-    (fills-all s (λ c. Unit {0}) Fits (fits-covers s) classes pool fills (each-any classes) (are-fills classes pool))
-    (scripts-all s (λ c. Unit {0}) Fits (fits-covers s) (lines_of 0 s.runs) 0 scripts w2.are)
-    (sweeps-all s (λ c. Unit {0}) Fits (fits-covers s) (seen number_of (shown c2)) classes sweeps (each-any classes) are_sweeps) in
+own-above : (k : ℕ) (log : Log) → AllAt 0 log → own_entries (suc k) log ≡ []
+own-above k [] h = refl
+own-above k (e ∷ es) h = rw (ne_eqb e.0 (suc k) (λ q. absurd (let z = h.0 in omega (arith, q, z)))) (own-above k es h.1)
+
+replies-at : (l : ℕ) (front closing : Log) → AllAt 0 (front ++ closing) → AllReplied (own_entries 0 front) → RepliesFit Nothing (own_entries 0 closing) → RepliesFit Nothing (own_entries l (front ++ closing))
+replies-at zero front closing at a b = subst (λ (es : List Entry). RepliesFit Nothing es) (sym (own-append 0 front closing)) (replies-append Nothing (own_entries 0 front) (own_entries 0 closing) a.replies (subst (λ (k : Asked). RepliesFit k (own_entries 0 closing)) (sym a.owed) b))
+replies-at (suc k) front closing at a b = subst (λ (es : List Entry). RepliesFit Nothing es) (sym (own-above k (front ++ closing) at)) tt
+
+no-seen : (us : List Token) → us ≡ [] → map number_of us ≡ []
+no-seen us e = ap (map number_of) e
+
+lists-end : (s : Parts) (c : ℕ) (last : State Token) (b : Bool) → list_any (uses_class c) s.types ≡ b → (list_any (uses_class c) s.types ≡ true → seven_lists (last.rows c) ≡ []) → (list_any (uses_class c) s.types ≡ false → seven_lists ((seen number_of last).rows c) ≡ []) → seven_lists ((seen number_of last).rows c) ≡ []
+lists-end s c last true e f g = sym (map-seven number_of (last.rows c)) ∙ no-seen (seven_lists (last.rows c)) (f e)
+lists-end s c last false e f g = g e
+
+pub lawful-log : (s : Parts) (final : Log) (t : Told s final) (last : State Token) →
+    ((u : State ℕ) (more : Log) → SweepsTold (opened_classes s.types) t.boxes u more → AreSweeps (opened_classes s.types) u more) → ParcelLaw 0 ((t.fills ++ t.scripts) ++ t.closing) → AllReplied (own_entries 0 (t.fills ++ t.scripts)) →
+    Leaves 0 final (seen number_of last) → ((c : ℕ) → seven_lists ((seen number_of last).rows c) ≡ []) → ((l : ℕ) → ((seen number_of last).sides l).hand ≡ []) → ((c : ℕ) → ((seen number_of last).rows c).active ≡ 0) → LawfulLog s 0 final
+lawful-log s final t last sweeps mail replied leaves empty hands active =
+    let classes : List ℕ = opened_classes s.types in
+    let front : Log = t.fills ++ t.scripts in
+    let whole : Log = front ++ t.closing in
+    let back : whole ≡ final = sym t.final_is in
+    let closing : RepliesFit Nothing (own_entries 0 t.closing) = (apart-answers (own_entries 0 t.closing) (closing-apart classes front t.boxes (after (opening 0) front) t.closing t.closes)).0 in
     record {
-      own = own;
-      log_is = whole;
+      ordinary = subst (AllAt 0) back t.at;
       is_log = record {
-        fills = fills;
-        scripts = scripts;
-        sweeps = sweeps;
-        own_is = refl;
-        are_fills = subst (λ (z : Stock). AreFills classes z fills) fresh (are-fills classes pool);
-        are_scripts = w2.are;
-        before = seen number_of (shown c2);
-        before_is = leaves2;
-        are_sweeps = are_sweeps;
+        front = front;
+        closing = t.closing;
+        log_is = t.final_is;
+        is_front = front-of s t.fills t.scripts t.are_fills t.are_scripts;
+        is_closing = closing-is classes front t.boxes (after (opening 0) front) t.closing sweeps t.closes;
       };
-      last = seen number_of (shown c4);
+      last = seen number_of last;
       lists = leaves;
-      emptied = record {
-        lists = λ c. elim (is_or_not (list_any (uses_class c) s.types)) [
-          | inl present ↦ sym (map-seven number_of ((shown c4).rows c)) ∙ no-seen (seven_lists ((shown c4).rows c)) (swept.empty c (opened-has s.types c present))
-          | inr never ↦ unused c never own whole leaves
-              (log-all s (λ d. list_any (uses_class d) s.types ≡ true) (AllSpare c) (spare-covers s c never) fills scripts sweeps
-              (fills-all s (λ d. list_any (uses_class d) s.types ≡ true) (AllSpare c) (spare-covers s c never) classes pool fills (opened-each s.types) (are-fills classes pool))
-              (scripts-all s (λ d. list_any (uses_class d) s.types ≡ true) (AllSpare c) (spare-covers s c never) (lines_of 0 s.runs) 0 scripts w2.are)
-              (sweeps-all s (λ d. list_any (uses_class d) s.types ≡ true) (AllSpare c) (spare-covers s c never) (seen number_of (shown c2)) classes sweeps (opened-each s.types) are_sweeps))
-        ];
-        hands = λ l. ap (λ (h : Side Token). map number_of h.hand) (closing4.ready.sides l (omega arith));
-        active = λ c. (let h = closing4.ready.active c in omega (arith, h));
-      };
+      emptied = record { lists = empty; hands = hands; active = active };
       null = record {
         pops = pops-fit (opening 0) final leaves.named;
-        replies = λ l. subst (λ (o : Log). RepliesFit Nothing (own_entries l o)) (sym whole) (replies-at l own fits);
+        replies = λ l. subst (λ (z : Log). RepliesFit Nothing (own_entries l z)) back (replies-at l front t.closing t.at replied closing);
       };
+      parcels = λ _. subst (ParcelLaw 0) back mail;
     }
-  where
-    joined : (fills scripts sweeps : List Entry) → ((ordinary (fills ++ scripts) ++ ordinary (entry.Ended ∷ [])) ++ ordinary (entry.Close ∷ [])) ++ ordinary sweeps ≡ ordinary (fills ++ (scripts ++ (entry.Ended ∷ close_of 0 ++ sweeps)))
-    joined fills scripts sweeps =
-        ap (λ l. (l ++ ordinary (entry.Close ∷ [])) ++ ordinary sweeps) (sym (ordinary-append (fills ++ scripts) (entry.Ended ∷ [])))
-        ∙ (ap (λ l. l ++ ordinary sweeps) (sym (ordinary-append ((fills ++ scripts) ++ entry.Ended ∷ []) (entry.Close ∷ [])))
-        ∙ (sym (ordinary-append (((fills ++ scripts) ++ entry.Ended ∷ []) ++ entry.Close ∷ []) sweeps)
-        ∙ ap ordinary (append_assoc ((fills ++ scripts) ++ entry.Ended ∷ []) (entry.Close ∷ []) sweeps
-        ∙ (append_assoc (fills ++ scripts) (entry.Ended ∷ []) (entry.Close ∷ sweeps) ∙ append_assoc fills scripts (entry.Ended ∷ entry.Close ∷ sweeps)))))
 
-    unused : (c : ℕ) → list_any (uses_class c) s.types ≡ false → (own : List Entry) → final ≡ ordinary own → Leaves 0 final (seen number_of (shown c4)) → AllSpare c own → seven_lists ((seen number_of (shown c4)).rows c) ≡ []
-    unused c never own whole leaves h =
-        let e : (seen number_of (shown c4)).rows c ≡ (opening {A = ℕ} 0).rows c =
-        ap (λ (t : State ℕ). t.rows c) (sym leaves.lists) ∙ (ap (λ (l : Log). (after (opening 0) l).rows c) whole ∙ spared c own (opening 0) h) in
-        ap seven_lists e
+-- the lists at the end
+ended-row : (s : Parts) (m2 m3 : Machine0) (final : Log) (t : Told s final) (closed : Closed (opened_classes s.types) m3 final) → RowsKept → Leaves 0 (t.fills ++ t.scripts) (lists_of m2) → shown m3.caches ≡ shown m2.caches → (c : ℕ) → list_any (uses_class c) s.types ≡ false → seven_lists ((seen number_of closed.last).rows c) ≡ []
+ended-row s m2 m3 final t closed kept leaves same c never =
+    let others : closed.last.rows c ≡ (shown m2.caches).rows c = closed.others c (opened-none s.types c never) ∙ ap (λ (x : State Token). x.rows c) same in
+    let row : (seen number_of closed.last).rows c ≡ (lists_of m2).rows c = ap (seen_row number_of) others in
+    ap seven_lists row ∙ row-empty s (t.fills ++ t.scripts) m2 c kept t.at_front (front-of s t.fills t.scripts t.are_fills t.are_scripts) leaves never
+
+-- Of the front of a log: no reply is owed at its end.
+abbrev pub FrontReplied : Type 0
+FrontReplied = (s : Parts) (front : Log) → Front s 0 (opening 0) front → AllReplied (own_entries 0 front)
+
+abbrev pub ToldSweeps : Type 0
+ToldSweeps = (classes : List ℕ) (boxes : Inboxes) (t : State ℕ) (part : Log) → SweepsTold classes boxes t part → AreSweeps classes t part
+
+abbrev pub MailLaw : Type 0
+MailLaw = (s : Parts) (fills scripts closing : Log) (boxes : Inboxes) → AllAt 0 ((fills ++ scripts) ++ closing) → Say 0 (AreFills (opened_classes s.types) (fresh_stock s.pages)) (opening 0) fills → AreScripts s (lines_of 0 s.runs) 0 (after (opening 0) fills) scripts →
+    Delivers 0 1 0 (Some no_parcels) boxes (Some fills) (fills ++ scripts) → ClosingTold 0 (opened_classes s.types) (fills ++ scripts) boxes (after (opening 0) (fills ++ scripts)) closing → ParcelLaw 0 ((fills ++ scripts) ++ closing)
+
+pub lawful-run : (s : Parts) (m0 m2 m3 : Machine0) (final : Log) → RowsKept → FrontReplied → ToldSweeps → MailLaw →
+    IsOpen (filling (opened_classes s.types) (fresh_stock s.pages)) m0 → Wrote (AreScripts s (lines_of 0 s.runs) 0) m0 m2 → Sound m2 → Wrote (Stand 0 (entry.Ended ∷ entry.Close ∷ [])) m2 m3 → m3.side ≡ m2.side → shown m3.caches ≡ shown m2.caches → Sound m3 → Closed (opened_classes s.types) m3 final → LawfulLog s 0 final
+lawful-run s m0 m2 m3 final kept replied sweeps mail o w sound2 e same lists sound3 closed =
+    let r = told-run s m0 m2 m3 final o w e same sound2 sound3 closed in
+    let t : Told s final = r.0 in
+    let front : Log = t.fills ++ t.scripts in
+    let leaves : Leaves 0 front (lists_of m2) = subst (Leaves 0 front) r.1 t.leaves in
+    lawful-log s final t closed.last (sweeps (opened_classes s.types) t.boxes) (mail s t.fills t.scripts t.closing t.boxes t.at t.are_fills t.are_scripts t.mail t.closes) (replied s front (front-of s t.fills t.scripts t.are_fills t.are_scripts))
+    closed.leaves
+    (λ c. lists-end s c closed.last (list_any (uses_class c) s.types) refl (λ used. closed.empty c (opened-has s.types c used)) (λ never. ended-row s m2 m3 final t closed kept leaves lists c never))
+    (λ l. ap (λ (h : Side Token). map number_of h.hand) (closed.ready.sides l (omega arith)))
+    (λ c. (let h = closed.ready.active c in omega (arith, h)))

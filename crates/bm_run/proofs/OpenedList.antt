@@ -6,10 +6,9 @@ use Rattle.bm_class.specs.Sizes.{class_of_size}
 use Rattle.bm_class.proofs.SizeLemmas.{class_below, class_of_size-least}
 use Rattle.bm_lang.specs.declared.scenario.TypeDeclaration.{TypeDeclaration}
 use Rattle.bm_law.specs.Stands.{times}
-use Rattle.bm_run.proofs.Basics.{nat_same}
+use Rattle.std.proofs.lemmas.Bool.{cases_eq}
 use Rattle.bm_lawful.specs.Opened.{object_size, is_class, uses_class, opened_classes}
-use Rattle.bm_run.specs.Opened.{ascends}
-use Rattle.bm_run.proofs.LogAll.{Each_of}
+use Rattle.bm_opening.specs.Opened.{ascends}
 
 abbrev pub all : List ℕ
 all = 0 ∷ 1 ∷ 2 ∷ 3 ∷ 4 ∷ 5 ∷ 6 ∷ 7 ∷ 8 ∷ 9 ∷ 10 ∷ []
@@ -66,7 +65,7 @@ absent c x (y ∷ ys) h lt =
 
 pub ascending-once : (xs : List ℕ) → ascends xs ≡ true → (c : ℕ) → times c xs ≤ 1
 ascending-once [] h c = omega arith
-ascending-once (x ∷ xs) h c = elim (nat_same c x) [
+ascending-once (x ∷ xs) h c = elim (cases_eq c x) [
   | inl same ↦ (let t = alone x xs h in let e : times c (x ∷ xs) ≡ times x (x ∷ xs) = ap (λ k. times k (x ∷ xs)) same in omega (arith, t, e))
   | inr other ↦ (let r = ascending-once xs (tail x xs h) c in rw (ne_eqb c x other) (omega (arith, r)))
 ]
@@ -85,7 +84,7 @@ times-kept : (P : ℕ → Bool) (c : ℕ) (xs : List ℕ) → P c ≡ true → t
 times-kept P c [] e = refl
 times-kept P c (x ∷ xs) e =
     let rest = times-kept P c xs e in
-    elim (nat_same c x) [
+    elim (cases_eq c x) [
       | inl same ↦ (let p : P x ≡ true = ap P (sym same) ∙ e in rw p (ap (λ k. (if eqb c x then 1 else 0) + k) rest))
       | inr other ↦ by (P x) (ne_eqb c x other) rest
     ]
@@ -94,13 +93,16 @@ times-kept P c (x ∷ xs) e =
     by true q rest = ap (λ k. (if eqb c x then 1 else 0) + k) rest
     by false q rest = rw q (omega (arith, rest))
 
-each-kept : (P : ℕ → Bool) (xs : List ℕ) → Each_of (λ c. P c ≡ true) (filter P xs)
-each-kept P [] = tt
-each-kept P (x ∷ xs) = by (P x) refl (each-kept P xs)
+times-none : (P : ℕ → Bool) (c : ℕ) (xs : List ℕ) → P c ≡ false → times c (filter P xs) ≡ 0
+times-none P c [] e = refl
+times-none P c (x ∷ xs) e = by (P x) refl (times-none P c xs e)
   where
-    by : (t : Bool) → P x ≡ t → Each_of (λ c. P c ≡ true) (filter P xs) → Each_of (λ c. P c ≡ true) (cond t (x ∷ filter P xs) (filter P xs))
-    by true e rest = (e, rest)
-    by false e rest = rest
+    no-truth : {b : Bool} → b ≡ true → b ≡ false → ⊥
+    no-truth q f = cc
+
+    by : (t : Bool) → P x ≡ t → times c (filter P xs) ≡ 0 → times c (cond t (x ∷ filter P xs) (filter P xs)) ≡ 0
+    by true q rest = rw (ne_eqb c x (λ same. no-truth (ap P same ∙ q) e)) (omega (arith, rest))
+    by false q rest = rest
 
 kept-length : (P : ℕ → Bool) (xs : List ℕ) → length (filter P xs) ≤ length xs
 kept-length P [] = omega arith
@@ -149,6 +151,9 @@ opened-has types c h =
     let l = low c (used-low types c h) in
     omega (arith, k, l)
 
+pub opened-none : (types : List TypeDeclaration) (c : ℕ) → list_any (uses_class c) types ≡ false → times c (opened_classes types) ≡ 0
+opened-none types c h = times-none (λ d. list_any (uses_class d) types) c all h
+
 pub opened-ascend : (types : List TypeDeclaration) → ascends (opened_classes types) ≡ true
 opened-ascend types = ascends-filter (λ d. list_any (uses_class d) types) all refl
 
@@ -157,6 +162,3 @@ opened-once types c = ascending-once (opened_classes types) (opened-ascend types
 
 pub opened-few : (types : List TypeDeclaration) → length (opened_classes types) ≤ 11
 opened-few types = kept-length (λ d. list_any (uses_class d) types) all
-
-pub opened-each : (types : List TypeDeclaration) → Each_of (λ c. list_any (uses_class c) types ≡ true) (opened_classes types)
-opened-each types = each-kept (λ d. list_any (uses_class d) types) all

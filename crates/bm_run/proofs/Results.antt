@@ -1,5 +1,5 @@
 -- Results, slices that were read, and the log that a recorder tells.
-use Rattle.std.proofs.Common.{◌≡◌, ◌<◌, ℕ, suc, zero, List, [], ◌∷◌, length, slice_index_or, slice_get, refl, sym, ap, arith, true, false, Option, Some, None, Result, Ok, Err, IfOk, OnOk}
+use Rattle.std.proofs.Common.{◌≡◌, ◌<◌, ◌≤◌, ℕ, suc, zero, List, [], ◌∷◌, length, slice_index_or, slice_get, refl, sym, ap, arith, true, false, Option, Some, None, Result, Ok, Err, IfOk, OnOk, IsSome}
 use Rattle.std.specs.Option.{ok_or}
 use Rattle.std.specs.Result.{is_err}
 
@@ -17,6 +17,15 @@ no-falsity e = cc
 pub not-err : {X E : Type 0} (r : Result X E) (A : Type 0) → false ≡ is_err r → OnOk r A → A
 not-err (Ok x) A e a = a
 not-err (Err x) A e a = absurd (no-falsity e)
+
+pub on-ok : {X E : Type 0} (r : Result X E) (A B : Type 0) → OnOk r A → (A → B) → OnOk r B
+on-ok (Ok x) A B a f = f a
+on-ok (Err e) A B a f = tt
+
+pub not-there : {A : Type 0} (xs : List A) (i : ℕ) → length xs ≤ i → IsSome (slice_get xs i) → ⊥
+not-there [] i le h = cc
+not-there (x ∷ xs) zero le h = absurd (omega (arith, le))
+not-there (x ∷ xs) (suc i) le h = not-there xs i (omega (arith, le)) h
 
 pub get-is : {A : Type 0} (xs : List A) (i : ℕ) (x : A) → i < length xs → x ≡ slice_index_or xs i x → slice_get xs i ≡ Some x
 get-is [] i x lt e = absurd (omega arith)

@@ -1,6 +1,2 @@
-pub mod Gained
-pub mod Filling
-pub mod Returning
 pub mod Lines
-pub mod Opened
-pub mod Closing
+pub mod Closed

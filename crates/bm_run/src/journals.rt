@@ -1,34 +1,36 @@
 //! The run of a scenario on one thread.
 
-ghost use Rattle.std.specs.Prelude.{◌≡◌, ◌≤◌, ◌∷◌, [], ℕ, List, IfOk, IsSome, IsTrue, map, length};
+ghost use Rattle.std.specs.Prelude.{◌≡◌, ◌≤◌, ◌%◌, ◌∷◌, [], ℕ, IfOk, IsSome, IsTrue, Some, map, length};
 ghost use Rattle.bm_journal.specs.WellFormed.{is_whole_log};
-ghost use Rattle.bm_journal.specs.Recording.{Kept as Recorded};
+ghost use Rattle.bm_journal.specs.declared.ids.Domain.{Domain as DomainValue};
 ghost use Rattle.bm_lang.specs.declared.scenario.Script.{Script};
 ghost use Rattle.bm_lang.specs.declared.scenario.TypeDeclaration.{TypeDeclaration};
 ghost use Rattle.bm_lang.specs.Fine.{HasConditions};
 ghost use Rattle.bm_check.specs.Scripts.{IsChecked};
 ghost use Rattle.bm_class.specs.Sizes.{class_of_size};
-ghost use Rattle.bm_page.specs.declared.units.Stocked.{Stocked};
-ghost use Rattle.bm_law.specs.State.{seen, seven_lists};
+ghost use Rattle.bm_law.specs.State.{seven_lists};
 ghost use Rattle.bm_law.specs.Stands.{times};
-ghost use Rattle.bm_cache.specs.declared.caches.Caches.{Caches};
 ghost use Rattle.bm_cache.specs.Shown.{shown};
-ghost use Rattle.bm_cache.specs.Tokens.{number_of};
+ghost use Rattle.bm_exec.specs.Lists.{behind_of};
 ghost use Rattle.bm_exec.specs.Sound.{Sound};
 ghost use Rattle.bm_lawful.specs.Opened.{object_size, opened_classes};
 ghost use Rattle.bm_lawful.specs.Lawful.{Lawful, LawfulLog};
 ghost use Rattle.bm_built.specs.Yet.{RunsYet};
-ghost use Rattle.bm_run.specs.Closing.{Closing, SweptAll};
+ghost use Rattle.bm_run.specs.Closed.{Closed};
+ghost use Rattle.bm_run.specs.Lines.{asked_of, when_on, word_of};
 
 use crate::classes::{opened_classes, type_classes, with_marks};
-use crate::closing::sweep_all;
-use crate::opening::open;
-use crate::scripts::{note, run_lines};
+use crate::scripts::run_lines;
+use crate::stretches::begin_closing;
 use bm_check::Checked;
 use bm_class::Class;
+use bm_closing::close as close_classes;
 use bm_exec::{Machine0, Types};
-use bm_journal::{Entry, Histories, Journal, Log, Logs, Names, Opened, Recorder, totals_of};
+use bm_front::front_law;
+use bm_journal::{Histories, Journal, Log, Logs, Names, Opened, Recorder, totals_of};
 use bm_lang::{Parts, Script, TypeDeclaration};
+use bm_mail::parcels_law;
+use bm_opening::open;
 use bm_word::NoMemory;
 use std::alloc::Global;
 
@@ -98,42 +100,48 @@ fn journal_of(
 // Ends a processor after a want of memory, with all that it holds.
 fn give_up(machine: Machine0) {
     let Machine0 {
+        alloc: _,
         caches,
-        slots,
-        pool,
-        asked: _,
-        processors: _,
+        side,
+        settled: _,
     } = machine;
     caches.give_up();
-    slots.give_up();
-    pool.give_up();
+    side.give_up();
 }
 
-// The closing: the classes that hold a unit are swept, and the processor ends. The answer is its log. Want of memory is
-// the only refusal.
-fn close(alloc: Global, machine: Machine0, classes: &[Class], word: u32) -> Result<Log, NoMemory>
+// Sweeps the classes of a processor whose scripts have ended, behind the ends of its periods. The answer is what its recorder
+// holds. Want of memory is the only refusal.
+fn close(alloc: Global, machine: Machine0, classes: &[Class]) -> Result<Log, NoMemory>
     requires sound { Sound machine }
     requires few { length classes.now ≤ 11 }
-    requires once { (c : ℕ) → times c classes.now ≤ 1 }
+    requires outside { (d : DomainValue) → word_of d machine % 2 ≡ 0 }
+    requires asked { asked_of machine ≤ 40000 }
     requires unused { IsSome machine.caches.recorder.told → (c : ℕ) → times c classes.now ≡ 0 → seven_lists ((shown machine.caches).rows c) ≡ [] }
-    ensures closed { IfOk result (λ log. (c : Caches Recorded) × (stock : List Stocked) × SweptAll (seen number_of (shown machine.caches)) classes.now machine.caches c × Closing stock c × (c.recorder.told ≡ Some log)) }
+    ensures closed { IfOk result (Closed classes.now machine) }
     ensures whole { IfOk result (λ log. IsTrue (is_whole_log log)) }
 {
+    machine.side.one_at_rest();
+    let mut machine = machine;
+    let swept = close_classes(alloc, &mut machine, classes);
     let Machine0 {
-        mut caches,
-        slots,
-        mut pool,
-        asked: _,
-        processors: _,
+        alloc: _,
+        caches,
+        side,
+        settled: _,
     } = machine;
-    slots.give_up();
-    let swept = sweep_all(alloc, &mut caches, &mut pool, classes, word);
-    pool.give_up();
+    side.give_up();
     if swept.is_err() || caches.recorder().failed() {
         caches.give_up();
         return Err(NoMemory);
     }
     caches.finish().into_log().ok_or(NoMemory)
+}
+
+// The classes for which deferred work runs, if it runs.
+fn when_on<'s>(on: bool, classes: &'s [Class]) -> Option<&'s [Class]>
+    ensures { behind_of result ≡ when_on on classes.now }
+{
+    if on { Some(classes) } else { None }
 }
 
 // The log of a run.
@@ -151,18 +159,20 @@ fn log_of(
     ensures lawful { IfOk result (LawfulLog scenario.now 0) }
     ensures whole { IfOk result (λ log. IsTrue (is_whole_log log)) }
 {
+    front_law();
+    parcels_law();
     let mut machine = open(alloc, scenario.pages as u16, opened)?;
     let types = Types {
         declared: scenario.types.as_slice(),
         classes,
+        behind: when_on(scenario.deferred, opened),
     };
-    let Ok(word) = run_lines(alloc, &mut machine, &types, scenario) else {
+    if run_lines(alloc, &mut machine, &types, scenario).is_err() {
         give_up(machine);
         return Err(NoMemory);
-    };
-    note(&mut machine, Entry::Ended);
-    note(&mut machine, Entry::Close);
-    close(alloc, machine, opened, word)
+    }
+    begin_closing(&mut machine);
+    close(alloc, machine, opened)
 }
 
 /// Runs a checked scenario of the forms that run by now, and gives its journal, which is lawful. Its time grows with the

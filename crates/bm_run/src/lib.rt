@@ -2,11 +2,8 @@
 #![tactic(auto)]
 
 mod classes;
-mod closing;
-mod filling;
 mod journals;
-mod opening;
-mod returning;
 mod scripts;
+mod stretches;
 
 pub use journals::replay;

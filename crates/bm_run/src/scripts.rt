@@ -1,109 +1,96 @@
 //! The scripts that a processor's `run` lines run.
 
-ghost use Rattle.std.specs.Prelude.{◌≡◌, ◌+◌, ◌*◌, ◌<◌, ◌≤◌, ◌^◌, ◌∷◌, [], ℕ, List, Some, None, true, false, IsTrue, IfOk, slice_get};
-ghost use Rattle.std.specs.List.{All};
-ghost use Rattle.bm_journal.specs.declared.entry.Entry.{Entry};
+ghost use Rattle.std.specs.Prelude.{◌≡◌, ◌+◌, ◌*◌, ◌<◌, ◌≤◌, ◌%◌, ◌^◌, [], ℕ, IfSome, None, OnOk, length, true};
+ghost use Rattle.bm_journal.specs.declared.ids.Domain.{Domain as DomainValue};
+ghost use Rattle.bm_journal.specs.declared.ids.Domain.TheVariants.{Plain, Tracing};
 ghost use Rattle.bm_lang.specs.Limits.{block_cost};
-ghost use Rattle.bm_law.specs.State.{seen};
-ghost use Rattle.bm_cache.specs.Shown.{shown};
-ghost use Rattle.bm_cache.specs.Tokens.{number_of};
-ghost use Rattle.bm_cache.specs.Steps.{is_note};
 ghost use Rattle.bm_check.specs.Scripts.{Accepted, AllAccepted};
+ghost use Rattle.bm_exec.specs.Lists.{Behind, behind_of};
 ghost use Rattle.bm_exec.specs.Runnable.{Classes, can_run_block};
-ghost use Rattle.bm_exec.specs.Slots.{lives_of};
 ghost use Rattle.bm_exec.specs.Sound.{Sound};
 ghost use Rattle.bm_exec.specs.declared.running.Stopped.TheVariants as stopped;
-ghost use Rattle.bm_run.specs.Gained.{Gained};
-ghost use Rattle.bm_run.specs.Lines.{lines_cost, AllDeclared, WroteLines, WroteScript};
+ghost use Rattle.bm_lawful.specs.Grammar.{AreScripts, IsScript, lines_of};
+ghost use Rattle.bm_world.specs.LivingState.{lives_of};
 ghost use Rattle.bm_built.specs.Yet.{RunsYet};
+ghost use Rattle.bm_run.specs.Lines.{asked_of, lines_cost, lists_of, word_of, works_for, AllDeclared, Wrote};
 
+use crate::stretches::{begin_script, end_script, settle_script};
 use bm_exec::{Machine0, Stopped, Types, run_script};
-use bm_journal::{Domain, Entry, Level};
 use bm_lang::{Parts, Script};
 use bm_word::NoMemory;
 use std::alloc::Global;
 
-/// Records an entry that moves nothing.
-pub(crate) fn note(machine: &mut Machine0, entry: Entry)
-    requires sound { Sound machine.old }
-    requires note { IsTrue (is_note entry) }
-    ensures gained { Gained (entry ∷ []) machine.old.caches.recorder.told machine.new.caches.recorder.told }
-    ensures lists { shown machine.new.caches ≡ shown machine.old.caches }
-    ensures slots { machine.new.slots ≡ machine.old.slots }
-    ensures asked { machine.new.asked ≡ machine.old.asked }
-    ensures sound { Sound machine.new }
-{
-    machine.caches.note(Level::ordinary(), entry);
-}
-
-// Runs a script in its plain section, whose word was `word` before.
+// Runs a script in its plain section, and the deferred work behind it.
 fn run_line<'s>(
     alloc: Global,
     machine: &mut Machine0,
     types: &Types<'s>,
     scenario: &Parts,
     script: &'s Script,
-    word: u32,
-) -> Stopped
+) -> Result<(), NoMemory>
     requires sound { Sound machine.old }
     requires classes { Classes types.now.declared.now types.now.classes.now }
     requires types { types.now.declared.now ≡ scenario.now.types }
-    requires off { scenario.now.deferred ≡ false }
-    requires room { machine.old.asked + block_cost script.now.body < 2 ^ 31 }
-    requires none { (u : ℕ) → lives_of machine.old.slots.slots.items u ≡ None }
+    requires works { behind_of types.now.behind ≡ works_for scenario.now }
+    requires few { IfSome types.now.behind (λ classes. length classes.now ≤ 11) }
+    requires room { asked_of machine.old + (2 * block_cost script.now.body + 1) < 2 ^ 22 }
+    requires none { (u : ℕ) → lives_of machine.old.side.slots u ≡ None }
     requires can { can_run_block types.now.declared.now script.now.body ≡ true }
     requires accepted { Accepted scenario.now script.now }
-    requires word { word + 2 < 2 ^ 32 }
-    ensures ended { result ≡ stopped.Ended → WroteScript scenario.now script.now (word + 1) (seen number_of (shown machine.old.caches)) machine.old.caches.recorder.told machine.new.caches.recorder.told }
-    ensures none { result ≡ stopped.Ended → (u : ℕ) → lives_of machine.new.slots.slots.items u ≡ None }
-    ensures asked { result ≡ stopped.Ended → machine.new.asked ≤ machine.old.asked + block_cost script.now.body }
-    ensures sound { result ≡ stopped.Ended → Sound machine.new }
+    requires down { Behind (behind_of types.now.behind) (lists_of machine.old) [] }
+    requires outside { word_of Plain machine.old % 2 ≡ 0 }
+    requires short { word_of Plain machine.old < 2 ^ 28 }
+    ensures wrote { OnOk result (Wrote (IsScript scenario.now script.now (word_of Plain machine.old + 1)) machine.old machine.new) }
+    ensures none { OnOk result ((u : ℕ) → lives_of machine.new.side.slots u ≡ None) }
+    ensures asked { OnOk result (asked_of machine.new ≤ asked_of machine.old + (2 * block_cost script.now.body + 1)) }
+    ensures down { OnOk result (Behind (behind_of types.now.behind) (lists_of machine.new) []) }
+    ensures word { OnOk result (word_of Plain machine.new ≡ word_of Plain machine.old + 2) }
+    ensures tracing { OnOk result (word_of Tracing machine.new ≡ word_of Tracing machine.old) }
+    ensures sound { OnOk result (Sound machine.new) }
 {
-    note(machine, Entry::Script(script.name.duplicate()));
-    note(machine, Entry::In(Domain::Plain, word + 1));
+    begin_script(machine, &script.name);
     match run_script(alloc, machine, types, scenario, script) {
-        Stopped::NoMemory => Stopped::NoMemory,
+        Stopped::NoMemory => Err(NoMemory),
         Stopped::Ended => {
-            note(machine, Entry::Out(Domain::Plain, word + 2));
-            note(machine, Entry::Done(script.name.duplicate()));
-            Stopped::Ended
+            end_script(machine, &script.name);
+            settle_script(machine, types)
         }
     }
 }
 
-/// Runs the scripts of the `run` lines of processor 0, in order, each in a plain section. The answer is the section's
-/// word afterwards. Want of memory is the only refusal.
+/// Runs the scripts of the `run` lines of processor 0, in order, each in a plain section and with the deferred work behind it.
+/// Want of memory is the only refusal.
 pub(crate) fn run_lines<'s>(
     alloc: Global,
     machine: &mut Machine0,
     types: &Types<'s>,
     scenario: &'s Parts,
-) -> Result<u32, NoMemory>
+) -> Result<(), NoMemory>
     requires sound { Sound machine.old }
     requires classes { Classes types.now.declared.now types.now.classes.now }
     requires types { types.now.declared.now ≡ scenario.now.types }
-    requires asked { machine.old.asked ≡ 0 }
+    requires works { behind_of types.now.behind ≡ works_for scenario.now }
+    requires few { IfSome types.now.behind (λ classes. length classes.now ≤ 11) }
+    requires asked { asked_of machine.old ≡ 0 }
     requires cost { lines_cost scenario.now.scripts scenario.now.runs ≤ 20000 }
-    requires none { (u : ℕ) → lives_of machine.old.slots.slots.items u ≡ None }
+    requires none { (u : ℕ) → lives_of machine.old.side.slots u ≡ None }
+    requires down { Behind (behind_of types.now.behind) (lists_of machine.old) [] }
+    requires words { (d : DomainValue) → word_of d machine.old ≡ 0 }
     requires yet { RunsYet scenario.now }
     requires declared { AllDeclared scenario.now }
     requires accepted { AllAccepted scenario.now }
-    ensures wrote { IfOk result (λ _. WroteLines scenario.now (seen number_of (shown machine.old.caches)) machine.old.caches.recorder.told machine.new.caches.recorder.told) }
-    ensures none { IfOk result (λ _. (u : ℕ) → lives_of machine.new.slots.slots.items u ≡ None) }
-    ensures word { IfOk result (λ w. w < 2 ^ 31) }
-    ensures sound { IfOk result (λ _. Sound machine.new) }
+    ensures wrote { OnOk result (Wrote (AreScripts scenario.now (lines_of 0 scenario.now.runs) 0) machine.old machine.new) }
+    ensures outside { OnOk result ((d : DomainValue) → word_of d machine.new % 2 ≡ 0) }
+    ensures asked { OnOk result (asked_of machine.new ≤ 40000) }
+    ensures sound { OnOk result (Sound machine.new) }
 {
-    let mut word = 0;
     for run in scenario.runs.as_slice() {
         if run.processor == 0 {
             let Some(script) = scenario.scripts.as_slice().get(run.script.0) else {
                 unreachable!();
             };
-            match run_line(alloc, machine, types, scenario, script, word) {
-                Stopped::Ended => word += 2,
-                Stopped::NoMemory => return Err(NoMemory),
-            }
+            run_line(alloc, machine, types, scenario, script)?;
         }
     }
-    Ok(word)
+    Ok(())
 }

@@ -2,6 +2,8 @@
 #![tactic(auto)]
 
 #[cfg(test)]
+mod deferred_tests;
+#[cfg(test)]
 mod example_tests;
 #[cfg(test)]
 mod nested_example;

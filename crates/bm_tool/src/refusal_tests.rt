@@ -294,17 +294,17 @@ const CAUSES: &[(&str, u8, &str, u8, &str)] = &[
         "limit processors",
     ),
     (
-        "scenario { processors 1\npages 257 deferred on }",
+        "scenario { processors 1\npages 257 deferred on type t counted { a } }",
         5,
-        "line 2 column 20: not_yet",
+        "line 2 column 30: not_yet",
         7,
         "limit pages",
     ),
     // such a form and a script that isn't accepted
     (
-        "scenario { processors 1 pages 1 deferred on\nscript m plain { drop x } }",
+        "scenario { processors 1 pages 1 deferred on type t counted { a }\nscript m plain { drop x } }",
         5,
-        "line 1 column 42: not_yet",
+        "line 1 column 52: not_yet",
         6,
         "script m line 2: rule 1",
     ),
@@ -330,6 +330,13 @@ const CAUSES: &[(&str, u8, &str, u8, &str)] = &[
         "limit statements",
         7,
         "limit statements",
+    ),
+    (
+        "scenario { processors 1 pages 257 deferred on\nscript m plain { drop x } }",
+        7,
+        "limit pages",
+        7,
+        "limit pages",
     ),
     // two limits
     (

@@ -10,9 +10,8 @@ loop-next-init g c = record {
   went = went-none _ _ _ _ _ _ _ _ _ c.requires.down c.requires.holds;
   sound = c.requires.sound;
   level = refl;
-  behind = refl;
   processor = refl;
-  alone = undisturbed-none g.M.Machine.level g.M.Machine.pending g.M.Machine.log c.args.machine.now;
+  alone = undisturbed-none g.M.Machine.level g.M.Machine.pending g.M.Machine.log g.M.Machine.known c.args.machine.now;
 }
 
 pub returns-in_default-next-clause-ended : goal.returns-in_default-next-clause-ended
@@ -39,7 +38,7 @@ pub perform-requires-clause-can : goal.perform-requires-clause-can
 perform-requires-clause-can g c = let t = rw c.in-Some.is at c.in-Ok.ensures.stepped in t.can_action _ (c.loop-next.invariant.went.can c.requires.can)
 
 pub perform-requires-clause-down : goal.perform-requires-clause-down
-perform-requires-clause-down g c = rw c.loop-next.invariant.behind c.loop-next.invariant.went.down
+perform-requires-clause-down g c = c.loop-next.invariant.went.down
 
 pub perform-requires-clause-open : goal.perform-requires-clause-open
 perform-requires-clause-open g c = let t = rw c.in-Some.is at c.in-Ok.ensures.stepped in t.some
@@ -60,10 +59,9 @@ loop-next-preserved g c =
     let e = c.if-is_err.ensures.value in
     let p = not-err c.perform.result _ e c.perform.ensures.performed in
     record {
-      went = went-step _ _ _ _ _ _ _ _ _ _ _ _ _ _ _ _ _ _ _ _ _ _ i.went t (rw i.behind at (rw i.level at p));
+      went = went-step _ _ _ _ _ _ _ _ _ _ _ _ _ _ _ _ _ _ _ _ _ _ i.went t (rw i.level at p);
       sound = not-err c.perform.result _ e c.perform.ensures.sound;
       level = not-err c.perform.result _ e c.perform.ensures.level ∙ i.level;
-      behind = not-err c.perform.result _ e c.perform.ensures.behind ∙ i.behind;
       processor = not-err c.perform.result _ e c.perform.ensures.processor ∙ i.processor;
       alone = undisturbed-join i.level i.alone (not-err c.perform.result _ e c.perform.ensures.alone);
     }

@@ -1,34 +1,38 @@
-use Rattle.std.proofs.Common.{◌≡◌, ap, sym, ◌∙◌, refl, false, Option, Some, None, IsSome, inl, inr}
-use Rattle.std.specs.Option.{is_none}
-use Rattle.bm_law.specs.Lists.{Log}
-use Rattle.bm_law.specs.State.{Row, seven_lists}
-use Rattle.bm_law.specs.Stands.{times}
-use Rattle.bm_cache.specs.Tokens.{Token}
+use Rattle.std.proofs.Common.{◌≡◌, ap, sym, ◌∙◌, subst, Some, Option, IfSome, arith}
 use Rattle.bm_journal.specs.Recording.{Kept as Recorded}
-use Rattle.bm_run.proofs.Sweeping.{zero-or-more}
-use Rattle.bm_run.proofs.LogLaw.{told-before}
+use Rattle.bm_law.specs.Alone.{Alone}
+use Rattle.bm_law.specs.Lists.{Leaves, Log}
+use Rattle.bm_law.specs.State.{seen}
+use Rattle.bm_cache.specs.Shown.{shown}
+use Rattle.bm_cache.specs.Tokens.{number_of}
+use Rattle.bm_deferred.specs.Grown.{GrewBy}
+use Rattle.bm_deferred.specs.Parts.{Then}
+use Rattle.bm_post.specs.PostState.{told_in}
+use Rattle.bm_mail.specs.SweepsTold.{SweepsTold}
+use Rattle.bm_closing.specs.EndsBegun.{EndsBegun}
+use Rattle.bm_run.specs.Lines.{known_of, lists_of, log_of}
 use Rattle.bm_run.proofs.Results.{not-err, if-told}
 use Rattle.bm_run.proofs.journals.close.Goals as goal
 
-some-told : (o : Option Log) → false ≡ is_none o → IsSome o
-some-told None e = cc
-some-told (Some l) e = refl
-
-pub finish-requires-clause-lists : goal.finish-requires-clause-lists
-finish-requires-clause-lists c k =
-    let before = c.args.machine.caches in
-    let now = c.sweep_all-swept.new.caches in
-    let swept = not-err c.sweep_all-swept.result _ c.if-is_err.ensures.value c.sweep_all-swept.ensures.swept in
-    let some : IsSome now.recorder.told = some-told now.recorder.told (rw c.recorder.ensures at c.if-failed.ensures) in
-    elim (zero-or-more (times k c.args.classes.now)) [
-      | inl none ↦ ap (λ (r : Row Token). seven_lists r) (swept.others k none) ∙ c.requires.unused (told-before swept.own before.recorder.told now.recorder.told swept.gained some) k none
-      | inr more ↦ swept.empty k more
-    ]
-
 pub returns-clause-closed : goal.returns-clause-closed
 returns-clause-closed c =
+    let m = c.args.machine in
+    let n = c.close-swept.new.host in
     let e = c.if-is_err.ensures.value in
-    let n = c.sweep_all-swept.new in
-    let swept = not-err c.sweep_all-swept.result _ e c.sweep_all-swept.ensures.swept in
-    let closing = not-err c.sweep_all-swept.result _ e c.sweep_all-swept.ensures.closing in
-    rw c.ok_or.ensures.value (if-told c.into_log.result _ _ (λ l q. (n.caches, n.pool.units, swept, closing, ap (λ (k : Recorded). k.told) (sym c.finish.ensures) ∙ (sym c.into_log.ensures.told ∙ q))))
+    let done = c.close-swept.ensures in
+    let closes = not-err c.close-swept.result _ e done.closes in
+    let alone = not-err c.close-swept.result _ e done.alone in
+    let end = not-err c.close-swept.result _ e done.at_end in
+    let processor = not-err c.close-swept.result _ e done.processor in
+    let home : n.caches.processor ≡ 0 = (let few = c.requires.sound.fine.aimed.processor in let one = c.requires.sound.one in omega (arith, few, one, processor)) in
+    rw c.ok_or.ensures.value (if-told c.into_log.result _ _ (λ l q.
+    let told : n.caches.recorder.told ≡ Some l = ap (λ (k : Recorded). k.told) (sym c.finish.ensures) ∙ (sym c.into_log.ensures.told ∙ q) in
+    record {
+      closes = subst (λ (o : Option Log). GrewBy (Then (EndsBegun (known_of m)) (SweepsTold c.args.classes.now (told_in m.side.side.post))) (lists_of m) (log_of m) o) told closes;
+      alone = subst (Alone 0 (log_of m)) told alone;
+      last = shown n.caches;
+      leaves = subst (λ p. Leaves p l (seen number_of (shown n.caches))) home (subst (λ (o : Option Log). IfSome o (λ es. Leaves n.caches.processor es (seen number_of (shown n.caches)))) told end.fine.placed.told);
+      ready = end.fine.ready;
+      empty = not-err c.close-swept.result _ e done.empty;
+      others = not-err c.close-swept.result _ e done.others;
+    }))

@@ -1,43 +1,49 @@
-use Rattle.std.proofs.Common.{◌≡◌, ◌∙◌, refl, arith}
-use Rattle.bm_lawful.proofs.SameLogs.{told-log}
+use Rattle.std.proofs.Common.{[], ap, sym, subst, ◌∙◌}
+use Rattle.bm_exec.specs.Lists.{Behind}
+use Rattle.bm_run.specs.Closed.{Closed}
+use Rattle.bm_run.specs.Lines.{lists_of, when_on}
 use Rattle.bm_run.proofs.Declared.{all-declared}
-use Rattle.bm_run.proofs.OpenedList.{opened-ascend, opened-few, opened-once}
-use Rattle.bm_run.proofs.LogLaw.{lawful-log, unused-rows}
-use Rattle.bm_run.proofs.Results.{if-ok}
+use Rattle.bm_run.proofs.Lines.{down-when, few-when}
+use Rattle.bm_run.proofs.LogLaw.{lawful-run, unused-rows}
+use Rattle.bm_run.proofs.OpenedList.{opened-ascend, opened-few}
+use Rattle.bm_run.proofs.Results.{if-ok, not-err}
 use Rattle.bm_run.proofs.journals.log_of.Goals as goal
 
 pub open-requires-clause-ascend : goal.open-requires-clause-ascend
-open-requires-clause-ascend c =
-    rw c.requires.opened (opened-ascend c.args.scenario.now.types)
+open-requires-clause-ascend c = rw c.requires.opened (opened-ascend c.args.scenario.now.types)
+
+pub run_lines-requires-clause-works : goal.run_lines-requires-clause-works
+run_lines-requires-clause-works c = c.when_on.ensures ∙ ap (when_on c.args.scenario.now.deferred) c.requires.opened
+
+pub run_lines-requires-clause-few : goal.run_lines-requires-clause-few
+run_lines-requires-clause-few c = few-when c.when_on.result c.args.scenario.now.deferred c.args.opened.now c.when_on.ensures (rw c.requires.opened (opened-few c.args.scenario.now.types))
+
+pub run_lines-requires-clause-down : goal.run_lines-requires-clause-down
+run_lines-requires-clause-down c =
+    let t = lists_of c.in_ok-machine.machine in
+    subst (λ w. Behind w t []) (sym c.when_on.ensures) (down-when c.args.scenario.now.deferred c.args.opened.now t c.in_ok-machine.ensures.lowered)
 
 pub run_lines-requires-clause-declared : goal.run_lines-requires-clause-declared
-run_lines-requires-clause-declared c =
-    all-declared c.args.scenario.now c.requires.fine
+run_lines-requires-clause-declared c = all-declared c.args.scenario.now c.requires.fine
 
 pub close-requires-clause-few : goal.close-requires-clause-few
-close-requires-clause-few c =
-    rw c.requires.opened (opened-few c.args.scenario.now.types)
-
-pub close-requires-clause-once : goal.close-requires-clause-once
-close-requires-clause-once c =
-    λ k. rw c.requires.opened (opened-once c.args.scenario.now.types k)
+close-requires-clause-few c = rw c.requires.opened (opened-few c.args.scenario.now.types)
 
 pub close-requires-clause-unused : goal.close-requires-clause-unused
 close-requires-clause-unused c some k =
-    let o = c.in_ok-machine.ensures in
-    let first = rw c.requires.opened at o.told in
-    let home2 : c.run_lines.new.machine.caches.processor ≡ 0 = (let f = c.in-Ok.ensures.sound.fine.aimed.processor in let one = c.in-Ok.ensures.sound.one in omega (arith, f, one)) in
-    rw c.requires.opened (unused-rows c.args.scenario.now c.requires.yet.off _ c.in_ok-machine.machine.caches c.run_lines.new.machine.caches c.note-2.new.machine.caches c.note.new.machine.caches.recorder.told first c.in-Ok.ensures.wrote
-    c.note.ensures.gained c.note-2.ensures.gained (c.note-2.ensures.lists ∙ c.note.ensures.lists) c.in-Ok.ensures.sound.fine.placed home2 some k)
+    let e = c.if-is_err.ensures.value in
+    let o = rw c.requires.opened at c.in_ok-machine.ensures in
+    let wrote = not-err c.run_lines.result _ e c.run_lines.ensures.wrote in
+    let sound = not-err c.run_lines.result _ e c.run_lines.ensures.sound in
+    rw c.requires.opened (unused-rows c.args.scenario.now c.in_ok-machine.machine c.run_lines.new.machine c.begin_closing.new.machine c.front_law.ensures.rows o wrote sound c.begin_closing.ensures.wrote c.begin_closing.ensures.lists some k)
 
 pub returns-clause-lawful : goal.returns-clause-lawful
 returns-clause-lawful c =
     let s = c.args.scenario.now in
-    let o = c.in_ok-machine.ensures in
-    let first = rw c.requires.opened at o.told in
-    let home2 : c.run_lines.new.machine.caches.processor ≡ 0 = (let f = c.in-Ok.ensures.sound.fine.aimed.processor in let one = c.in-Ok.ensures.sound.one in omega (arith, f, one)) in
-    let home3 : c.note-2.new.machine.caches.processor ≡ 0 = (let f = c.note-2.ensures.sound.fine.aimed.processor in let one = c.note-2.ensures.sound.one in omega (arith, f, one)) in
-    if-ok c.close.result _ _ c.close.ensures.closed (λ final x.
-    let swept = rw c.requires.opened at x.2 in
-    told-log s c.requires.yet.off 0 final (lawful-log s c.requires.yet.off _ refl x.1 c.in_ok-machine.machine.caches c.run_lines.new.machine.caches c.note-2.new.machine.caches x.0 c.note.new.machine.caches.recorder.told final first c.in-Ok.ensures.wrote
-    c.note.ensures.gained c.note-2.ensures.gained (c.note-2.ensures.lists ∙ c.note.ensures.lists) swept c.in-Ok.ensures.sound.fine.placed home2 x.3 (swept.processor ∙ home3) x.4))
+    let m3 = c.begin_closing.new.machine in
+    let e = c.if-is_err.ensures.value in
+    let o = rw c.requires.opened at c.in_ok-machine.ensures in
+    let wrote = not-err c.run_lines.result _ e c.run_lines.ensures.wrote in
+    let sound = not-err c.run_lines.result _ e c.run_lines.ensures.sound in
+    if-ok c.close.result _ _ c.close.ensures.closed (λ final x. lawful-run s c.in_ok-machine.machine c.run_lines.new.machine m3 final c.front_law.ensures.rows c.front_law.ensures.replies c.parcels_law.ensures.sweeps c.parcels_law.ensures.law o wrote sound
+    c.begin_closing.ensures.wrote c.begin_closing.ensures.side c.begin_closing.ensures.lists c.begin_closing.ensures.sound (subst (λ cs. Closed cs m3 final) c.requires.opened x))

@@ -1,33 +1,89 @@
-use Rattle.std.proofs.Common.{refl, inl, arith}
-use Rattle.bm_exec.proofs.Creating.{created-one, created-none}
-use Rattle.bm_exec.proofs.Undisturbed.{after-one}
+use Rattle.std.proofs.Common.{◌≡◌, ◌∙◌, ◌∷◌, Some, None, refl, ap, subst, inl, inr}
+use Rattle.std.specs.Prelude.{slice_set}
+use Rattle.bm_journal.specs.declared.entry.Entry.TheVariants as entry
+use Rattle.bm_world.specs.Slots.{unit_at}
+use Rattle.bm_world.specs.LivingState.{LivingState, known_living, lives_of, next_life, rights_living, with_asked, with_begun}
+use Rattle.bm_desk.proofs.Came.{split}
+use Rattle.bm_exec.specs.declared.level0.Machine0.{Machine0}
+use Rattle.bm_exec.proofs.Lives.{created-none, created-one}
+use Rattle.bm_exec.proofs.Sounds.{sound-asked, sound-begun, sound-noted-called}
+use Rattle.bm_exec.proofs.Still.{still-created}
+use Rattle.bm_exec.proofs.Undisturbed.{after-one, undisturbed-still}
 use Rattle.bm_exec.proofs.level0.Machine0Machine.create.Goals as goal
+
+pub begin_life-requires-clause-mine : goal.begin_life-requires-clause-mine
+begin_life-requires-clause-mine c =
+    let g = rw c.in-Unit.is at c.alloc.ensures.gone in
+    let r = rights_living c.alloc.new.host.side in
+    let u = c.in-Unit.unit in
+    (split (r.mine u.number) (r.settled u.number u.life u.seal) g.0).0
+
+pub begin_life-requires-clause-settled : goal.begin_life-requires-clause-settled
+begin_life-requires-clause-settled c =
+    let g = rw c.in-Unit.is at c.alloc.ensures.gone in
+    let r = rights_living c.alloc.new.host.side in
+    let u = c.in-Unit.unit in
+    (split (r.mine u.number) (r.settled u.number u.life u.seal) g.0).1
+
+pub returns-in-Unit-clause-sound : goal.returns-in-Unit-clause-sound
+returns-in-Unit-clause-sound c =
+    let g = rw c.in-Unit.is at c.alloc.ensures.gone in
+    let b = c.begin_life.ensures in
+    sound-begun c.alloc.new.host c.begin_life.new.self c.in-Unit.unit b.state g.1 b.gone b.lasts (sound-noted-called c.args.self.now c.alloc.new.host c.note.new.self c.note.ensures.same c.note.ensures.step.processor c.note.ensures.placed c.alloc.ensures.goes.keeps.0 c.alloc.ensures.goes.keeps.1 c.alloc.ensures.came c.alloc.ensures.fine c.requires.sound)
+
+pub returns-in-Empty-clause-sound : goal.returns-in-Empty-clause-sound
+returns-in-Empty-clause-sound c =
+    let b = c.ask.ensures in
+    sound-asked c.alloc.new.host c.ask.new.self b.state b.same b.lasts (sound-noted-called c.args.self.now c.alloc.new.host c.note.new.self c.note.ensures.same c.note.ensures.step.processor c.note.ensures.placed c.alloc.ensures.goes.keeps.0 c.alloc.ensures.goes.keeps.1 c.alloc.ensures.came c.alloc.ensures.fine c.requires.sound)
+
+pub returns-in-Busy-clause-sound : goal.returns-in-Busy-clause-sound
+returns-in-Busy-clause-sound c =
+    let b = c.ask-in-Busy.ensures in
+    sound-asked c.alloc.new.host c.ask-in-Busy.new.self b.state b.same b.lasts (sound-noted-called c.args.self.now c.alloc.new.host c.note.new.self c.note.ensures.same c.note.ensures.step.processor c.note.ensures.placed c.alloc.ensures.goes.keeps.0 c.alloc.ensures.goes.keeps.1 c.alloc.ensures.came c.alloc.ensures.fine c.requires.sound)
 
 pub returns-in-Unit-clause-created : goal.returns-in-Unit-clause-created
 returns-in-Unit-clause-created c =
     let a = rw c.in-Unit.is at c.alloc.ensures.answer in
     let k = rw c.in-Unit.is at c.alloc.ensures.class in
     let n = rw c.ordinary.ensures at c.note.ensures.step in
-    rw c.begin_life.ensures.caches (rw c.begin_life.ensures.object
-    (created-one c.args.class c.args.name c.args.values _ _ _ c.in-Unit.unit a.0 a.1 (c.args.self.now.slots) (c.alloc.new.host.slots) _ n.records a.4 c.alloc.ensures.goes.keeps.0 k c.begin_life.ensures.none c.begin_life.ensures.lives))
+    let same = c.alloc.ensures.goes.keeps.0 in
+    let b = c.begin_life.ensures in
+    let u = c.in-Unit.unit in
+    let none = subst (λ (w : LivingState). unit_at w.slots u.number ≡ None) same b.none in
+    let is = ap (λ (w : LivingState). w.slots) b.state ∙ ap (λ (w : LivingState). slice_set w.slots u.number (Some (next_life u))) same in
+    rw b.object (created-one c.args.class c.args.name c.args.values _ _ _ u a.0 a.1 c.args.self.now.side.slots c.begin_life.new.self.slots n.records a.4 k none is b.lives)
 
 pub returns-in-Empty-clause-created : goal.returns-in-Empty-clause-created
 returns-in-Empty-clause-created c =
     let a = rw c.in-Empty.is at c.alloc.ensures.answer in
     let n = rw c.ordinary.ensures at c.note.ensures.step in
-    created-none c.args.class c.args.name c.args.values _ _ _ _ (c.args.self.now.slots) (c.alloc.new.host.slots) n.records a.1.records (inl (a.0, refl)) c.alloc.ensures.goes.keeps.0
+    let same = c.alloc.ensures.goes.keeps.0 in
+    created-none c.args.class c.args.name c.args.values _ _ _ _ (lives_of c.args.self.now.side.slots) (lives_of c.ask.new.self.slots) n.records a.1.records (inl (a.0, refl)) (ap (λ (w : LivingState). lives_of w.slots) (c.ask.ensures.state ∙ ap with_asked same))
+
+pub returns-in-Busy-clause-created : goal.returns-in-Busy-clause-created
+returns-in-Busy-clause-created c =
+    let a = rw c.in-Busy.is at c.alloc.ensures.answer in
+    let n = rw c.ordinary.ensures at c.note.ensures.step in
+    let same = c.alloc.ensures.goes.keeps.0 in
+    created-none c.args.class c.args.name c.args.values _ _ _ _ (lives_of c.args.self.now.side.slots) (lives_of c.ask-in-Busy.new.self.slots) n.records a.2.records (inr (_, a.0, a.1, refl)) (ap (λ (w : LivingState). lives_of w.slots) (c.ask-in-Busy.ensures.state ∙ ap with_asked same))
 
 pub returns-in-Unit-clause-alone : goal.returns-in-Unit-clause-alone
 returns-in-Unit-clause-alone c =
     let n = rw c.ordinary.ensures at c.note.ensures.step in
-    record { pending = omega arith; alone = λ _. rw c.begin_life.ensures.caches (after-one 0 _ _ _ _ n.records (c.alloc.ensures.alone.alone refl)) }
+    let d = returns-in-Unit-clause-created c in
+    let e = c.begin_life.ensures.state ∙ ap (with_begun c.in-Unit.unit) c.alloc.ensures.goes.keeps.0 in
+    undisturbed-still (λ (m : Machine0). 0) (λ (m : Machine0). 0) (λ (m : Machine0). m.caches.recorder.told) (λ (m : Machine0). known_living m.side) c.args.self.now (record c.alloc.new.host { side = c.begin_life.new.self }) (entry.New c.args.name c.args.values ∷ d.own) refl (after-one 0 _ _ _ _ n.records (c.alloc.ensures.alone.alone refl)) d.records (still-created _ _ _ _ _ _ _ _ _ d) (ap (λ (x : LivingState). (known_living x).grace) e) (ap (λ (x : LivingState). (known_living x).parcels) e)
 
 pub returns-in-Empty-clause-alone : goal.returns-in-Empty-clause-alone
 returns-in-Empty-clause-alone c =
     let n = rw c.ordinary.ensures at c.note.ensures.step in
-    record { pending = omega arith; alone = λ _. after-one 0 _ _ _ _ n.records (c.alloc.ensures.alone.alone refl) }
+    let d = returns-in-Empty-clause-created c in
+    let e = c.ask.ensures.state ∙ ap with_asked c.alloc.ensures.goes.keeps.0 in
+    undisturbed-still (λ (m : Machine0). 0) (λ (m : Machine0). 0) (λ (m : Machine0). m.caches.recorder.told) (λ (m : Machine0). known_living m.side) c.args.self.now (record c.alloc.new.host { side = c.ask.new.self }) (entry.New c.args.name c.args.values ∷ d.own) refl (after-one 0 _ _ _ _ n.records (c.alloc.ensures.alone.alone refl)) d.records (still-created _ _ _ _ _ _ _ _ _ d) (ap (λ (x : LivingState). (known_living x).grace) e) (ap (λ (x : LivingState). (known_living x).parcels) e)
 
 pub returns-in-Busy-clause-alone : goal.returns-in-Busy-clause-alone
 returns-in-Busy-clause-alone c =
     let n = rw c.ordinary.ensures at c.note.ensures.step in
-    record { pending = omega arith; alone = λ _. after-one 0 _ _ _ _ n.records (c.alloc.ensures.alone.alone refl) }
+    let d = returns-in-Busy-clause-created c in
+    let e = c.ask-in-Busy.ensures.state ∙ ap with_asked c.alloc.ensures.goes.keeps.0 in
+    undisturbed-still (λ (m : Machine0). 0) (λ (m : Machine0). 0) (λ (m : Machine0). m.caches.recorder.told) (λ (m : Machine0). known_living m.side) c.args.self.now (record c.alloc.new.host { side = c.ask-in-Busy.new.self }) (entry.New c.args.name c.args.values ∷ d.own) refl (after-one 0 _ _ _ _ n.records (c.alloc.ensures.alone.alone refl)) d.records (still-created _ _ _ _ _ _ _ _ _ d) (ap (λ (x : LivingState). (known_living x).grace) e) (ap (λ (x : LivingState). (known_living x).parcels) e)

@@ -1,31 +1,55 @@
-use Rattle.std.proofs.Common.{◌∙◌, ap, arith, refl}
-use Rattle.bm_exec.proofs.Disposing.{alive-apart, freed-suits, within, disposed}
-use Rattle.bm_world.specs.declared.slots.Slots.{Slots}
-use Rattle.bm_exec.specs.Slots.{lives_of}
-use Rattle.bm_exec.proofs.Undisturbed.{after-one}
+use Rattle.std.proofs.Common.{◌∙◌, ◌∷◌, refl, ap}
+use Rattle.bm_journal.specs.declared.entry.Entry.TheVariants as entry
+use Rattle.bm_world.specs.LivingState.{LivingState, known_living, rights_living}
+use Rattle.bm_world.proofs.SlotLemmas.{within}
+use Rattle.bm_desk.proofs.Tests.{and-of}
+use Rattle.bm_exec.specs.Sound.{Sound}
+use Rattle.bm_exec.specs.declared.level0.Machine0.{Machine0}
+use Rattle.bm_exec.proofs.Lives.{disposed}
+use Rattle.bm_exec.proofs.Rights.{stands-not}
+use Rattle.bm_exec.proofs.Sounds.{sound-called, sound-freeing, sound-noted-twice, times-self}
+use Rattle.bm_exec.proofs.Still.{still-disposed}
+use Rattle.bm_exec.proofs.Undisturbed.{after-one, undisturbed-still}
 use Rattle.bm_exec.proofs.level0.Machine0Machine.dispose.Goals as goal
+
+pub free-requires-clause-fine : goal.free-requires-clause-fine
+free-requires-clause-fine c = (sound-freeing c.args.self.now c.note-2.new.self c.end_life-unit.new.self c.args.object.unit c.end_life-unit.ensures.state c.end_life-unit.ensures.mine c.end_life-unit.ensures.lasts (sound-noted-twice c.args.self.now c.note.new.self c.note-2.new.self c.note.ensures.same c.note.ensures.step.processor c.note.ensures.placed c.note-2.ensures.same c.note-2.ensures.step.processor c.note-2.ensures.placed c.requires.sound)).fine
 
 pub free-requires-clause-fresh : goal.free-requires-clause-fresh
 free-requires-clause-fresh c =
-    let k = c.requires.sound.kept in
-    let e = c.take-unit.ensures.unit in
-    rw c.note-2.ensures.same (rw c.note.ensures.same (rw (k.number _ _ e) (alive-apart _ _ _ _ _ _ e c.requires.sound.fine.proper)))
+    let e = c.end_life-unit.ensures in
+    let s : Sound (record c.args.self.now { caches = c.note-2.new.self }) = sound-noted-twice c.args.self.now c.note.new.self c.note-2.new.self c.note.ensures.same c.note.ensures.step.processor c.note.ensures.placed c.note-2.ensures.same c.note-2.ensures.step.processor c.note-2.ensures.placed c.requires.sound in
+    let r = rights_living c.args.self.now.side in
+    let n = c.args.object.unit in
+    let were = e.mine.were_not n (times-self n) in
+    rw e.number (stands-not _ _ _ c.note-2.new.self r r n were s.fine)
 
 pub free-requires-clause-suits : goal.free-requires-clause-suits
 free-requires-clause-suits c =
-    let k = c.requires.sound.kept in
-    rw c.take-unit.ensures.empty (freed-suits _ _ _ _ _ _ k (within _ _ _ c.take-unit.ensures.unit) c.take-unit.ensures.unit)
+    let e = c.end_life-unit.ensures in
+    let q = rights_living c.end_life-unit.new.self in
+    let u = c.end_life-unit.result in
+    and-of (q.mine u.number) (q.settled u.number u.life u.seal) (rw e.number (e.mine.are c.args.object.unit (times-self c.args.object.unit))) e.settled
+
+pub returns-clause-sound : goal.returns-clause-sound
+returns-clause-sound c =
+    let k = c.free.ensures.goes.keeps in
+    sound-called (record c.args.self.now { caches = c.note-2.new.self; side = c.end_life-unit.new.self }) c.free.new.host k.0 k.1 c.free.ensures.came c.free.ensures.fine (sound-freeing c.args.self.now c.note-2.new.self c.end_life-unit.new.self c.args.object.unit c.end_life-unit.ensures.state c.end_life-unit.ensures.mine c.end_life-unit.ensures.lasts (sound-noted-twice c.args.self.now c.note.new.self c.note-2.new.self c.note.ensures.same c.note.ensures.step.processor c.note.ensures.placed c.note-2.ensures.same c.note-2.ensures.step.processor c.note-2.ensures.placed c.requires.sound))
 
 pub returns-clause-disposed : goal.returns-clause-disposed
 returns-clause-disposed c = λ class alive.
-    (let k = c.requires.sound.kept in
-    let n = rw c.ordinary.ensures at c.note.ensures.step in
+    (let n = rw c.ordinary.ensures at c.note.ensures.step in
     let m = rw c.ordinary-2.ensures at c.note-2.ensures.step in
     let f = c.free.ensures.freed in
-    disposed _ _ _ class c.args.object c.take-unit.result f.rest _ _ _ _ _ _ _ k (within _ _ _ c.take-unit.ensures.unit) c.take-unit.ensures.unit alive n.records m.records f.records f.allowed (ap (λ (s : Slots). lives_of s.slots.items) c.free.ensures.goes.keeps.0 ∙ ap lives_of c.take-unit.ensures.empty))
+    let e = c.end_life-unit.ensures in
+    disposed _ class c.args.object c.end_life-unit.result f.rest _ _ _ _ c.args.self.now.side.slots c.free.new.host.side.slots e.unit e.number alive n.records m.records f.records f.allowed
+    (ap (λ (w : LivingState). w.slots) (c.free.ensures.goes.keeps.0 ∙ e.state)) (within c.args.self.now.side.slots c.args.object.unit c.end_life-unit.result e.unit))
 
 pub returns-clause-alone : goal.returns-clause-alone
 returns-clause-alone c =
     let n = rw c.ordinary.ensures at c.note.ensures.step in
     let m = rw c.ordinary-2.ensures at c.note-2.ensures.step in
-    record { pending = omega arith; alone = λ _. after-one 0 _ _ _ _ n.records (after-one 0 _ _ _ _ m.records (c.free.ensures.alone.alone refl)) }
+    let l = c.requires.living in
+    let d = returns-clause-disposed c l.0 l.1 in
+    let e = c.free.ensures.goes.keeps.0 ∙ c.end_life-unit.ensures.state in
+    undisturbed-still (λ (m : Machine0). 0) (λ (m : Machine0). 0) (λ (m : Machine0). m.caches.recorder.told) (λ (m : Machine0). known_living m.side) c.args.self.now c.free.new.host (entry.Drop c.args.object.unit c.args.object.life ∷ entry.Last ∷ d.own) refl (after-one 0 _ _ _ _ n.records (after-one 0 _ _ _ _ m.records (c.free.ensures.alone.alone refl))) d.records (still-disposed _ _ _ _ _ _ _ d) (ap (λ (x : LivingState). (known_living x).grace) e) (ap (λ (x : LivingState). (known_living x).parcels) e)

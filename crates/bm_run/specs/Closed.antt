@@ -1,0 +1,27 @@
+-- The closing of the one processor.
+use Rattle.std.specs.Prelude.{◌≡◌, ◌<◌, ℕ, Some, List, []}
+use Rattle.bm_law.specs.Alone.{Alone}
+use Rattle.bm_law.specs.Kept.{Ready}
+use Rattle.bm_law.specs.Lists.{Log, Leaves}
+use Rattle.bm_law.specs.Stands.{times}
+use Rattle.bm_law.specs.State.{State, seen, seven_lists}
+use Rattle.bm_cache.specs.Shown.{shown}
+use Rattle.bm_cache.specs.Tokens.{Token, number_of}
+use Rattle.bm_deferred.specs.Grown.{GrewBy}
+use Rattle.bm_deferred.specs.Parts.{Then}
+use Rattle.bm_post.specs.PostState.{told_in}
+use Rattle.bm_mail.specs.SweepsTold.{SweepsTold}
+use Rattle.bm_closing.specs.EndsBegun.{EndsBegun}
+use Rattle.bm_exec.specs.declared.level0.Machine0.{Machine0}
+use Rattle.bm_run.specs.Lines.{known_of, lists_of, log_of}
+
+-- The machine was closed, and its log is this one: the periods in progress ended, and each of these classes was swept. At the end
+-- nothing stands in their lists; the other classes are as they were, and no call is in a cache or has anything in hand.
+pub record Closed (classes : List ℕ) (m : Machine0) (log : Log) : Type 0 where
+  pub closes : GrewBy (Then (EndsBegun (known_of m)) (SweepsTold classes (told_in m.side.side.post))) (lists_of m) (log_of m) (Some log)
+  pub alone : Alone 0 (log_of m) (Some log)
+  pub last : State Token
+  pub leaves : Leaves 0 log (seen number_of last)
+  pub ready : Ready 0 last
+  pub empty : (c : ℕ) → 0 < times c classes → seven_lists (last.rows c) ≡ []
+  pub others : (c : ℕ) → times c classes ≡ 0 → last.rows c ≡ (shown m.caches).rows c
