@@ -153,6 +153,17 @@ begins-of : (n : ℕ) (a b : Known) → a.grace.plain.begins ≤ b.grace.plain.b
 begins-of n a b p t Plain = p
 begins-of n a b p t Tracing = t
 
+-- it was asked for deferred work once more
+pub sound-counted : (m : Machine0) → Sound m → Sound (record m { settled = m.settled + 1 })
+sound-counted m s = record {
+  one = s.one;
+  first = s.first;
+  fine = s.fine;
+  dated = s.dated;
+  stamped = s.stamped;
+  begins = λ d. let h = s.begins d in omega (arith, h);
+}
+
 -- works were done, of a machine that was asked for them once more
 pub sound-worked : (m k : Machine0) (n asked : ℕ) (P : ℕ → Part) → n ≤ 24 → asked + 1 ≡ m.settled → Sound (record m { settled = asked }) → Works (λ (r : Recorded). r.told) face-of (λ (x : Machine0). 0) StaysBy (λ x. x.caches) (λ x. known_living x.side) n n P m k → SettledBy k → Sound k
 sound-worked m k n asked P few e s w t =
