@@ -25,19 +25,21 @@ pub record Sides : Type 0 where
   pub plain : Side
   pub tracing : Side
 
--- An object that lives: the class of its unit, and which life of the unit it is.
+-- An object that lives: the class of its unit, which life of the unit it is, and the unit's home, the processor that gave it.
 pub record Living : Type 0 where
   pub class : ℕ
   pub life : ℕ
+  pub home : ℕ
 
 -- by the numbers of units
 abbrev pub Lives : Type 0
 Lives = ℕ → Option Living
 
--- The objects that live on a side, and how many were asked for there. No call on grace periods, parcels or the stock
--- changes them.
+-- The objects that live on a side, how many lives each unit has begun, and how many objects were asked for there. No call on
+-- grace periods, parcels or the stock changes them.
 pub record Objects : Type 0 where
   pub lives : Lives
+  pub begun : ℕ → ℕ
   pub asked : ℕ
 
 -- all of it
@@ -53,9 +55,9 @@ abbrev pub side : Domain → Known → Side
 side Plain known = known.grace.plain
 side Tracing known = known.grace.tracing
 
--- where none lives, and none was asked for
+-- where none lives or has lived, and none was asked for
 abbrev pub no_objects : Objects
-no_objects = record { lives = λ n. None; asked = 0 }
+no_objects = record { lives = λ n. None; begun = λ n. 0; asked = 0 }
 
 -- of what has no part in grace periods
 abbrev pub no_side : Side

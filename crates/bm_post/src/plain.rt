@@ -3,6 +3,7 @@
 ghost use Rattle.std.specs.Prelude.{◌≡◌, ◌+◌, ◌*◌, ◌%◌, ◌<◌, ◌≤◌, ◌∷◌, ◌++◌, [], IfOk, IfErr, IfSome, IfNone, OnOk, OnErr, None, false, length, reverse, vec_capacity};
 ghost use Rattle.std.specs.List.{All};
 ghost use Rattle.std.specs.Option.{option_map_or};
+ghost use Rattle.bm_page.specs.Out.{IsFromStock};
 ghost use Rattle.bm_page.specs.Stock.{fetched as stock_fetched, next_unit};
 ghost use Rattle.bm_post.specs.Kept.{IsRoomy};
 ghost use Rattle.bm_post.specs.HasRoom.{room-of};
@@ -160,6 +161,7 @@ impl Post for PlainPost {
         ensures units { OnOk result (out.new.items ≡ out.old.items ++ (stock_fetched class want self.old.pool).units) }
         ensures state { OnOk result (self.new ≡ record self.old { pool = (stock_fetched class want self.old.pool).pool }) }
         ensures fewer { IfOk result (λ n. n < want → next_unit class self.new.pool ≡ None) }
+        ensures each { OnOk result (All (IsFromStock class self.old.pool) (stock_fetched class want self.old.pool).units) }
         ensures err_state { OnErr result (self.new ≡ self.old) }
         ensures ok { IfOk result (λ n. Fetches class want n out.old.items out.new.items (rights_in self.old) (rights_in self.new)) }
         ensures err { OnErr result (out.new.items ≡ out.old.items) }

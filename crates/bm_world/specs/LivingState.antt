@@ -1,6 +1,6 @@
 -- The world on one thread with the units that live in it. (This project's own. The kernel's allocator knows nothing of a unit
 -- while it is in use.)
-use Rattle.std.specs.Prelude.{◌≡◌, ℕ, ◌+◌, ◌%◌, ◌^◌, ◌<◌, ◌≤◌, ◌&&◌, not, nat_le, Bool, true, Option, None, Some, List, [], is_some, length, slice_index_or, slice_set}
+use Rattle.std.specs.Prelude.{◌≡◌, ℕ, ◌+◌, ◌%◌, ◌^◌, ◌<◌, ◌≤◌, ◌&&◌, not, eqb, Bool, false, true, Option, None, Some, List, [], is_some, length, slice_index_or, slice_set}
 use Rattle.std.specs.List.{All}
 use Rattle.std.proofs.lemmas.Bool.{and_parts}
 use Rattle.bm_journal.specs.declared.ids.Domain.{Domain}
@@ -15,42 +15,48 @@ use Rattle.bm_post.specs.PostState.{PostState, is_mine}
 use Rattle.bm_world.specs.SideState.{SideAtRest, SideState, idle-of, known_of}
 use Rattle.bm_world.specs.Slots.{unit_at}
 
--- The side; by a unit's number the unit that lives, if it does; and how many objects were asked for.
+-- The side; by a unit's number the unit that lives, if it does, and how many lives it has begun; and how many objects were
+-- asked for.
 pub record LivingState : Type 0 where
   pub side : SideState
   pub slots : List (Option UnitState)
+  pub begun : List ℕ
   pub asked : ℕ
 
 -- the object that a unit is, where it lives
 abbrev pub living_of : Option UnitState → Option Living
 living_of None = None
-living_of (Some unit) = Some (record { class = unit.class; life = unit.life })
+living_of (Some unit) = Some (record { class = unit.class; life = unit.life; home = unit.home })
 
 abbrev pub lives_of : List (Option UnitState) → Lives
 lives_of slots = λ n. living_of (unit_at slots n)
 
--- It knows what its side knows, and tells what lives.
+-- how many lives a unit has begun
+abbrev pub begun_at : List ℕ → ℕ → ℕ
+begun_at begun n = slice_index_or begun n 0
+
+-- It knows what its side knows, and tells what lives and how many lives began.
 abbrev pub known_living : LivingState → Known
-known_living world = record (known_of world.side) { objects = record { lives = lives_of world.slots; asked = world.asked } }
+known_living world = record (known_of world.side) { objects = record { lives = lives_of world.slots; begun = begun_at world.begun; asked = world.asked } }
 
--- Whether a unit with these lives so far may be used again: it has room for one life more, and has had no more lives than
--- objects were asked for.
-abbrev pub may_live : (asked n life : ℕ) → Bool
-may_live asked n life = has_room n life && nat_le life asked
+-- Whether a unit with these lives so far may be used again: it has room for one life more, and they are the lives that it has
+-- begun.
+abbrev pub may_live : (begun : List ℕ) → (n life : ℕ) → Bool
+may_live begun n life = has_room n life && eqb life (begun_at begun n)
 
--- Mine is what is mine of the side and doesn't live. Each unit that has had no more lives than objects were asked for may be
--- used again as soon as it is there, whatever its seal.
-abbrev pub rights_with_living : PostState → List (Option UnitState) → ℕ → Rights
-rights_with_living post slots asked = record {
+-- Mine is what is mine of the side and doesn't live. Each unit whose lives are those that it has begun may be used again as soon
+-- as it is there, whatever its seal.
+abbrev pub rights_with_living : PostState → List (Option UnitState) → List ℕ → Rights
+rights_with_living post slots begun = record {
   mine = λ n. is_mine post n && not (is_some (unit_at slots n));
-  settled = λ n life seal. may_live asked n life;
-  due = λ n life seal. may_live asked n life;
-  ripe = λ n life seal. may_live asked n life;
+  settled = λ n life seal. may_live begun n life;
+  due = λ n life seal. may_live begun n life;
+  ripe = λ n life seal. may_live begun n life;
   since = λ d x n. true;
 }
 
 abbrev pub rights_living : LivingState → Rights
-rights_living world = rights_with_living world.side.post world.slots world.asked
+rights_living world = rights_with_living world.side.post world.slots world.begun
 
 -- All is at rest where it is on the side.
 abbrev pub LivingAtRest : LivingState → Domain → ℕ → Type 0
@@ -67,36 +73,42 @@ with_asked world = record world { asked = world.asked + 1 }
 -- .. and a unit begins its next life for it, in its slot
 abbrev pub with_begun : UnitState → LivingState → LivingState
 with_begun unit world =
-    record world { slots = slice_set world.slots unit.number (Some (next_life unit)); asked = world.asked + 1 }
+    record world {
+      slots = slice_set world.slots unit.number (Some (next_life unit));
+      begun = slice_set world.begun unit.number (unit.life + 1);
+      asked = world.asked + 1;
+    }
 
 -- A unit lives no more.
 abbrev pub with_ended : ℕ → LivingState → LivingState
 with_ended n world = record world { slots = slice_set world.slots n None }
 
--- A unit has had at most so many lives.
-abbrev pub LivedAtMost : ℕ → UnitState → Type 0
-LivedAtMost most unit = unit.life ≤ most
+-- The lives of a unit are those that it has begun.
+abbrev pub LivedAs : List ℕ → UnitState → Type 0
+LivedAs begun unit = unit.life ≡ begun_at begun unit.number
 
--- Each unit of the pool and of the inboxes has.
-pub record HaveLived (most : ℕ) (post : PostState) : Type 0 where
-  pub stock : (n : ℕ) → (stocked_at post.pool.units n).life ≤ most
-  pub boxes : (i : ℕ) → All (All (LivedAtMost most)) (slice_index_or post.inboxes i [])
+-- So it is of each unit of the pool and of the inboxes.
+pub record HaveLived (begun : List ℕ) (post : PostState) : Type 0 where
+  pub stock : (n : ℕ) → (stocked_at post.pool.units n).out ≡ false → (stocked_at post.pool.units n).life ≡ begun_at begun n
+  pub boxes : (i : ℕ) → All (All (LivedAs begun)) (slice_index_or post.inboxes i [])
 
--- What the parts keep true: there is a slot for each number; the unit in a slot has its number, is out of the pool and stands
--- in no inbox, has had no more lives than objects were asked for, and its home is one of the processors; and no unit
--- anywhere has had more.
-pub record AreLiving (post : PostState) (slots : List (Option UnitState)) (asked : ℕ) : Type 0 where
+-- What the parts keep true: there is a slot for each number, and a count of its lives, which isn't above the number of objects
+-- that were asked for; the unit in a slot has its number, is out of the pool and stands in no inbox, lives the last life that it
+-- has begun, and its home is one of the processors; and so it is of the lives of each unit of the pool and of the inboxes.
+pub record AreLiving (post : PostState) (slots : List (Option UnitState)) (begun : List ℕ) (asked : ℕ) : Type 0 where
   pub size : length slots ≡ 2 ^ 16
+  pub counts : length begun ≡ 2 ^ 16
   pub number : (n : ℕ) (unit : UnitState) → unit_at slots n ≡ Some unit → unit.number ≡ n
   pub mine : (n : ℕ) (unit : UnitState) → unit_at slots n ≡ Some unit → is_mine post n ≡ true
-  pub life : (n : ℕ) (unit : UnitState) → unit_at slots n ≡ Some unit → unit.life ≤ asked
+  pub life : (n : ℕ) (unit : UnitState) → unit_at slots n ≡ Some unit → unit.life ≡ begun_at begun n
   pub home : (n : ℕ) (unit : UnitState) → unit_at slots n ≡ Some unit → unit.home < post.processors
   pub few : asked < 2 ^ 31
-  pub lived : HaveLived asked post
+  pub most : (n : ℕ) → begun_at begun n ≤ asked
+  pub lived : HaveLived begun post
 
 -- what may be used again has room
 pub room-living : (p : LivingState) (n life : ℕ) (seal : Option Seal) → (rights_living p).settled n life seal ≡ true → (n < 2 ^ 16) × (life + 1 < 2 ^ 32)
-room-living p n life seal h = room-of n life seal (and_parts (has_room n life) (nat_le life p.asked) h).0
+room-living p n life seal h = room-of n life seal (and_parts (has_room n life) (eqb life (begun_at p.begun n)) h).0
 
 pub idle-living : (world : LivingState) (d : Domain) (n : ℕ) → LivingAtRest world d n → n % 2 ≡ 0 → (side d (known_living world)).number ≡ 0
 idle-living world Plain n rest even = idle-of world.side Plain n rest even

@@ -1,6 +1,7 @@
 //! One processor's side of all that processors share: the pool, the inboxes, and the grace periods.
 #![tactic(auto)]
 
+mod begun;
 mod law;
 mod living;
 #[cfg(test)]

@@ -1,6 +1,6 @@
 //! The world on one thread with the units that live in it.
 
-ghost use Rattle.std.specs.Prelude.{◌≡◌, ◌≢◌, ◌+◌, ◌%◌, ◌^◌, ◌<◌, ◌≤◌, ◌∷◌, ◌++◌, [], ℕ, List, Option, None, Some, false, length, is_some, reverse, true, IfOk, IfErr, IfSome, IfNone, OnOk, OnErr};
+ghost use Rattle.std.specs.Prelude.{◌≡◌, ◌≢◌, ◌+◌, ◌%◌, ◌^◌, ◌<◌, ◌≤◌, ◌∷◌, ◌++◌, [], ℕ, eqb, if◌then◌else◌, List, Option, None, Some, false, length, is_some, reverse, true, IfOk, IfErr, IfSome, IfNone, OnOk, OnErr};
 ghost use Rattle.std.specs.List.{All};
 ghost use Rattle.std.specs.Option.{option_map_or};
 ghost use Rattle.bm_page.specs.Stock.{fetched as stock_fetched};
@@ -19,8 +19,9 @@ ghost use Rattle.bm_post.specs.Calls.{Fetches, GivesBack, IsOf, Mails, Posts, Re
 ghost use Rattle.bm_post.specs.Parcels.{oldest, parcel_sent, parcel_taken};
 ghost use Rattle.bm_post.specs.Rights.{AreSame, Gains, Holds, IsSettled, Lasting, Loses, MayLeave, numbers};
 ghost use Rattle.bm_world.specs.Slots.{AllEmpty, unit_at};
-ghost use Rattle.bm_world.specs.LivingState.{HaveLived, LivingAtRest, idle-living, known_living, next_life, rights_living, room-living, with_asked, with_begun, with_ended};
+ghost use Rattle.bm_world.specs.LivingState.{HaveLived, LivingAtRest, begun_at, idle-living, known_living, next_life, rights_living, room-living, with_asked, with_begun, with_ended};
 
+use crate::begun::Begun;
 use crate::slots::Slots;
 use crate::{OneSide, World};
 use bm_class::Class;
@@ -33,7 +34,8 @@ use std::alloc::Global;
 use std::marker::Model;
 
 /// The world on one thread with the units that live in it. Beside the side it owns each unit that lives, by its number, and
-/// counts how many objects were asked for. It has to be ended, by `give_up` or by ending its parts. This project's own.
+/// counts how many lives each unit has begun and how many objects were asked for. It has to be ended, by `give_up` or by ending
+/// its parts. This project's own.
 ///
 /// A unit that lives isn't mine: its number can be named, and nothing can be done with it, until its life ends.
 pub struct LivingSide {
@@ -41,6 +43,8 @@ pub struct LivingSide {
     side: OneSide,
     /// By number, the unit that lives, if it does.
     slots: Slots,
+    /// By number, how many lives the unit has begun.
+    begun: Begun,
     /// How many objects were asked for.
     asked: u32,
 }
@@ -50,25 +54,36 @@ impl Model for LivingSide {
 
     ghost Value = { LivingState };
 
-    ghost view = { λ world. record { side = world.side; slots = world.slots.slots.items; asked = world.asked } };
+    ghost view = { λ world. record {
+      side = world.side;
+      slots = world.slots.slots.items;
+      begun = world.begun.counts.items;
+      asked = world.asked;
+    } };
 
-    ghost invariant = { λ world. AreLiving world.side.post world.slots.slots.items world.asked };
+    ghost invariant = { λ world. AreLiving world.side.post world.slots.slots.items world.begun.counts.items world.asked };
 }
 
 impl LivingSide {
     /// A side in which nothing lives, and for which no object was asked. No unit of its pool or its inboxes has ever lived. Want
     /// of memory is the only refusal, and hands the side back.
     pub fn create(alloc: Global, side: OneSide) -> Result<LivingSide, OneSide>
-        requires { HaveLived 0 side.post }
+        requires { HaveLived [] side.post }
         ensures side { IfOk result (λ world. world.side ≡ side) }
         ensures slots { IfOk result (λ world. AllEmpty world.slots) }
+        ensures begun { IfOk result (λ world. (n : ℕ) → begun_at world.begun n ≡ 0) }
         ensures asked { IfOk result (λ world. world.asked ≡ 0) }
         ensures err { IfErr result (λ back. back ≡ side) }
     {
+        let begun = match Begun::new(alloc) {
+            Ok(begun) => begun,
+            Err(_) => return Err(side),
+        };
         match Slots::new(alloc) {
             Ok(slots) => Ok(LivingSide {
                 side,
                 slots,
+                begun,
                 asked: 0,
             }),
             Err(_) => Err(side),
@@ -81,7 +96,12 @@ impl LivingSide {
         ensures slots { result.1.slots.items ≡ self.slots }
         ensures asked { result.2 ≡ self.asked }
     {
-        let LivingSide { side, slots, asked } = self;
+        let LivingSide {
+            side,
+            slots,
+            begun: _,
+            asked,
+        } = self;
         (side, slots, asked)
     }
 
@@ -90,6 +110,7 @@ impl LivingSide {
         let LivingSide {
             side,
             slots,
+            begun: _,
             asked: _,
         } = self;
         slots.give_up();
@@ -138,9 +159,11 @@ impl LivingSide {
         requires settled { IsSettled (rights_living self.old) unit }
         requires home { unit.home < self.old.side.grace.processors }
         ensures object { result ≡ record { unit = unit.number; life = unit.life + 1 } }
+        ensures next { unit.life ≡ begun_at self.old.begun unit.number }
         ensures none { unit_at self.old.slots unit.number ≡ None }
         ensures state { self.new ≡ with_begun unit self.old }
         ensures lives { unit_at self.new.slots unit.number ≡ Some (next_life unit) }
+        ensures counted { (n : ℕ) → begun_at self.new.begun n ≡ (if eqb unit.number n then begun_at self.old.begun n + 1 else begun_at self.old.begun n) }
         ensures gone { Loses (unit.number ∷ []) (rights_living self.old) (rights_living self.new) }
         ensures lasts { Lasting [] (rights_living self.old) (rights_living self.new) }
         ensures rest { StaysAtRest LivingAtRest self.old self.new }
@@ -152,6 +175,7 @@ impl LivingSide {
             unit: unit.number(),
             life: unit.life(),
         };
+        self.begun.set(object.unit, object.life);
         self.slots.put(unit);
         self.asked += 1;
         object
@@ -162,6 +186,7 @@ impl LivingSide {
         requires lives { is_some (unit_at self.old.slots number) ≡ true }
         ensures unit { unit_at self.old.slots number ≡ Some result }
         ensures number { result.number ≡ number }
+        ensures last { result.life ≡ begun_at self.old.begun number }
         ensures state { self.new ≡ with_ended number self.old }
         ensures mine { Gains (number ∷ []) (rights_living self.old) (rights_living self.new) }
         ensures settled { IsSettled (rights_living self.new) result }
@@ -190,6 +215,7 @@ impl Grace for LivingSide {
         requires room { (side domain (known_living self.old)).word < 2 ^ 28 }
         ensures post { self.new.side.post ≡ self.old.side.post }
         ensures slots { self.new.slots ≡ self.old.slots }
+        ensures begun { self.new.begun ≡ self.old.begun }
         ensures asked { self.new.asked ≡ self.old.asked }
         ensures grace { self.new.side.grace
             ≡ with_domain domain (word_moved self.old.side.grace.processor (domain_in domain self.old.side.grace)) self.old.side.grace }
@@ -205,6 +231,7 @@ impl Grace for LivingSide {
         requires inside { (side domain (known_living self.old)).word % 2 ≡ 1 }
         ensures post { self.new.side.post ≡ self.old.side.post }
         ensures slots { self.new.slots ≡ self.old.slots }
+        ensures begun { self.new.begun ≡ self.old.begun }
         ensures asked { self.new.asked ≡ self.old.asked }
         ensures grace { self.new.side.grace
             ≡ with_domain domain (word_moved self.old.side.grace.processor (domain_in domain self.old.side.grace)) self.old.side.grace }
@@ -249,6 +276,7 @@ impl Grace for LivingSide {
         ensures found { found_at even result ≡ (domain_in domain self.old.side.grace).number }
         ensures post { self.new.side.post ≡ self.old.side.post }
         ensures slots { self.new.slots ≡ self.old.slots }
+        ensures begun { self.new.begun ≡ self.old.begun }
         ensures asked { self.new.asked ≡ self.old.asked }
         ensures grace { self.new.side.grace
             ≡ with_domain domain (period_begun self.old.side.grace.processor result (domain_in domain self.old.side.grace)) self.old.side.grace }
@@ -266,6 +294,7 @@ impl Grace for LivingSide {
         requires driving { (side domain (known_living self.old)).number % 2 ≡ 1 }
         ensures post { self.new.side.post ≡ self.old.side.post }
         ensures slots { self.new.slots ≡ self.old.slots }
+        ensures begun { self.new.begun ≡ self.old.begun }
         ensures asked { self.new.asked ≡ self.old.asked }
         ensures grace { self.new.side.grace
             ≡ with_domain domain (period_looked (words_in domain self.old.side.grace) (domain_in domain self.old.side.grace)) self.old.side.grace }
@@ -284,6 +313,7 @@ impl Grace for LivingSide {
         requires { CanFinish domain (known_living self.old) }
         ensures post { self.new.side.post ≡ self.old.side.post }
         ensures slots { self.new.slots ≡ self.old.slots }
+        ensures begun { self.new.begun ≡ self.old.begun }
         ensures asked { self.new.asked ≡ self.old.asked }
         ensures grace { self.new.side.grace ≡ with_domain domain (period_ended (domain_in domain self.old.side.grace)) self.old.side.grace }
         ensures period { result ≡ ended domain (side domain (known_living self.old)) }
@@ -315,6 +345,7 @@ impl Post for LivingSide {
         ensures err_state { OnErr result (self.new.side.post ≡ self.old.side.post) }
         ensures grace { self.new.side.grace ≡ self.old.side.grace }
         ensures slots { self.new.slots ≡ self.old.slots }
+        ensures begun { self.new.begun ≡ self.old.begun }
         ensures asked { self.new.asked ≡ self.old.asked }
         ensures ok { IfOk result (λ n. Fetches class want n out.old.items out.new.items (rights_living self.old) (rights_living self.new)) }
         ensures err { OnErr result (out.new.items ≡ out.old.items) }
@@ -332,6 +363,7 @@ impl Post for LivingSide {
         ensures state { self.new.side.post ≡ record self.old.side.post { pool = all_returned (reverse units.items) self.old.side.post.pool } }
         ensures grace { self.new.side.grace ≡ self.old.side.grace }
         ensures slots { self.new.slots ≡ self.old.slots }
+        ensures begun { self.new.begun ≡ self.old.begun }
         ensures asked { self.new.asked ≡ self.old.asked }
         ensures back { GivesBack (numbers units.items) (rights_living self.old) (rights_living self.new) }
         ensures lasts { Lasting (numbers units.items) (rights_living self.old) (rights_living self.new) }
@@ -351,6 +383,7 @@ impl Post for LivingSide {
         ensures err_state { OnErr result (self.new.side.post ≡ self.old.side.post) }
         ensures grace { self.new.side.grace ≡ self.old.side.grace }
         ensures slots { self.new.slots ≡ self.old.slots }
+        ensures begun { self.new.begun ≡ self.old.begun }
         ensures asked { self.new.asked ≡ self.old.asked }
         ensures sent { OnOk result (GivesBack (numbers units.items) (rights_living self.old) (rights_living self.new)) }
         ensures refused { IfErr result (λ back. back.items ≡ units.items) }
@@ -373,6 +406,7 @@ impl Post for LivingSide {
         ensures none_state { IfNone result (self.new.side.post ≡ self.old.side.post) }
         ensures grace { self.new.side.grace ≡ self.old.side.grace }
         ensures slots { self.new.slots ≡ self.old.slots }
+        ensures begun { self.new.begun ≡ self.old.begun }
         ensures asked { self.new.asked ≡ self.old.asked }
         ensures some { IfSome result (λ units. Receives class units.items (rights_living self.old) (rights_living self.new)) }
         ensures none { IfNone result (AreSame (rights_living self.old) (rights_living self.new)) }

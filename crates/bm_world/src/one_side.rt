@@ -3,6 +3,7 @@
 ghost use Rattle.std.specs.Prelude.{◌≡◌, ℕ, ◌+◌, ◌%◌, ◌^◌, ◌<◌, ◌≤◌, ◌∷◌, ◌++◌, [], None, false, length, reverse, true, IfOk, IfErr, IfSome, IfNone, OnOk, OnErr};
 ghost use Rattle.std.specs.List.{All};
 ghost use Rattle.std.specs.Option.{option_map_or};
+ghost use Rattle.bm_page.specs.Out.{IsFromStock};
 ghost use Rattle.bm_page.specs.Stock.{fetched as stock_fetched};
 ghost use Rattle.bm_grace.specs.Answers.{Answers, BeganAt, CanFinish, Stamped, Verdict, ended, next, number_in};
 ghost use Rattle.bm_grace.specs.Calls.{began, entered, finished, found_at, left, looked, looks, read};
@@ -225,6 +226,7 @@ impl Post for OneSide {
         ensures count { IfOk result (λ n. n ≡ length (stock_fetched class want self.old.post.pool).units) }
         ensures units { OnOk result (out.new.items ≡ out.old.items ++ (stock_fetched class want self.old.post.pool).units) }
         ensures state { OnOk result (self.new.post ≡ record self.old.post { pool = (stock_fetched class want self.old.post.pool).pool }) }
+        ensures each { OnOk result (All (IsFromStock class self.old.post.pool) (stock_fetched class want self.old.post.pool).units) }
         ensures err_state { OnErr result (self.new.post ≡ self.old.post) }
         ensures grace { self.new.grace ≡ self.old.grace }
         ensures ok { IfOk result (λ n. Fetches class want n out.old.items out.new.items (rights_in self.old.post) (rights_in self.new.post)) }

@@ -1,7 +1,7 @@
-use Rattle.std.proofs.Common.{Some, true, arith, ◌≡◌, ◌+◌, ◌<◌, ◌^◌, length, subst, sym}
+use Rattle.std.proofs.Common.{Some, true, arith, ◌≡◌, ◌+◌, ◌<◌, ◌^◌, length, set, subst, sym}
 use Rattle.bm_post.specs.HasRoom.{room-of}
 use Rattle.bm_world.specs.LivingState.{LivingState, may_live, next_life, rights_living}
-use Rattle.bm_world.proofs.Alive.{begun-gone, has-room, living-begun}
+use Rattle.bm_world.proofs.Alive.{begun-gone, begun-lasts, counted, has-room, lives-as, living-begun}
 use Rattle.bm_world.proofs.SlotLemmas.{at-same}
 use Rattle.bm_world.proofs.living.LivingSide.begin_life.Goals as goal
 
@@ -10,29 +10,61 @@ invariant_of-self c =
     let i = c.self.inside in
     let u = c.args.unit in
     let mine = subst (λ (s : LivingState). (rights_living s).mine u.number ≡ true) (sym c.self.view_is) c.requires.mine in
-    let settled = subst (λ (s : LivingState). may_live s.asked u.number u.life ≡ true) (sym c.self.view_is) c.requires.settled in
+    let settled = subst (λ (s : LivingState). may_live s.begun u.number u.life ≡ true) (sym c.self.view_is) c.requires.settled in
     let home = subst (λ k. u.home < k) (sym c.processors_agree.ensures) (subst (λ (s : LivingState). u.home < s.side.grace.processors) (sym c.self.view_is) c.requires.home) in
     let room = subst (λ (s : LivingState). s.asked + 1 < 2 ^ 31) (sym c.self.view_is) c.requires.room in
     let put = rw c.begin_life.ensures at c.put.ensures in
-    rw put (living-begun i.side.post i.slots.slots.items i.asked u room mine settled home c.self.invariant)
+    let said = rw c.begin_life.ensures at (rw c.life.ensures at (rw c.number.ensures at c.set.ensures)) in
+    rw (put, said) (living-begun i.side.post i.slots.slots.items i.begun.counts.items i.asked u room mine settled home c.self.invariant)
+
+pub returns-clause-next : goal.returns-clause-next
+returns-clause-next c =
+    let i = c.self.inside in
+    let u = c.args.unit in
+    let settled = subst (λ (s : LivingState). may_live s.begun u.number u.life ≡ true) (sym c.self.view_is) c.requires.settled in
+    rw (← c.self.view_is) (lives-as i.begun.counts.items u.number u.life settled)
+
+pub returns-clause-counted : goal.returns-clause-counted
+returns-clause-counted c n =
+    let i = c.self.inside in
+    let u = c.args.unit in
+    let settled = subst (λ (s : LivingState). may_live s.begun u.number u.life ≡ true) (sym c.self.view_is) c.requires.settled in
+    let number = (room-of u.number u.life u.seal (has-room i.begun.counts.items u.number u.life settled)).0 in
+    let size = c.self.invariant.counts in
+    let there : u.number < length i.begun.counts.items = omega (arith, number, size) in
+    let said = rw c.begin_life.ensures at (rw c.life.ensures at (rw c.number.ensures at c.set.ensures)) in
+    rw (← c.self.view_is, said) (counted i.begun.counts.items u.number u.life n there (lives-as i.begun.counts.items u.number u.life settled))
 
 pub returns-clause-gone : goal.returns-clause-gone
 returns-clause-gone c =
     let i = c.self.inside in
     let u = c.args.unit in
-    let settled = subst (λ (s : LivingState). may_live s.asked u.number u.life ≡ true) (sym c.self.view_is) c.requires.settled in
-    let number = (room-of u.number u.life u.seal (has-room i.asked u.number u.life settled)).0 in
+    let settled = subst (λ (s : LivingState). may_live s.begun u.number u.life ≡ true) (sym c.self.view_is) c.requires.settled in
+    let number = (room-of u.number u.life u.seal (has-room i.begun.counts.items u.number u.life settled)).0 in
     let size = c.self.invariant.size in
     let there : u.number < length i.slots.slots.items = omega (arith, number, size) in
     let put = rw c.begin_life.ensures at c.put.ensures in
-    rw (← c.self.view_is, put) (begun-gone i.side.post i.slots.slots.items i.asked (i.asked + 1) u.number (next_life u) there)
+    let said = rw c.begin_life.ensures at (rw c.life.ensures at (rw c.number.ensures at c.set.ensures)) in
+    rw (← c.self.view_is, put, said) (begun-gone i.side.post i.slots.slots.items i.begun.counts.items (set i.begun.counts.items u.number (u.life + 1)) u.number (next_life u) there)
+
+pub returns-clause-lasts : goal.returns-clause-lasts
+returns-clause-lasts c =
+    let i = c.self.inside in
+    let u = c.args.unit in
+    let settled = subst (λ (s : LivingState). may_live s.begun u.number u.life ≡ true) (sym c.self.view_is) c.requires.settled in
+    let number = (room-of u.number u.life u.seal (has-room i.begun.counts.items u.number u.life settled)).0 in
+    let size = c.self.invariant.size in
+    let there : u.number < length i.slots.slots.items = omega (arith, number, size) in
+    let put = rw c.begin_life.ensures at c.put.ensures in
+    let said = rw c.begin_life.ensures at (rw c.life.ensures at (rw c.number.ensures at c.set.ensures)) in
+    rw (← c.self.view_is, put, said) (begun-lasts i.side.post i.slots.slots.items i.begun.counts.items u.number (u.life + 1) (next_life u) there)
 
 pub returns-clause-lives : goal.returns-clause-lives
 returns-clause-lives c =
     let i = c.self.inside in
     let u = c.args.unit in
-    let settled = subst (λ (s : LivingState). may_live s.asked u.number u.life ≡ true) (sym c.self.view_is) c.requires.settled in
-    let number = (room-of u.number u.life u.seal (has-room i.asked u.number u.life settled)).0 in
+    let settled = subst (λ (s : LivingState). may_live s.begun u.number u.life ≡ true) (sym c.self.view_is) c.requires.settled in
+    let number = (room-of u.number u.life u.seal (has-room i.begun.counts.items u.number u.life settled)).0 in
     let size = c.self.invariant.size in
     let there : u.number < length i.slots.slots.items = omega (arith, number, size) in
     let put = rw c.begin_life.ensures at c.put.ensures in

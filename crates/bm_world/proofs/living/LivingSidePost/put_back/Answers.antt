@@ -10,12 +10,12 @@ use Rattle.bm_world.proofs.living.LivingSidePost.put_back.Goals as goal
 pub put_back-requires-clause-mine : goal.put_back-requires-clause-mine
 put_back-requires-clause-mine c =
     let i = c.self.inside in
-    holds-post i.side.post i.slots.slots.items i.asked c.args.units.items (subst (λ (s : LivingState). Holds (rights_living s) c.args.units.items) (sym c.self.view_is) c.requires.mine)
+    holds-post i.side.post i.slots.slots.items i.begun.counts.items c.args.units.items (subst (λ (s : LivingState). Holds (rights_living s) c.args.units.items) (sym c.self.view_is) c.requires.mine)
 
 pub put_back-requires-clause-fit : goal.put_back-requires-clause-fit
 put_back-requires-clause-fit c =
     let i = c.self.inside in
-    leave-post i.side.post i.slots.slots.items i.asked c.args.units.items (subst (λ (s : LivingState). All (MayLeave (rights_living s)) c.args.units.items) (sym c.self.view_is) c.requires.fit)
+    leave-post i.side.post i.slots.slots.items i.begun.counts.items c.args.units.items (subst (λ (s : LivingState). All (MayLeave (rights_living s)) c.args.units.items) (sym c.self.view_is) c.requires.fit)
 
 pub invariant_of-self : goal.invariant_of-self
 invariant_of-self c =
@@ -24,10 +24,10 @@ invariant_of-self c =
     let slots = i.slots.slots.items in
     let holds = subst (λ (s : LivingState). Holds (rights_living s) us) (sym c.self.view_is) c.requires.mine in
     let fit = subst (λ (s : LivingState). All (MayLeave (rights_living s)) us) (sym c.self.view_is) c.requires.fit in
-    let lived = lived-back us i.asked i.side.post c.put_back.new.self.post c.put_back.ensures.state (leave-lived i.side.post slots i.asked us fit) c.self.invariant.lived in
-    living-lost i.side.post c.put_back.new.self.post slots i.asked us (ap (λ (p : PostState). p.processors) c.put_back.ensures.state) holds c.put_back.ensures.back lived c.self.invariant
+    let lived = lived-back us i.begun.counts.items i.side.post c.put_back.new.self.post c.put_back.ensures.state (leave-lived i.side.post slots i.begun.counts.items us fit) c.self.invariant.lived in
+    living-lost i.side.post c.put_back.new.self.post slots i.begun.counts.items i.asked us (ap (λ (p : PostState). p.processors) c.put_back.ensures.state) holds c.put_back.ensures.back lived c.self.invariant
 
 pub returns-clause-back : goal.returns-clause-back
 returns-clause-back c =
     let i = c.self.inside in
-    rw (← c.self.view_is) (loses-living i.side.post c.put_back.new.self.post i.slots.slots.items i.asked (numbers c.args.units.items) c.put_back.ensures.back)
+    rw (← c.self.view_is) (loses-living i.side.post c.put_back.new.self.post i.slots.slots.items i.begun.counts.items (numbers c.args.units.items) c.put_back.ensures.back)

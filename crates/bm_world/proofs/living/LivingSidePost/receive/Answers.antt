@@ -6,12 +6,12 @@ pub invariant_of-self : goal.invariant_of-self
 invariant_of-self c =
     let i = c.self.inside in
     let said = c.receive.ensures in
-    living-received c.receive.result (λ v. v.items) c.args.class i.side.post c.receive.new.self.post i.slots.slots.items i.asked said.state said.none_state said.some said.none
-    (lived-received c.receive.result c.args.class i.asked i.side.post c.receive.new.self.post said.state said.none_state c.self.invariant.lived) c.self.invariant
+    living-received c.receive.result (λ v. v.items) c.args.class i.side.post c.receive.new.self.post i.slots.slots.items i.begun.counts.items i.asked said.state said.none_state said.some said.none
+    (lived-received c.receive.result c.args.class i.begun.counts.items i.side.post c.receive.new.self.post said.state said.none_state c.self.invariant.lived) c.self.invariant
 
 pub returns-clause-some : goal.returns-clause-some
 returns-clause-some c =
     let i = c.self.inside in
     let said = c.receive.ensures in
-    let lived = parcel-lived c.receive.result (λ v. v.items) c.args.class i.asked i.side.post c.receive.new.self.post said.oldest c.self.invariant.lived in
-    rw (← c.self.view_is) (receives-living c.receive.result (λ v. v.items) c.args.class i.side.post c.receive.new.self.post i.slots.slots.items i.asked c.self.invariant lived said.some)
+    let lived = parcel-lived c.receive.result (λ v. v.items) c.args.class i.begun.counts.items i.side.post c.receive.new.self.post said.oldest c.self.invariant.lived in
+    rw (← c.self.view_is) (receives-living c.receive.result (λ v. v.items) c.args.class i.side.post c.receive.new.self.post i.slots.slots.items i.begun.counts.items i.asked c.self.invariant lived said.some)

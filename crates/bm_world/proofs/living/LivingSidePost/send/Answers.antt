@@ -9,12 +9,12 @@ use Rattle.bm_world.proofs.living.LivingSidePost.send.Goals as goal
 pub send-requires-clause-mine : goal.send-requires-clause-mine
 send-requires-clause-mine c =
     let i = c.self.inside in
-    holds-post i.side.post i.slots.slots.items i.asked c.args.units.items (subst (λ (s : LivingState). Holds (rights_living s) c.args.units.items) (sym c.self.view_is) c.requires.mine)
+    holds-post i.side.post i.slots.slots.items i.begun.counts.items c.args.units.items (subst (λ (s : LivingState). Holds (rights_living s) c.args.units.items) (sym c.self.view_is) c.requires.mine)
 
 pub send-requires-clause-fit : goal.send-requires-clause-fit
 send-requires-clause-fit c =
     let i = c.self.inside in
-    leave-post i.side.post i.slots.slots.items i.asked c.args.units.items (subst (λ (s : LivingState). All (MayLeave (rights_living s)) c.args.units.items) (sym c.self.view_is) c.requires.fit)
+    leave-post i.side.post i.slots.slots.items i.begun.counts.items c.args.units.items (subst (λ (s : LivingState). All (MayLeave (rights_living s)) c.args.units.items) (sym c.self.view_is) c.requires.fit)
 
 pub invariant_of-self : goal.invariant_of-self
 invariant_of-self c =
@@ -24,5 +24,5 @@ invariant_of-self c =
     let said = c.send.ensures in
     let holds = subst (λ (s : LivingState). Holds (rights_living s) us) (sym c.self.view_is) c.requires.mine in
     let fit = subst (λ (s : LivingState). All (MayLeave (rights_living s)) us) (sym c.self.view_is) c.requires.fit in
-    let lived = lived-sent c.send.result c.args.to c.args.class i.asked us i.side.post c.send.new.self.post said.state said.err_state (leave-lived i.side.post slots i.asked us fit) c.self.invariant.lived in
-    living-sent c.send.result c.args.to c.args.class i.side.post c.send.new.self.post slots i.asked us said.state said.err_state holds said.sent said.same lived c.self.invariant
+    let lived = lived-sent c.send.result c.args.to c.args.class i.begun.counts.items us i.side.post c.send.new.self.post said.state said.err_state (leave-lived i.side.post slots i.begun.counts.items us fit) c.self.invariant.lived in
+    living-sent c.send.result c.args.to c.args.class i.side.post c.send.new.self.post slots i.begun.counts.items i.asked us said.state said.err_state holds said.sent said.same lived c.self.invariant
