@@ -3,5 +3,6 @@ pub mod Lives
 pub mod Returns
 pub mod GraceLaw
 pub mod StampLaw
+pub mod Whole
 pub mod Worked
 pub mod Wrong

@@ -1,0 +1,4 @@
+pub mod Held
+pub mod Balance
+pub mod Boxes
+pub mod Whole
