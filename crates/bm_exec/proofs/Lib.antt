@@ -12,3 +12,4 @@ mod Rights
 pub mod Sounds
 mod Lives
 mod Starting
+pub mod Said

@@ -12,7 +12,7 @@ use Rattle.bm_lawful.specs.Calls.{answered}
 use Rattle.bm_check.specs.Values as safe
 use Rattle.bm_exec.specs.Runnable.{Classes}
 use Rattle.bm_exec.specs.Stores.{store_of, value_of}
-use Rattle.bm_exec.specs.Living.{Living, Lives, with_life, Holds, Begins, reply_of}
+use Rattle.bm_exec.specs.Living.{Living, Lives, LivesAs, with_life, Holds, Begins, reply_of}
 use Rattle.bm_check.specs.Values.{is_owning}
 use Rattle.std.proofs.lemmas.Bool.Decides.{Decides-eqb}
 use Rattle.bm_exec.proofs.Tables.{same_word, word_is_itself, is_or_not}
@@ -78,11 +78,15 @@ holds-null types lives lives' names x v none free e h = record {
   reached = λ u l f. let r = h.reached u l (rw e at f) in (r.0, r.1, r.2, kept-name x r.0 v names r.1 u r.2 free r.3);
 }
 
-with-here : (u u' c n n' : ℕ) (lives : Lives) → u ≡ u' → n ≡ n' → with_life u (Some (record { class = c; life = n })) lives u' ≡ Some (record { class = c; life = n' })
-with-here u u' c n n' lives p q = rw (eq-eqb u u' p) (ap (λ k. let l : Living = record { class = c; life = k } in Some l) q)
+with-here : (u u' c n n' home : ℕ) (lives lives' : Lives) → lives' ≡ with_life u (Some (record { class = c; life = n; home = home })) lives → u ≡ u' → n ≡ n' → LivesAs lives' c u' n'
+with-here u u' c n n' home lives lives' e p q = record { home = home; is = rw e (rw (eq-eqb u u' p) (ap (λ k. let l : Living = record { class = c; life = k; home = home } in Some l) q)) }
 
 with-other : (u v : ℕ) (l : Option Living) (lives : Lives) → eqb u v ≡ false → with_life u l lives v ≡ lives v
 with-other u v l lives e = rw e refl
+
+-- another unit lives as it did
+still-lives : (u v c n : ℕ) (l : Option Living) (lives lives' : Lives) → lives' ≡ with_life u l lives → eqb u v ≡ false → LivesAs lives c v n → LivesAs lives' c v n
+still-lives u v c n l lives lives' e f h = record { home = h.home; is = rw e (with-other u v l lives f ∙ h.is) }
 
 -- a unit under which nothing lived is another than one under which something does
 fresh-other : (u v : ℕ) (lives : Lives) (l : Living) → lives u ≡ None → lives v ≡ Some l → eqb u v ≡ false
@@ -95,14 +99,14 @@ clash : (t t' : TypeId) (u u' n n' : ℕ) → Object t u n ≡ Object t' u' n' �
 clash t t' u u' n n' e f = let q = same-object t t' u u' n n' e in let w : eqb u u' ≡ true = eq-eqb u u' q.1 in cc
 
 -- a name that holds a new object
-holds-new : (types : List TypeDeclaration) (lives lives' : Lives) (names : Names) (x : List ℕ) (t : TypeId) (u n c : ℕ) (d : TypeDeclaration) → OfClass types t.0 c d → lives u ≡ None → is_owning (value_of (names x)) ≡ false → lives' ≡ with_life u (Some (record { class = c; life = n })) lives → Holds types lives names → Holds types lives' (with_name x (Object t u n) names)
-holds-new types lives lives' names x t u n c d of fresh free e h =
-    let kept = λ (y : List ℕ) (t' : TypeId) (u' n' : ℕ) (f : names y ≡ Object t' u' n'). (let l = h.living y t' u' n' f in fresh-other u u' lives _ fresh l.3) in record {
+holds-new : (types : List TypeDeclaration) (lives lives' : Lives) (names : Names) (x : List ℕ) (t : TypeId) (u n c home : ℕ) (d : TypeDeclaration) → OfClass types t.0 c d → lives u ≡ None → is_owning (value_of (names x)) ≡ false → lives' ≡ with_life u (Some (record { class = c; life = n; home = home })) lives → Holds types lives names → Holds types lives' (with_name x (Object t u n) names)
+holds-new types lives lives' names x t u n c home d of fresh free e h =
+    let kept = λ (y : List ℕ) (t' : TypeId) (u' n' : ℕ) (f : names y ≡ Object t' u' n'). (let l = h.living y t' u' n' f in fresh-other u u' lives _ fresh l.3.is) in record {
       living = λ y t' u' n' f. elim (is_or_not (bytes_eq x y)) [
         | inl same ↦ (let q = same-object t t' u u' n n' (sym (here x (Object t u n) names y same) ∙ f) in
-            (c, d, rw q.0 at of, rw e (with-here u u' c n n' lives q.1 q.2)))
+            (c, d, rw q.0 at of, with-here u u' c n n' home lives lives' e q.1 q.2))
         | inr other ↦ (let f' = sym (elsewhere x (Object t u n) names y other) ∙ f in let l = h.living y t' u' n' f' in
-            (l.0, l.1, l.2, rw e (with-other u u' _ lives (kept y t' u' n' f') ∙ l.3)))
+            (l.0, l.1, l.2, still-lives u u' l.0 n' _ lives lives' e (kept y t' u' n' f') l.3))
       ];
       once = λ y z t' t'' u' n' n'' f g. elim (is_or_not (bytes_eq x y)) [
         | inl same ↦ elim (is_or_not (bytes_eq x z)) [
@@ -126,7 +130,7 @@ holds-less types lives lives' names x t u n held e h = record {
   living = λ y t' u' n' f. elim (is_or_not (bytes_eq x y)) [
     | inl same ↦ absurd (nothing-is-none t' u' n' (sym (here x Nothing names y same) ∙ f))
     | inr other ↦ (let f' = sym (elsewhere x Nothing names y other) ∙ f in let l = h.living y t' u' n' f' in
-        (l.0, l.1, l.2, rw e (with-other u u' None lives (apart y t' u' n' other f') ∙ l.3)))
+        (l.0, l.1, l.2, still-lives u u' l.0 n' None lives lives' e (apart y t' u' n' other f') l.3))
   ];
   once = λ y z t' t'' u' n' n'' f g. elim (is_or_not (bytes_eq x y)) [
     | inl same ↦ absurd (nothing-is-none t' u' n' (sym (here x Nothing names y same) ∙ f))
@@ -163,7 +167,7 @@ holds-less types lives lives' names x t u n held e h = record {
 -- what a reply leaves
 pub holds-reply : (types : List TypeDeclaration) (lives lives' : Lives) (names : Names) (x : List ℕ) (t : TypeId) (c : ℕ) (d : TypeDeclaration) (reply : Option ObjId) → OfClass types t.0 c d → is_owning (value_of (names x)) ≡ false → Begins c lives lives' reply → Holds types lives names → Holds types lives' (with_name x (answered t (reply_of reply)) names)
 holds-reply types lives lives' names x t c d None of free e h = holds-null types lives lives' names x Null (λ t u n f. null-is-none t u n f) free e h
-holds-reply types lives lives' names x t c d (Some o) of free e h = holds-new types lives lives' names x t o.unit o.life c d of e.0 free e.1 h
+holds-reply types lives lives' names x t c d (Some o) of free e h = holds-new types lives lives' names x t o.unit o.life c e.home d of e.none free e.now h
 
 -- where no name owns, nothing lives
 pub no-lives : (types : List TypeDeclaration) (lives : Lives) (names : Names) → Holds types lives names → ((x : List ℕ) → OwnsNothing (names x)) → (u : ℕ) → lives u ≡ None

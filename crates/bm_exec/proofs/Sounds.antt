@@ -36,6 +36,10 @@ begins-by : (a b : LivingState) → (known_living b).grace ≡ (known_living a).
 begins-by a b e Plain = ap (λ (s : Sides). s.plain.begins) e
 begins-by a b e Tracing = ap (λ (s : Sides). s.tracing.begins) e
 
+-- its caches are those of its side's processor
+pub caches-home : (m : Machine0) → Sound m → m.caches.processor ≡ m.side.side.grace.processor
+caches-home m s = let few = s.fine.aimed.processor in let one = s.one in let first = s.first in omega (arith, few, one, first)
+
 -- a call of its level on its caches was made
 pub sound-called : (m k : Machine0) → k.side ≡ m.side → k.settled ≡ m.settled → Came (λ (r : Recorded). r.told) 0 (tests-of m) (tests-of k) m.caches k.caches → Fine (λ (r : Recorded). r.told) (λ r. r.counted) (tests-of k) k.side.side.grace.processors 0 k.caches → Sound m → Sound k
 sound-called m k a b came fine s = record {

@@ -7,7 +7,7 @@ use Rattle.bm_journal.specs.declared.ids.ObjId.{ObjId}
 use Rattle.bm_lang.specs.declared.scenario.TypeDeclaration.{TypeDeclaration}
 use Rattle.bm_lang.specs.declared.scenario.TypeId.{TypeId}
 pub use Rattle.bm_grace.specs.Known.{Living, Lives}
-use Rattle.bm_grace.specs.Known.{Known, side}
+use Rattle.bm_grace.specs.Known.{Known, Objects, side}
 use Rattle.bm_law.specs.Lists.{Log}
 use Rattle.bm_law.specs.Phrases.{FreePhrase}
 use Rattle.bm_law.specs.Spans.{Records}
@@ -15,20 +15,41 @@ use Rattle.bm_law.specs.Alone.{Alone}
 use Rattle.bm_deferred.specs.Begun.{Progressed, begun_by}
 use Rattle.bm_deferred.specs.Inboxes.{Delivered}
 use Rattle.bm_lawful.specs.Held.{Names, Object}
+use Rattle.bm_lived.specs.Lived.{Lived}
+use Rattle.bm_lived.specs.Told.{LivesTold}
 use Rattle.bm_lawful.specs.Opened.{OfClass}
 use Rattle.bm_lawful.specs.Calls.{Allocates}
 
 abbrev pub with_life : ℕ → Option Living → Lives → Lives
 with_life u l lives = λ v. if eqb u v then l else lives v
 
+-- Unit u lives life n, and is of class c.
+pub record LivesAs (lives : Lives) (c u n : ℕ) : Type 0 where
+  pub home : ℕ
+  pub is : lives u ≡ Some (record { class = c; life = n; home = home })
+
+-- what is known of the lives of units: how many each has begun, and the home of the one that lives
+abbrev pub home_of : Option Living → Option ℕ
+home_of None = None
+home_of (Some l) = Some l.home
+
+abbrev pub lived_in : Objects → Lived
+lived_in objects = record { begun = objects.begun; homes = λ u. home_of (objects.lives u) }
+
 abbrev pub reply_of : Option ObjId → Option (ℕ × ℕ)
 reply_of None = None
 reply_of (Some o) = Some (o.unit, o.life)
 
+-- the life that a reply begins, where its unit had none
+pub record BeginsLife (c : ℕ) (lives lives' : Lives) (o : ObjId) : Type 0 where
+  pub none : lives o.unit ≡ None
+  pub home : ℕ
+  pub now : lives' ≡ with_life o.unit (Some (record { class = c; life = o.life; home = home })) lives
+
 -- a reply that gives an object begins its life, and no unit had one; a null reply begins none
 abbrev pub Begins : ℕ → Lives → Lives → Option ObjId → Type 0
 Begins c lives lives' None = lives' ≡ lives
-Begins c lives lives' (Some o) = (lives o.unit ≡ None) × (lives' ≡ with_life o.unit (Some (record { class = c; life = o.life })) lives)
+Begins c lives lives' (Some o) = BeginsLife c lives lives' o
 
 -- A call for an object of class c, of a type with this name: its entries, its reply, and the object that lives now.
 pub record Created (l c : ℕ) (name values : List ℕ) (log log' : Option Log) (lives lives' : Lives) (reply : Option ObjId) : Type 0 where
@@ -37,18 +58,20 @@ pub record Created (l c : ℕ) (name values : List ℕ) (log log' : Option Log) 
   pub allocates : Allocates c own (reply_of reply)
   pub begins : Begins c lives lives' reply
 
--- The one reference to an object is given up: its entries, and that the object lives no more.
+-- The one reference to an object is given up: its entries, of which the free goes to the object's home, and that the object lives
+-- no more.
 pub record Disposed (l c : ℕ) (o : ObjId) (log log' : Option Log) (lives lives' : Lives) : Type 0 where
   pub home : ℕ
   pub own : List Entry
   pub records : Records l (entry.Drop o.unit o.life ∷ entry.Last ∷ own) log log'
   pub frees : FreePhrase c o.unit home own
+  pub to_home : home_of (lives o.unit) ≡ Some home
   pub ends : lives' ≡ with_life o.unit None lives
 
 -- No handler was added to those that wait; where none ran, the log has grown by entries of the machine's level alone, and no
 -- section began or ended. The side is the same one, and has those periods in progress that the entries tell; and of the parcels
 -- that are told, each that came was the oldest one, each that went goes to one of the processors, nothing was swept, and those
--- that are left are what the entries tell.
+-- that are left are what the entries tell. The objects that live, and how many lives began, are what they tell.
 pub record Undisturbed {M : Type 0} (levels waits : M → ℕ) (logs : M → Option Log) (knows : M → Known) (before now : M) : Type 0 where
   pub pending : waits now ≤ waits before
   pub alone : waits now ≡ waits before → Alone (levels before) (logs before) (logs now)
@@ -57,10 +80,11 @@ pub record Undisturbed {M : Type 0} (levels waits : M → ℕ) (logs : M → Opt
   pub processor : (knows now).grace.processor ≡ (knows before).grace.processor
   pub periods : (d : Domain) → Progressed (levels before) d (begun_by (side d (knows before)).number) (begun_by (side d (knows now)).number) (logs before) (logs now)
   pub mail : Delivered (levels before) (knows before).grace.processors (knows before).grace.processor (knows before).parcels (knows now).parcels (logs before) (logs now)
+  pub lives : LivesTold (knows before).grace.processor (lived_in (knows before).objects) (lived_in (knows now).objects) (logs before) (logs now)
 
 -- Each name that holds an object holds one that lives, of its type's class, no two names hold one object, and each object
 -- that lives is held by a name.
 pub record Holds (types : List TypeDeclaration) (lives : Lives) (names : Names) : Type 0 where
-  pub living : (x : List ℕ) (t : TypeId) (u n : ℕ) → names x ≡ Object t u n → (c : ℕ) × (d : TypeDeclaration) × OfClass types t.0 c d × (lives u ≡ Some (record { class = c; life = n }))
+  pub living : (x : List ℕ) (t : TypeId) (u n : ℕ) → names x ≡ Object t u n → (c : ℕ) × (d : TypeDeclaration) × OfClass types t.0 c d × LivesAs lives c u n
   pub once : (x y : List ℕ) (t t' : TypeId) (u n n' : ℕ) → names x ≡ Object t u n → names y ≡ Object t' u n' → x ≡ y
   pub reached : (u : ℕ) (l : Living) → lives u ≡ Some l → (x : List ℕ) × (t : TypeId) × (n : ℕ) × (names x ≡ Object t u n)

@@ -1,12 +1,12 @@
 //! Machines: what statements run on.
 
-ghost use Rattle.std.specs.Prelude.{◌≡◌, ◌+◌, ◌<◌, ◌≤◌, ◌^◌, ℕ, IfSome, None, OnOk, Option, Some, length};
+ghost use Rattle.std.specs.Prelude.{◌≡◌, ◌+◌, ◌<◌, ◌≤◌, ◌^◌, ℕ, IfSome, None, OnOk, Option, length};
 ghost use Rattle.bm_grace.specs.Known.{Known};
 ghost use Rattle.bm_law.specs.State.{State};
 ghost use Rattle.bm_law.specs.Lists.{Log, Leaves};
 ghost use Rattle.bm_deferred.specs.Grown.{GrewBy};
 ghost use Rattle.bm_lawful.specs.Works.{UntilDown, lowest_raised};
-ghost use Rattle.bm_exec.specs.Living.{Lives, Created, Disposed, Undisturbed};
+ghost use Rattle.bm_exec.specs.Living.{Lives, Created, Disposed, LivesAs, Undisturbed};
 
 use bm_class::Class;
 use bm_journal::{ObjId, Values};
@@ -57,8 +57,8 @@ pub trait Machine {
     /// Gives up the one reference to an object that lives.
     fn dispose(&mut self, object: ObjId)
         requires sound { sound self.old }
-        requires living { (c : ℕ) × (lives self.old object.unit ≡ Some (record { class = c; life = object.life })) }
-        ensures disposed { (c : ℕ) → lives self.old object.unit ≡ Some (record { class = c; life = object.life }) → Disposed (level self.old) c object (log self.old) (log self.new) (lives self.old) (lives self.new) }
+        requires living { (c : ℕ) × LivesAs (lives self.old) c object.unit object.life }
+        ensures disposed { (c : ℕ) → LivesAs (lives self.old) c object.unit object.life → Disposed (level self.old) c object (log self.old) (log self.new) (lives self.old) (lives self.new) }
         ensures sound { sound self.new }
         ensures level { level self.new ≡ level self.old }
         ensures asked { asked self.new ≡ asked self.old }

@@ -1,5 +1,5 @@
 -- The processor after its opening.
-use Rattle.std.proofs.Common.{◌≡◌, ◌≢◌, ◌≤◌, ◌<◌, ℕ, suc, zero, ◌+◌, ◌*◌, Bool, true, false, not, if◌then◌else◌, List, [], ◌∷◌, ◌++◌, length, get_or, map, refl, sym, ap, subst, ◌∙◌, Option, Some, None, arith, eq-eqb, eqb, ne_eqb, nat_le, nat_lt, is_some, inl, inr, replicate}
+use Rattle.std.proofs.Common.{◌≡◌, ◌≢◌, ◌≤◌, ◌<◌, ℕ, suc, zero, ◌+◌, ◌*◌, Bool, true, false, not, if◌then◌else◌, List, [], ◌∷◌, ◌++◌, length, get_or, map, refl, sym, ap, subst, ◌∙◌, Option, Some, None, arith, eq-eqb, eqb, ne_eqb, nat_lt, is_some, inl, inr, replicate}
 use Rattle.std.specs.List.{All, AllPairs}
 use Rattle.std.proofs.lemmas.Bool.{and_from, and_parts, cases_eq, ltb-true}
 use Rattle.std.proofs.lemmas.Bool.Decides.{nat_tests}
@@ -14,11 +14,12 @@ use Rattle.bm_page.specs.UnitState.{UnitState}
 use Rattle.bm_page.specs.Out.{AreOut}
 use Rattle.bm_page.proofs.StockLemmas.{out_inside}
 use Rattle.bm_grace.specs.Known.{side}
+use Rattle.bm_post.specs.HasRoom.{has_room}
 use Rattle.bm_post.specs.Kept.{IsRoomy}
 use Rattle.bm_post.specs.PostState.{Parcels, PostState, is_mine, no_parcels, waits}
 use Rattle.bm_post.specs.Rights.{numbers}
 use Rattle.bm_post.proofs.Room.{room-is}
-use Rattle.bm_world.specs.LivingState.{HaveLived, LivingState, known_living, lives_of, living_of, may_live, rights_living}
+use Rattle.bm_world.specs.LivingState.{HaveLived, LivingState, begun_at, known_living, lives_of, living_of, may_live, rights_living}
 use Rattle.bm_world.specs.Slots.{AllEmpty, unit_at}
 use Rattle.bm_law.specs.Effect.{effect}
 use Rattle.bm_law.specs.Lists.{is_unstamped}
@@ -82,61 +83,59 @@ roomy pool h = record {
   lives = λ n. let z = h.life n in omega (arith, z);
 }
 
-pub unlived : (post : PostState) → IsUnborn post.pool.units → post.inboxes ≡ no_parcels → HaveLived 0 post
+pub unlived : (post : PostState) → IsUnborn post.pool.units → post.inboxes ≡ no_parcels → HaveLived [] post
 unlived post h e = record {
-  stock = λ n. let z = h.life n in omega (arith, z);
+  stock = λ n out. h.life n;
   boxes = λ i. let none : get_or post.inboxes i [] ≡ [] = ap (λ (z : List Parcels). get_or z i []) e ∙ none-at 88 i in rw none (All-nil _);
 }
 
 -- the side with nothing alive
-abbrev pub living_side : Stock → List (Option UnitState) → LivingState
-living_side pool slots = record { side = fresh_side pool; slots = slots; asked = 0 }
+abbrev pub living_side : Stock → List (Option UnitState) → List ℕ → LivingState
+living_side pool slots begun = record { side = fresh_side pool; slots = slots; begun = begun; asked = 0 }
 
-pub side-is : (world : LivingState) (pool : Stock) → world.side ≡ fresh_side pool → world.asked ≡ 0 → world ≡ living_side pool world.slots
+pub side-is : (world : LivingState) (pool : Stock) → world.side ≡ fresh_side pool → world.asked ≡ 0 → world ≡ living_side pool world.slots world.begun
 side-is world pool e z =
-    ap (λ s. let w : LivingState = record { side = s; slots = world.slots; asked = world.asked } in w) e ∙
-    ap (λ a. let w : LivingState = record { side = fresh_side pool; slots = world.slots; asked = a } in w) z
+    ap (λ s. let w : LivingState = record { side = s; slots = world.slots; begun = world.begun; asked = world.asked } in w) e ∙
+    ap (λ a. let w : LivingState = record { side = fresh_side pool; slots = world.slots; begun = world.begun; asked = a } in w) z
 
 pub none-live : (slots : List (Option UnitState)) → AllEmpty slots → (u : ℕ) → lives_of slots u ≡ None
 none-live slots e u = ap living_of (e u)
 
-pub no-parcels-told : (pool : Stock) (slots : List (Option UnitState)) → (known_living (living_side pool slots)).parcels ≡ Some (λ c. [])
-no-parcels-told pool slots = ap Some (fun_ext (λ c. empty c (nat_lt c 11)))
+pub no-parcels-told : (pool : Stock) (slots : List (Option UnitState)) (begun : List ℕ) → (known_living (living_side pool slots begun)).parcels ≡ Some (λ c. [])
+no-parcels-told pool slots begun = ap Some (fun_ext (λ c. empty c (nat_lt c 11)))
   where
     empty : (c : ℕ) (b : Bool) → (if b then map numbers (get_or no_parcels (11 * 0 + c) []) else []) ≡ []
     empty c true = ap (map numbers) (none-at 88 (11 * 0 + c))
     empty c false = refl
 
-pub no-numbers : (pool : Stock) (slots : List (Option UnitState)) (d : Domain) → (side d (known_living (living_side pool slots))).number ≡ 0
-no-numbers pool slots Plain = refl
-no-numbers pool slots Tracing = refl
+pub no-numbers : (pool : Stock) (slots : List (Option UnitState)) (begun : List ℕ) (d : Domain) → (side d (known_living (living_side pool slots begun))).number ≡ 0
+no-numbers pool slots begun Plain = refl
+no-numbers pool slots begun Tracing = refl
 
-pub no-words : (pool : Stock) (slots : List (Option UnitState)) (d : Domain) → (side d (known_living (living_side pool slots))).word ≡ 0
-no-words pool slots Plain = refl
-no-words pool slots Tracing = refl
+pub no-words : (pool : Stock) (slots : List (Option UnitState)) (begun : List ℕ) (d : Domain) → (side d (known_living (living_side pool slots begun))).word ≡ 0
+no-words pool slots begun Plain = refl
+no-words pool slots begun Tracing = refl
 
-pub all-begins : (pool : Stock) (slots : List (Option UnitState)) (d : Domain) → (side d (known_living (living_side pool slots))).begins ≡ 134217728
-all-begins pool slots Plain = refl
-all-begins pool slots Tracing = refl
+pub all-begins : (pool : Stock) (slots : List (Option UnitState)) (begun : List ℕ) (d : Domain) → (side d (known_living (living_side pool slots begun))).begins ≡ 134217728
+all-begins pool slots begun Plain = refl
+all-begins pool slots begun Tracing = refl
 
 -- ---- each unit may be used again
 
-mine-here : (pool : Stock) (slots : List (Option UnitState)) (n : ℕ) → AllEmpty slots → (stocked_at pool.units n).out ≡ true → (rights_living (living_side pool slots)).mine n ≡ true
-mine-here pool slots n e o =
+mine-here : (pool : Stock) (slots : List (Option UnitState)) (begun : List ℕ) (n : ℕ) → AllEmpty slots → (stocked_at pool.units n).out ≡ true → (rights_living (living_side pool slots begun)).mine n ≡ true
+mine-here pool slots begun n e o =
     let none : not (is_some (unit_at slots n)) ≡ true = ap (λ x. not (is_some x)) (e n) in
     let alone : eqb (waits n no_parcels) 0 ≡ true = ap (λ k. eqb k 0) (no-waits 88 n) in
     and_from (is_mine (fresh_side pool).post n) (not (is_some (unit_at slots n))) (and_from (stocked_at pool.units n).out (eqb (waits n no_parcels) 0) o alone) none
 
-settled-here : (n life : ℕ) → n < 65536 → life ≡ 0 → may_live 0 n life ≡ true
-settled-here n life lt z =
-    let le : nat_le life 0 ≡ true = grind (arith, nat_tests, z) in
-    and_from _ (nat_le life 0) (room-is n life (omega (arith, lt)) (omega (arith, z))) le
+settled-here : (begun : List ℕ) (n life : ℕ) → n < 65536 → life ≡ 0 → begun_at begun n ≡ 0 → may_live begun n life ≡ true
+settled-here begun n life lt z none = and_from (has_room n life) (eqb life (begun_at begun n)) (room-is n life (omega (arith, lt)) (omega (arith, z))) (eq-eqb life (begun_at begun n) (z ∙ sym none))
 
-reusable : (pool : Stock) (slots : List (Option UnitState)) (u : Token) → AllEmpty slots → IsUnborn pool.units → u.life ≡ 0 → (stocked_at pool.units u.number).out ≡ true → Reusable (tests_by (rights_living (living_side pool slots))) u
-reusable pool slots u e born z o =
+reusable : (pool : Stock) (slots : List (Option UnitState)) (begun : List ℕ) (u : Token) → AllEmpty slots → ((n : ℕ) → begun_at begun n ≡ 0) → IsUnborn pool.units → u.life ≡ 0 → (stocked_at pool.units u.number).out ≡ true → Reusable (tests_by (rights_living (living_side pool slots begun))) u
+reusable pool slots begun u e none born z o =
     let inside = out_inside pool.units u.number o in
     let size = born.size in
-    and_from ((rights_living (living_side pool slots)).mine u.number) (may_live 0 u.number u.life) (mine-here pool slots u.number e o) (settled-here u.number u.life (omega (arith, inside, size)) z)
+    and_from ((rights_living (living_side pool slots begun)).mine u.number) (may_live begun u.number u.life) (mine-here pool slots begun u.number e o) (settled-here begun u.number u.life (omega (arith, inside, size)) z (none u.number))
 
 all-front : (P : Token → Type 0) (xs ys : List Token) → All P (xs ++ ys) → All P xs
 all-front P [] ys h i d lt = absurd (omega arith)
@@ -151,9 +150,9 @@ suits : (t : Tests) (fs : Fills) → All (Reusable t) (units_in fs) → FillsSui
 suits t [] h = tt
 suits t (f ∷ fs) h = (all-front (Reusable t) f.1 (units_in fs) h, suits t fs (all-back (Reusable t) f.1 (units_in fs) h))
 
-pub fills-suit : (pool : Stock) (slots : List (Option UnitState)) (fs : Fills) → AllEmpty slots → IsUnborn pool.units → All (λ (u : Token). u.life ≡ 0) (units_in fs) → AreOut pool (units_in fs) → FillsSuit (tests_by (rights_living (living_side pool slots))) fs
-fills-suit pool slots fs e born z o =
-    suits (tests_by (rights_living (living_side pool slots))) fs (λ i d lt. reusable pool slots (get_or (units_in fs) i d) e born (z i d lt) (o.each i d lt).out)
+pub fills-suit : (pool : Stock) (slots : List (Option UnitState)) (begun : List ℕ) (fs : Fills) → AllEmpty slots → ((n : ℕ) → begun_at begun n ≡ 0) → IsUnborn pool.units → All (λ (u : Token). u.life ≡ 0) (units_in fs) → AreOut pool (units_in fs) → FillsSuit (tests_by (rights_living (living_side pool slots begun))) fs
+fills-suit pool slots begun fs e none born z o =
+    suits (tests_by (rights_living (living_side pool slots begun))) fs (λ i d lt. reusable pool slots begun (get_or (units_in fs) i d) e none born (z i d lt) (o.each i d lt).out)
 
 -- ---- no deferred work is in progress
 

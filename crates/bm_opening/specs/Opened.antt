@@ -6,7 +6,7 @@ use Rattle.bm_grace.specs.Known.{side}
 use Rattle.bm_grace.specs.PlainState.{idle}
 use Rattle.bm_post.specs.PostState.{no_parcels}
 use Rattle.bm_world.specs.SideState.{SideState}
-use Rattle.bm_world.specs.LivingState.{known_living, lives_of}
+use Rattle.bm_world.specs.LivingState.{begun_at, known_living, lives_of}
 use Rattle.bm_cache.specs.Opening.{fill_log}
 use Rattle.bm_cache.specs.Shown.{shown}
 use Rattle.bm_exec.specs.declared.level0.Machine0.{Machine0}
@@ -27,7 +27,7 @@ fresh_side pool = record {
   grace = record { processors = 1; processor = 0; plain = idle; tracing = idle };
 }
 
--- The processor's caches were filled so: the log has a `fill` for each class, no flag is up, no object lives, none was asked for,
+-- The processor's caches were filled so: the log has a `fill` for each class, no flag is up, no object lives, no life began, none was asked for,
 -- no parcel waits, no period is in progress, and no section was entered. (bpf_mem_alloc_init and prefill_mem_cache in
 -- kernel/bpf/memalloc.c; objects, parcels, periods and sections are this project's own.)
 pub record IsOpen (f : Filling) (m : Machine0) : Type 0 where
@@ -35,6 +35,7 @@ pub record IsOpen (f : Filling) (m : Machine0) : Type 0 where
   pub told : IfSome m.caches.recorder.told (λ es. es ≡ fill_log f.fills)
   pub lowered : (c : ℕ) → ((shown m.caches).rows c).raised ≡ false
   pub none : (u : ℕ) → lives_of m.side.slots u ≡ None
+  pub begun : (u : ℕ) → begun_at m.side.begun u ≡ 0
   pub asked : m.side.asked + m.settled ≡ 0
   pub parcels : (known_living m.side).parcels ≡ Some (λ c. [])
   pub numbers : (d : Domain) → (side d (known_living m.side)).number ≡ 0

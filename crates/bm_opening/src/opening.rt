@@ -1,9 +1,10 @@
 //! The opening of the one processor.
 
-ghost use Rattle.std.specs.Prelude.{◌≡◌, ◌≤◌, IfOk, true};
+ghost use Rattle.std.specs.Prelude.{◌≡◌, ◌≤◌, ℕ, IfOk, true};
 ghost use Rattle.bm_lawful.specs.Fills.{fresh_stock};
 ghost use Rattle.bm_opening.specs.Filling.{IsUnborn, filling};
 ghost use Rattle.bm_opening.specs.Opened.{IsOpen, ascends, fresh_side};
+ghost use Rattle.bm_world.specs.LivingState.{begun_at};
 ghost use Rattle.bm_world.specs.Slots.{AllEmpty};
 
 use crate::filling::{fill, give_up_fills};
@@ -23,6 +24,7 @@ fn open_side(alloc: Global, pool: Pool) -> Result<LivingSide, NoMemory>
     requires unborn { IsUnborn pool.units }
     ensures side { IfOk result (λ world. world.side ≡ fresh_side pool) }
     ensures slots { IfOk result (λ world. AllEmpty world.slots) }
+    ensures begun { IfOk result (λ world. (n : ℕ) → begun_at world.begun n ≡ 0) }
     ensures asked { IfOk result (λ world. world.asked ≡ 0) }
 {
     match PlainPost::create(alloc, pool, 1) {

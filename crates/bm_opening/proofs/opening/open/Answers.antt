@@ -28,7 +28,8 @@ returns-in-Ok-create c =
     let fs : Fills = map (λ f. (f.0, f.1.items)) c.in-Ok.fills.items in
     let pool = c.fill.new.pool in
     let slots = c.in-Ok-open_side.side.slots in
-    let world : LivingState = living_side pool slots in
+    let begun = c.in-Ok-open_side.side.begun in
+    let world : LivingState = living_side pool slots begun in
     let caches = c.in-Ok-create.caches in
     let o = c.in-Ok-create.ensures.opened in
     let first : c.in_ok-pool.pool ≡ fresh_stock c.args.pages = opened-pool c.in_ok-pool.pool c.args.pages c.in_ok-pool.ensures.classes c.in_ok-pool.ensures.units in
@@ -38,18 +39,19 @@ returns-in-Ok-create c =
       sound = record {
         one = refl;
         first = refl;
-        fine = fine-opened (λ (k : Recorded). k.told) (λ k. k.counted) 0 1 (tests_by (rights_living world)) fs caches o (fills-suit pool slots fs w.slots v.unborn v.unlived v.out) (lit< tt) (lit≤ tt);
+        fine = fine-opened (λ (k : Recorded). k.told) (λ k. k.counted) 0 1 (tests_by (rights_living world)) fs caches o (fills-suit pool slots begun fs w.slots w.begun v.unborn v.unlived v.out) (lit< tt) (lit≤ tt);
         dated = dated (tests_by (rights_living world)) fs (shown caches) o.lists;
         stamped = stamped fs (shown caches) o.lists;
-        begins = λ d. let b = all-begins pool slots d in omega (arith, b);
+        begins = λ d. let b = all-begins pool slots begun d in omega (arith, b);
       };
       told = rw (sym named) o.told;
       lowered = lowered fs (shown caches) o.lists;
       none = none-live slots w.slots;
+      begun = w.begun;
       asked = refl;
-      parcels = no-parcels-told pool slots;
-      numbers = no-numbers pool slots;
-      words = no-words pool slots;
+      parcels = no-parcels-told pool slots begun;
+      numbers = no-numbers pool slots begun;
+      words = no-words pool slots begun;
     } in
     subst
     (λ (s : LivingState). IsOpen (filling c.args.classes.now (fresh_stock c.args.pages)) (record { alloc = c.args.alloc; caches = caches; side = s; settled = 0 }))

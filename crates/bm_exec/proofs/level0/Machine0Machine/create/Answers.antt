@@ -1,12 +1,17 @@
-use Rattle.std.proofs.Common.{◌≡◌, ◌∙◌, ◌∷◌, Some, None, refl, ap, subst, inl, inr}
+use Rattle.std.proofs.Common.{◌≡◌, ℕ, ◌+◌, ◌∙◌, ◌∷◌, Some, None, refl, ap, subst, inl, inr, eqb, if◌then◌else◌}
 use Rattle.std.specs.Prelude.{slice_set}
+use Rattle.bm_cache.specs.Tokens.{Token}
+use Rattle.bm_journal.specs.declared.ids.ObjId.{ObjId}
+use Rattle.bm_lawful.specs.Calls.{Allocates}
+use Rattle.bm_exec.specs.Living.{reply_of}
 use Rattle.bm_journal.specs.declared.entry.Entry.TheVariants as entry
 use Rattle.bm_world.specs.Slots.{unit_at}
-use Rattle.bm_world.specs.LivingState.{LivingState, known_living, lives_of, next_life, rights_living, with_asked, with_begun}
+use Rattle.bm_world.specs.LivingState.{LivingState, begun_at, known_living, lives_of, living_of, next_life, rights_living, with_asked, with_begun}
 use Rattle.bm_desk.proofs.Came.{split}
 use Rattle.bm_exec.specs.declared.level0.Machine0.{Machine0}
-use Rattle.bm_exec.proofs.Lives.{created-none, created-one}
-use Rattle.bm_exec.proofs.Sounds.{sound-asked, sound-begun, sound-noted-called}
+use Rattle.bm_exec.proofs.Lives.{begun-lives, created-none, created-one}
+use Rattle.bm_exec.proofs.Said.{created-told, silent-null, silent-told}
+use Rattle.bm_exec.proofs.Sounds.{caches-home, sound-asked, sound-begun, sound-noted-called}
 use Rattle.bm_exec.proofs.Still.{still-created}
 use Rattle.bm_exec.proofs.Undisturbed.{after-one, undisturbed-still}
 use Rattle.bm_exec.proofs.level0.Machine0Machine.create.Goals as goal
@@ -71,19 +76,44 @@ pub returns-in-Unit-clause-alone : goal.returns-in-Unit-clause-alone
 returns-in-Unit-clause-alone c =
     let n = rw c.ordinary.ensures at c.note.ensures.step in
     let d = returns-in-Unit-clause-created c in
-    let e = c.begin_life.ensures.state ∙ ap (with_begun c.in-Unit.unit) c.alloc.ensures.goes.keeps.0 in
-    undisturbed-still (λ (m : Machine0). 0) (λ (m : Machine0). 0) (λ (m : Machine0). m.caches.recorder.told) (λ (m : Machine0). known_living m.side) c.args.self.now (record c.alloc.new.host { side = c.begin_life.new.self }) (entry.New c.args.name c.args.values ∷ d.own) refl (after-one 0 _ _ _ _ n.records (c.alloc.ensures.alone.alone refl)) d.records (still-created _ _ _ _ _ _ _ _ _ d) (ap (λ (x : LivingState). (known_living x).grace) e) (ap (λ (x : LivingState). (known_living x).parcels) e)
+    let u = c.in-Unit.unit in
+    let b = c.begin_life.ensures in
+    let a = rw c.in-Unit.is at c.alloc.ensures.answer in
+    let m : Machine0 = c.args.self.now in
+    let z : LivingState = c.begin_life.new.self in
+    let p = m.side.side.grace.processor in
+    let same = c.alloc.ensures.goes.keeps.0 in
+    let e = b.state ∙ ap (with_begun u) same in
+    let alone = after-one 0 _ _ _ _ n.records (c.alloc.ensures.alone.alone refl) in
+    let class = rw c.in-Unit.is at c.alloc.ensures.class in
+    let home : u.home ≡ p = ap (λ (t : Token). t.home) a.7 ∙ (c.note.ensures.step.processor ∙ caches-home m c.requires.sound) in
+    let next : u.life + 1 ≡ begun_at m.side.begun u.number + 1 = ap (λ k. k + 1) (b.next ∙ ap (λ (w : LivingState). begun_at w.begun u.number) same) in
+    let none : lives_of m.side.slots u.number ≡ None = ap living_of (subst (λ (w : LivingState). unit_at w.slots u.number ≡ None) same b.none) in
+    let is = ap (λ (w : LivingState). w.slots) b.state ∙ ap (λ (w : LivingState). slice_set w.slots u.number (Some (next_life u))) same in
+    let lives = begun-lives c.args.class p u m.side.slots z.slots class home is b.lives in
+    let allocates = subst (λ (r : ObjId). Allocates c.args.class d.own (reply_of (Some r))) b.object d.allocates in
+    let counts = λ (v : ℕ). b.counted v ∙ ap (λ (w : LivingState). if eqb u.number v then begun_at w.begun v + 1 else begun_at w.begun v) same in
+    undisturbed-still (λ (m : Machine0). 0) (λ (m : Machine0). 0) (λ (m : Machine0). m.caches.recorder.told) (λ (m : Machine0). known_living m.side) m (record c.alloc.new.host { side = z }) (entry.New c.args.name c.args.values ∷ d.own) refl alone d.records (still-created _ _ _ _ _ _ _ _ _ d) (ap (λ (x : LivingState). (known_living x).grace) e) (ap (λ (x : LivingState). (known_living x).parcels) e)
+    (created-told p (known_living m.side).objects (known_living z).objects c.args.name c.args.values c.args.class u.number (u.life + 1) d.own _ _ d.records alone allocates next none lives counts)
 
 pub returns-in-Empty-clause-alone : goal.returns-in-Empty-clause-alone
 returns-in-Empty-clause-alone c =
     let n = rw c.ordinary.ensures at c.note.ensures.step in
     let d = returns-in-Empty-clause-created c in
+    let m : Machine0 = c.args.self.now in
+    let z : LivingState = c.ask.new.self in
     let e = c.ask.ensures.state ∙ ap with_asked c.alloc.ensures.goes.keeps.0 in
-    undisturbed-still (λ (m : Machine0). 0) (λ (m : Machine0). 0) (λ (m : Machine0). m.caches.recorder.told) (λ (m : Machine0). known_living m.side) c.args.self.now (record c.alloc.new.host { side = c.ask.new.self }) (entry.New c.args.name c.args.values ∷ d.own) refl (after-one 0 _ _ _ _ n.records (c.alloc.ensures.alone.alone refl)) d.records (still-created _ _ _ _ _ _ _ _ _ d) (ap (λ (x : LivingState). (known_living x).grace) e) (ap (λ (x : LivingState). (known_living x).parcels) e)
+    let alone = after-one 0 _ _ _ _ n.records (c.alloc.ensures.alone.alone refl) in
+    undisturbed-still (λ (m : Machine0). 0) (λ (m : Machine0). 0) (λ (m : Machine0). m.caches.recorder.told) (λ (m : Machine0). known_living m.side) m (record c.alloc.new.host { side = z }) (entry.New c.args.name c.args.values ∷ d.own) refl alone d.records (still-created _ _ _ _ _ _ _ _ _ d) (ap (λ (x : LivingState). (known_living x).grace) e) (ap (λ (x : LivingState). (known_living x).parcels) e)
+    (silent-told m.side.side.grace.processor (known_living m.side).objects (known_living z).objects (entry.New c.args.name c.args.values ∷ d.own) _ _ d.records alone (tt, silent-null c.args.class d.own d.allocates) (ap (λ (x : LivingState). (known_living x).objects.begun) e) (ap (λ (x : LivingState). (known_living x).objects.lives) e))
 
 pub returns-in-Busy-clause-alone : goal.returns-in-Busy-clause-alone
 returns-in-Busy-clause-alone c =
     let n = rw c.ordinary.ensures at c.note.ensures.step in
     let d = returns-in-Busy-clause-created c in
+    let m : Machine0 = c.args.self.now in
+    let z : LivingState = c.ask-in-Busy.new.self in
     let e = c.ask-in-Busy.ensures.state ∙ ap with_asked c.alloc.ensures.goes.keeps.0 in
-    undisturbed-still (λ (m : Machine0). 0) (λ (m : Machine0). 0) (λ (m : Machine0). m.caches.recorder.told) (λ (m : Machine0). known_living m.side) c.args.self.now (record c.alloc.new.host { side = c.ask-in-Busy.new.self }) (entry.New c.args.name c.args.values ∷ d.own) refl (after-one 0 _ _ _ _ n.records (c.alloc.ensures.alone.alone refl)) d.records (still-created _ _ _ _ _ _ _ _ _ d) (ap (λ (x : LivingState). (known_living x).grace) e) (ap (λ (x : LivingState). (known_living x).parcels) e)
+    let alone = after-one 0 _ _ _ _ n.records (c.alloc.ensures.alone.alone refl) in
+    undisturbed-still (λ (m : Machine0). 0) (λ (m : Machine0). 0) (λ (m : Machine0). m.caches.recorder.told) (λ (m : Machine0). known_living m.side) m (record c.alloc.new.host { side = z }) (entry.New c.args.name c.args.values ∷ d.own) refl alone d.records (still-created _ _ _ _ _ _ _ _ _ d) (ap (λ (x : LivingState). (known_living x).grace) e) (ap (λ (x : LivingState). (known_living x).parcels) e)
+    (silent-told m.side.side.grace.processor (known_living m.side).objects (known_living z).objects (entry.New c.args.name c.args.values ∷ d.own) _ _ d.records alone (tt, silent-null c.args.class d.own d.allocates) (ap (λ (x : LivingState). (known_living x).objects.begun) e) (ap (λ (x : LivingState). (known_living x).objects.lives) e))

@@ -1,11 +1,12 @@
-use Rattle.std.proofs.Common.{◌∙◌, ◌∷◌, refl, ap}
+use Rattle.std.proofs.Common.{◌∙◌, ◌∷◌, refl, sym, ap}
 use Rattle.bm_journal.specs.declared.entry.Entry.TheVariants as entry
 use Rattle.bm_world.specs.LivingState.{LivingState, known_living, rights_living}
 use Rattle.bm_world.proofs.SlotLemmas.{within}
 use Rattle.bm_desk.proofs.Tests.{and-of}
 use Rattle.bm_exec.specs.Sound.{Sound}
 use Rattle.bm_exec.specs.declared.level0.Machine0.{Machine0}
-use Rattle.bm_exec.proofs.Lives.{disposed}
+use Rattle.bm_exec.proofs.Lives.{disposed, living-now}
+use Rattle.bm_exec.proofs.Said.{disposed-told}
 use Rattle.bm_exec.proofs.Rights.{stands-not}
 use Rattle.bm_exec.proofs.Sounds.{sound-called, sound-freeing, sound-noted-twice, times-self}
 use Rattle.bm_exec.proofs.Still.{still-disposed}
@@ -48,8 +49,15 @@ returns-clause-disposed c = λ class alive.
 pub returns-clause-alone : goal.returns-clause-alone
 returns-clause-alone c =
     let n = rw c.ordinary.ensures at c.note.ensures.step in
-    let m = rw c.ordinary-2.ensures at c.note-2.ensures.step in
+    let k = rw c.ordinary-2.ensures at c.note-2.ensures.step in
     let l = c.requires.living in
     let d = returns-clause-disposed c l.0 l.1 in
-    let e = c.free.ensures.goes.keeps.0 ∙ c.end_life-unit.ensures.state in
-    undisturbed-still (λ (m : Machine0). 0) (λ (m : Machine0). 0) (λ (m : Machine0). m.caches.recorder.told) (λ (m : Machine0). known_living m.side) c.args.self.now c.free.new.host (entry.Drop c.args.object.unit c.args.object.life ∷ entry.Last ∷ d.own) refl (after-one 0 _ _ _ _ n.records (after-one 0 _ _ _ _ m.records (c.free.ensures.alone.alone refl))) d.records (still-disposed _ _ _ _ _ _ _ d) (ap (λ (x : LivingState). (known_living x).grace) e) (ap (λ (x : LivingState). (known_living x).parcels) e)
+    let m : Machine0 = c.args.self.now in
+    let o = c.args.object in
+    let z : LivingState = c.free.new.host.side in
+    let x = c.end_life-unit.ensures in
+    let e = c.free.ensures.goes.keeps.0 ∙ x.state in
+    let alone = after-one 0 _ _ _ _ n.records (after-one 0 _ _ _ _ k.records (c.free.ensures.alone.alone refl)) in
+    let now = living-now o.unit o.life l.0 c.end_life-unit.result m.side.slots x.unit l.1 in
+    undisturbed-still (λ (m : Machine0). 0) (λ (m : Machine0). 0) (λ (m : Machine0). m.caches.recorder.told) (λ (m : Machine0). known_living m.side) m c.free.new.host (entry.Drop o.unit o.life ∷ entry.Last ∷ d.own) refl alone d.records (still-disposed _ _ _ _ _ _ _ d) (ap (λ (y : LivingState). (known_living y).grace) e) (ap (λ (y : LivingState). (known_living y).parcels) e)
+    (disposed-told m.side.side.grace.processor l.0 (known_living m.side).objects (known_living z).objects o.unit o.life d.home d.own _ _ d.records alone d.frees (sym now ∙ x.last) d.to_home d.ends (ap (λ (y : LivingState). (known_living y).objects.begun) e))

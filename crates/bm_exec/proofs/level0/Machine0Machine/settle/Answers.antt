@@ -1,7 +1,9 @@
-use Rattle.std.proofs.Common.{◌≤◌, ◌+◌, ◌*◌, length, ◌∙◌, ap, refl, arith}
+use Rattle.std.proofs.Common.{◌+◌, ◌*◌, length, ap, refl, arith}
 use Rattle.bm_grace.specs.Known.{Objects}
 use Rattle.bm_lawful.specs.Works.{UntilDown}
+use Rattle.bm_world.specs.LivingState.{known_living}
 use Rattle.bm_exec.proofs.Results.{both-ok, on-ok}
+use Rattle.bm_exec.proofs.Said.{until-silent, works-told}
 use Rattle.bm_exec.proofs.Sounds.{may-begin, settled-of, sound-counted, sound-worked}
 use Rattle.bm_exec.proofs.level0.Machine0Machine.settle.Goals as goal
 
@@ -45,4 +47,5 @@ returns-clause-alone c =
       processor = a.processor;
       periods = w.periods;
       mail = w.mail;
+      lives = works-told c.args.self.now.side.side.grace.processor (known_living c.args.self.now.side).objects (known_living c.until_down.new.host.side).objects (UntilDown c.args.classes.now) _ _ _ (until-silent c.args.classes.now) w.phrase (w.alone.alone refl) a.objects;
     })
