@@ -16,56 +16,64 @@ use Rattle.bm_law.specs.SweepPhrases.{MayBegin, MayFinish, PollPhrase, SweepPhra
 use Rattle.bm_deferred.specs.Begun.{begun_after, begun_by, begun_over}
 use Rattle.bm_deferred.specs.Inboxes.{Inboxes, on_inbox}
 use Rattle.bm_deferred.specs.Parts.{Stand, Then}
-use Rattle.bm_deferred.proofs.Each.{AllOf, PartOf, of-append, part-nothing, part-say, part-stand, part-then}
+use Rattle.bm_deferred.proofs.Each.{AllOf, PartOf, of-append, of-map, part-nothing, part-say, part-stand, part-then}
 use Rattle.bm_lawful.specs.Closing.{AreSweeps, Closing, EndsOne, EndsPeriods, SweepOf, SweepWhere, in_progress}
 use Rattle.bm_mail.specs.SweepsTold.{ClosingTold, SweepsTold}
+use Rattle.bm_lived.specs.Lifeless.{SaysNoLife}
 use Rattle.bm_closing.specs.EndsBegun.{EndsBegun}
+use Rattle.bm_exec.proofs.Said.{Silent}
 
--- ---- they neither ask for an object nor answer
+-- ---- they neither ask for an object nor answer, and say nothing of lives
 
-abbrev IsApart : Entry → Type 0
-IsApart e = is_apart e ≡ true
+abbrev IsCalm : Entry → Type 0
+IsCalm e = (is_apart e ≡ true) × SaysNoLife e
 
-finish-apart : (d : Domain) (own : List Entry) → MayFinish d own → AllOf IsApart own
-finish-apart d own (inl e) = subst (AllOf IsApart) (sym e) tt
-finish-apart d own (inr x) = subst (AllOf IsApart) (sym x.1) (subst (λ (e : Entry). AllOf IsApart (e ∷ [])) (sym x.2.2) (refl, tt))
+finish-calm : (d : Domain) (own : List Entry) → MayFinish d own → AllOf IsCalm own
+finish-calm d own (inl e) = subst (AllOf IsCalm) (sym e) tt
+finish-calm d own (inr x) = subst (AllOf IsCalm) (sym x.1) (subst (λ (e : Entry). AllOf IsCalm (e ∷ [])) (sym x.2.2) ((refl, tt), tt))
 
-begin-apart : (d : Domain) (own : List Entry) → MayBegin d own → AllOf IsApart own
-begin-apart d own (inl e) = subst (AllOf IsApart) (sym e) tt
-begin-apart d own (inr x) = subst (AllOf IsApart) (sym x.2) (refl, finish-apart d x.1 x.3)
+begin-calm : (d : Domain) (own : List Entry) → MayBegin d own → AllOf IsCalm own
+begin-calm d own (inl e) = subst (AllOf IsCalm) (sym e) tt
+begin-calm d own (inr x) = subst (AllOf IsCalm) (sym x.2) ((refl, tt), finish-calm d x.1 x.3)
 
-poll-apart : (c : ℕ) (own : List Entry) → PollPhrase c Tracing own → AllOf IsApart own
-poll-apart c own p = subst (AllOf IsApart) (sym p.own_is) (of-append IsApart p.ended (p.begun ++ entry.Pass c Tracing p.seen ∷ []) (finish-apart Tracing p.ended p.may_finish) (of-append IsApart p.begun (entry.Pass c Tracing p.seen ∷ []) (begin-apart Tracing p.begun p.may_begin) (refl, tt)))
+poll-calm : (c : ℕ) (own : List Entry) → PollPhrase c Tracing own → AllOf IsCalm own
+poll-calm c own p = subst (AllOf IsCalm) (sym p.own_is) (of-append IsCalm p.ended (p.begun ++ entry.Pass c Tracing p.seen ∷ []) (finish-calm Tracing p.ended p.may_finish) (of-append IsCalm p.begun (entry.Pass c Tracing p.seen ∷ []) (begin-calm Tracing p.begun p.may_begin) ((refl, tt), tt)))
 
-sweep-apart : (c : ℕ) (own : List Entry) → SweepPhrase c own → AllOf IsApart own
-sweep-apart c own p = subst (AllOf IsApart) (sym p.own_is) (refl, (refl, of-append IsApart p.poll (entry.Return c (Whole p.returned) ∷ []) (poll-apart c p.poll p.polls) (refl, tt)))
+sweep-calm : (c : ℕ) (own : List Entry) → SweepPhrase c own → AllOf IsCalm own
+sweep-calm c own p = subst (AllOf IsCalm) (sym p.own_is) ((refl, tt), ((refl, tt), of-append IsCalm p.poll (entry.Return c (Whole p.returned) ∷ []) (poll-calm c p.poll p.polls) ((refl, tt), tt)))
 
-ends-apart : (d : Domain) (begun : Option ℕ) → PartOf IsApart 0 (EndsOne d begun)
-ends-apart d None = part-nothing IsApart 0
-ends-apart d (Some n) = part-say IsApart 0 _ (λ own h. subst (AllOf IsApart) (sym h.3) (refl, tt))
+ends-calm : (d : Domain) (begun : Option ℕ) → PartOf IsCalm 0 (EndsOne d begun)
+ends-calm d None = part-nothing IsCalm 0
+ends-calm d (Some n) = part-say IsCalm 0 _ (λ own h. subst (AllOf IsCalm) (sym h.3) ((refl, tt), tt))
 
-where-apart : (c : ℕ) (us : List ℕ) → PartOf IsApart 0 (SweepWhere c us)
-where-apart c [] = part-nothing IsApart 0
-where-apart c (u ∷ us) = part-say IsApart 0 (SweepOf c (u ∷ us)) (λ own h. sweep-apart c own h.phrase)
+where-calm : (c : ℕ) (us : List ℕ) → PartOf IsCalm 0 (SweepWhere c us)
+where-calm c [] = part-nothing IsCalm 0
+where-calm c (u ∷ us) = part-say IsCalm 0 (SweepOf c (u ∷ us)) (λ own h. sweep-calm c own h.phrase)
 
-sweeps-apart : (cs : List ℕ) (boxes : Inboxes) → PartOf IsApart 0 (SweepsTold cs boxes)
-sweeps-apart [] boxes s part h = part-nothing IsApart 0 s part h
-sweeps-apart (c ∷ cs) boxes s part h = part-then IsApart 0 (SweepWhere c (seven_lists (s.rows c) ++ concat (boxes c))) (SweepsTold cs (on_inbox c (λ parcels. []) boxes)) (where-apart c (seven_lists (s.rows c) ++ concat (boxes c))) (sweeps-apart cs (on_inbox c (λ parcels. []) boxes)) s part h.1
+sweeps-calm : (cs : List ℕ) (boxes : Inboxes) → PartOf IsCalm 0 (SweepsTold cs boxes)
+sweeps-calm [] boxes s part h = part-nothing IsCalm 0 s part h
+sweeps-calm (c ∷ cs) boxes s part h = part-then IsCalm 0 (SweepWhere c (seven_lists (s.rows c) ++ concat (boxes c))) (SweepsTold cs (on_inbox c (λ parcels. []) boxes)) (where-calm c (seven_lists (s.rows c) ++ concat (boxes c))) (sweeps-calm cs (on_inbox c (λ parcels. []) boxes)) s part h.1
 
 both : (a b : Bool) → a ≡ true → b ≡ true → (a && b) ≡ true
 both true b e f = f
 both false b e f = cc
 
-all-of-apart : (es : List Entry) → AllOf IsApart es → all_apart es ≡ true
+all-of-apart : (es : List Entry) → AllOf IsCalm es → all_apart es ≡ true
 all-of-apart [] h = refl
-all-of-apart (e ∷ es) h = both (is_apart e) (all_apart es) h.0 (all-of-apart es h.1)
+all-of-apart (e ∷ es) h = both (is_apart e) (all_apart es) h.0.0 (all-of-apart es h.1)
 
-pub closing-apart : (classes : List ℕ) (front : Log) (boxes : Inboxes) (s : State ℕ) (part : Log) → ClosingTold 0 classes front boxes s part → all_apart (own_entries 0 part) ≡ true
-closing-apart classes front boxes s part h =
+closing-calm : (classes : List ℕ) (front : Log) (boxes : Inboxes) (s : State ℕ) (part : Log) → ClosingTold 0 classes front boxes s part → AllOf IsCalm (own_entries 0 part)
+closing-calm classes front boxes s part h =
     let plain : Option ℕ = in_progress Plain None front in
     let tracing : Option ℕ = in_progress Tracing None front in
-    let ends : PartOf IsApart 0 (EndsPeriods front) = part-then IsApart 0 (EndsOne Plain plain) (EndsOne Tracing tracing) (ends-apart Plain plain) (ends-apart Tracing tracing) in
-    all-of-apart (own_entries 0 part) (part-then IsApart 0 (Stand 0 (entry.Ended ∷ entry.Close ∷ [])) (Then (EndsPeriods front) (SweepsTold classes boxes)) (part-stand IsApart 0 (entry.Ended ∷ entry.Close ∷ []) (refl, (refl, tt))) (part-then IsApart 0 (EndsPeriods front) (SweepsTold classes boxes) ends (sweeps-apart classes boxes)) s part h)
+    let ends : PartOf IsCalm 0 (EndsPeriods front) = part-then IsCalm 0 (EndsOne Plain plain) (EndsOne Tracing tracing) (ends-calm Plain plain) (ends-calm Tracing tracing) in
+    part-then IsCalm 0 (Stand 0 (entry.Ended ∷ entry.Close ∷ [])) (Then (EndsPeriods front) (SweepsTold classes boxes)) (part-stand IsCalm 0 (entry.Ended ∷ entry.Close ∷ []) ((refl, tt), ((refl, tt), tt))) (part-then IsCalm 0 (EndsPeriods front) (SweepsTold classes boxes) ends (sweeps-calm classes boxes)) s part h
+
+pub closing-apart : (classes : List ℕ) (front : Log) (boxes : Inboxes) (s : State ℕ) (part : Log) → ClosingTold 0 classes front boxes s part → all_apart (own_entries 0 part) ≡ true
+closing-apart classes front boxes s part h = all-of-apart (own_entries 0 part) (closing-calm classes front boxes s part h)
+
+pub closing-silent : (classes : List ℕ) (front : Log) (boxes : Inboxes) (s : State ℕ) (part : Log) → ClosingTold 0 classes front boxes s part → Silent (own_entries 0 part)
+closing-silent classes front boxes s part h = of-map IsCalm SaysNoLife (λ e k. k.1) (own_entries 0 part) (closing-calm classes front boxes s part h)
 
 -- ---- what is said of the inboxes gives the closing
 

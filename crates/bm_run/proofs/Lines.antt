@@ -21,12 +21,13 @@ use Rattle.bm_lawful.specs.Held.{no_names}
 use Rattle.bm_lawful.specs.Opened.{opened_classes}
 use Rattle.bm_lawful.specs.Runs.{RunsBlock}
 use Rattle.bm_lawful.specs.Works.{UntilDown, WorkBehind, lowest_raised}
+use Rattle.bm_lived.specs.Told.{LivesTold}
 use Rattle.bm_exec.specs.Lists.{Behind, behind_of}
 use Rattle.bm_exec.specs.Living.{Undisturbed}
 use Rattle.bm_exec.specs.Running.{RanScript}
 use Rattle.bm_exec.specs.Sound.{Sound, sound_told}
 use Rattle.bm_exec.specs.declared.level0.Machine0.{Machine0}
-use Rattle.bm_run.specs.Lines.{known_of, lines_cost, lists_of, log_of, when_on, works_for, BehindScript, Ordinary, Wrote}
+use Rattle.bm_run.specs.Lines.{known_of, lines_cost, lists_of, lived_of, log_of, when_on, works_for, BehindScript, Ordinary, Wrote}
 use Rattle.bm_run.proofs.Written.{ordinary-join, ordinary-none, wrote-join, wrote-map}
 
 -- ---- what stands behind statements and scripts
@@ -72,6 +73,7 @@ ordinary-undisturbed a b s u =
       alone = u.alone refl;
       periods = u.periods;
       mail = subst (λ n. D n 0) s.one (subst (D (known_of a).grace.processors) s.first u.mail);
+      lives = subst (λ p. LivesTold p (lived_of a) (lived_of b) (log_of a) (log_of b)) s.first u.lives;
     }
 
 -- what a script's block left is its body

@@ -1,5 +1,6 @@
 -- The log of a run is lawful.
-use Rattle.std.proofs.Common.{◌≡◌, ℕ, suc, zero, Bool, true, false, List, [], ◌∷◌, ◌++◌, map, refl, sym, ap, subst, ◌∙◌, append_assoc, ne_eqb, Option, Some, None, IfSome, IsSome, arith}
+use Rattle.std.proofs.Common.{◌≡◌, ℕ, suc, zero, Bool, true, false, List, [], ◌∷◌, ◌++◌, map, refl, sym, ap, subst, ◌∙◌, append_assoc, append-nil, ne_eqb, Option, Some, None, IfSome, IsSome, arith}
+use Rattle.std.specs.Prelude.{◌||◌, nat_eq, not}
 use Rattle.std.specs.List.{list_any}
 use Rattle.std.proofs.lemmas.List.{append_cancel_left}
 use Rattle.bm_journal.specs.declared.ids.Domain.{Domain}
@@ -15,7 +16,7 @@ use Rattle.bm_law.specs.Null.{Asked, Nothing, RepliesFit}
 use Rattle.bm_law.specs.Spans.{own_entries}
 use Rattle.bm_law.specs.Stands.{times}
 use Rattle.bm_law.specs.State.{Side, State, opening, seen, seen_row, seven_lists}
-use Rattle.bm_law.proofs.Alone.{at-append, level-from, level-own}
+use Rattle.bm_law.proofs.Alone.{at-append, at-own, level-from, level-own}
 use Rattle.bm_law.proofs.Folds.{after-append}
 use Rattle.bm_law.proofs.Null.{apart-answers, pops-fit, replies-append}
 use Rattle.bm_law.proofs.Seen.{map-seven}
@@ -34,18 +35,29 @@ use Rattle.bm_lawful.specs.Fills.{AreFills, fresh_stock, prefill}
 use Rattle.bm_lawful.specs.Grammar.{AreScripts, Front, lines_of}
 use Rattle.bm_lawful.specs.Lawful.{LawfulLog}
 use Rattle.bm_lawful.specs.Opened.{opened_classes, uses_class}
-use Rattle.bm_lawful.specs.Parcels.{ParcelLaw, no_parcels}
+use Rattle.bm_lawful.specs.Parcels.{ParcelLaw, no_parcels, sends_alone}
 use Rattle.bm_mail.specs.SweepsTold.{ClosingTold, SweepsTold}
 use Rattle.bm_front.specs.Owed.{AllReplied}
 use Rattle.bm_closing.specs.EndsBegun.{EndsBegun}
+use Rattle.bm_lives.specs.Together.{named as named_all, named_in, times as times_in}
+use Rattle.bm_lives.specs.Lives.{WholeLives}
+use Rattle.bm_lived.specs.AreLived.{AreLived}
+use Rattle.bm_lived.specs.Lifeless.{IsLifeless}
+use Rattle.bm_lived.specs.Lived.{Lived, no_lives}
+use Rattle.bm_lived.specs.Told.{LivesOn, LivesTold}
+use Rattle.bm_lived.specs.Units.{freed_units, given_units}
+use Rattle.bm_lived.proofs.Stretches.{lifeless, lives-join, told-added}
+use Rattle.bm_returns.specs.Units.{FreedAsGiven}
+use Rattle.bm_exec.specs.Living.{home_of}
+use Rattle.bm_exec.proofs.Said.{Silent, silent-log}
 use Rattle.bm_exec.specs.Sound.{Sound, sound_told}
 use Rattle.bm_exec.specs.declared.level0.Machine0.{Machine0}
-use Rattle.bm_world.specs.LivingState.{LivingState}
-use Rattle.bm_opening.specs.Filling.{filling}
+use Rattle.bm_world.specs.LivingState.{LivingState, lives_of}
+use Rattle.bm_opening.specs.Filling.{Filling, filling}
 use Rattle.bm_opening.specs.Opened.{IsOpen}
 use Rattle.bm_run.specs.Closed.{Closed}
-use Rattle.bm_run.specs.Lines.{known_of, lists_of, log_of, Wrote}
-use Rattle.bm_run.proofs.Closes.{closing-apart, closing-is, ends-are, in-progress-own}
+use Rattle.bm_run.specs.Lines.{known_of, lists_of, lived_of, log_of, Wrote}
+use Rattle.bm_run.proofs.Closes.{closing-apart, closing-is, closing-silent, ends-are, in-progress-own}
 use Rattle.bm_run.proofs.OpenedList.{opened-has, opened-none}
 
 -- ---- the entries of the opening
@@ -66,6 +78,10 @@ fills-idle : (fs : Fills) → AllOf IsIdle (fill_entries fs)
 fills-idle [] = tt
 fills-idle (f ∷ fs) = (tt, fills-idle fs)
 
+fills-silent : (fs : Fills) → Silent (fill_entries fs)
+fills-silent [] = tt
+fills-silent (f ∷ fs) = (tt, fills-silent fs)
+
 level-at : (own : List Entry) → AllAt 0 (at_level 0 own)
 level-at [] = tt
 level-at (e ∷ es) = (refl, level-at es)
@@ -84,6 +100,9 @@ pub record Told (s : Parts) (final : Log) : Type 0 where
   pub are_scripts : AreScripts s (lines_of 0 s.runs) 0 (after (opening 0) fills) scripts
   pub mail : Delivers 0 1 0 (Some no_parcels) boxes (Some fills) (fills ++ scripts)
   pub closes : ClosingTold 0 (opened_classes s.types) (fills ++ scripts) boxes (after (opening 0) (fills ++ scripts)) closing
+  pub lived : Lived
+  pub lives : LivesOn 0 no_lives lived ((fills ++ scripts) ++ closing)
+  pub none : (u : ℕ) → lived.homes u ≡ None
   pub before : State ℕ
   pub leaves : Leaves 0 (fills ++ scripts) before
 
@@ -117,6 +136,21 @@ fills-leave m fills sound told = (let l = subst (λ (x : Option Log). IfSome x (
 fills-logged : (cs : List ℕ) (pool : Stock) (m : Machine0) (fills : Log) → IsOpen (filling cs pool) m → log_of m ≡ Some fills → fills ≡ fill_log (filling cs pool).fills
 fills-logged cs pool m fills o told = subst (λ (x : Option Log). IfSome x (λ es. es ≡ fill_log (filling cs pool).fills)) told o.told
 
+-- ---- lives
+
+fills-live : (fs : Fills) (f : Filling) (m : Machine0) (fills : Log) → IsOpen f m → fills ≡ fill_log fs → LivesOn 0 no_lives (lived_of m) fills
+fills-live fs f m fills o e =
+    let silent : IsLifeless fills = subst IsLifeless (sym (e ∙ fill-level fs)) (silent-log 0 (fill_entries fs) (fills-silent fs)) in
+    lifeless 0 no_lives (lived_of m) fills silent o.begun (λ u. ap home_of (o.none u))
+
+scripts-live : (a b : Machine0) (fills scripts log : Log) → log_of a ≡ Some fills → log_of b ≡ Some log → log ≡ fills ++ scripts → LivesTold 0 (lived_of a) (lived_of b) (log_of a) (log_of b) → LivesOn 0 (lived_of a) (lived_of b) scripts
+scripts-live a b fills scripts log e f is h =
+    let L : Option Log → Option Log → Type 0 = λ x y. LivesTold 0 (lived_of a) (lived_of b) x y in
+    told-added 0 (lived_of a) (lived_of b) fills scripts (subst (L (Some fills)) (ap Some is) (subst (L (Some fills)) f (subst (λ x. L x (log_of b)) e h)))
+
+closing-live : (l : Lived) (closing : Log) → AllAt 0 closing → Silent (own_entries 0 closing) → LivesOn 0 l l closing
+closing-live l closing at silent = lifeless 0 l l closing (subst IsLifeless (sym (at-own 0 closing at)) (silent-log 0 (own_entries 0 closing) silent)) (λ u. refl) (λ u. refl)
+
 -- the periods in progress behind the scripts
 begun-told : (d : Domain) (m0 m2 : Machine0) (fills scripts log2 : Log) → (side d (known_of m0)).number ≡ 0 → log_of m0 ≡ Some fills → log_of m2 ≡ Some log2 → log2 ≡ fills ++ scripts → AllAt 0 (fills ++ scripts) → begun_over d None (own_entries 0 fills) ≡ None →
     Progressed 0 d (begun_by (side d (known_of m0)).number) (begun_by (side d (known_of m2)).number) (log_of m0) (log_of m2) → begun_by (side d (known_of m2)).number ≡ in_progress d None (fills ++ scripts)
@@ -128,8 +162,8 @@ begun-told d m0 m2 fills scripts log2 zero-first told0 told2 is at none p =
     q.left ∙ ap (λ o. begun_over d o (own_entries 0 q.added)) start ∙ ap (λ (l : Log). begun_over d None (own_entries 0 l)) added
     ∙ ap (λ o. begun_over d o (own_entries 0 scripts)) (sym none) ∙ sym (begun-append d None (own_entries 0 fills) (own_entries 0 scripts)) ∙ ap (begun_over d None) (sym (own-append 0 fills scripts)) ∙ sym (in-progress-own d None (fills ++ scripts) at)
 
-pub told-run : (s : Parts) (m0 m2 m3 : Machine0) (final : Log) → IsOpen (filling (opened_classes s.types) (fresh_stock s.pages)) m0 → Wrote (AreScripts s (lines_of 0 s.runs) 0) m0 m2 → Wrote (Stand 0 (entry.Ended ∷ entry.Close ∷ [])) m2 m3 → m3.side ≡ m2.side → Sound m2 → Sound m3 → Closed (opened_classes s.types) m3 final → (t : Told s final) × (t.before ≡ lists_of m2)
-told-run s m0 m2 m3 final o w e same sound2 sound3 closed =
+pub told-run : (s : Parts) (m0 m2 m3 : Machine0) (final : Log) → ((u : ℕ) → lives_of m2.side.slots u ≡ None) → IsOpen (filling (opened_classes s.types) (fresh_stock s.pages)) m0 → Wrote (AreScripts s (lines_of 0 s.runs) 0) m0 m2 → Wrote (Stand 0 (entry.Ended ∷ entry.Close ∷ [])) m2 m3 → m3.side ≡ m2.side → Sound m2 → Sound m3 → Closed (opened_classes s.types) m3 final → (t : Told s final) × (t.before ≡ lists_of m2)
+told-run s m0 m2 m3 final none o w e same sound2 sound3 closed =
     let classes : List ℕ = opened_classes s.types in
     let Scripts : Part = AreScripts s (lines_of 0 s.runs) 0 in
     let Ends : Part = Stand 0 (entry.Ended ∷ entry.Close ∷ []) in
@@ -157,6 +191,9 @@ told-run s m0 m2 m3 final o w e same sound2 sound3 closed =
     let boxes : Inboxes = told_in m2.side.side.post in
     let M : Option Inboxes → Option Log → Log → Type 0 = λ b l n. Delivers 0 1 0 b boxes l n in
     let mail : M (known_of m0).parcels (log_of m0) e'.log = subst (Delivered 0 1 0 (known_of m0).parcels (Some boxes) (log_of m0)) e'.told w.ordinary.mail in
+    let closes : ClosingTold 0 classes front boxes (after (opening 0) front) (e'.added ++ z.added) = record { one = e'.added; two = z.added; part_is = refl; is_first = record { from = e'.is_part.from; own_is = e'.is_part.own_is }; is_second = rest } in
+    let front-live : LivesOn 0 no_lives (lived_of m2) front = lives-join 0 no_lives (lived_of m0) (lived_of m2) fills scripts (fills-live (filling classes (fresh_stock s.pages)).fills (filling classes (fresh_stock s.pages)) m0 fills o logged) (scripts-live m0 m2 fills scripts e'.log told0 e'.told w'.now_is w.ordinary.lives) in
+    let back-live : LivesOn 0 (lived_of m2) (lived_of m2) (e'.added ++ z.added) = closing-live (lived_of m2) (e'.added ++ z.added) (at-append 0 e'.added z.added a2 a3) (closing-silent classes front boxes (after (opening 0) front) (e'.added ++ z.added) closes) in
     let front2 : Leaves 0 e'.log (lists_of m2) = subst (λ (x : Option Log). IfSome x (λ es. Leaves 0 es (lists_of m2))) e'.told (sound_told m2 sound2) in (
       record {
         fills = fills;
@@ -169,7 +206,10 @@ told-run s m0 m2 m3 final o w e same sound2 sound3 closed =
         are_fills = fills-said classes (fresh_stock s.pages) fills logged;
         are_scripts = subst (λ (t : State ℕ). Scripts t scripts) (fills-leave m0 fills o.sound told0) w'.is_part;
         mail = subst (λ n. M (Some no_parcels) (Some fills) n) w'.now_is (subst (λ l. M (Some no_parcels) l e'.log) told0 (subst (λ b. M b (log_of m0) e'.log) o.parcels mail));
-        closes = record { one = e'.added; two = z.added; part_is = refl; is_first = record { from = e'.is_part.from; own_is = e'.is_part.own_is }; is_second = rest };
+        closes = closes;
+        lived = lived_of m2;
+        lives = lives-join 0 no_lives (lived_of m2) (lived_of m2) front (e'.added ++ z.added) front-live back-live;
+        none = λ u. ap home_of (none u);
         before = lists_of m2;
         leaves = subst (λ (l : Log). Leaves 0 l (lists_of m2)) w'.now_is front2;
       },
@@ -285,10 +325,10 @@ abbrev pub MailLaw : Type 0
 MailLaw = (s : Parts) (fills scripts closing : Log) (boxes : Inboxes) → AllAt 0 ((fills ++ scripts) ++ closing) → Say 0 (AreFills (opened_classes s.types) (fresh_stock s.pages)) (opening 0) fills → AreScripts s (lines_of 0 s.runs) 0 (after (opening 0) fills) scripts →
     Delivers 0 1 0 (Some no_parcels) boxes (Some fills) (fills ++ scripts) → ClosingTold 0 (opened_classes s.types) (fills ++ scripts) boxes (after (opening 0) (fills ++ scripts)) closing → ParcelLaw 0 ((fills ++ scripts) ++ closing)
 
-pub lawful-run : (s : Parts) (m0 m2 m3 : Machine0) (final : Log) → RowsKept → FrontReplied → ToldSweeps → MailLaw →
+pub lawful-run : (s : Parts) (m0 m2 m3 : Machine0) (final : Log) → RowsKept → FrontReplied → ToldSweeps → MailLaw → ((u : ℕ) → lives_of m2.side.slots u ≡ None) →
     IsOpen (filling (opened_classes s.types) (fresh_stock s.pages)) m0 → Wrote (AreScripts s (lines_of 0 s.runs) 0) m0 m2 → Sound m2 → Wrote (Stand 0 (entry.Ended ∷ entry.Close ∷ [])) m2 m3 → m3.side ≡ m2.side → shown m3.caches ≡ shown m2.caches → Sound m3 → Closed (opened_classes s.types) m3 final → LawfulLog s 0 final
-lawful-run s m0 m2 m3 final kept replied sweeps mail o w sound2 e same lists sound3 closed =
-    let r = told-run s m0 m2 m3 final o w e same sound2 sound3 closed in
+lawful-run s m0 m2 m3 final kept replied sweeps mail none o w sound2 e same lists sound3 closed =
+    let r = told-run s m0 m2 m3 final none o w e same sound2 sound3 closed in
     let t : Told s final = r.0 in
     let front : Log = t.fills ++ t.scripts in
     let leaves : Leaves 0 front (lists_of m2) = subst (Leaves 0 front) r.1 t.leaves in
@@ -297,3 +337,32 @@ lawful-run s m0 m2 m3 final kept replied sweeps mail o w sound2 e same lists sou
     (λ c. lists-end s c closed.last (list_any (uses_class c) s.types) refl (λ used. closed.empty c (opened-has s.types c used)) (λ never. ended-row s m2 m3 final t closed kept leaves lists c never))
     (λ l. ap (λ (h : Side Token). map number_of h.hand) (closed.ready.sides l (omega arith)))
     (λ c. (let h = closed.ready.active c in omega (arith, h)))
+
+-- ---- lives over the whole log
+
+abbrev pub OneLived : Type 0
+OneLived = (a : Lived) (log : Log) → LivesOn 0 no_lives a log → AreLived a (log ∷ [])
+
+abbrev pub AllLived : Type 0
+AllLived = (a : Lived) (logs : List Log) → AreLived a logs → ((u : ℕ) → a.homes u ≡ None) → WholeLives logs
+
+abbrev pub AllFreed : Type 0
+AllFreed = (a : Lived) (logs : List Log) → AreLived a logs → ((u : ℕ) → a.homes u ≡ None) → (u : ℕ) → times_in u (named_all freed_units logs) ≡ times_in u (named_all given_units logs)
+
+one-freed : (log : Log) → ((u : ℕ) → times_in u (named_all freed_units (log ∷ [])) ≡ times_in u (named_all given_units (log ∷ []))) → FreedAsGiven log
+one-freed log h u = ap (times_in u) (sym (append-nil (named_in freed_units log))) ∙ h u ∙ ap (times_in u) (append-nil (named_in given_units log))
+
+pub lived-run : (s : Parts) (m0 m2 m3 : Machine0) (final : Log) → OneLived → AllLived → AllFreed → ((u : ℕ) → lives_of m2.side.slots u ≡ None) →
+    IsOpen (filling (opened_classes s.types) (fresh_stock s.pages)) m0 → Wrote (AreScripts s (lines_of 0 s.runs) 0) m0 m2 → Sound m2 → Wrote (Stand 0 (entry.Ended ∷ entry.Close ∷ [])) m2 m3 → m3.side ≡ m2.side → Sound m3 → Closed (opened_classes s.types) m3 final → WholeLives (final ∷ []) × FreedAsGiven final
+lived-run s m0 m2 m3 final one all freed none o w sound2 e same sound3 closed =
+    let t : Told s final = (told-run s m0 m2 m3 final none o w e same sound2 sound3 closed).0 in
+    let lived : AreLived t.lived (final ∷ []) = one t.lived final (subst (LivesOn 0 no_lives t.lived) (sym t.final_is) t.lives) in
+    (all t.lived (final ∷ []) lived t.none, one-freed final (freed t.lived (final ∷ []) lived t.none))
+
+or-right : (a b : Bool) → b ≡ true → (a || b) ≡ true
+or-right true b e = refl
+or-right false b e = e
+
+-- one processor sends alone
+pub alone-sends : (s : Parts) → s.processors ≡ 1 → sends_alone s ≡ true
+alone-sends s e = or-right (not s.deferred) (nat_eq s.processors 1) (rw e refl)

@@ -7,6 +7,10 @@ pub if-ok : {X E : Type 0} (r : Result X E) (P Q : X → Type 0) → IfOk r P �
 if-ok (Ok x) P Q h f = f x h
 if-ok (Err e) P Q h f = tt
 
+pub both-if-ok : {X E : Type 0} (r : Result X E) (P Q S : X → Type 0) → IfOk r P → IfOk r Q → ((x : X) → P x → Q x → S x) → IfOk r S
+both-if-ok (Ok x) P Q S h k f = f x h k
+both-if-ok (Err e) P Q S h k f = tt
+
 pub if-told : {X E : Type 0} (o : Option X) (e : E) (P : X → Type 0) → ((x : X) → o ≡ Some x → P x) → IfOk (ok_or o e) P
 if-told None e P f = tt
 if-told (Some x) e P f = f x refl

@@ -24,13 +24,13 @@ pub number-moved : (kind : StepKind) (k : Known) (d : Domain) → (side d (moved
 number-moved kind k Plain = refl
 number-moved kind k Tracing = refl
 
-same-rights : (v w : LivingState) → w.side.post ≡ v.side.post → w.slots ≡ v.slots → w.asked ≡ v.asked → rights_living w ≡ rights_living v
-same-rights v w p s a = rw (p, s, a) refl
+same-rights : (v w : LivingState) → w.side.post ≡ v.side.post → w.slots ≡ v.slots → w.begun ≡ v.begun → rights_living w ≡ rights_living v
+same-rights v w p s b = rw (p, s, b) refl
 
 -- the plain section word moved
-pub sound-moved : (kind : StepKind) (m : Machine0) (w : LivingState) → w.side.post ≡ m.side.side.post → w.slots ≡ m.side.slots → w.asked ≡ m.side.asked → known_living w ≡ moved kind false Plain (known_living m.side) → Sound m → Sound (record m { side = w })
-sound-moved kind m w p l a k s =
-    let rights : rights_living w ≡ rights_living m.side = same-rights m.side w p l a in
+pub sound-moved : (kind : StepKind) (m : Machine0) (w : LivingState) → w.side.post ≡ m.side.side.post → w.slots ≡ m.side.slots → w.begun ≡ m.side.begun → w.asked ≡ m.side.asked → known_living w ≡ moved kind false Plain (known_living m.side) → Sound m → Sound (record m { side = w })
+sound-moved kind m w p l b a k s =
+    let rights : rights_living w ≡ rights_living m.side = same-rights m.side w p l b in
     let many : w.side.grace.processors ≡ m.side.side.grace.processors = ap (λ (x : Known). x.grace.processors) k in
     record {
       one = many ∙ s.one;
@@ -38,5 +38,5 @@ sound-moved kind m w p l a k s =
       fine = rw many (subst (λ (r : Rights). Fine (λ (x : Recorded). x.told) (λ x. x.counted) (tests_by r) m.side.side.grace.processors 0 m.caches) (sym rights) s.fine);
       dated = subst (λ (r : Rights). Dated (tests_by r) (shown m.caches)) (sym rights) s.dated;
       stamped = s.stamped;
-      begins = λ d. (let h = s.begins d in let b : (side d (known_living w)).begins ≡ (side d (known_living m.side)).begins = ap (λ (x : Known). (side d x).begins) k ∙ begins-moved kind (known_living m.side) d in omega (arith, h, b, a));
+      begins = λ d. (let h = s.begins d in let n : (side d (known_living w)).begins ≡ (side d (known_living m.side)).begins = ap (λ (x : Known). (side d x).begins) k ∙ begins-moved kind (known_living m.side) d in omega (arith, h, n, a));
     }

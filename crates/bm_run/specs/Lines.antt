@@ -17,6 +17,9 @@ use Rattle.bm_deferred.specs.Inboxes.{Delivered}
 use Rattle.bm_deferred.specs.Parts.{Part, Nothing}
 use Rattle.bm_deferred.specs.Grown.{GrewBy}
 use Rattle.bm_world.specs.LivingState.{known_living}
+use Rattle.bm_lived.specs.Lived.{Lived}
+use Rattle.bm_lived.specs.Told.{LivesTold}
+use Rattle.bm_exec.specs.Living.{lived_in}
 use Rattle.bm_exec.specs.declared.level0.Machine0.{Machine0}
 use Rattle.bm_lawful.specs.Opened.{opened_classes}
 use Rattle.bm_lawful.specs.Works.{WorkBehind}
@@ -53,6 +56,10 @@ lists_of m = seen number_of (shown m.caches)
 abbrev pub known_of : Machine0 → Known
 known_of m = known_living m.side
 
+-- what it knows of the lives of units
+abbrev pub lived_of : Machine0 → Lived
+lived_of m = lived_in (known_of m).objects
+
 abbrev pub asked_of : Machine0 → ℕ
 asked_of m = m.side.asked + m.settled
 
@@ -63,11 +70,12 @@ word_of d m = (side d (known_of m)).word
 
 -- The log, where it is told, has grown by entries of ordinary code alone; the side has those periods in progress that they tell;
 -- and of the parcels each that came was the oldest one, each that went goes to the one processor, nothing was swept, and those
--- that are left are what the entries tell.
+-- that are left are what the entries tell. What is known of the lives of units is what they tell.
 pub record Ordinary (before now : Machine0) : Type 0 where
   pub alone : Alone 0 (log_of before) (log_of now)
   pub periods : (d : Domain) → Progressed 0 d (begun_by (side d (known_of before)).number) (begun_by (side d (known_of now)).number) (log_of before) (log_of now)
   pub mail : Delivered 0 1 0 (known_of before).parcels (known_of now).parcels (log_of before) (log_of now)
+  pub lives : LivesTold 0 (lived_of before) (lived_of now) (log_of before) (log_of now)
 
 -- The log, where it is told, has grown by such a part.
 pub record Wrote (P : Part) (before now : Machine0) : Type 0 where

@@ -14,7 +14,10 @@ ghost use Rattle.bm_cache.specs.Shown.{shown};
 ghost use Rattle.bm_exec.specs.Lists.{behind_of};
 ghost use Rattle.bm_exec.specs.Sound.{Sound};
 ghost use Rattle.bm_lawful.specs.Opened.{object_size, opened_classes};
-ghost use Rattle.bm_lawful.specs.Lawful.{Lawful, LawfulLog};
+ghost use Rattle.bm_lawful.specs.Lawful.{LawfulLog};
+ghost use Rattle.bm_lives.specs.Lives.{WholeLives};
+ghost use Rattle.bm_lives.specs.Returns.{ReturnsLaw};
+ghost use Rattle.bm_lives.specs.Whole.{LawfulWhole};
 ghost use Rattle.bm_built.specs.Yet.{RunsYet};
 ghost use Rattle.bm_run.specs.Closed.{Closed};
 ghost use Rattle.bm_run.specs.Lines.{asked_of, when_on, word_of};
@@ -29,8 +32,10 @@ use bm_exec::{Machine0, Types};
 use bm_front::front_law;
 use bm_journal::{Histories, Journal, Log, Logs, Names, Opened, Recorder, totals_of};
 use bm_lang::{Parts, Script, TypeDeclaration};
+use bm_lived::lives_law;
 use bm_mail::parcels_law;
 use bm_opening::open;
+use bm_returns::returns_law;
 use bm_word::NoMemory;
 use std::alloc::Global;
 
@@ -77,7 +82,9 @@ fn journal_of(
     requires classes { classes.now ≡ opened_classes scenario.now.types }
     requires whole { IsTrue (is_whole_log log) }
     requires lawful { LawfulLog scenario.now 0 log }
-    ensures { IfOk result (Lawful scenario.now) }
+    requires lives { WholeLives (log ∷ []) }
+    requires returns { ReturnsLaw (log ∷ []) }
+    ensures { IfOk result (LawfulWhole scenario.now) }
 {
     let types = type_names(alloc, scenario.types.as_slice())?;
     let scripts = script_names(alloc, scenario.scripts.as_slice())?;
@@ -157,10 +164,14 @@ fn log_of(
     requires classes { map Some classes.now ≡ map (λ t. class_of_size (object_size t)) scenario.now.types }
     requires opened { opened.now ≡ opened_classes scenario.now.types }
     ensures lawful { IfOk result (LawfulLog scenario.now 0) }
+    ensures lives { IfOk result (λ log. WholeLives (log ∷ [])) }
+    ensures returns { IfOk result (λ log. ReturnsLaw (log ∷ [])) }
     ensures whole { IfOk result (λ log. IsTrue (is_whole_log log)) }
 {
     front_law();
     parcels_law();
+    lives_law();
+    returns_law();
     let mut machine = open(alloc, scenario.pages as u16, opened)?;
     let types = Types {
         declared: scenario.types.as_slice(),
@@ -179,7 +190,7 @@ fn log_of(
 /// statements run. Want of memory is the only refusal.
 pub fn replay(alloc: Global, checked: &Checked) -> Result<Journal, NoMemory>
     requires { RunsYet checked.now }
-    ensures { IfOk result (Lawful checked.now) }
+    ensures { IfOk result (LawfulWhole checked.now) }
 {
     let scenario = checked.scenario().parts();
     let types = scenario.types.as_slice();

@@ -80,6 +80,7 @@ pub(crate) fn run_lines<'s>(
     requires declared { AllDeclared scenario.now }
     requires accepted { AllAccepted scenario.now }
     ensures wrote { OnOk result (Wrote (AreScripts scenario.now (lines_of 0 scenario.now.runs) 0) machine.old machine.new) }
+    ensures none { OnOk result ((u : ℕ) → lives_of machine.new.side.slots u ≡ None) }
     ensures outside { OnOk result ((d : DomainValue) → word_of d machine.new % 2 ≡ 0) }
     ensures asked { OnOk result (asked_of machine.new ≤ 40000) }
     ensures sound { OnOk result (Sound machine.new) }

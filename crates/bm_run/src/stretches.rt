@@ -10,6 +10,7 @@ ghost use Rattle.bm_deferred.specs.Parts.{Stand};
 ghost use Rattle.bm_deferred.proofs.Begun.{IsStill};
 ghost use Rattle.bm_exec.specs.Lists.{Behind, behind_of};
 ghost use Rattle.bm_exec.specs.Sound.{Sound};
+ghost use Rattle.bm_lived.specs.Lifeless.{SaysNoLife};
 ghost use Rattle.bm_world.specs.LivingState.{lives_of};
 ghost use Rattle.bm_run.specs.Lines.{asked_of, lists_of, word_of, BehindScript, Wrote};
 
@@ -19,11 +20,12 @@ use bm_grace::Grace;
 use bm_journal::{Domain, Entry, Level};
 use bm_word::{Name, NoMemory};
 
-// Records an entry that moves nothing, and has nothing to do with parcels and periods.
+// Records an entry that moves nothing, and has nothing to do with parcels, periods and lives.
 fn note(machine: &mut Machine0, entry: Entry)
     requires sound { Sound machine.old }
     requires note { IsTrue (is_note entry) }
     requires still { IsStill entry }
+    requires silent { SaysNoLife entry }
     ensures wrote { Wrote (Stand 0 (entry ∷ [])) machine.old machine.new }
     ensures lists { shown machine.new.caches ≡ shown machine.old.caches }
     ensures side { machine.new.side ≡ machine.old.side }

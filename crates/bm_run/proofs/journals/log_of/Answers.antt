@@ -1,12 +1,14 @@
-use Rattle.std.proofs.Common.{[], ap, sym, subst, ◌∙◌}
+use Rattle.std.proofs.Common.{[], ◌∷◌, IfOk, ap, sym, subst, ◌∙◌}
+use Rattle.bm_lives.specs.Lives.{WholeLives}
+use Rattle.bm_returns.specs.Units.{FreedAsGiven}
 use Rattle.bm_exec.specs.Lists.{Behind}
 use Rattle.bm_run.specs.Closed.{Closed}
 use Rattle.bm_run.specs.Lines.{lists_of, when_on}
 use Rattle.bm_run.proofs.Declared.{all-declared}
 use Rattle.bm_run.proofs.Lines.{down-when, few-when}
-use Rattle.bm_run.proofs.LogLaw.{lawful-run, unused-rows}
+use Rattle.bm_run.proofs.LogLaw.{alone-sends, lawful-run, lived-run, unused-rows}
 use Rattle.bm_run.proofs.OpenedList.{opened-ascend, opened-few}
-use Rattle.bm_run.proofs.Results.{if-ok, not-err}
+use Rattle.bm_run.proofs.Results.{both-if-ok, if-ok, not-err}
 use Rattle.bm_run.proofs.journals.log_of.Goals as goal
 
 pub open-requires-clause-ascend : goal.open-requires-clause-ascend
@@ -45,5 +47,24 @@ returns-clause-lawful c =
     let o = rw c.requires.opened at c.in_ok-machine.ensures in
     let wrote = not-err c.run_lines.result _ e c.run_lines.ensures.wrote in
     let sound = not-err c.run_lines.result _ e c.run_lines.ensures.sound in
-    if-ok c.close.result _ _ c.close.ensures.closed (λ final x. lawful-run s c.in_ok-machine.machine c.run_lines.new.machine m3 final c.front_law.ensures.rows c.front_law.ensures.replies c.parcels_law.ensures.sweeps c.parcels_law.ensures.law o wrote sound
+    let none = not-err c.run_lines.result _ e c.run_lines.ensures.none in
+    if-ok c.close.result _ _ c.close.ensures.closed (λ final x. lawful-run s c.in_ok-machine.machine c.run_lines.new.machine m3 final c.front_law.ensures.rows c.front_law.ensures.replies c.parcels_law.ensures.sweeps c.parcels_law.ensures.law none o wrote sound
     c.begin_closing.ensures.wrote c.begin_closing.ensures.side c.begin_closing.ensures.lists c.begin_closing.ensures.sound (subst (λ cs. Closed cs m3 final) c.requires.opened x))
+
+lived-log : (c : goal.After-close) → IfOk c.close.result (λ final. WholeLives (final ∷ []) × FreedAsGiven final)
+lived-log c =
+    let s = c.args.scenario.now in
+    let m3 = c.begin_closing.new.machine in
+    let e = c.if-is_err.ensures.value in
+    let o = rw c.requires.opened at c.in_ok-machine.ensures in
+    let wrote = not-err c.run_lines.result _ e c.run_lines.ensures.wrote in
+    let sound = not-err c.run_lines.result _ e c.run_lines.ensures.sound in
+    let none = not-err c.run_lines.result _ e c.run_lines.ensures.none in
+    if-ok c.close.result _ _ c.close.ensures.closed (λ final x. lived-run s c.in_ok-machine.machine c.run_lines.new.machine m3 final c.lives_law.ensures.one c.lives_law.ensures.whole c.lives_law.ensures.freed none o wrote sound
+    c.begin_closing.ensures.wrote c.begin_closing.ensures.side c.begin_closing.ensures.sound (subst (λ cs. Closed cs m3 final) c.requires.opened x))
+
+pub returns-clause-lives : goal.returns-clause-lives
+returns-clause-lives c = if-ok c.close.result _ _ (lived-log c) (λ final h. h.0)
+
+pub returns-clause-returns : goal.returns-clause-returns
+returns-clause-returns c = both-if-ok c.close.result _ _ _ (returns-clause-lawful c) (lived-log c) (λ final l h. c.returns_law.ensures.law c.args.scenario.now final l (alone-sends c.args.scenario.now c.requires.yet.one) h.1)
