@@ -1,5 +1,6 @@
 //! Tests of deferred work on desks whose caches hold units: a handler that takes them all between two steps, a refill from all
-//! its sources, and a drain. What each leaves is worked out by hand.
+//! its sources, and a drain. What each leaves is worked out by hand. The desk that they run on, with its handler, is public, and
+//! proved without the tests too.
 #![tactic(auto)]
 
 #[cfg(test)]
@@ -12,9 +13,10 @@ mod drain_tests;
 mod handler_tests;
 #[cfg(test)]
 mod logs;
-#[cfg(test)]
 mod machines;
 #[cfg(test)]
 mod openings;
 #[cfg(test)]
 mod refill_tests;
+
+pub use machines::{Ground, Kept, Lent};

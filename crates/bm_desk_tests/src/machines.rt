@@ -16,22 +16,26 @@ use bm_journal::{Entry, Keep, Level, Recorder};
 use bm_page::Unit;
 use bm_world::World;
 
-/// The caches of a processor, and its side.
-pub(crate) struct Kept<R, S> {
-    pub(crate) caches: Caches<R>,
-    pub(crate) side: S,
+/// What a processor has: its caches, and its side of all that processors share.
+pub struct Kept<R, S> {
+    pub caches: Caches<R>,
+    pub side: S,
 }
 
-/// Level 0: it owns the caches and the side. Its handler, if it hasn't run, takes seven units of a class, which are held.
-pub(crate) struct Ground<R, S> {
-    pub(crate) kept: Kept<R, S>,
-    pub(crate) held: Vec<Unit>,
-    pub(crate) class: Class,
-    pub(crate) waits: bool,
+/// A desk at level 0, which owns the caches and the side. Before the third step its handler runs, if it waits: at level 1 it takes
+/// seven units of a class, which are held. This project's own, for tests.
+pub struct Ground<R, S> {
+    pub kept: Kept<R, S>,
+    /// The units that the handler took. It takes no memory where there is room for seven.
+    pub held: Vec<Unit>,
+    /// The class that it takes from.
+    pub class: Class,
+    /// Whether it hasn't run.
+    pub waits: bool,
 }
 
 /// Level 1: it borrows what level 0 owns, and no handler runs above it.
-pub(crate) struct Upper<'a, R, S> {
+struct Upper<'a, R, S> {
     kept: &'a mut Kept<R, S>,
     level: Level,
 }
@@ -229,8 +233,8 @@ fn hold(held: &mut Vec<Unit>, unit: Unit) {
 
 /// A recorder that is borrowed, so that its log is there when the caches have ended.
 #[derive(Drop)]
-pub(crate) struct Lent<'a> {
-    pub(crate) keep: &'a mut Keep,
+pub struct Lent<'a> {
+    pub keep: &'a mut Keep,
 }
 
 impl<'a> Recorder for Lent<'a> {
