@@ -10,3 +10,4 @@ pub mod Flags
 pub mod Absent
 pub mod Lent
 pub mod Outside
+pub mod Steady

@@ -1,5 +1,5 @@
 -- Which entries are steps, and their numbers. (This project's own: handlers are planned by the number of a step.)
-use Rattle.std.specs.Prelude.{ℕ, ◌+◌, ◌-◌, ◌^◌, Bool, true, false, not, min, if◌then◌else◌, [], ◌∷◌}
+use Rattle.std.specs.Prelude.{ℕ, ◌+◌, ◌-◌, ◌^◌, Bool, true, false, not, ◌&&◌, nat_eq, min, if◌then◌else◌, [], ◌∷◌}
 use Rattle.bm_journal.specs.declared.entry.Entry.{Entry}
 use Rattle.bm_journal.specs.declared.entry.Entry.TheVariants as entry
 use Rattle.bm_law.specs.Lists.{Log}
@@ -58,3 +58,19 @@ is_note (entry.Free u home) = false
 is_note (entry.Delay u home) = false
 is_note (entry.Work c) = false
 is_note e = not (is_step e)
+
+-- The entry is no step, and a call of the caches or of deferred work records it: a null reply, or the begin of work, or a period
+-- that begins or ends.
+abbrev pub is_reply : Entry → Bool
+is_reply entry.Empty = true
+is_reply (entry.Busy a) = true
+is_reply (entry.Work c) = true
+is_reply (entry.Begin d n) = true
+is_reply (entry.Finish period) = true
+is_reply _ = false
+
+-- with it a free of unit u to this home begins, plain or delayed
+abbrev pub is_free : ℕ → ℕ → Entry → Bool
+is_free u home (entry.Free v to) = nat_eq u v && nat_eq home to
+is_free u home (entry.Delay v to) = nat_eq u v && nat_eq home to
+is_free u home _ = false

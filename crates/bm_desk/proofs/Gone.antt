@@ -149,7 +149,7 @@ hand-deferred l i to ns s m k = sent-rows l i (s.sides l).hand s m k
 
 module _ {H R : Type 0} (log : R → Option Log) (counts : R → Counts) (sound : H → Type 0) (tests : H → Tests) (faces : H → Face) (holds : H → Caches R) where
   -- what a call needs, after a parcel was sent
-  pub stands-sent : (h k : H) (i to : ℕ) (ns : List ℕ) → faces k ≡ faces h → sound k → Placed log counts (holds k) → shown (holds k) ≡ effect (faces h).level (entry.Send i to (Whole ns)) [] (shown (holds h)) → (holds k).processor ≡ (holds h).processor → ((n : ℕ) → times n ns + stands n (seen number_of (effect (faces h).level (entry.Send i to (Whole ns)) [] (shown (holds h)))) ≤ 1) → Onward ns (tests h) (tests k) → Dated (tests h) (effect (faces h).level (entry.Send i to (Whole ns)) [] (shown (holds h))) → Stands log counts sound tests faces holds h → Stands log counts sound tests faces holds k
+  pub stands-sent : (h k : H) (i to : ℕ) (ns : List ℕ) → faces k ≡ faces h → sound k → Placed log counts (holds k) → shown (holds k) ≡ effect (faces h).level (entry.Send i to (Whole ns)) [] (shown (holds h)) → (holds k).processor ≡ (holds h).processor → ((n : ℕ) → times n ns + stands n (seen number_of (effect (faces h).level (entry.Send i to (Whole ns)) [] (shown (holds h)))) ≤ 1) → Onward ns (tests h) (tests k) → Dated (tests h) (effect (faces h).level (entry.Send i to (Whole ns)) [] (shown (holds h))) → {was : H → Type 0} → Stands log counts was tests faces holds h → Stands log counts sound tests faces holds k
   stands-sent h k i to ns f d p e n a o b w =
       let l = (faces h).level in
       let x = entry.Send i to (Whole ns) in
@@ -238,7 +238,7 @@ leave-reusable r us h i u n = let v = get_or us i u in inl (split (r.mine v.numb
 
 module _ {H R : Type 0} (log : R → Option Log) (counts : R → Counts) (sound : H → Type 0) (tests : H → Tests) (faces : H → Face) (holds : H → Caches R) where
   -- what a call needs, after Second went back
-  pub stands-returned : (h k : H) (i : ℕ) (ns : List ℕ) → faces k ≡ faces h → sound k → Placed log counts (holds k) → shown (holds k) ≡ effect (faces h).level (entry.Return i (Whole ns)) [] (shown (holds h)) → (holds k).processor ≡ (holds h).processor → ((n : ℕ) → times n ns + stands n (seen number_of (effect (faces h).level (entry.Return i (Whole ns)) [] (shown (holds h)))) ≤ 1) → Onward ns (tests h) (tests k) → Stands log counts sound tests faces holds h → Stands log counts sound tests faces holds k
+  pub stands-returned : (h k : H) (i : ℕ) (ns : List ℕ) → faces k ≡ faces h → sound k → Placed log counts (holds k) → shown (holds k) ≡ effect (faces h).level (entry.Return i (Whole ns)) [] (shown (holds h)) → (holds k).processor ≡ (holds h).processor → ((n : ℕ) → times n ns + stands n (seen number_of (effect (faces h).level (entry.Return i (Whole ns)) [] (shown (holds h)))) ≤ 1) → Onward ns (tests h) (tests k) → {was : H → Type 0} → Stands log counts was tests faces holds h → Stands log counts sound tests faces holds k
   stands-returned h k i ns f d p e n a o w =
       let l = (faces h).level in
       let x = entry.Return i (Whole ns) in

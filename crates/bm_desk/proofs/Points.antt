@@ -43,7 +43,7 @@ pub dated-kept : (l : ℕ) (a b : Tests) (s t : State Token) → ((k : ℕ) → 
 dated-kept l a b s t e m h k = dated-same a b (s.rows k).deferred (t.rows k).deferred (e k) (m.first k) (m.second k) (h k)
 
 module _ {H R : Type 0} (log : R → Option Log) (counts : R → Counts) (sound : H → Type 0) (tests : H → Tests) (faces : H → Face) (holds : H → Caches R) where
-  pub stands-point : (l : ℕ) (h k : H) → Came log l (tests h) (tests k) (holds h) (holds k) → sound k → Fine log counts (tests k) (faces k).processors ((faces k).level + 1) (holds k) → Stands log counts sound tests faces holds h → Stands log counts sound tests faces holds k
+  pub stands-point : (l : ℕ) (h k : H) → Came log l (tests h) (tests k) (holds h) (holds k) → sound k → Fine log counts (tests k) (faces k).processors ((faces k).level + 1) (holds k) → {was : H → Type 0} → Stands log counts was tests faces holds h → Stands log counts sound tests faces holds k
   stands-point l h k c s f p = record { sound = s; fine = f; dated = dated-kept l (tests h) (tests k) (shown (holds h)) (shown (holds k)) (λ i. (c.kept.rows i).deferred) c.lasting p.dated }
 
 module _ {H R : Type 0} (log : R → Option Log) (tests : H → Tests) (faces : H → Face) (waits : H → ℕ) (stays : H → H → Type 0) (holds : H → Caches R) (known : H → Known) where

@@ -60,7 +60,7 @@ dated-alike a d e p q u v h = record {
 
 module _ {H R : Type 0} (log : R → Option Log) (counts : R → Counts) (sound : H → Type 0) (tests : H → Tests) (faces : H → Face) (holds : H → Caches R) where
   -- what a call needs, by what the lists are now
-  pub stands-to : (h k : H) (z : Caches R) (t : State Token) → holds k ≡ z → tests k ≡ tests h → faces k ≡ faces h → sound k → shown z ≡ t → z.processor ≡ (holds h).processor → Placed log counts z → Ready ((faces h).level + 1) t → Proper (tests h) t → ((c : ℕ) → (t.rows c).target < (faces h).processors) → Dated (tests h) t → Stands log counts sound tests faces holds h → Stands log counts sound tests faces holds k
+  pub stands-to : (h k : H) (z : Caches R) (t : State Token) → holds k ≡ z → tests k ≡ tests h → faces k ≡ faces h → sound k → shown z ≡ t → z.processor ≡ (holds h).processor → Placed log counts z → Ready ((faces h).level + 1) t → Proper (tests h) t → ((c : ℕ) → (t.rows c).target < (faces h).processors) → Dated (tests h) t → {was : H → Type 0} → Stands log counts was tests faces holds h → Stands log counts sound tests faces holds k
   stands-to h k z t p q f s e n d r o a b w =
       let A : State Token → Type 0 = λ x. Ready ((faces h).level + 1) x in
       let P : State Token → Type 0 = λ x. Proper (tests h) x in
@@ -82,7 +82,7 @@ module _ {H R : Type 0} (log : R → Option Log) (counts : R → Counts) (sound 
       }
 
   -- the same of an entry of the desk's level
-  pub stands-entry : (h k : H) (z : Caches R) (e : Entry) (us : List Token) → holds k ≡ z → tests k ≡ tests h → faces k ≡ faces h → sound k → shown z ≡ effect (faces h).level e us (shown (holds h)) → z.processor ≡ (holds h).processor → Placed log counts z → Lifts (faces h).level e (shown (holds h)) → Arrives (λ c k u. Suits (tests h) k u) (Either (tests h)) (faces h).level e us (shown (holds h)) → Aims (faces h).processors (faces h).level e (shown (holds h)) → Dated (tests h) (effect (faces h).level e us (shown (holds h))) → Stands log counts sound tests faces holds h → Stands log counts sound tests faces holds k
+  pub stands-entry : (h k : H) (z : Caches R) (e : Entry) (us : List Token) → holds k ≡ z → tests k ≡ tests h → faces k ≡ faces h → sound k → shown z ≡ effect (faces h).level e us (shown (holds h)) → z.processor ≡ (holds h).processor → Placed log counts z → Lifts (faces h).level e (shown (holds h)) → Arrives (λ c k u. Suits (tests h) k u) (Either (tests h)) (faces h).level e us (shown (holds h)) → Aims (faces h).processors (faces h).level e (shown (holds h)) → Dated (tests h) (effect (faces h).level e us (shown (holds h))) → {was : H → Type 0} → Stands log counts was tests faces holds h → Stands log counts sound tests faces holds k
   stands-entry h k z e us p q f s o n d x v a b w =
       let l = (faces h).level in
       let y = shown (holds h) in
@@ -134,5 +134,5 @@ units-at {R} log l j e xs us y w z p q t = let F : ℕ → Caches R → Type 0 =
 
 module _ {H R : Type 0} (log : R → Option Log) (counts : R → Counts) (sound : H → Type 0) (tests : H → Tests) (faces : H → Face) (holds : H → Caches R) where
   -- an entry that moves nothing was recorded
-  pub stands-noted : (h k : H) (w z : Caches R) → w ≡ holds h → holds k ≡ z → tests k ≡ tests h → faces k ≡ faces h → sound k → shown z ≡ shown w → z.processor ≡ w.processor → Placed log counts z → Stands log counts sound tests faces holds h → Stands log counts sound tests faces holds k
+  pub stands-noted : (h k : H) (w z : Caches R) → w ≡ holds h → holds k ≡ z → tests k ≡ tests h → faces k ≡ faces h → sound k → shown z ≡ shown w → z.processor ≡ w.processor → Placed log counts z → {was : H → Type 0} → Stands log counts was tests faces holds h → Stands log counts sound tests faces holds k
   stands-noted h k w z v p q f s e n d x = stands-to log counts sound tests faces holds h k z (shown (holds h)) p q f s (e ∙ ap (λ (c : Caches R). shown c) v) (n ∙ ap (λ (c : Caches R). c.processor) v) d x.fine.ready x.fine.proper x.fine.aimed.targets x.dated x

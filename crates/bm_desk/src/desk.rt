@@ -46,6 +46,8 @@ pub trait Desk<R: Recorder>: Host<R> {
 
     ghost sound_apart: { (h : Self) (w : Self.W) → Alike (Self.W.Knows.known (shared h)) (Self.W.Knows.known w) → Self.Host.sound h → Self.Host.sound (with_shared h w) };
 
+    ghost asked_apart: { (h : Self) (w : Self.W) → Alike (Self.W.Knows.known (shared h)) (Self.W.Knows.known w) → Self.Host.asked h → Self.Host.asked (with_shared h w) };
+
     ghost stays_apart: { (h : Self) (w : Self.W) → Alike (Self.W.Knows.known (shared h)) (Self.W.Knows.known w) → stays h (with_shared h w) };
 
     // The tests are those of the side's rights, and the processors are the side's.

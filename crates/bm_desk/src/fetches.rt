@@ -8,6 +8,7 @@ ghost use Rattle.bm_law.specs.declared.mark.Mark.TheVariants as mark;
 ghost use Rattle.bm_law.specs.Stands.{stands, times};
 ghost use Rattle.bm_law.specs.State.{seen, idle_side};
 ghost use Rattle.bm_cache.specs.Each.{Sits};
+ghost use Rattle.bm_cache.specs.Placed.{Placed};
 ghost use Rattle.bm_cache.specs.Shown.{shown};
 ghost use Rattle.bm_cache.specs.Tests.{Reusable};
 ghost use Rattle.bm_cache.specs.Tokens.{Token, number_of};
@@ -36,14 +37,14 @@ fn get_fetched<R: Recorder, H: Desk<R>>(
     class: Class,
     want: u32,
 ) -> Result<Vec<Unit>, NoMemory>
-    requires stands { Stands R.log R.counts H.Host.sound H.Host.tests H.Host.face H.Host.held host.old }
+    requires stands { Stands R.log R.counts H.Host.asked H.Host.tests H.Host.face H.Host.held host.old }
     ensures posted { Posted H.Host.face H.Host.pending H.stays H.Host.held (λ h. H.W.Knows.known (H.shared h)) H.Host.tests [] host.old host.new }
     ensures mail { (H.W.Knows.known (H.shared host.new)).parcels ≡ (H.W.Knows.known (H.shared host.old)).parcels }
     ensures few { IfOk result (λ us. length us.items ≤ want) }
     ensures sit { IfOk result (λ us. All (Sits class) us.items) }
     ensures fresh { IfOk result (λ us. (n : ℕ) → stands n (seen number_of (shown (H.Host.held host.new))) + times n (map number_of us.items) ≤ 1) }
     ensures reusable { IfOk result (λ us. All (Reusable (H.Host.tests host.new)) us.items) }
-    ensures stands { Stands R.log R.counts H.Host.sound H.Host.tests H.Host.face H.Host.held host.new }
+    ensures stands { Stands R.log R.counts H.Host.asked H.Host.tests H.Host.face H.Host.held host.new }
 {
     let mut units = Vec::new(alloc);
     match host.world().fetch(class, want as usize, &mut units) {
@@ -57,7 +58,7 @@ fn get_fetched<R: Recorder, H: Desk<R>>(
 
 /// The units that the stock gave come into the hand, and that is recorded.
 fn note_fetched<R: Recorder, H: Desk<R>>(host: &mut H, class: Class, want: u32, units: Vec<Unit>)
-    requires stands { Stands R.log R.counts H.Host.sound H.Host.tests H.Host.face H.Host.held host.old }
+    requires stands { Stands R.log R.counts H.Host.asked H.Host.tests H.Host.face H.Host.held host.old }
     requires empty { (shown (H.Host.held host.old)).sides (H.Host.face host.old).level ≡ idle_side }
     requires sit { All (Sits class) units.items }
     requires fresh { (n : ℕ) → stands n (seen number_of (shown (H.Host.held host.old))) + times n (map number_of units.items) ≤ 1 }
@@ -127,7 +128,8 @@ pub fn fetch_rest<R: Recorder, H: Desk<R>>(
     ensures wanted { OnErr result (0 < want) }
     ensures deferred { (k : ℕ) → ((shown (H.Host.held host.new)).rows k).deferred ≡ ((shown (H.Host.held host.old)).rows k).deferred }
     ensures side { (shown (H.Host.held host.new)).sides (H.Host.face host.old).level ≡ idle_side }
-    ensures stands { Stands R.log R.counts H.Host.sound H.Host.tests H.Host.face H.Host.held host.new }
+    ensures placed { Placed R.log R.counts (H.Host.held host.new) }
+    ensures stands { OnOk result (Stands R.log R.counts H.Host.sound H.Host.tests H.Host.face H.Host.held host.new) }
 {
     if want == 0 {
         return Ok(());

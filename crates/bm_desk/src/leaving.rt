@@ -32,12 +32,12 @@ fn room_for_hand<R: Recorder, H: Desk<R>>(
     host: &mut H,
     class: Class,
 ) -> Result<Vec<u16>, NoMemory>
-    requires stands { Stands R.log R.counts H.Host.sound H.Host.tests H.Host.face H.Host.held host.old }
+    requires stands { Stands R.log R.counts H.Host.asked H.Host.tests H.Host.face H.Host.held host.old }
     ensures room { IfOk result (λ v. (vec_len v ≡ 0) × (length ((shown (H.Host.held host.old)).sides (H.Host.face host.old).level).hand ≤ vec_capacity v)) }
     ensures same { (H.Host.held host.new) ≡ (H.Host.held host.old) }
     ensures handled { Handled H.Host.face H.Host.pending H.stays H.shared H.Host.tests host.old host.new }
     ensures posted { Posted H.Host.face H.Host.pending H.stays H.Host.held (λ h. H.W.Knows.known (H.shared h)) H.Host.tests ([]) host.old host.new }
-    ensures stands { Stands R.log R.counts H.Host.sound H.Host.tests H.Host.face H.Host.held host.new }
+    ensures stands { Stands R.log R.counts H.Host.asked H.Host.tests H.Host.face H.Host.held host.new }
 {
     let _class = class;
     let level = host.level();
@@ -51,12 +51,12 @@ fn room_for_first<R: Recorder, H: Desk<R>>(
     host: &mut H,
     class: Class,
 ) -> Result<Vec<u16>, NoMemory>
-    requires stands { Stands R.log R.counts H.Host.sound H.Host.tests H.Host.face H.Host.held host.old }
+    requires stands { Stands R.log R.counts H.Host.asked H.Host.tests H.Host.face H.Host.held host.old }
     ensures room { IfOk result (λ v. (vec_len v ≡ 0) × (length ((shown (H.Host.held host.old)).rows class).deferred.first ≤ vec_capacity v)) }
     ensures same { (H.Host.held host.new) ≡ (H.Host.held host.old) }
     ensures handled { Handled H.Host.face H.Host.pending H.stays H.shared H.Host.tests host.old host.new }
     ensures posted { Posted H.Host.face H.Host.pending H.stays H.Host.held (λ h. H.W.Knows.known (H.shared h)) H.Host.tests ([]) host.old host.new }
-    ensures stands { Stands R.log R.counts H.Host.sound H.Host.tests H.Host.face H.Host.held host.new }
+    ensures stands { Stands R.log R.counts H.Host.asked H.Host.tests H.Host.face H.Host.held host.new }
 {
     let count = host.caches().counts(class).first;
     Ok(Vec::with_capacity(alloc, count as usize)?)
@@ -68,12 +68,12 @@ fn room_for_second<R: Recorder, H: Desk<R>>(
     host: &mut H,
     class: Class,
 ) -> Result<Vec<u16>, NoMemory>
-    requires stands { Stands R.log R.counts H.Host.sound H.Host.tests H.Host.face H.Host.held host.old }
+    requires stands { Stands R.log R.counts H.Host.asked H.Host.tests H.Host.face H.Host.held host.old }
     ensures room { IfOk result (λ v. (vec_len v ≡ 0) × (length ((shown (H.Host.held host.old)).rows class).deferred.second ≤ vec_capacity v)) }
     ensures same { (H.Host.held host.new) ≡ (H.Host.held host.old) }
     ensures handled { Handled H.Host.face H.Host.pending H.stays H.shared H.Host.tests host.old host.new }
     ensures posted { Posted H.Host.face H.Host.pending H.stays H.Host.held (λ h. H.W.Knows.known (H.shared h)) H.Host.tests ([]) host.old host.new }
-    ensures stands { Stands R.log R.counts H.Host.sound H.Host.tests H.Host.face H.Host.held host.new }
+    ensures stands { Stands R.log R.counts H.Host.asked H.Host.tests H.Host.face H.Host.held host.new }
 {
     let count = host.caches().counts(class).second;
     Ok(Vec::with_capacity(alloc, count as usize)?)

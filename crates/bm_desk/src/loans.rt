@@ -41,14 +41,14 @@ pub fn write_numbers(numbers: &mut Vec<u16>, units: &Vec<Unit>)
 /// Takes out all units in hand, to send them. Want of memory is the only refusal.
 pub fn lend_hand<R: Recorder, H: Desk<R>>(host: &mut H, class: Class) -> Result<Vec<Unit>, NoMemory>
     requires placed { Placed R.log R.counts (H.Host.held host.old) }
-    requires sound { H.Host.sound host.old }
+    requires asked { H.Host.asked host.old }
     ensures units { IfOk result (λ us. us.items ≡ ((shown (H.Host.held host.old)).sides (H.Host.face host.old).level).hand) }
     ensures lent { OnOk result (Lends R.log R.counts (with_hand (H.Host.face host.old).level [] (shown (H.Host.held host.old))) (H.Host.held host.old) (H.Host.held host.new)) }
     ensures from { OnOk result ((H.Host.held host.new).first_lent ≡ false) }
     ensures refused { OnErr result ((H.Host.held host.new) ≡ (H.Host.held host.old)) }
     ensures known { Known (H.Host.face host.old).level (entry.Send class 0 (Whole [])) }
     ensures handled { Handled H.Host.face H.Host.pending H.stays H.shared H.Host.tests host.old host.new }
-    ensures sound { H.Host.sound host.new }
+    ensures asked { H.Host.asked host.new }
 {
     let level = host.level();
     host.caches().hand_out(level, class)
@@ -60,14 +60,14 @@ pub fn lend_first<R: Recorder, H: Desk<R>>(
     class: Class,
 ) -> Result<Vec<Unit>, NoMemory>
     requires placed { Placed R.log R.counts (H.Host.held host.old) }
-    requires sound { H.Host.sound host.old }
+    requires asked { H.Host.asked host.old }
     ensures units { IfOk result (λ us. us.items ≡ ((shown (H.Host.held host.old)).rows class).deferred.first) }
     ensures lent { OnOk result (Lends R.log R.counts (with_first class [] (shown (H.Host.held host.old))) (H.Host.held host.old) (H.Host.held host.new)) }
     ensures from { OnOk result ((H.Host.held host.new).first_lent ≡ true) }
     ensures refused { OnErr result ((H.Host.held host.new) ≡ (H.Host.held host.old)) }
     ensures known { Known (H.Host.face host.old).level (entry.Send class 0 (Whole [])) }
     ensures handled { Handled H.Host.face H.Host.pending H.stays H.shared H.Host.tests host.old host.new }
-    ensures sound { H.Host.sound host.new }
+    ensures asked { H.Host.asked host.new }
 {
     let level = host.level();
     host.caches().first_out(level, class)
@@ -80,7 +80,7 @@ pub fn give_parcel<R: Recorder, H: Desk<R>>(
     class: Class,
     units: Vec<Unit>,
 ) -> Result<(), Vec<Unit>>
-    requires sound { H.Host.sound host.old }
+    requires asked { H.Host.asked host.old }
     requires to { to < (H.W.Knows.known (H.shared host.old)).grace.processors }
     requires some { 0 < length units.items }
     requires class { All (IsOf class) units.items }
@@ -89,14 +89,14 @@ pub fn give_parcel<R: Recorder, H: Desk<R>>(
     ensures posted { Posted H.Host.face H.Host.pending H.stays H.Host.held (λ h. H.W.Knows.known (H.shared h)) H.Host.tests (numbers units.items) host.old host.new }
     ensures mail { OnOk result (Carries (H.W.Knows.known (H.shared host.old)).grace.processor (entry.Send class to (Whole (numbers units.items))) (H.W.Knows.known (H.shared host.old)).parcels (H.W.Knows.known (H.shared host.new)).parcels) }
     ensures refused { IfErr result (λ back. back.items ≡ units.items) }
-    ensures sound { H.Host.sound host.new }
+    ensures asked { H.Host.asked host.new }
 {
     host.world().send(to, class, units)
 }
 
 /// Ends the loan of units that were sent.
 pub fn end_send<R: Recorder, H: Desk<R>>(host: &mut H, class: Class, to: u8, numbers: Vec<u16>)
-    requires sound { H.Host.sound host.old }
+    requires asked { H.Host.asked host.old }
     requires lent { (s : State Token) × SendIsLent R.log R.counts (H.Host.face host.old).level class numbers.items s (H.Host.held host.old) }
     requires quiet { is_waiting ((shown (H.Host.held host.old)).sides (H.Host.face host.old).level).mark ≡ false }
     requires target { to ≡ ((shown (H.Host.held host.old)).rows class).target }
@@ -132,11 +132,11 @@ pub fn take_back_first<R: Recorder, H: Desk<R>>(host: &mut H, class: Class, unit
 
 /// The processor that the parcels of a class go to.
 pub fn target_of<R: Recorder, H: Desk<R>>(host: &mut H, class: Class) -> u8
-    requires sound { H.Host.sound host.old }
+    requires asked { H.Host.asked host.old }
     ensures target { result ≡ ((shown (H.Host.held host.old)).rows class).target }
     ensures same { (H.Host.held host.new) ≡ (H.Host.held host.old) }
     ensures handled { Handled H.Host.face H.Host.pending H.stays H.shared H.Host.tests host.old host.new }
-    ensures sound { H.Host.sound host.new }
+    ensures asked { H.Host.asked host.new }
 {
     host.caches().target(class)
 }

@@ -29,13 +29,13 @@ use std::alloc::Global;
 
 /// Takes the oldest parcel out of the inbox of a class; no units where the inbox is empty.
 fn get_parcel<R: Recorder, H: Desk<R>>(alloc: Global, host: &mut H, class: Class) -> Vec<Unit>
-    requires stands { Stands R.log R.counts H.Host.sound H.Host.tests H.Host.face H.Host.held host.old }
+    requires stands { Stands R.log R.counts H.Host.asked H.Host.tests H.Host.face H.Host.held host.old }
     ensures posted { Posted H.Host.face H.Host.pending H.stays H.Host.held (λ h. H.W.Knows.known (H.shared h)) H.Host.tests [] host.old host.new }
     ensures mail { Carries (H.W.Knows.known (H.shared host.old)).grace.processor (entry.Receive class (Whole (numbers result.items))) (H.W.Knows.known (H.shared host.old)).parcels (H.W.Knows.known (H.shared host.new)).parcels }
     ensures sit { All (Sits class) result.items }
     ensures fresh { (n : ℕ) → stands n (seen number_of (shown (H.Host.held host.new))) + times n (map number_of result.items) ≤ 1 }
     ensures reusable { All (Reusable (H.Host.tests host.new)) result.items }
-    ensures stands { Stands R.log R.counts H.Host.sound H.Host.tests H.Host.face H.Host.held host.new }
+    ensures stands { Stands R.log R.counts H.Host.asked H.Host.tests H.Host.face H.Host.held host.new }
 {
     match host.world().receive(class) {
         Some(units) => units,
@@ -45,7 +45,7 @@ fn get_parcel<R: Recorder, H: Desk<R>>(alloc: Global, host: &mut H, class: Class
 
 /// The units of a parcel come on Ready, or none do, and that is recorded.
 fn note_parcel<R: Recorder, H: Desk<R>>(host: &mut H, class: Class, units: Vec<Unit>)
-    requires stands { Stands R.log R.counts H.Host.sound H.Host.tests H.Host.face H.Host.held host.old }
+    requires stands { Stands R.log R.counts H.Host.asked H.Host.tests H.Host.face H.Host.held host.old }
     requires sit { All (Sits class) units.items }
     requires fresh { (n : ℕ) → stands n (seen number_of (shown (H.Host.held host.old))) + times n (map number_of units.items) ≤ 1 }
     requires reusable { All (Reusable (H.Host.tests host.old)) units.items }

@@ -98,13 +98,25 @@ pub fn finish_if_passed<R: Recorder, H: Desk<R>>(host: &mut H, domain: Domain)
 }
 
 /// Reads the number of a domain, and answers whether it is at least a stamp.
-pub fn ask<R: Recorder, H: Desk<R>>(host: &mut H, domain: Domain, stamp: u32) -> Done
+fn ask<R: Recorder, H: Desk<R>>(host: &mut H, domain: Domain, stamp: u32) -> Done
     requires stands { Stands R.log R.counts H.Host.sound H.Host.tests H.Host.face H.Host.held host.old }
     ensures answer { Answers result stamp }
     ensures known { H.W.Knows.known (H.shared host.new) ≡ read H.W.Knows.tells domain (number_in result) (H.W.Knows.known (H.shared host.old)) }
     ensures ripe { (u : Token) → Ripened (H.Host.tests host.old) (H.Host.tests host.new) domain stamp result u }
     ensures called { Called H.Host.face H.Host.pending H.stays H.Host.held (λ h. H.W.Knows.known (H.shared h)) (λ h. H.W.Knows.rights (H.shared h)) 0 0 host.old host.new }
     ensures stands { Stands R.log R.counts H.Host.sound H.Host.tests H.Host.face H.Host.held host.new }
+{
+    host.world().done(domain, stamp)
+}
+
+/// Reads the number of a domain, and answers whether it is at least a stamp, behind a point.
+pub fn ask_now<R: Recorder, H: Desk<R>>(host: &mut H, domain: Domain, stamp: u32) -> Done
+    requires stands { Stands R.log R.counts H.Host.asked H.Host.tests H.Host.face H.Host.held host.old }
+    ensures answer { Answers result stamp }
+    ensures known { H.W.Knows.known (H.shared host.new) ≡ read H.W.Knows.tells domain (number_in result) (H.W.Knows.known (H.shared host.old)) }
+    ensures ripe { (u : Token) → Ripened (H.Host.tests host.old) (H.Host.tests host.new) domain stamp result u }
+    ensures called { Called H.Host.face H.Host.pending H.stays H.Host.held (λ h. H.W.Knows.known (H.shared h)) (λ h. H.W.Knows.rights (H.shared h)) 0 0 host.old host.new }
+    ensures stands { Stands R.log R.counts H.Host.asked H.Host.tests H.Host.face H.Host.held host.new }
 {
     host.world().done(domain, stamp)
 }

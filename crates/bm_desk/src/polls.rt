@@ -16,7 +16,7 @@ ghost use Rattle.bm_desk.specs.Periods.{Sees};
 ghost use Rattle.bm_desk.specs.Works.{Stands, Works, plain_of, tracing_of};
 
 use crate::Desk;
-use crate::period::{ask, begin_if_due, finish_if_passed};
+use crate::period::{ask_now, begin_if_due, finish_if_passed};
 use bm_cache::Host;
 use bm_class::Class;
 use bm_grace::Done;
@@ -29,14 +29,14 @@ pub fn pause<R: Recorder, H: Desk<R>>(host: &mut H)
     ensures came { Came R.log ((H.Host.face host.old).level + 1) (H.Host.tests host.old) (H.Host.tests host.new) (H.Host.held host.old) (H.Host.held host.new) }
     ensures known { GoesOn (H.W.Knows.known (H.shared host.old)) (H.W.Knows.known (H.shared host.new)) }
     ensures quiet { H.Host.pending host.new ≡ H.Host.pending host.old → host.new ≡ host.old }
-    ensures stands { Stands R.log R.counts H.Host.sound H.Host.tests H.Host.face H.Host.held host.new }
+    ensures stands { Stands R.log R.counts H.Host.asked H.Host.tests H.Host.face H.Host.held host.new }
 {
     host.point();
 }
 
 /// Records that the number of a domain was read for a class.
 fn note_passed<R: Recorder, H: Desk<R>>(host: &mut H, class: Class, domain: Domain, number: u32)
-    requires stands { Stands R.log R.counts H.Host.sound H.Host.tests H.Host.face H.Host.held host.old }
+    requires stands { Stands R.log R.counts H.Host.asked H.Host.tests H.Host.face H.Host.held host.old }
     ensures works { Works R.log H.Host.face H.Host.pending H.stays H.Host.held (λ h. H.W.Knows.known (H.shared h)) 0 0 (λ l. Say l (IsOne (entry.Pass class domain number))) host.old host.new }
     ensures lists { shown (H.Host.held host.new) ≡ shown (H.Host.held host.old) }
     ensures ages { Ages (H.W.Knows.rights (H.shared host.old)) (H.W.Knows.rights (H.shared host.new)) }
@@ -66,7 +66,7 @@ fn see<R: Recorder, H: Desk<R>>(host: &mut H, class: Class, domain: Domain, stam
     ensures stands { Stands R.log R.counts H.Host.sound H.Host.tests H.Host.face H.Host.held host.new }
 {
     pause(host);
-    let seen = ask(host, domain, stamp);
+    let seen = ask_now(host, domain, stamp);
     note_passed(host, class, domain, seen_number(seen));
     seen
 }

@@ -27,13 +27,13 @@ use bm_word::NoMemory;
 /// Takes out all units of Second, to give them back. Want of memory is the only refusal.
 fn lend_second<R: Recorder, H: Desk<R>>(host: &mut H, class: Class) -> Result<Vec<Unit>, NoMemory>
     requires placed { Placed R.log R.counts (H.Host.held host.old) }
-    requires sound { H.Host.sound host.old }
+    requires asked { H.Host.asked host.old }
     ensures units { IfOk result (λ us. us.items ≡ ((shown (H.Host.held host.old)).rows class).deferred.second) }
     ensures lent { OnOk result (Lends R.log R.counts (with_second class [] (shown (H.Host.held host.old))) (H.Host.held host.old) (H.Host.held host.new)) }
     ensures refused { OnErr result ((H.Host.held host.new) ≡ (H.Host.held host.old)) }
     ensures known { Known (H.Host.face host.old).level (entry.Return class (Whole [])) }
     ensures handled { Handled H.Host.face H.Host.pending H.stays H.shared H.Host.tests host.old host.new }
-    ensures sound { H.Host.sound host.new }
+    ensures asked { H.Host.asked host.new }
 {
     let level = host.level();
     host.caches().second_out(level, class)
@@ -41,19 +41,19 @@ fn lend_second<R: Recorder, H: Desk<R>>(host: &mut H, class: Class) -> Result<Ve
 
 /// Gives units back to the stock.
 fn give_back<R: Recorder, H: Desk<R>>(host: &mut H, units: Vec<Unit>)
-    requires sound { H.Host.sound host.old }
+    requires asked { H.Host.asked host.old }
     requires mine { Holds (H.W.Knows.rights (H.shared host.old)) units.items }
     requires fit { All (MayLeave (H.W.Knows.rights (H.shared host.old))) units.items }
     ensures posted { Posted H.Host.face H.Host.pending H.stays H.Host.held (λ h. H.W.Knows.known (H.shared h)) H.Host.tests (numbers units.items) host.old host.new }
     ensures mail { (H.W.Knows.known (H.shared host.new)).parcels ≡ (H.W.Knows.known (H.shared host.old)).parcels }
-    ensures sound { H.Host.sound host.new }
+    ensures asked { H.Host.asked host.new }
 {
     host.world().put_back(units);
 }
 
 /// Ends the loan of units that went back.
 fn end_return<R: Recorder, H: Desk<R>>(host: &mut H, class: Class, numbers: Vec<u16>)
-    requires sound { H.Host.sound host.old }
+    requires asked { H.Host.asked host.old }
     requires lent { (s : State Token) × SecondIsLent R.log R.counts class numbers.items s (H.Host.held host.old) }
     requires progress { IsTrue (is_some ((shown (H.Host.held host.old)).rows class).deferred.tracing) }
     ensures step { Ended R.log (H.Host.face host.old).level (entry.Return class (Whole numbers.items)) (H.Host.held host.old) (H.Host.held host.new) }
@@ -72,7 +72,7 @@ pub fn return_now<R: Recorder, H: Desk<R>>(
     class: Class,
     numbers: Vec<u16>,
 ) -> Result<(), NoMemory>
-    requires stands { Stands R.log R.counts H.Host.sound H.Host.tests H.Host.face H.Host.held host.old }
+    requires stands { Stands R.log R.counts H.Host.asked H.Host.tests H.Host.face H.Host.held host.old }
     requires progress { IsTrue (is_some ((shown (H.Host.held host.old)).rows class).deferred.tracing) }
     requires empty { vec_len numbers ≡ 0 }
     requires room { length ((shown (H.Host.held host.old)).rows class).deferred.second ≤ vec_capacity numbers }

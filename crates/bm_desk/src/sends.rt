@@ -33,7 +33,7 @@ pub fn send_hand_now<R: Recorder, H: Desk<R>>(
     class: Class,
     numbers: Vec<u16>,
 ) -> Result<(), NoMemory>
-    requires stands { Stands R.log R.counts H.Host.sound H.Host.tests H.Host.face H.Host.held host.old }
+    requires stands { Stands R.log R.counts H.Host.asked H.Host.tests H.Host.face H.Host.held host.old }
     requires quiet { ((shown (H.Host.held host.old)).sides (H.Host.face host.old).level).mark ≡ mark.Quiet }
     requires fit { All (Fit (H.Host.tests host.old) class) ((shown (H.Host.held host.old)).sides (H.Host.face host.old).level).hand }
     requires some { 0 < length ((shown (H.Host.held host.old)).sides (H.Host.face host.old).level).hand }
@@ -80,7 +80,7 @@ pub fn send_first_now<R: Recorder, H: Desk<R>>(
     numbers: Vec<u16>,
     seal: Seal,
 ) -> Result<(), NoMemory>
-    requires stands { Stands R.log R.counts H.Host.sound H.Host.tests H.Host.face H.Host.held host.old }
+    requires stands { Stands R.log R.counts H.Host.asked H.Host.tests H.Host.face H.Host.held host.old }
     requires idle { (shown (H.Host.held host.old)).sides (H.Host.face host.old).level ≡ idle_side }
     requires ripe { All (Passes (H.Host.tests host.old) (ripe_test Plain seal.stamp seal.seen)) ((shown (H.Host.held host.old)).rows class).deferred.first }
     requires some { 0 < length ((shown (H.Host.held host.old)).rows class).deferred.first }

@@ -23,18 +23,18 @@ use bm_journal::{Domain, Recorder};
 
 /// Reads the number of a domain, and answers the stamp of it. What is mine has been mine since.
 pub fn take_stamp<R: Recorder, H: Desk<R>>(host: &mut H, domain: Domain) -> u32
-    requires stands { Stands R.log R.counts H.Host.sound H.Host.tests H.Host.face H.Host.held host.old }
+    requires stands { Stands R.log R.counts H.Host.asked H.Host.tests H.Host.face H.Host.held host.old }
     ensures positive { 0 < result }
     ensures since { (u : Token) → Either (H.Host.tests host.old) u → Passes (H.Host.tests host.new) (since_test domain result) u }
     ensures called { Called H.Host.face H.Host.pending H.stays H.Host.held (λ h. H.W.Knows.known (H.shared h)) (λ h. H.W.Knows.rights (H.shared h)) 0 0 host.old host.new }
-    ensures stands { Stands R.log R.counts H.Host.sound H.Host.tests H.Host.face H.Host.held host.new }
+    ensures stands { Stands R.log R.counts H.Host.asked H.Host.tests H.Host.face H.Host.held host.new }
 {
     host.world().stamp(domain)
 }
 
 /// Records the stamp of a batch.
 fn note_stamp<R: Recorder, H: Desk<R>>(host: &mut H, class: Class, domain: Domain, stamp: u32)
-    requires stands { Stands R.log R.counts H.Host.sound H.Host.tests H.Host.face H.Host.held host.old }
+    requires stands { Stands R.log R.counts H.Host.asked H.Host.tests H.Host.face H.Host.held host.old }
     requires unstamped { stamp_of domain ((shown (H.Host.held host.old)).rows class).deferred ≡ Some 0 }
     requires since { All (Passes (H.Host.tests host.old) (since_test domain stamp)) (batch_of domain ((shown (H.Host.held host.old)).rows class).deferred) }
     ensures works { Works R.log H.Host.face H.Host.pending H.stays H.Host.held (λ h. H.W.Knows.known (H.shared h)) 0 0 (λ l. Say l (IsOne (entry.Stamp class domain stamp))) host.old host.new }

@@ -43,6 +43,12 @@ impl<R: Recorder> Host<R> for Alone<R> {
 
     ghost sound = { λ m. Unit {0} };
 
+    ghost asked = { λ m. Unit {0} };
+
+    ghost gave = { λ _ _ m. Unit {0} };
+
+    ghost frees = { λ _ _ m. Unit {0} };
+
     ghost keeps = { λ a b. Unit {0} };
 
     ghost held_back = { λ h c. refl };
@@ -53,7 +59,17 @@ impl<R: Recorder> Host<R> for Alone<R> {
 
     ghost tests_back = { λ h c. refl };
 
-    ghost sound_back = { λ h c s. s };
+    ghost sound_back = { λ h c e s. s };
+
+    ghost asked_back = { λ h c e s. s };
+
+    ghost sound_stepped = { λ h c e i a k. k };
+
+    ghost sound_said = { λ h c e i a s. s };
+
+    ghost sound_given = { λ h c u n x a s. s };
+
+    ghost sound_freed = { λ h c e u n i a s. s };
 
     ghost keeps_back = { λ h c. tt };
 

@@ -6,6 +6,7 @@ use Rattle.bm_cache.specs.Shown.{shown}
 use Rattle.bm_cache.specs.Tokens.{number_of}
 use Rattle.bm_cache.specs.declared.caches.Caches.{Caches}
 use Rattle.bm_desk.proofs.Steps.{dated-alike, dated-with-row, stands-entry, units-at}
+use Rattle.bm_cache.proofs.Steady.{sound-step}
 use Rattle.bm_desk.proofs.parcels.note_parcel.Goals as goal
 
 pub returns-clause-stands : goal.returns-clause-stands
@@ -16,7 +17,7 @@ returns-clause-stands g c =
     let us = c.args.units.items in
     let y = g.H.Host.held h in
     let t = units-at g.R.Recorder.log (g.H.Host.face h).level c.level-level.result (entry.Receive i) (map number_of us) us y c.caches.result.now z c.level-level.ensures.same c.caches.ensures.held c.take_parcel.ensures.step in
-    stands-entry g.R.Recorder.log g.R.Recorder.counts g.H.Host.sound g.H.Host.tests g.H.Host.face g.H.Host.held h (g.H.Host.with_held h z) z (entry.Receive i (Whole (map number_of us))) us (g.met.H.Host.held_back h z) (g.met.H.Host.tests_back h z) (g.met.H.Host.face_back h z) (g.met.H.Host.sound_back h z c.requires.stands.sound) t.after t.processor c.take_parcel.ensures.placed tt c.requires.reusable tt (dated-with-row (g.H.Host.tests h) i _ (shown y) (dated-alike (g.H.Host.tests h) ((shown y).rows i).deferred _ refl refl refl refl (c.requires.stands.dated i)) c.requires.stands.dated) c.requires.stands
+    stands-entry g.R.Recorder.log g.R.Recorder.counts g.H.Host.sound g.H.Host.tests g.H.Host.face g.H.Host.held h (g.H.Host.with_held h z) z (entry.Receive i (Whole (map number_of us))) us (g.met.H.Host.held_back h z) (g.met.H.Host.tests_back h z) (g.met.H.Host.face_back h z) (sound-step g.H.Host.face g.H.Host.held g.H.Host.with_held g.R.Recorder.log g.H.Host.asked g.H.Host.sound g.met.H.Host.sound_stepped h h c.caches.result.now z c.level-level.result (entry.Receive i c.take_parcel.ensures.step.units) refl c.requires.stands.sound c.level-level.ensures.same c.caches.ensures.held refl c.take_parcel.ensures.step.records) t.after t.processor c.take_parcel.ensures.placed tt c.requires.reusable tt (dated-with-row (g.H.Host.tests h) i _ (shown y) (dated-alike (g.H.Host.tests h) ((shown y).rows i).deferred _ refl refl refl refl (c.requires.stands.dated i)) c.requires.stands.dated) c.requires.stands
 
 pub returns-clause-step : goal.returns-clause-step
 returns-clause-step g c =

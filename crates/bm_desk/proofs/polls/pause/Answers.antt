@@ -5,4 +5,4 @@ pub returns-clause-works : goal.returns-clause-works
 returns-clause-works g c = works-point g.R.Recorder.log g.H.Host.tests g.H.Host.face g.H.Host.pending g.H.Desk.stays g.H.Host.held (λ h. g.H.W.Knows.known (g.H.Desk.shared h)) c.args.host.now c.point.new.self c.point.ensures.came (let q = c.point.ensures.goes in record { face = q.face; pending = q.pending; keeps = g.met.H.Desk.keeps_stays c.args.host.now c.point.new.self q.keeps }) c.point.ensures.quiet (g.met.H.Desk.known_goes c.args.host.now c.point.new.self c.point.ensures.goes.keeps)
 
 pub returns-clause-stands : goal.returns-clause-stands
-returns-clause-stands g c = stands-point g.R.Recorder.log g.R.Recorder.counts g.H.Host.sound g.H.Host.tests g.H.Host.face g.H.Host.held _ c.args.host.now c.point.new.self c.point.ensures.came c.point.ensures.sound c.point.ensures.fine c.requires.stands
+returns-clause-stands g c = stands-point g.R.Recorder.log g.R.Recorder.counts g.H.Host.asked g.H.Host.tests g.H.Host.face g.H.Host.held _ c.args.host.now c.point.new.self c.point.ensures.came c.point.ensures.asked c.point.ensures.fine c.requires.stands

@@ -1,9 +1,10 @@
-use Rattle.std.proofs.Common.{[]}
+use Rattle.std.proofs.Common.{[], refl}
 use Rattle.bm_journal.specs.declared.entry.Entry.TheVariants as entry
 use Rattle.bm_cache.specs.Shown.{shown}
 use Rattle.bm_cache.proofs.Moments.{took-at}
 use Rattle.bm_desk.proofs.Batches.{dated-stamped}
 use Rattle.bm_desk.proofs.Steps.{stands-entry}
+use Rattle.bm_cache.proofs.Steady.{sound-step}
 use Rattle.bm_desk.proofs.stamps.note_stamp.Goals as goal
 
 pub returns-clause-stands : goal.returns-clause-stands
@@ -14,4 +15,4 @@ returns-clause-stands g c =
     let d = c.args.domain in
     let x = c.args.stamp in
     let t = took-at g.R.Recorder.log (g.H.Host.face h).level c.level-level.result (entry.Stamp i d x) [] (g.H.Host.held h) c.caches.result.now z c.level-level.ensures.same c.caches.ensures.held c.stamped.ensures.step in
-    stands-entry g.R.Recorder.log g.R.Recorder.counts g.H.Host.sound g.H.Host.tests g.H.Host.face g.H.Host.held h (g.H.Host.with_held h z) z (entry.Stamp i d x) [] (g.met.H.Host.held_back h z) (g.met.H.Host.tests_back h z) (g.met.H.Host.face_back h z) (g.met.H.Host.sound_back h z c.requires.stands.sound) t.after t.processor c.stamped.ensures.placed tt tt tt (dated-stamped (g.H.Host.tests h) (g.H.Host.face h).level i d x (shown (g.H.Host.held h)) c.requires.unstamped c.requires.since c.requires.stands.dated) c.requires.stands
+    stands-entry g.R.Recorder.log g.R.Recorder.counts g.H.Host.sound g.H.Host.tests g.H.Host.face g.H.Host.held h (g.H.Host.with_held h z) z (entry.Stamp i d x) [] (g.met.H.Host.held_back h z) (g.met.H.Host.tests_back h z) (g.met.H.Host.face_back h z) (sound-step g.H.Host.face g.H.Host.held g.H.Host.with_held g.R.Recorder.log g.H.Host.asked g.H.Host.sound g.met.H.Host.sound_stepped h h c.caches.result.now z c.level-level.result (entry.Stamp i d x) refl c.requires.stands.sound c.level-level.ensures.same c.caches.ensures.held refl c.stamped.ensures.step.records) t.after t.processor c.stamped.ensures.placed tt tt tt (dated-stamped (g.H.Host.tests h) (g.H.Host.face h).level i d x (shown (g.H.Host.held h)) c.requires.unstamped c.requires.since c.requires.stands.dated) c.requires.stands

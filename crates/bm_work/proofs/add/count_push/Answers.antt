@@ -9,6 +9,7 @@ use Rattle.bm_cache.proofs.Stretch.{stretch, fine-step, between-count}
 use Rattle.bm_cache.proofs.Moments.{took-at, counted-up}
 use Rattle.bm_cache.proofs.Flags.{raises-none-step}
 use Rattle.bm_cache.proofs.Unbroken.{unbroken-step}
+use Rattle.bm_cache.proofs.Steady.{sound-step}
 use Rattle.bm_work.proofs.add.count_push.Goals as goal
 
 pub returns-clause-span : goal.returns-clause-span
@@ -34,3 +35,7 @@ returns-clause-alone g c =
 pub returns-clause-flags : goal.returns-clause-flags
 returns-clause-flags g c =
     raises-none-step g.H.Host.pending g.H.Host.held g.R.Recorder.log c.args.host.now c.point.new.self (g.H.Host.with_held c.point.new.self c.count_up.new.self) c.caches.result.now c.count_up.new.self c.level-level.result (entry.Count c.args.class c.count_up.result) [] refl c.point.ensures.quiet c.caches.ensures.held (g.met.H.Host.held_back c.point.new.self c.count_up.new.self) (g.met.H.Host.pending_back c.point.new.self c.count_up.new.self) c.count_up.ensures.step
+
+pub returns-clause-sound : goal.returns-clause-sound
+returns-clause-sound g c =
+    sound-step g.H.Host.face g.H.Host.held g.H.Host.with_held g.R.Recorder.log g.H.Host.asked g.H.Host.sound g.met.H.Host.sound_stepped c.args.host.now c.point.new.self c.caches.result.now c.count_up.new.self c.level-level.result (entry.Count c.args.class c.count_up.result) c.point.ensures.goes.face c.point.ensures.asked c.level-level.ensures.same c.caches.ensures.held refl c.count_up.ensures.step.records

@@ -11,6 +11,7 @@ use Rattle.bm_cache.proofs.Moments.{took-at, one-token}
 use Rattle.bm_cache.proofs.Flags.{raises-none-step}
 use Rattle.bm_cache.proofs.Unbroken.{unbroken-step}
 use Rattle.bm_work.proofs.Steps.{pushed-more, first-lasts}
+use Rattle.bm_cache.proofs.Steady.{sound-step}
 use Rattle.bm_work.proofs.add.push_first.Goals as goal
 
 pub returns-clause-pushed : goal.returns-clause-pushed
@@ -54,3 +55,8 @@ pub returns-clause-flags : goal.returns-clause-flags
 returns-clause-flags g c =
     let q = c.push.ensures.pushed in
     raises-none-step g.H.Host.pending g.H.Host.held g.R.Recorder.log c.args.host.now c.point.new.self (g.H.Host.with_held c.point.new.self c.push.new.self) c.caches.result.now c.push.new.self c.level-level.result (entry.Push c.args.class q.0.number) [] refl c.point.ensures.quiet c.caches.ensures.held (g.met.H.Host.held_back c.point.new.self c.push.new.self) (g.met.H.Host.pending_back c.point.new.self c.push.new.self) q.3
+
+pub returns-clause-sound : goal.returns-clause-sound
+returns-clause-sound g c =
+    let q = c.push.ensures.pushed in
+    sound-step g.H.Host.face g.H.Host.held g.H.Host.with_held g.R.Recorder.log g.H.Host.asked g.H.Host.sound g.met.H.Host.sound_stepped c.args.host.now c.point.new.self c.caches.result.now c.push.new.self c.level-level.result (entry.Push c.args.class q.0.number) c.point.ensures.goes.face c.point.ensures.asked c.level-level.ensures.same c.caches.ensures.held refl q.3.records

@@ -13,6 +13,7 @@ use Rattle.bm_cache.proofs.Moments.{took-at, waiting-kept}
 use Rattle.bm_cache.proofs.Flags.{raises-none-step}
 use Rattle.bm_cache.proofs.Unbroken.{unbroken-step}
 use Rattle.bm_work.proofs.Lists.{took-list, between-batch, waits-batch, batch-deferred, batch-others}
+use Rattle.bm_cache.proofs.Steady.{sound-step}
 use Rattle.bm_work.proofs.batch.make_batch.Goals as goal
 
 pub returns-clause-span : goal.returns-clause-span
@@ -110,3 +111,12 @@ pub take_batch-requires-clause-none : goal.take_batch-requires-clause-none
 take_batch-requires-clause-none g c =
     let i = c.args.class in
     ap (λ (d : Caches g.row.R.Denot). ((shown d).rows i).deferred.plain) c.caches.ensures.held ∙ ap (λ (v : Deferred Token). v.plain) (c.point.ensures.came.kept.rows i).deferred ∙ c.requires.none
+
+pub returns-clause-sound : goal.returns-clause-sound
+returns-clause-sound g c =
+    let i = c.args.class in
+    let z = c.take_batch.new.self in
+    let w = c.caches.result.now in
+    let us : List ℕ = map number_of ((shown w).rows i).delayed in
+    let q = took-list g.R.Recorder.log c.level-level.result (entry.Batch i) us w z refl c.take_batch.ensures.step in
+    sound-step g.H.Host.face g.H.Host.held g.H.Host.with_held g.R.Recorder.log g.H.Host.asked g.H.Host.sound g.met.H.Host.sound_stepped c.args.host.now c.point.new.self w z c.level-level.result (entry.Batch i (Whole us)) c.point.ensures.goes.face c.point.ensures.asked c.level-level.ensures.same c.caches.ensures.held refl q.records

@@ -12,6 +12,7 @@ use Rattle.bm_cache.proofs.Moments.{took-at, waiting-kept}
 use Rattle.bm_cache.proofs.Flags.{raises-none-step}
 use Rattle.bm_cache.proofs.Unbroken.{unbroken-step}
 use Rattle.bm_work.proofs.Lists.{took-list, between-gathered, waits-gathered}
+use Rattle.bm_cache.proofs.Steady.{sound-step}
 use Rattle.bm_work.proofs.batch.move_delayed.Goals as goal
 
 pub returns-clause-span : goal.returns-clause-span
@@ -69,3 +70,12 @@ returns-clause-flags g c =
     let us : List ℕ = map number_of ((shown w).rows i).extra_delayed in
     let q = took-list g.R.Recorder.log c.level-level.result (entry.TakeDelayed i) us w z refl c.take_extra_delayed.ensures.step in
     raises-none-step g.H.Host.pending g.H.Host.held g.R.Recorder.log c.args.host.now c.point.new.self (g.H.Host.with_held c.point.new.self z) w z c.level-level.result (entry.TakeDelayed i (Whole us)) [] refl c.point.ensures.quiet c.caches.ensures.held (g.met.H.Host.held_back c.point.new.self z) (g.met.H.Host.pending_back c.point.new.self z) q
+
+pub returns-clause-sound : goal.returns-clause-sound
+returns-clause-sound g c =
+    let i = c.args.class in
+    let z = c.take_extra_delayed.new.self in
+    let w = c.caches.result.now in
+    let us : List ℕ = map number_of ((shown w).rows i).extra_delayed in
+    let q = took-list g.R.Recorder.log c.level-level.result (entry.TakeDelayed i) us w z refl c.take_extra_delayed.ensures.step in
+    sound-step g.H.Host.face g.H.Host.held g.H.Host.with_held g.R.Recorder.log g.H.Host.asked g.H.Host.sound g.met.H.Host.sound_stepped c.args.host.now c.point.new.self w z c.level-level.result (entry.TakeDelayed i (Whole us)) c.point.ensures.goes.face c.point.ensures.asked c.level-level.ensures.same c.caches.ensures.held refl q.records

@@ -13,6 +13,7 @@ use Rattle.bm_cache.proofs.Unbroken.{unbroken-step}
 use Rattle.bm_deferred.specs.WorkPhrases.{IsOne}
 use Rattle.bm_work.proofs.Grown.{grew-say}
 use Rattle.bm_work.proofs.Spans.{span-active, span-still}
+use Rattle.bm_cache.proofs.Steady.{sound-say}
 use Rattle.bm_work.proofs.count.begin_work.Goals as goal
 
 between-work : (l c : ℕ) (s : State Token) → Between l c 0 0 s (effect l (entry.Work c) [] s)
@@ -49,3 +50,7 @@ returns-clause-alone g c =
 pub returns-clause-flags : goal.returns-clause-flags
 returns-clause-flags g c =
     raises-none-step g.H.Host.pending g.H.Host.held g.R.Recorder.log c.args.host.now c.args.host.now (g.H.Host.with_held c.args.host.now c.lower.new.self) c.caches.result.now c.lower.new.self c.level-level.result (entry.Work c.args.class) [] refl (λ _. refl) c.caches.ensures.held (g.met.H.Host.held_back c.args.host.now c.lower.new.self) (g.met.H.Host.pending_back c.args.host.now c.lower.new.self) c.lower.ensures.step
+
+pub returns-clause-sound : goal.returns-clause-sound
+returns-clause-sound g c =
+    sound-say g.H.Host.face g.H.Host.held g.H.Host.with_held g.R.Recorder.log g.H.Host.sound g.met.H.Host.sound_said c.args.host.now c.caches.result.now c.lower.new.self c.level-level.result (entry.Work c.args.class) c.requires.sound c.level-level.ensures.same c.caches.ensures.held refl c.lower.ensures.step.records

@@ -10,6 +10,7 @@ use Rattle.bm_cache.proofs.Unbroken.{unbroken-step}
 use Rattle.bm_deferred.specs.WorkPhrases.{IsOne}
 use Rattle.bm_work.proofs.Grown.{grew-say}
 use Rattle.bm_work.proofs.Spans.{span-active, span-still}
+use Rattle.bm_cache.proofs.Steady.{sound-step}
 use Rattle.bm_work.proofs.count.read_count.Goals as goal
 
 pub returns-clause-answer : goal.returns-clause-answer
@@ -40,3 +41,7 @@ returns-clause-alone g c =
 pub returns-clause-flags : goal.returns-clause-flags
 returns-clause-flags g c =
     raises-none-step g.H.Host.pending g.H.Host.held g.R.Recorder.log c.args.host.now c.point.new.self (g.H.Host.with_held c.point.new.self c.read.new.self) c.caches.result.now c.read.new.self c.level-level.result (entry.Read c.args.class c.read.result) [] refl c.point.ensures.quiet c.caches.ensures.held (g.met.H.Host.held_back c.point.new.self c.read.new.self) (g.met.H.Host.pending_back c.point.new.self c.read.new.self) c.read.ensures.step
+
+pub returns-clause-sound : goal.returns-clause-sound
+returns-clause-sound g c =
+    sound-step g.H.Host.face g.H.Host.held g.H.Host.with_held g.R.Recorder.log g.H.Host.asked g.H.Host.sound g.met.H.Host.sound_stepped c.args.host.now c.point.new.self c.caches.result.now c.read.new.self c.level-level.result (entry.Read c.args.class c.read.result) c.point.ensures.goes.face c.point.ensures.asked c.level-level.ensures.same c.caches.ensures.held refl c.read.ensures.step.records

@@ -19,6 +19,7 @@ use Rattle.bm_work.specs.Fit.{Fit}
 use Rattle.bm_work.proofs.Grown.{grew-say}
 use Rattle.bm_work.proofs.Lists.{took-list, side-extra, no-extra, between-extra}
 use Rattle.bm_work.proofs.Spans.{span-active, span-still}
+use Rattle.bm_cache.proofs.Steady.{sound-step}
 use Rattle.bm_work.proofs.extra.take_all_extra.Goals as goal
 
 pub returns-clause-side : goal.returns-clause-side
@@ -87,3 +88,10 @@ returns-clause-flags g c =
     let z = c.take_extra.new.self in
     let q = took-list g.R.Recorder.log c.level-level.result (entry.TakeExtra i) _ c.caches.result.now z refl c.take_extra.ensures.step in
     raises-none-step g.H.Host.pending g.H.Host.held g.R.Recorder.log c.args.host.now c.point.new.self (g.H.Host.with_held c.point.new.self z) c.caches.result.now z c.level-level.result (entry.TakeExtra i (Whole _)) [] refl c.point.ensures.quiet c.caches.ensures.held (g.met.H.Host.held_back c.point.new.self z) (g.met.H.Host.pending_back c.point.new.self z) q
+
+pub returns-clause-sound : goal.returns-clause-sound
+returns-clause-sound g c =
+    let i = c.args.class in
+    let z = c.take_extra.new.self in
+    let q = took-list g.R.Recorder.log c.level-level.result (entry.TakeExtra i) _ c.caches.result.now z refl c.take_extra.ensures.step in
+    sound-step g.H.Host.face g.H.Host.held g.H.Host.with_held g.R.Recorder.log g.H.Host.asked g.H.Host.sound g.met.H.Host.sound_stepped c.args.host.now c.point.new.self c.caches.result.now z c.level-level.result (entry.TakeExtra i (Whole _)) c.point.ensures.goes.face c.point.ensures.asked c.level-level.ensures.same c.caches.ensures.held refl q.records

@@ -13,6 +13,7 @@ use Rattle.bm_cache.proofs.Flags.{raises-none-step}
 use Rattle.bm_cache.proofs.Unbroken.{unbroken-step}
 use Rattle.bm_work.proofs.Lists.{took-list, between-second, second-deferred, second-others}
 use Rattle.bm_work.proofs.Spans.{span-active}
+use Rattle.bm_cache.proofs.Steady.{sound-step}
 use Rattle.bm_work.proofs.second.make_second.Goals as goal
 
 pub returns-clause-span : goal.returns-clause-span
@@ -95,3 +96,12 @@ take_all_ready-requires-clause-none g c =
 
 pub returns-clause-active : goal.returns-clause-active
 returns-clause-active g c = span-active g.R.Recorder.log _ _ _ _ _ _ _ (returns-clause-span g c).1
+
+pub returns-clause-sound : goal.returns-clause-sound
+returns-clause-sound g c =
+    let i = c.args.class in
+    let z = c.take_all_ready.new.self in
+    let w = c.caches.result.now in
+    let us : List ℕ = map number_of ((shown w).rows i).deferred.ready in
+    let q = took-list g.R.Recorder.log c.level-level.result (entry.BeginSecond i) us w z refl c.take_all_ready.ensures.step in
+    sound-step g.H.Host.face g.H.Host.held g.H.Host.with_held g.R.Recorder.log g.H.Host.asked g.H.Host.sound g.met.H.Host.sound_stepped c.args.host.now c.point.new.self w z c.level-level.result (entry.BeginSecond i (Whole us)) c.point.ensures.goes.face c.point.ensures.asked c.level-level.ensures.same c.caches.ensures.held refl q.records

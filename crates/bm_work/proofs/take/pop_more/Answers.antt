@@ -15,6 +15,7 @@ use Rattle.bm_cache.proofs.Moments.{took-at, waiting-kept, reusable-either, firs
 use Rattle.bm_cache.proofs.Flags.{raises-none-step}
 use Rattle.bm_cache.proofs.Unbroken.{unbroken-step}
 use Rattle.bm_work.proofs.Steps.{popped-more, hand-room}
+use Rattle.bm_cache.proofs.Steady.{sound-step}
 use Rattle.bm_work.proofs.take.pop_more.Goals as goal
 
 pub returns-clause-some : goal.returns-clause-some
@@ -98,3 +99,15 @@ returns-clause-flags g c =
     go false h =
         let q = c.pop.ensures.none h in
         raises-none-step g.H.Host.pending g.H.Host.held g.R.Recorder.log c.args.host.now c.point.new.self (g.H.Host.with_held c.point.new.self c.pop.new.self) c.caches.result.now c.pop.new.self c.level-level.result (entry.PopNone c.args.class) [] refl c.point.ensures.quiet c.caches.ensures.held (g.met.H.Host.held_back c.point.new.self c.pop.new.self) (g.met.H.Host.pending_back c.point.new.self c.pop.new.self) q.1
+
+pub returns-clause-sound : goal.returns-clause-sound
+returns-clause-sound g c =
+    go c.pop.result refl
+  where
+    go : (b : Bool) → c.pop.result ≡ b → g.H.Host.sound (g.H.Host.with_held c.point.new.self c.pop.new.self)
+    go true h =
+        let q = c.pop.ensures.some h in
+        sound-step g.H.Host.face g.H.Host.held g.H.Host.with_held g.R.Recorder.log g.H.Host.asked g.H.Host.sound g.met.H.Host.sound_stepped c.args.host.now c.point.new.self c.caches.result.now c.pop.new.self c.level-level.result (entry.Pop c.args.class q.0.number) c.point.ensures.goes.face c.point.ensures.asked c.level-level.ensures.same c.caches.ensures.held refl q.3.records
+    go false h =
+        let q = c.pop.ensures.none h in
+        sound-step g.H.Host.face g.H.Host.held g.H.Host.with_held g.R.Recorder.log g.H.Host.asked g.H.Host.sound g.met.H.Host.sound_stepped c.args.host.now c.point.new.self c.caches.result.now c.pop.new.self c.level-level.result (entry.PopNone c.args.class) c.point.ensures.goes.face c.point.ensures.asked c.level-level.ensures.same c.caches.ensures.held refl q.1.records
