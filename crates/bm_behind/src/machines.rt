@@ -32,6 +32,12 @@ impl<R: Recorder, S: World> Host<R> for TestDesk<R, S> {
 
     ghost sound = { λ m. Unit {0} };
 
+    ghost asked = { λ m. Unit {0} };
+
+    ghost gave = { λ _ _ m. Unit {0} };
+
+    ghost frees = { λ _ _ m. Unit {0} };
+
     ghost keeps = { λ a b. S.Knows.known b.side ≡ S.Knows.known a.side };
 
     ghost held_back = { λ h c. refl };
@@ -42,7 +48,17 @@ impl<R: Recorder, S: World> Host<R> for TestDesk<R, S> {
 
     ghost tests_back = { λ h c. refl };
 
-    ghost sound_back = { λ h c s. s };
+    ghost sound_back = { λ h c e s. s };
+
+    ghost asked_back = { λ h c e s. s };
+
+    ghost sound_stepped = { λ h c e i a k. k };
+
+    ghost sound_said = { λ h c e i a s. s };
+
+    ghost sound_given = { λ h c u n x a s. s };
+
+    ghost sound_freed = { λ h c e u n i a s. s };
 
     ghost keeps_back = { λ h c. refl };
 
@@ -85,6 +101,8 @@ impl<R: Recorder, S: World> Desk<R> for TestDesk<R, S> {
     ghost pending_apart = { λ h w. refl };
 
     ghost sound_apart = { λ h w a s. s };
+
+    ghost asked_apart = { λ h w a s. s };
 
     ghost stays_apart = { λ h w a. a };
 

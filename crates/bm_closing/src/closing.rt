@@ -28,6 +28,7 @@ ghost use Rattle.bm_closing.specs.Swept.{Swept};
 ghost use Rattle.bm_closing.specs.Waited.{WaitedAt};
 ghost use Rattle.bm_closing.specs.declared.period.Waited.{Waited as WaitedValue};
 
+use crate::Ended;
 use crate::gathering::{gather, units_of};
 use crate::inbox::{give_up_parcels, give_up_units, numbers_of, receive_all};
 use crate::period::{end_driven, wait_period};
@@ -44,7 +45,7 @@ use std::alloc::Global;
 /// Ends the period of a domain that this processor has in progress, if it has one: all of its words pass, since no section is
 /// open anywhere. No handler runs. From `rcu_barrier_tasks_trace` in `free_mem_alloc` of kernel/bpf/memalloc.c, which waits for
 /// the periods that are in progress; that each processor ends its own is this project's own.
-pub fn end_period<R: Recorder, H: Desk<R>>(host: &mut H, domain: Domain)
+pub fn end_period<R: Recorder, H: Ended<R>>(host: &mut H, domain: Domain)
     requires at_end { AtEnd R.log R.counts H.Host.sound H.Host.tests H.Host.face H.Host.held host.old }
     requires rest { (n : ℕ) × H.W.Knows.rest (H.shared host.old) domain n }
     ensures ends { GrewBy (EndsOne domain (begun_by (side domain (H.W.Knows.known (H.shared host.old))).number)) (seen number_of (shown (H.Host.held host.old))) (R.log (H.Host.held host.old).recorder) (R.log (H.Host.held host.new).recorder) }
@@ -69,7 +70,7 @@ pub fn end_period<R: Recorder, H: Desk<R>>(host: &mut H, domain: Domain)
 }
 
 /// All parcels of a class's inbox, each of which holds a unit. Want of memory is the only refusal.
-fn empty_inbox<R: Recorder, H: Desk<R>>(
+fn empty_inbox<R: Recorder, H: Ended<R>>(
     alloc: Global,
     host: &mut H,
     class: Class,
@@ -90,7 +91,7 @@ fn empty_inbox<R: Recorder, H: Desk<R>>(
 
 /// All units of a class's lists and of these parcels become a tracing batch, which takes its stamp and sees a period pass. Each of
 /// them may leave then.
-fn gather_all<R: Recorder, H: Desk<R>>(host: &mut H, class: Class, parcels: Vec<Vec<Unit>>)
+fn gather_all<R: Recorder, H: Ended<R>>(host: &mut H, class: Class, parcels: Vec<Vec<Unit>>)
     requires at_end { AtEnd R.log R.counts H.Host.sound H.Host.tests H.Host.face H.Host.held host.old }
     requires arrived { Arrived class (H.W.Knows.rights (H.shared host.old)) (flat_map (λ p. p.items) parcels.items) }
     requires apart { (n : ℕ) → stands n (seen number_of (shown (H.Host.held host.old))) + times n (map number_of (flat_map (λ p. p.items) parcels.items)) ≤ 1 }
@@ -113,7 +114,7 @@ fn gather_all<R: Recorder, H: Desk<R>>(host: &mut H, class: Class, parcels: Vec<
 }
 
 /// The tracing batch of a class, whose units may leave, goes back to the stock. Want of memory is the only refusal.
-fn send_back<R: Recorder, H: Desk<R>>(
+fn send_back<R: Recorder, H: Ended<R>>(
     alloc: Global,
     host: &mut H,
     class: Class,
@@ -142,7 +143,7 @@ fn send_back<R: Recorder, H: Desk<R>>(
 }
 
 /// Whether neither a class's lists nor these parcels hold a unit.
-fn hold_nothing<R: Recorder, H: Desk<R>>(
+fn hold_nothing<R: Recorder, H: Ended<R>>(
     host: &mut H,
     class: Class,
     parcels: &Vec<Vec<Unit>>,
@@ -159,7 +160,7 @@ fn hold_nothing<R: Recorder, H: Desk<R>>(
 
 /// All units of a class's lists and of these parcels become a tracing batch, a tracing period passes, and they go back to the
 /// stock. Want of memory is the only refusal.
-fn sweep_all<R: Recorder, H: Desk<R>>(
+fn sweep_all<R: Recorder, H: Ended<R>>(
     alloc: Global,
     host: &mut H,
     class: Class,
@@ -184,7 +185,7 @@ fn sweep_all<R: Recorder, H: Desk<R>>(
 /// passes the batch's stamp, since some of them may still wait for one. Want of memory is the only refusal. Units may be lost
 /// then, and the desk is fit for nothing more. From `free_mem_alloc` and `drain_mem_cache` of kernel/bpf/memalloc.c, which empty
 /// all lists of a cache after the periods that are in progress; the tracing period of each sweep is this project's own.
-pub fn sweep<R: Recorder, H: Desk<R>>(
+pub fn sweep<R: Recorder, H: Ended<R>>(
     alloc: Global,
     host: &mut H,
     class: Class,

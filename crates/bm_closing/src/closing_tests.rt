@@ -23,8 +23,8 @@ ghost use Rattle.bm_post.specs.Kept.{IsRoomy};
 ghost use Rattle.bm_world.specs.SideState.{SideAtRest, known_of};
 ghost use Rattle.bm_closing.specs.AtEnd.{AtEnd, ended_at};
 
-use crate::machines::{Lent, TestDesk};
-use crate::{close, end_period, sweep};
+use crate::machines::Lent;
+use crate::{ClosingDesk, Ended, close, end_period, sweep};
 use bm_cache::{Caches, Given, alloc, free_delayed};
 use bm_class::Class;
 use bm_desk::Desk;
@@ -140,7 +140,7 @@ fn desk_over<R: Recorder, S: World>(
     class: Class,
     free: Vec<Unit>,
     lent: S,
-) -> TestDesk<R, S>
+) -> ClosingDesk<R, S>
     requires counts { R.counts recorder ≡ no_counts }
     requires log { IfSome (R.log recorder) (λ es. es ≡ []) }
     requires processors { (S.Knows.known lent).grace.processors ≡ 1 }
@@ -155,13 +155,13 @@ fn desk_over<R: Recorder, S: World>(
         panic!(rt; "memory");
     }
     match Caches::create(rt.alloc(), 0, fills, recorder) {
-        Ok(caches) => TestDesk { caches, side: lent },
+        Ok(caches) => ClosingDesk { caches, side: lent },
         Err(_back) => panic!(rt; "memory"),
     }
 }
 
 /// The unit that an allocation gives.
-fn given_unit<R: Recorder, H: Desk<R>>(
+fn given_unit<R: Recorder, H: Ended<R>>(
     rt: &(impl Abort + AllocGlobal),
     host: &mut H,
     class: Class,
@@ -178,7 +178,7 @@ fn given_unit<R: Recorder, H: Desk<R>>(
 }
 
 /// It is freed with delay.
-fn free_with_delay<R: Recorder, H: Desk<R>>(host: &mut H, unit: Unit)
+fn free_with_delay<R: Recorder, H: Ended<R>>(host: &mut H, unit: Unit)
     requires at_end { AtEnd R.log R.counts H.Host.sound H.Host.tests H.Host.face H.Host.held host.old }
     requires fresh { stands unit.number (seen number_of (shown (H.Host.held host.old))) ≡ 0 }
     requires lives { unit.life + 1 < 2 ^ 32 }
@@ -229,7 +229,7 @@ fn ends_periods<S: World>(rt: &(impl Abort + AllocGlobal), lent: S) -> S
     let mut desk = desk_over(rt, Lent { keep: &mut keep }, class, none, lent);
     end_period(&mut desk, Domain::Plain);
     end_period(&mut desk, Domain::Tracing);
-    let TestDesk { caches, side } = desk;
+    let ClosingDesk { caches, side } = desk;
     caches.give_up();
     has_log(rt, keep, ENDED);
     side
@@ -268,7 +268,7 @@ fn all_units_of_a_class_are_swept(rt: HostRuntime) {
     free_with_delay(&mut desk, unit);
     sweep(rt.alloc(), &mut desk, class).expect(&rt, "memory");
     sweep(rt.alloc(), &mut desk, class).expect(&rt, "memory");
-    let TestDesk { caches, side } = desk;
+    let ClosingDesk { caches, side } = desk;
     caches.give_up();
     has_log(&rt, keep, SWEPT);
     give_up(side);
@@ -298,7 +298,7 @@ fn a_processor_is_closed(rt: HostRuntime) {
     let mut keep = Keep::new(rt.alloc());
     let mut desk = desk_over(&rt, Lent { keep: &mut keep }, class, free, lent);
     close(rt.alloc(), &mut desk, &[empty, class]).expect(&rt, "memory");
-    let TestDesk { caches, side } = desk;
+    let ClosingDesk { caches, side } = desk;
     caches.give_up();
     has_log(&rt, keep, CLOSED);
     give_up(side);

@@ -3,8 +3,10 @@
 #![tactic(auto)]
 
 mod closing;
+mod closing_desk;
 #[cfg(test)]
 mod closing_tests;
+mod ended;
 mod gathering;
 mod inbox;
 #[cfg(test)]
@@ -13,4 +15,6 @@ mod period;
 mod whole;
 
 pub use closing::{end_period, sweep};
+pub use closing_desk::ClosingDesk;
+pub use ended::Ended;
 pub use whole::close;

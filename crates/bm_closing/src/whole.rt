@@ -20,6 +20,7 @@ ghost use Rattle.bm_closing.specs.AtEnd.{AtEnd, ended_at};
 ghost use Rattle.bm_closing.specs.EndsBegun.{EndsBegun};
 ghost use Rattle.bm_closing.specs.SweepsEach.{SweepsEach, all_emptied};
 
+use crate::Ended;
 use crate::closing::{end_period, sweep};
 use bm_cache::Host;
 use bm_class::Class;
@@ -29,7 +30,7 @@ use bm_word::NoMemory;
 use std::alloc::Global;
 
 /// Ends the periods that this processor has in progress, first that of the plain domain and then that of the tracing one.
-fn end_periods<R: Recorder, H: Desk<R>>(host: &mut H)
+fn end_periods<R: Recorder, H: Ended<R>>(host: &mut H)
     requires at_end { AtEnd R.log R.counts H.Host.sound H.Host.tests H.Host.face H.Host.held host.old }
     requires rest { (d : DomainValue) → (n : ℕ) × (H.W.Knows.rest (H.shared host.old) d n × (ended_at (side d (H.W.Knows.known (H.shared host.old))).number n % 2 ≡ 0)) }
     ensures ends { GrewBy (EndsBegun (H.W.Knows.known (H.shared host.old))) (seen number_of (shown (H.Host.held host.old))) (R.log (H.Host.held host.old).recorder) (R.log (H.Host.held host.new).recorder) }
@@ -48,7 +49,7 @@ fn end_periods<R: Recorder, H: Desk<R>>(host: &mut H)
 }
 
 /// Sweeps each of these classes, in their order. Want of memory is the only refusal.
-fn sweep_each<R: Recorder, H: Desk<R>>(
+fn sweep_each<R: Recorder, H: Ended<R>>(
     alloc: Global,
     host: &mut H,
     classes: &[Class],
@@ -72,7 +73,7 @@ fn sweep_each<R: Recorder, H: Desk<R>>(
 /// only refusal. Units may be lost then, and the desk is fit for nothing more. From `free_mem_alloc`, `drain_mem_cache` and
 /// `bpf_mem_alloc_destroy` of kernel/bpf/memalloc.c, which wait for the periods that are in progress and then empty all lists of
 /// each cache; that each processor ends its own periods, the order, and the tracing period of each sweep are this project's own.
-pub fn close<R: Recorder, H: Desk<R>>(
+pub fn close<R: Recorder, H: Ended<R>>(
     alloc: Global,
     host: &mut H,
     classes: &[Class],

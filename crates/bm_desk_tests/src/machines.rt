@@ -53,6 +53,12 @@ impl<R: Recorder, S: World> Host<R> for Ground<R, S> {
 
     ghost sound = { λ m. Unit {0} };
 
+    ghost asked = { λ m. Unit {0} };
+
+    ghost gave = { λ _ _ m. Unit {0} };
+
+    ghost frees = { λ _ _ m. Unit {0} };
+
     ghost keeps = { λ a b. b.kept.side ≡ a.kept.side };
 
     ghost held_back = { λ h c. refl };
@@ -63,7 +69,17 @@ impl<R: Recorder, S: World> Host<R> for Ground<R, S> {
 
     ghost tests_back = { λ h c. refl };
 
-    ghost sound_back = { λ h c s. s };
+    ghost sound_back = { λ h c e s. s };
+
+    ghost asked_back = { λ h c e s. s };
+
+    ghost sound_stepped = { λ h c e i a k. k };
+
+    ghost sound_said = { λ h c e i a s. s };
+
+    ghost sound_given = { λ h c u n x a s. s };
+
+    ghost sound_freed = { λ h c e u n i a s. s };
 
     ghost keeps_back = { λ h c. refl };
 
@@ -114,6 +130,8 @@ impl<R: Recorder, S: World> Desk<R> for Ground<R, S> {
 
     ghost sound_apart = { λ h w a s. s };
 
+    ghost asked_apart = { λ h w a s. s };
+
     ghost stays_apart = { λ h w a. a };
 
     ghost tests_are = { λ h. refl };
@@ -140,6 +158,12 @@ impl<'a, R: Recorder, S: World> Host<R> for Upper<'a, R, S> {
 
     ghost sound = { λ m. Unit {0} };
 
+    ghost asked = { λ m. Unit {0} };
+
+    ghost gave = { λ _ _ m. Unit {0} };
+
+    ghost frees = { λ _ _ m. Unit {0} };
+
     ghost keeps = { λ a b. b.kept.now.side ≡ a.kept.now.side };
 
     ghost held_back = { λ h c. refl };
@@ -150,7 +174,17 @@ impl<'a, R: Recorder, S: World> Host<R> for Upper<'a, R, S> {
 
     ghost tests_back = { λ h c. refl };
 
-    ghost sound_back = { λ h c s. s };
+    ghost sound_back = { λ h c e s. s };
+
+    ghost asked_back = { λ h c e s. s };
+
+    ghost sound_stepped = { λ h c e i a k. k };
+
+    ghost sound_said = { λ h c e i a s. s };
+
+    ghost sound_given = { λ h c u n x a s. s };
+
+    ghost sound_freed = { λ h c e u n i a s. s };
 
     ghost keeps_back = { λ h c. refl };
 

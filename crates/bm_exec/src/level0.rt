@@ -41,6 +41,12 @@ impl Host<Keep> for Machine0 {
 
     ghost sound = { λ _. Unit {0} };
 
+    ghost asked = { λ _. Unit {0} };
+
+    ghost gave = { λ _ _ _. Unit {0} };
+
+    ghost frees = { λ _ _ _. Unit {0} };
+
     ghost keeps = { λ a b. (b.side ≡ a.side) × (b.settled ≡ a.settled) };
 
     ghost held_back = { λ h c. refl };
@@ -51,7 +57,17 @@ impl Host<Keep> for Machine0 {
 
     ghost tests_back = { λ h c. refl };
 
-    ghost sound_back = { λ h c s. s };
+    ghost sound_back = { λ h c e s. s };
+
+    ghost asked_back = { λ h c e s. s };
+
+    ghost sound_stepped = { λ h c e i a k. k };
+
+    ghost sound_said = { λ h c e i a s. s };
+
+    ghost sound_given = { λ h c u n x a s. s };
+
+    ghost sound_freed = { λ h c e u n i a s. s };
 
     ghost keeps_back = { λ h c. (refl, refl) };
 
@@ -101,6 +117,8 @@ impl Desk<Keep> for Machine0 {
     ghost pending_apart = { λ h w. refl };
 
     ghost sound_apart = { λ h w a s. s };
+
+    ghost asked_apart = { λ h w a s. s };
 
     ghost stays_apart = { λ h w a. (a, refl) };
 

@@ -36,7 +36,7 @@ returns-clause-at_end g c =
     let call = at-end-called g.R.Recorder.log g.R.Recorder.counts g.H.Host.sound g.H.Host.tests g.H.Host.face g.H.Host.held g.H.Desk.shared g.H.Desk.with_shared g.H.W.Knows.known g.H.W.Knows.rights g.met.H.Desk.shared_back g.met.H.Desk.held_apart g.met.H.Desk.face_apart g.met.H.Desk.sound_apart g.met.H.Desk.tests_are in
     let a1 = call h v v c.world.ensures.held (alike-same (g.H.W.Knows.known v)) (ages-same (g.H.W.Knows.rights v)) c.requires.at_end in
     let a2 = call h1 c.world-2.result.now w c.world-2.ensures.held c.end_driven-period.ensures.alike c.end_driven-period.ensures.ages a1 in
-    at-end-noted g.R.Recorder.log g.R.Recorder.counts g.H.Host.sound g.H.Host.tests g.H.Host.face g.H.Host.held h2 (g.H.Host.with_held h2 z) z (g.met.H.Host.held_back h2 z) (g.met.H.Host.face_back h2 z) (g.met.H.Host.tests_back h2 z) (g.met.H.Host.sound_back h2 z a2.sound) (c.finished.ensures.same ∙ ap shown c.caches.ensures.held) (c.finished.ensures.step.processor ∙ ap (λ (x : Caches g.row.R.Denot). x.processor) c.caches.ensures.held) c.finished.ensures.placed a2
+    at-end-noted g.R.Recorder.log g.R.Recorder.counts g.H.Host.sound g.H.Host.tests g.H.Host.face g.H.Host.held h2 (g.H.Host.with_held h2 z) z (g.met.H.Host.held_back h2 z) (g.met.H.Host.face_back h2 z) (g.met.H.Host.tests_back h2 z) (g.met.H.Ended.sound_always h2 z a2.sound) (c.finished.ensures.same ∙ ap shown c.caches.ensures.held) (c.finished.ensures.step.processor ∙ ap (λ (x : Caches g.row.R.Denot). x.processor) c.caches.ensures.held) c.finished.ensures.placed a2
 
 pub returns-clause-alike : goal.returns-clause-alike
 returns-clause-alike g c =

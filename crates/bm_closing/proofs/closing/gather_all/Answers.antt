@@ -57,7 +57,7 @@ returns-clause-at_end g c =
     let now : g.H.Host.tests h1 ≡ tests_by (R w) = g.met.H.Desk.tests_are h1 ∙ ap (λ y. tests_by (R y)) (g.met.H.Desk.shared_back h w) in
     let either : All (Either (g.H.Host.tests h1)) us = subst (λ (t : Tests). All (Either t) us) (sym now) (arrived-either i (R v) (R w) us e.ages arrived) in
     let lists : shown z ≡ batched i ns us x (shown (g.H.Host.held h1)) = c.gather.ensures.gathered.lists ∙ ap (λ (y : Caches g.row.R.Denot). batched i ns us x (shown y)) c.caches.ensures.held in
-    at-end-batched g.R.Recorder.log g.R.Recorder.counts g.H.Host.sound g.H.Host.tests g.H.Host.face g.H.Host.held h1 (g.H.Host.with_held h1 z) z i ns us x (g.met.H.Host.held_back h1 z) (g.met.H.Host.face_back h1 z) (g.met.H.Host.tests_back h1 z) (g.met.H.Host.sound_back h1 z a1.sound) lists (c.gather.ensures.gathered.processor ∙ ap (λ (y : Caches g.row.R.Denot). y.processor) c.caches.ensures.held) c.gather.ensures.placed either a1
+    at-end-batched g.R.Recorder.log g.R.Recorder.counts g.H.Host.sound g.H.Host.tests g.H.Host.face g.H.Host.held h1 (g.H.Host.with_held h1 z) z i ns us x (g.met.H.Host.held_back h1 z) (g.met.H.Host.face_back h1 z) (g.met.H.Host.tests_back h1 z) (g.met.H.Ended.sound_always h1 z a1.sound) lists (c.gather.ensures.gathered.processor ∙ ap (λ (y : Caches g.row.R.Denot). y.processor) c.caches.ensures.held) c.gather.ensures.placed either a1
 
 pub returns-clause-alike : goal.returns-clause-alike
 returns-clause-alike g c =

@@ -75,7 +75,7 @@ returns-clause-at_end g c =
     let on3 : Onward ms (T h) (T h3) = subst (λ xs. O xs (T h) (T h3)) (ap (λ (x : List Token). numbers x) units) (subst (O gone (T h)) (sym (g.met.H.Host.tests_back h2 y)) (subst (λ t. O gone t (T h2)) (g.met.H.Host.tests_back h z) on2)) in
     at-end-returned L C g.H.Host.sound T g.H.Host.face g.H.Host.held h h3 i ms
     (g.met.H.Host.face_back h2 y ∙ g.met.H.Desk.face_apart h1 w alike ∙ g.met.H.Host.face_back h z)
-    (g.met.H.Host.sound_back h2 y (g.met.H.Desk.sound_apart h1 w alike (g.met.H.Host.sound_back h z c.requires.at_end.sound)))
+    (g.met.H.Ended.sound_always h2 y (g.met.H.Desk.sound_apart h1 w alike (g.met.H.Ended.sound_always h z c.requires.at_end.sound)))
     (subst P (sym there) c.returned.ensures.placed)
     (ap (λ (x : Caches g.row.R.Denot). shown x) there ∙ back.lists)
     (ap (λ (x : Caches g.row.R.Denot). x.processor) there ∙ back.processor)

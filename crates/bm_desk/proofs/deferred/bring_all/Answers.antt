@@ -20,4 +20,4 @@ returns-clause-err g c =
     let m = c.refill-left.result in
     let b = c.refill-left.new.host in
     let y = c.fetch_rest.new.host in
-    on-err-both c.fetch_rest.result (λ w h. works-stopped g.R.Recorder.log g.R.Recorder.counts g.H.Host.face g.H.Host.pending g.H.Desk.stays g.H.Host.held (λ h. g.H.W.Knows.known (g.H.Desk.shared h)) 0 0 (λ l. FromLists l i n m) (λ l. Missing l) (λ l. RefillStop l i n) c.args.host.now b y (λ l s one two p q. (m, h, then-of (FromLists l i n m) (Missing l) s one two p q)) c.requires.stands.fine.placed c.refill-left.ensures.stands.fine.placed c.refill-left.ensures.works (stopped-of g.R.Recorder.log g.R.Recorder.counts g.H.Host.face g.H.Host.pending g.H.Desk.stays g.H.Host.held (λ h. g.H.W.Knows.known (g.H.Desk.shared h)) 0 0 (λ l. Missing l) b y w c.fetch_rest.ensures.stands.fine.placed)) c.fetch_rest.ensures.err c.fetch_rest.ensures.wanted
+    on-err-both c.fetch_rest.result (λ w h. works-stopped g.R.Recorder.log g.R.Recorder.counts g.H.Host.face g.H.Host.pending g.H.Desk.stays g.H.Host.held (λ h. g.H.W.Knows.known (g.H.Desk.shared h)) 0 0 (λ l. FromLists l i n m) (λ l. Missing l) (λ l. RefillStop l i n) c.args.host.now b y (λ l s one two p q. (m, h, then-of (FromLists l i n m) (Missing l) s one two p q)) c.requires.stands.fine.placed c.refill-left.ensures.stands.fine.placed c.refill-left.ensures.works (stopped-of g.R.Recorder.log g.R.Recorder.counts g.H.Host.face g.H.Host.pending g.H.Desk.stays g.H.Host.held (λ h. g.H.W.Knows.known (g.H.Desk.shared h)) 0 0 (λ l. Missing l) b y w c.fetch_rest.ensures.placed)) c.fetch_rest.ensures.err c.fetch_rest.ensures.wanted

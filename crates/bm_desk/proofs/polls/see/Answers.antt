@@ -15,16 +15,16 @@ use Rattle.bm_desk.proofs.polls.see.Goals as goal
 pub returns-clause-works : goal.returns-clause-works
 returns-clause-works g c =
     let j = g.met.H.Desk.stays_join in
-    let n = c.ask-seen.result in
+    let n = c.ask_now-seen.result in
     let Q : ℕ → Part = λ l. Say l (IsOne (entry.Pass c.args.class c.args.domain (number_in n))) in
-    let F : ℕ → Type 0 = λ i. Works g.R.Recorder.log g.H.Host.face g.H.Host.pending g.H.Desk.stays g.H.Host.held (λ h. g.H.W.Knows.known (g.H.Desk.shared h)) 0 0 (λ l. Say l (IsOne (entry.Pass c.args.class c.args.domain i))) c.ask-seen.new.host c.note_passed.new.host in
-    let t = called-works g.R.Recorder.log g.R.Recorder.counts g.H.Host.face g.H.Host.pending g.H.Desk.stays g.H.Host.held (λ h. g.H.W.Knows.known (g.H.Desk.shared h)) (λ h. g.H.W.Knows.rights (g.H.Desk.shared h)) j 0 0 0 0 Q c.pause.new.host c.ask-seen.new.host c.note_passed.new.host c.pause.ensures.stands.fine.placed c.ask-seen.ensures.stands.fine.placed c.ask-seen.ensures.called (subst F c.seen_number.ensures c.note_passed.ensures.works) in
+    let F : ℕ → Type 0 = λ i. Works g.R.Recorder.log g.H.Host.face g.H.Host.pending g.H.Desk.stays g.H.Host.held (λ h. g.H.W.Knows.known (g.H.Desk.shared h)) 0 0 (λ l. Say l (IsOne (entry.Pass c.args.class c.args.domain i))) c.ask_now-seen.new.host c.note_passed.new.host in
+    let t = called-works g.R.Recorder.log g.R.Recorder.counts g.H.Host.face g.H.Host.pending g.H.Desk.stays g.H.Host.held (λ h. g.H.W.Knows.known (g.H.Desk.shared h)) (λ h. g.H.W.Knows.rights (g.H.Desk.shared h)) j 0 0 0 0 Q c.pause.new.host c.ask_now-seen.new.host c.note_passed.new.host c.pause.ensures.stands.fine.placed c.ask_now-seen.ensures.stands.fine.placed c.ask_now-seen.ensures.called (subst F c.seen_number.ensures c.note_passed.ensures.works) in
     works-join g.R.Recorder.log g.R.Recorder.counts g.H.Host.face g.H.Host.pending g.H.Desk.stays g.H.Host.held (λ h. g.H.W.Knows.known (g.H.Desk.shared h)) j 0 0 0 0 (λ l. Stand l []) Q Q c.args.host.now c.pause.new.host c.note_passed.new.host (λ l s one two i k. say-after l (IsOne (entry.Pass c.args.class c.args.domain (number_in n))) s (after s one) one two i k) c.requires.stands.fine.placed c.pause.ensures.stands.fine.placed c.pause.ensures.works t
 
 pub returns-clause-ripe : goal.returns-clause-ripe
 returns-clause-ripe g c k =
     let T = g.H.Host.tests in
-    let o : Onward [] (g.H.Host.tests c.ask-seen.new.host) (g.H.Host.tests c.note_passed.new.host) = aged-tests g.H.Host.tests (λ h. g.H.W.Knows.rights (g.H.Desk.shared h)) g.met.H.Desk.tests_are c.ask-seen.new.host c.note_passed.new.host c.note_passed.ensures.ages in (
-      ripened-all (T c.args.host.now) (T c.pause.new.host) (T c.ask-seen.new.host) (T c.note_passed.new.host) c.args.domain c.args.stamp c.ask-seen.result ((shown (g.H.Host.held c.args.host.now)).rows k).deferred.first (c.pause.ensures.came.lasting.first k) c.ask-seen.ensures.ripe o,
-      ripened-all (T c.args.host.now) (T c.pause.new.host) (T c.ask-seen.new.host) (T c.note_passed.new.host) c.args.domain c.args.stamp c.ask-seen.result ((shown (g.H.Host.held c.args.host.now)).rows k).deferred.second (c.pause.ensures.came.lasting.second k) c.ask-seen.ensures.ripe o,
+    let o : Onward [] (g.H.Host.tests c.ask_now-seen.new.host) (g.H.Host.tests c.note_passed.new.host) = aged-tests g.H.Host.tests (λ h. g.H.W.Knows.rights (g.H.Desk.shared h)) g.met.H.Desk.tests_are c.ask_now-seen.new.host c.note_passed.new.host c.note_passed.ensures.ages in (
+      ripened-all (T c.args.host.now) (T c.pause.new.host) (T c.ask_now-seen.new.host) (T c.note_passed.new.host) c.args.domain c.args.stamp c.ask_now-seen.result ((shown (g.H.Host.held c.args.host.now)).rows k).deferred.first (c.pause.ensures.came.lasting.first k) c.ask_now-seen.ensures.ripe o,
+      ripened-all (T c.args.host.now) (T c.pause.new.host) (T c.ask_now-seen.new.host) (T c.note_passed.new.host) c.args.domain c.args.stamp c.ask_now-seen.result ((shown (g.H.Host.held c.args.host.now)).rows k).deferred.second (c.pause.ensures.came.lasting.second k) c.ask_now-seen.ensures.ripe o,
     )
