@@ -27,7 +27,7 @@ use crate::scripts::run_lines;
 use crate::stretches::begin_closing;
 use bm_check::Checked;
 use bm_class::Class;
-use bm_closing::close as close_classes;
+use bm_closing::{ClosingDesk, close as close_classes};
 use bm_exec::{Machine0, Types};
 use bm_front::front_law;
 use bm_journal::{Histories, Journal, Log, Logs, Names, Opened, Recorder, totals_of};
@@ -128,14 +128,15 @@ fn close(alloc: Global, machine: Machine0, classes: &[Class]) -> Result<Log, NoM
     ensures whole { IfOk result (λ log. IsTrue (is_whole_log log)) }
 {
     machine.side.one_at_rest();
-    let mut machine = machine;
-    let swept = close_classes(alloc, &mut machine, classes);
     let Machine0 {
         alloc: _,
         caches,
         side,
         settled: _,
     } = machine;
+    let mut desk = ClosingDesk { caches, side };
+    let swept = close_classes(alloc, &mut desk, classes);
+    let ClosingDesk { caches, side } = desk;
     side.give_up();
     if swept.is_err() || caches.recorder().failed() {
         caches.give_up();
