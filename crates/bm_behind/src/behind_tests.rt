@@ -16,7 +16,7 @@ ghost use Rattle.bm_desk.specs.Dated.{Dated};
 ghost use Rattle.bm_desk.specs.DeskTests.{tests_by};
 ghost use Rattle.bm_behind.specs.Settled.{Settled};
 
-use crate::machines::{Lent, TestDesk};
+use crate::machines::{Gives, Lent, TestDesk};
 use crate::{until_down, work_behind};
 use bm_cache::{Caches, Given, alloc};
 use bm_class::Class;
@@ -244,7 +244,7 @@ fn ends(given: Given) -> bool {
 }
 
 /// Asks for a unit, and ends it; whether one was given.
-fn asks<R: Recorder, H: Desk<R>>(host: &mut H, class: Class, left: u32) -> bool
+fn asks<R: Recorder, H: Desk<R> + Gives<R>>(host: &mut H, class: Class, left: u32) -> bool
     requires at_rest { Settled R.log R.counts H.Host.sound H.Host.tests H.Host.face H.Host.held host.old }
     requires begins { (d : Domain) → left ≤ (side d (H.W.Knows.known (H.shared host.old))).begins }
     ensures at_rest { Settled R.log R.counts H.Host.sound H.Host.tests H.Host.face H.Host.held host.new }

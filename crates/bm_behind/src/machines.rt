@@ -1,6 +1,6 @@
 //! A desk for tests: one that owns its caches and its side, and on which no handler runs. And a recorder that is borrowed.
 
-ghost use Rattle.std.specs.Prelude.{◌≡◌, is_none, refl};
+ghost use Rattle.std.specs.Prelude.{◌≡◌, ℕ, is_none, refl};
 ghost use Rattle.std.proofs.Common.{◌∙◌, ap};
 ghost use Rattle.bm_cache.specs.Span.{Face};
 ghost use Rattle.bm_desk.specs.DeskTests.{tests_by};
@@ -17,6 +17,16 @@ use bm_world::World;
 pub(crate) struct TestDesk<R, S> {
     pub(crate) caches: Caches<R>,
     pub(crate) side: S,
+}
+
+/// A host for tests, for which a unit that was given makes no difference.
+pub(crate) trait Gives<R: Recorder>: Host<R> {
+    // What is there once a unit was given is sound.
+    ghost sound_gave: { (u life : ℕ) (h : Self) → Self.Host.gave u life h → Self.Host.sound h };
+}
+
+impl<R: Recorder, S: World> Gives<R> for TestDesk<R, S> {
+    ghost sound_gave = { λ u n h s. s };
 }
 
 impl<R: Recorder, S: World> Host<R> for TestDesk<R, S> {

@@ -1,12 +1,15 @@
 -- What is sound stays so: over a step behind a point, over an entry that is no step, and where nothing is recorded.
 use Rattle.std.specs.Prelude.{nat_eq, ◌&&◌}
-use Rattle.std.proofs.Common.{rules, ◌≡◌, ℕ, Option, Bool, true, false, sym, ap, ◌∙◌, subst, refl}
+use Rattle.std.proofs.Common.{◌+◌, rules, ◌≡◌, ℕ, Option, Bool, true, false, sym, ap, ◌∙◌, subst, refl}
 use Rattle.bm_journal.specs.declared.entry.Entry.{Entry}
 use Rattle.bm_journal.specs.Recording.{Appends}
 use Rattle.bm_law.specs.Lists.{Log}
 use Rattle.bm_law.specs.Phrases.{given}
+use Rattle.bm_cache.specs.Answers.{SoundBy}
 use Rattle.bm_cache.specs.Span.{Face}
 use Rattle.bm_cache.specs.Steps.{is_free, is_reply, is_step}
+use Rattle.bm_cache.specs.declared.allocate.Given.{Given}
+use Rattle.bm_cache.specs.declared.allocate.Given.TheVariants.{Unit as Some_unit, Empty, Busy}
 use Rattle.bm_cache.specs.declared.caches.Caches.{Caches}
 
 -- the recorder of the caches that a host lends gained the entry at the host's level
@@ -41,3 +44,9 @@ names-both u home = rw (same-number u, same-number home) refl
 -- nothing is recorded
 pub sound-silent : {H R : Type 0} (D : H → Caches R) (W : H → Caches R → H) (log : R → Option Log) (S : H → Type 0) → ((h : H) (c : Caches R) → log c.recorder ≡ log (D h).recorder → S h → S (W h c)) → (y : H) (w z : Caches R) → S y → w ≡ D y → z.recorder ≡ w.recorder → S (W y z)
 sound-silent {H} {R} D W log S law y w z s h r = law y z (ap log r ∙ ap (λ (c : Caches R). log c.recorder) h) s
+
+-- what is sound after an allocation, where a given unit makes no difference
+pub sound-by : {H : Type 0} (S : H → Type 0) (G : ℕ → ℕ → H → Type 0) (h : H) (r : Given) → ((u life : ℕ) → G u life h → S h) → SoundBy S G h r → S h
+sound-by S G h (Some_unit u) f s = f u.number (u.life + 1) s
+sound-by S G h Empty f s = s
+sound-by S G h (Busy b) f s = s

@@ -167,7 +167,7 @@ fn given_unit<R: Recorder, H: Ended<R>>(
     class: Class,
 ) -> Unit
     requires at_end { AtEnd R.log R.counts H.Host.sound H.Host.tests H.Host.face H.Host.held host.old }
-    ensures at_end { AtEnd R.log R.counts H.Host.sound H.Host.tests H.Host.face H.Host.held host.new }
+    ensures at_end { AtEnd R.log R.counts (H.Host.gave result.number (result.life + 1)) H.Host.tests H.Host.face H.Host.held host.new }
     ensures gone { Gone (H.Host.tests host.new) (shown (H.Host.held host.new)) (given.Unit result) }
     ensures keeps { H.Host.keeps host.old host.new }
 {
@@ -179,7 +179,7 @@ fn given_unit<R: Recorder, H: Ended<R>>(
 
 /// It is freed with delay.
 fn free_with_delay<R: Recorder, H: Ended<R>>(host: &mut H, unit: Unit)
-    requires at_end { AtEnd R.log R.counts H.Host.sound H.Host.tests H.Host.face H.Host.held host.old }
+    requires at_end { AtEnd R.log R.counts (H.Host.frees unit.number unit.home) H.Host.tests H.Host.face H.Host.held host.old }
     requires fresh { stands unit.number (seen number_of (shown (H.Host.held host.old))) ≡ 0 }
     requires lives { unit.life + 1 < 2 ^ 32 }
     requires home { unit.home < (H.Host.face host.old).processors }

@@ -182,7 +182,7 @@ fn given_unit<R: Recorder, H: Desk<R>>(
     left: u32,
 ) -> Unit
     requires rests { Rests R.log R.counts H.Host.sound H.Host.tests H.Host.face H.Host.held (λ h. H.W.Knows.known (H.shared h)) class left host.old }
-    ensures rests { Rests R.log R.counts H.Host.sound H.Host.tests H.Host.face H.Host.held (λ h. H.W.Knows.known (H.shared h)) class left host.new }
+    ensures rests { Rests R.log R.counts (H.Host.gave result.number (result.life + 1)) H.Host.tests H.Host.face H.Host.held (λ h. H.W.Knows.known (H.shared h)) class left host.new }
     ensures gone { Gone (H.Host.tests host.new) (shown (H.Host.held host.new)) (given.Unit result) }
     ensures processors { (H.Host.face host.new).processors ≡ (H.Host.face host.old).processors }
 {
@@ -195,7 +195,7 @@ fn given_unit<R: Recorder, H: Desk<R>>(
 
 /// It is freed with delay.
 fn free_with_delay<R: Recorder, H: Desk<R>>(host: &mut H, class: Class, unit: Unit, left: u32)
-    requires rests { Rests R.log R.counts H.Host.sound H.Host.tests H.Host.face H.Host.held (λ h. H.W.Knows.known (H.shared h)) class left host.old }
+    requires rests { Rests R.log R.counts (H.Host.frees unit.number unit.home) H.Host.tests H.Host.face H.Host.held (λ h. H.W.Knows.known (H.shared h)) class left host.old }
     requires fresh { stands unit.number (seen number_of (shown (H.Host.held host.old))) ≡ 0 }
     requires lives { unit.life + 1 < 2 ^ 32 }
     requires home { unit.home < (H.Host.face host.old).processors }

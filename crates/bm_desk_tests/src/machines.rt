@@ -1,7 +1,7 @@
 //! A desk for tests, on which a handler may run before the third step, and the host of that handler, which borrows what the
 //! desk owns. And a recorder that is borrowed.
 
-ghost use Rattle.std.specs.Prelude.{◌≡◌, ◌+◌, if◌then◌else◌, is_none, refl};
+ghost use Rattle.std.specs.Prelude.{◌≡◌, ℕ, ◌+◌, if◌then◌else◌, is_none, refl};
 ghost use Rattle.std.proofs.Common.{◌∙◌, ap};
 ghost use Rattle.bm_cache.specs.Span.{Came, Face, Fine, Goes};
 ghost use Rattle.bm_desk.specs.DeskTests.{tests_by};
@@ -38,6 +38,16 @@ pub struct Ground<R, S> {
 struct Upper<'a, R, S> {
     kept: &'a mut Kept<R, S>,
     level: Level,
+}
+
+/// A host for tests, for which a unit that was given makes no difference.
+trait Gives<R: Recorder>: Host<R> {
+    // What is there once a unit was given is sound.
+    ghost sound_gave: { (u life : ℕ) (h : Self) → Self.Host.gave u life h → Self.Host.sound h };
+}
+
+impl<'a, R: Recorder, S: World> Gives<R> for Upper<'a, R, S> {
+    ghost sound_gave = { λ u n h s. s };
 }
 
 impl<R: Recorder, S: World> Host<R> for Ground<R, S> {
@@ -230,7 +240,7 @@ fn run_handler<R: Recorder, S: World>(kept: &mut Kept<R, S>, held: &mut Vec<Unit
 }
 
 /// Seven allocations.
-fn take_seven<R: Recorder, H: Host<R>>(host: &mut H, held: &mut Vec<Unit>, class: Class)
+fn take_seven<R: Recorder, H: Gives<R>>(host: &mut H, held: &mut Vec<Unit>, class: Class)
     requires sound { H.sound host.old }
     requires fine { Fine R.log R.counts (H.tests host.old) (H.face host.old).processors (H.face host.old).level (H.held host.old) }
     ensures came { Came R.log (H.face host.old).level (H.tests host.old) (H.tests host.new) (H.held host.old) (H.held host.new) }
@@ -244,7 +254,7 @@ fn take_seven<R: Recorder, H: Host<R>>(host: &mut H, held: &mut Vec<Unit>, class
 }
 
 /// An allocation, and the unit is held.
-fn take_one<R: Recorder, H: Host<R>>(host: &mut H, held: &mut Vec<Unit>, class: Class)
+fn take_one<R: Recorder, H: Gives<R>>(host: &mut H, held: &mut Vec<Unit>, class: Class)
     requires sound { H.sound host.old }
     requires fine { Fine R.log R.counts (H.tests host.old) (H.face host.old).processors (H.face host.old).level (H.held host.old) }
     ensures came { Came R.log (H.face host.old).level (H.tests host.old) (H.tests host.new) (H.held host.old) (H.held host.new) }

@@ -2,10 +2,6 @@
 //! borrows what level 0 owns. What a handler does is to make one object and to drop it.
 #![tactic(auto)]
 
-mod calls;
-mod handlers;
 mod kept;
-mod machines;
 
 pub use kept::Kept;
-pub use machines::Ground;

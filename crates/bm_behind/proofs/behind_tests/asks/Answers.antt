@@ -8,6 +8,7 @@ use Rattle.bm_cache.specs.Tests.{Tests}
 use Rattle.bm_cache.specs.Shown.{shown}
 use Rattle.bm_cache.specs.Span.{Came, Face, Fine}
 use Rattle.bm_cache.specs.declared.caches.Caches.{Caches}
+use Rattle.bm_cache.proofs.Steady.{sound-by}
 use Rattle.bm_desk.proofs.Points.{stands-point}
 use Rattle.bm_behind.specs.Settled.{Settled}
 use Rattle.bm_behind.proofs.behind_tests.asks.Goals as goal
@@ -28,4 +29,4 @@ settled-called log counts sound tests faces holds a b m s f e r =
 pub returns-clause-at_rest : goal.returns-clause-at_rest
 returns-clause-at_rest g c =
     let e = c.alloc.ensures in
-    settled-called g.R.Recorder.log g.R.Recorder.counts g.H.Host.sound g.H.Host.tests g.H.Host.face g.H.Host.held c.args.host.now c.alloc.new.host e.came e.sound e.fine e.goes.face c.requires.at_rest
+    settled-called g.R.Recorder.log g.R.Recorder.counts g.H.Host.sound g.H.Host.tests g.H.Host.face g.H.Host.held c.args.host.now c.alloc.new.host e.came (sound-by g.H.Host.sound g.H.Host.gave c.alloc.new.host c.alloc.result (λ u life h. g.met.H.Gives.sound_gave u life c.alloc.new.host h) e.sound) e.fine e.goes.face c.requires.at_rest
