@@ -54,7 +54,7 @@ module _ {H R : Type 0} (log : R → Option Log) (counts : R → Counts) (sound 
   fine-up t p l c f = record { placed = f.placed; ready = Ready-up l (shown c) f.ready; proper = f.proper; aimed = f.aimed }
 
   -- a call of its level on its caches has left it at rest
-  pub rests-called : (c n : ℕ) (a b : H) → Came log (faces a).level (tests a) (tests b) (holds a) (holds b) → sound b → Fine log counts (tests b) (faces b).processors (faces b).level (holds b) → faces b ≡ faces a → GoesOn (known a) (known b) → Rests log counts sound tests faces holds known c n a → Rests log counts sound tests faces holds known c n b
+  pub rests-called : (c n : ℕ) (a b : H) → Came log (faces a).level (tests a) (tests b) (holds a) (holds b) → sound b → Fine log counts (tests b) (faces b).processors (faces b).level (holds b) → faces b ≡ faces a → GoesOn (known a) (known b) → {was : H → Type 0} → Rests log counts was tests faces holds known c n a → Rests log counts sound tests faces holds known c n b
   rests-called c n a b m s f e g r =
       let l = (faces b).level in
       let D : Deferred Token → Type 0 = λ d. is_unstamped d.plain ≡ false in

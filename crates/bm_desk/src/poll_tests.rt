@@ -13,11 +13,12 @@ ghost use Rattle.bm_law.specs.State.{opening};
 ghost use Rattle.bm_grace.specs.PlainState.{idle};
 ghost use Rattle.bm_post.specs.Kept.{IsRoomy};
 ghost use Rattle.bm_desk.specs.Dated.{Dated};
-ghost use Rattle.bm_desk.specs.DeskTests.{tests_by};
-ghost use Rattle.bm_desk.specs.Works.{Stands};
+ghost use Rattle.bm_desk.specs.DeskTests.{since_test, tests_by};
+ghost use Rattle.bm_desk.specs.Works.{Called, Stands};
+ghost use Rattle.bm_cache.specs.Tests.{Either, Passes};
+ghost use Rattle.bm_cache.specs.Tokens.{Token};
 
 use crate::machines::{Lent, TestDesk};
-use crate::stamps::take_stamp;
 use crate::{Desk, poll};
 use bm_cache::Caches;
 use bm_class::Class;
@@ -121,6 +122,17 @@ pub(crate) fn desk_over<R: Recorder, S: World>(
     }
 }
 
+/// Reads the number of a domain, and answers the stamp of it, which is no step of the log by itself.
+fn read_stamp<R: Recorder, H: Desk<R>>(host: &mut H, domain: Domain) -> u32
+    requires stands { Stands R.log R.counts H.Host.sound H.Host.tests H.Host.face H.Host.held host.old }
+    ensures positive { 0 < result }
+    ensures since { (u : Token) → Either (H.Host.tests host.old) u → Passes (H.Host.tests host.new) (since_test domain result) u }
+    ensures called { Called H.Host.face H.Host.pending H.stays H.Host.held (λ h. H.W.Knows.known (H.shared h)) (λ h. H.W.Knows.rights (H.shared h)) 0 0 host.old host.new }
+    ensures stands { Stands R.log R.counts H.Host.sound H.Host.tests H.Host.face H.Host.held host.new }
+{
+    host.world().stamp(domain)
+}
+
 /// A stamp of the plain domain, and what a poll for it answers.
 fn stamp_and_poll<R: Recorder, H: Desk<R>>(host: &mut H, class: Class) -> (u32, Done)
     requires stands { Stands R.log R.counts H.Host.sound H.Host.tests H.Host.face H.Host.held host.old }
@@ -129,7 +141,7 @@ fn stamp_and_poll<R: Recorder, H: Desk<R>>(host: &mut H, class: Class) -> (u32, 
     ensures begins { (side Plain (H.W.Knows.known (H.shared host.old))).begins ≤ (side Plain (H.W.Knows.known (H.shared host.new))).begins + 1 }
     ensures stands { Stands R.log R.counts H.Host.sound H.Host.tests H.Host.face H.Host.held host.new }
 {
-    let stamp = take_stamp(host, Domain::Plain);
+    let stamp = read_stamp(host, Domain::Plain);
     let seen = poll(host, class, Domain::Plain, stamp);
     (stamp, seen)
 }
