@@ -42,8 +42,10 @@ pub progressed-none : (l : ℕ) (d : Domain) (x y : Option ℕ) (a : Option Log)
 progressed-none l d x y None e = tt
 progressed-none l d x y (Some a) e = record { log = a; told = refl; added = []; now_is = grind (arith, common_steps); left = e }
 
--- Entries that neither send a parcel nor take one, and by which no period begins or ends.
+-- Entries that neither send a parcel nor take one, take nothing from the stock, and by which no period begins or ends.
 abbrev pub IsStill : Entry → Type 0
+IsStill (entry.Fill c us) = ⊥
+IsStill (entry.Fetch c want us) = ⊥
 IsStill (entry.Send c to us) = ⊥
 IsStill (entry.Receive c us) = ⊥
 IsStill (entry.Sweep c us) = ⊥
@@ -58,6 +60,8 @@ IsIdle (entry.Finish period) = ⊥
 IsIdle _ = Unit {0}
 
 pub still-idle : (e : Entry) → IsStill e → IsIdle e
+still-idle (entry.Fill c us) h = absurd h
+still-idle (entry.Fetch c want us) h = absurd h
 still-idle (entry.Send c to us) h = absurd h
 still-idle (entry.Receive c us) h = absurd h
 still-idle (entry.Sweep c us) h = absurd h

@@ -111,6 +111,8 @@ QuietPart l P = PartOf IsQuiet l P
 
 -- what is still is quiet
 pub still-quiet : (e : Entry) → IsStill e → IsQuiet e
+still-quiet (entry.Fill c us) h = absurd h
+still-quiet (entry.Fetch c want us) h = absurd h
 still-quiet (entry.Send c to us) h = absurd h
 still-quiet (entry.Receive c us) h = absurd h
 still-quiet (entry.Sweep c us) h = absurd h

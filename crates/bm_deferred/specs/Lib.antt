@@ -4,3 +4,5 @@ pub mod WorkedParts
 pub mod Grown
 pub mod Inboxes
 pub mod Begun
+pub mod Pages
+pub mod WorkedPages

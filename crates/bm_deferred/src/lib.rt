@@ -4,4 +4,4 @@
 
 mod worked;
 
-pub use worked::{worked_parts, worked_works};
+pub use worked::{worked_pages, worked_parts, worked_works};

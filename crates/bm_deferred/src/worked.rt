@@ -4,8 +4,10 @@ ghost use Rattle.std.specs.Prelude.{◌≡◌, true, false, [], ◌∷◌, ◌++
 ghost use Rattle.bm_journal.specs.declared.ids.Domain.TheVariants.{Plain};
 ghost use Rattle.bm_law.specs.State.{opening};
 ghost use Rattle.bm_law.specs.WorkedDeferred.{work_overtaken, first_batch, second_batch, second_stage, second_returned};
+ghost use Rattle.bm_deferred.specs.Pages.{ShortLaw};
 ghost use Rattle.bm_deferred.specs.Parts.{Say};
 ghost use Rattle.bm_deferred.specs.WorkPhrases.{IsSend, Passing, Refill, Unloads, Work, empty_take, may_batch, may_begin, middle_of_class, takes};
+ghost use Rattle.bm_deferred.specs.WorkedPages.{fetched_by, fetched_later, filled_with};
 ghost use Rattle.bm_deferred.specs.WorkedParts.{IsFrom, brought_too_many, fetched_none, fetched_too_many, from_both, from_stock, kept_at, second_too_early, sent_at, take_to, with_batches, with_lists};
 
 /// The works of some logs: a drain during which a handler takes all units; a batch that begins; one that passes, and the
@@ -47,6 +49,20 @@ pub fn worked_parts()
     ensures late { ¬ Passing 0 1 Plain (Some 4) (Say 0 (IsSend 1)) (opening 0) (kept_at 4) }
 {}
 
+/// Where fewer units come than were wanted, computed: of two pages both are named, also where the second one is named behind
+/// the fetch; where a page was never named, a fetch that gives fewer or nothing is refused, and a cache that begins with three
+/// small units.
+#[tactic(auto, unfolding(bm_class::specs::Sizes::size_of_class))]
+pub fn worked_pages()
+    ensures both { ShortLaw 2 (fetched_by (256 ∷ [])) }
+    ensures later { ShortLaw 2 fetched_later }
+    ensures enough { ShortLaw 9 (fetched_by (256 ∷ 512 ∷ 768 ∷ [])) }
+    ensures filled { ShortLaw 9 (filled_with (0 ∷ 1 ∷ 2 ∷ 3 ∷ [])) }
+    ensures third { ¬ ShortLaw 3 (fetched_by (256 ∷ [])) }
+    ensures nothing { ¬ ShortLaw 2 (fetched_by []) }
+    ensures few { ¬ ShortLaw 2 (filled_with (0 ∷ 1 ∷ 2 ∷ [])) }
+{}
+
 #[cfg(test)]
 mod tests {
     use super::*;
@@ -55,5 +71,6 @@ mod tests {
     fn laws_take_no_step(_rt: HostRuntime) {
         worked_works();
         worked_parts();
+        worked_pages();
     }
 }

@@ -3,21 +3,22 @@
 ghost use Rattle.std.specs.Prelude.{◌≡◌, ◌≢◌, ◌≤◌, ◌+◌, ◌-◌, ◌<◌, ℕ, List, [], map, length, drop, IfOk, OnOk, OnErr};
 ghost use Rattle.std.specs.List.{All};
 ghost use Rattle.bm_journal.specs.declared.entry.Entry.TheVariants as entry;
-ghost use Rattle.bm_journal.specs.declared.units.Units.TheVariants.{Whole};
 ghost use Rattle.bm_law.specs.declared.mark.Mark.TheVariants as mark;
 ghost use Rattle.bm_law.specs.Stands.{stands, times};
 ghost use Rattle.bm_law.specs.State.{seen, idle_side};
 ghost use Rattle.bm_cache.specs.Each.{Sits};
+ghost use Rattle.bm_cache.specs.Listed.{TookUnits};
 ghost use Rattle.bm_cache.specs.Placed.{Placed};
 ghost use Rattle.bm_cache.specs.Shown.{shown};
 ghost use Rattle.bm_cache.specs.Tests.{Reusable};
 ghost use Rattle.bm_cache.specs.Tokens.{Token, number_of};
+ghost use Rattle.bm_deferred.specs.Pages.{TakesPages};
 ghost use Rattle.bm_deferred.specs.Parts.{Say, Stand};
-ghost use Rattle.bm_deferred.specs.WorkPhrases.{AddAll, IsOne};
+ghost use Rattle.bm_deferred.specs.WorkPhrases.{AddAll};
 ghost use Rattle.bm_work.specs.Fit.{Fit};
 ghost use Rattle.bm_work.specs.FromLists.{Fetched};
 ghost use Rattle.bm_desk.specs.Periods.{AddsFirst};
-ghost use Rattle.bm_desk.specs.Works.{Posted, Stands, Works};
+ghost use Rattle.bm_desk.specs.Works.{Handled, Posted, Stands, Works};
 
 use crate::Desk;
 use crate::lists::add_one;
@@ -40,6 +41,8 @@ fn get_fetched<R: Recorder, H: Desk<R>>(
     requires stands { Stands R.log R.counts H.Host.asked H.Host.tests H.Host.face H.Host.held host.old }
     ensures posted { Posted H.Host.face H.Host.pending H.stays H.Host.held (λ h. H.W.Knows.known (H.shared h)) H.Host.tests [] host.old host.new }
     ensures mail { (H.W.Knows.known (H.shared host.new)).parcels ≡ (H.W.Knows.known (H.shared host.old)).parcels }
+    ensures pages { IfOk result (λ us. TakesPages want (map number_of us.items) (H.W.Knows.known (H.shared host.old)).pages (H.W.Knows.known (H.shared host.new)).pages) }
+    ensures same_pages { OnErr result ((H.W.Knows.known (H.shared host.new)).pages ≡ (H.W.Knows.known (H.shared host.old)).pages) }
     ensures few { IfOk result (λ us. length us.items ≤ want) }
     ensures sit { IfOk result (λ us. All (Sits class) us.items) }
     ensures fresh { IfOk result (λ us. (n : ℕ) → stands n (seen number_of (shown (H.Host.held host.new))) + times n (map number_of us.items) ≤ 1) }
@@ -63,7 +66,8 @@ fn note_fetched<R: Recorder, H: Desk<R>>(host: &mut H, class: Class, want: u32, 
     requires sit { All (Sits class) units.items }
     requires fresh { (n : ℕ) → stands n (seen number_of (shown (H.Host.held host.old))) + times n (map number_of units.items) ≤ 1 }
     requires reusable { All (Reusable (H.Host.tests host.old)) units.items }
-    ensures works { Works R.log H.Host.face H.Host.pending H.stays H.Host.held (λ h. H.W.Knows.known (H.shared h)) 0 0 (λ l. Say l (IsOne (entry.Fetch class want (Whole (map number_of units.items))))) host.old host.new }
+    ensures step { TookUnits R.log (H.Host.face host.old).level (entry.Fetch class want) (map number_of units.items) units.items (H.Host.held host.old) (H.Host.held host.new) }
+    ensures handled { Handled H.Host.face H.Host.pending H.stays H.shared H.Host.tests host.old host.new }
     ensures deferred { (k : ℕ) → ((shown (H.Host.held host.new)).rows k).deferred ≡ ((shown (H.Host.held host.old)).rows k).deferred }
     ensures side { (shown (H.Host.held host.new)).sides (H.Host.face host.old).level ≡ record { hand = units.items; mark = mark.Quiet } }
     ensures fit { All (Fit (H.Host.tests host.new) class) units.items }

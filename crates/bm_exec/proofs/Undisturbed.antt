@@ -11,9 +11,11 @@ use Rattle.bm_law.specs.Spans.{Records}
 use Rattle.bm_law.proofs.Alone.{Alone-none, Alone-one, Alone-join}
 use Rattle.bm_deferred.specs.Begun.{Progressed, begun_by}
 use Rattle.bm_deferred.specs.Inboxes.{Delivered}
+use Rattle.bm_deferred.specs.Pages.{StaysSupplied}
 use Rattle.bm_deferred.proofs.Begun.{AllStill, IsIdle, IsStill, over-idle, progressed-join, progressed-none, progressed-records, still-idle}
 use Rattle.bm_deferred.proofs.Each.{of-map}
 use Rattle.bm_deferred.proofs.Inboxes.{IsQuiet, delivered-join, delivered-none, delivered-records, still-quiet}
+use Rattle.bm_deferred.proofs.Pages.{TakesNone, spares-same, still-takes-none, supplied-records, supplied-same}
 use Rattle.bm_lived.specs.Told.{LivesTold}
 use Rattle.bm_lived.proofs.Stretches.{told-join, told-none}
 use Rattle.bm_exec.specs.Living.{Undisturbed, lived_in}
@@ -27,6 +29,7 @@ undisturbed-none levels waits logs knows m = record {
   processor = refl;
   periods = λ d. progressed-none (levels m) d (begun_by (side d (knows m)).number) (begun_by (side d (knows m)).number) (logs m) refl;
   mail = delivered-none (levels m) (knows m).grace.processors (knows m).grace.processor (knows m).parcels (knows m).parcels (logs m) refl;
+  supplied = supplied-same (levels m) (knows m).pages (knows m).pages (logs m) (spares-same (knows m).pages (knows m).pages refl);
   lives = told-none (knows m).grace.processor (lived_in (knows m).objects) (logs m);
 }
 
@@ -40,6 +43,7 @@ undisturbed-join {M} {levels} {waits} {logs} {knows} {a} {b} {c} e u v =
     let A : ℕ → Type 0 = λ k. Alone k (logs b) (logs c) in
     let P : Domain → ℕ → Type 0 = λ d k. Progressed k d (begun_by (side d (knows b)).number) (begun_by (side d (knows c)).number) (logs b) (logs c) in
     let D : ℕ → ℕ → ℕ → Type 0 = λ k m q. Delivered k m q (knows b).parcels (knows c).parcels (logs b) (logs c) in
+    let S : ℕ → Type 0 = λ k. StaysSupplied k (knows b).pages (knows c).pages (logs b) (logs c) in
     let d1 : D l (knows b).grace.processors (knows b).grace.processor = subst (λ k. D k (knows b).grace.processors (knows b).grace.processor) e v.mail in
     let L : ℕ → Type 0 = λ q. LivesTold q (lived_in (knows b).objects) (lived_in (knows c).objects) (logs b) (logs c) in
     let d2 : D l n p = subst (D l n) u.processor (subst (λ m. D l m (knows b).grace.processor) u.processors d1) in
@@ -51,6 +55,7 @@ undisturbed-join {M} {levels} {waits} {logs} {knows} {a} {b} {c} e u v =
       processor = v.processor ∙ u.processor;
       periods = λ d. progressed-join l d (begun_by (side d (knows a)).number) (begun_by (side d (knows b)).number) (begun_by (side d (knows c)).number) (logs a) (logs b) (logs c) (u.periods d) (subst (P d) e (v.periods d));
       mail = delivered-join l n p (knows a).parcels (knows b).parcels (knows c).parcels (logs a) (logs b) (logs c) u.mail d2;
+      supplied = λ pages h. subst S e v.supplied pages (u.supplied pages h);
       lives = told-join p (lived_in (knows a).objects) (lived_in (knows b).objects) (lived_in (knows c).objects) (logs a) (logs b) (logs c) u.lives (subst L u.processor v.lives);
     }
 
@@ -67,9 +72,9 @@ same-numbers : (a b : Known) → b.grace ≡ a.grace → (d : Domain) → (side 
 same-numbers a b e Plain = ap (λ (s : Sides). s.plain.number) e
 same-numbers a b e Tracing = ap (λ (s : Sides). s.tracing.number) e
 
--- entries of a call's own that have nothing to do with parcels and periods, of which the side knows what it knew
-pub undisturbed-still : {M : Type 0} (levels waits : M → ℕ) (logs : M → Option Log) (knows : M → Known) (a b : M) (own : List Entry) → waits b ≡ waits a → Alone (levels a) (logs a) (logs b) → Records (levels a) own (logs a) (logs b) → AllStill own → (knows b).grace ≡ (knows a).grace → (knows b).parcels ≡ (knows a).parcels → LivesTold (knows a).grace.processor (lived_in (knows a).objects) (lived_in (knows b).objects) (logs a) (logs b) → Undisturbed levels waits logs knows a b
-undisturbed-still levels waits logs knows a b own w u r q g m lives =
+-- entries of a call's own that have nothing to do with parcels, periods and the stock, of which the side knows what it knew
+pub undisturbed-still : {M : Type 0} (levels waits : M → ℕ) (logs : M → Option Log) (knows : M → Known) (a b : M) (own : List Entry) → waits b ≡ waits a → Alone (levels a) (logs a) (logs b) → Records (levels a) own (logs a) (logs b) → AllStill own → (knows b).grace ≡ (knows a).grace → (knows b).parcels ≡ (knows a).parcels → (knows b).pages ≡ (knows a).pages → LivesTold (knows a).grace.processor (lived_in (knows a).objects) (lived_in (knows b).objects) (logs a) (logs b) → Undisturbed levels waits logs knows a b
+undisturbed-still levels waits logs knows a b own w u r q g m f lives =
     let l = levels a in
     record {
       pending = omega (arith, w);
@@ -79,5 +84,6 @@ undisturbed-still levels waits logs knows a b own w u r q g m lives =
       processor = ap (λ (s : Sides). s.processor) g;
       periods = λ d. progressed-records l d own (begun_by (side d (knows a)).number) (begun_by (side d (knows b)).number) (logs a) (logs b) (ap begun_by (same-numbers (knows a) (knows b) g d) ∙ sym (over-idle d (begun_by (side d (knows a)).number) own (of-map IsStill IsIdle still-idle own q))) r;
       mail = delivered-records l (knows a).grace.processors (knows a).grace.processor own (knows a).parcels (knows b).parcels (logs a) (logs b) (of-map IsStill IsQuiet still-quiet own q) m r;
+      supplied = supplied-records l own (knows a).pages (knows b).pages (logs a) (logs b) (of-map IsStill TakesNone still-takes-none own q) (spares-same (knows a).pages (knows b).pages f) r;
       lives = lives;
     }

@@ -14,6 +14,7 @@ use Rattle.bm_law.specs.Spans.{Records}
 use Rattle.bm_law.specs.Alone.{Alone}
 use Rattle.bm_deferred.specs.Begun.{Progressed, begun_by}
 use Rattle.bm_deferred.specs.Inboxes.{Delivered}
+use Rattle.bm_deferred.specs.Pages.{StaysSupplied}
 use Rattle.bm_lawful.specs.Held.{Names, Object}
 use Rattle.bm_lived.specs.Lived.{Lived}
 use Rattle.bm_lived.specs.Told.{LivesTold}
@@ -71,7 +72,9 @@ pub record Disposed (l c : ℕ) (o : ObjId) (log log' : Option Log) (lives lives
 -- No handler was added to those that wait; where none ran, the log has grown by entries of the machine's level alone, and no
 -- section began or ended. The side is the same one, and has those periods in progress that the entries tell; and of the parcels
 -- that are told, each that came was the oldest one, each that went goes to one of the processors, nothing was swept, and those
--- that are left are what the entries tell. The objects that live, and how many lives began, are what they tell.
+-- that are left are what the entries tell. The objects that live, and how many lives began, are what they tell. If each page that
+-- has a class gave a unit by entries of the log, and these fetched fewer units than were wanted only where each page gave one, it is
+-- so now.
 pub record Undisturbed {M : Type 0} (levels waits : M → ℕ) (logs : M → Option Log) (knows : M → Known) (before now : M) : Type 0 where
   pub pending : waits now ≤ waits before
   pub alone : waits now ≡ waits before → Alone (levels before) (logs before) (logs now)
@@ -80,6 +83,7 @@ pub record Undisturbed {M : Type 0} (levels waits : M → ℕ) (logs : M → Opt
   pub processor : (knows now).grace.processor ≡ (knows before).grace.processor
   pub periods : (d : Domain) → Progressed (levels before) d (begun_by (side d (knows before)).number) (begun_by (side d (knows now)).number) (logs before) (logs now)
   pub mail : Delivered (levels before) (knows before).grace.processors (knows before).grace.processor (knows before).parcels (knows now).parcels (logs before) (logs now)
+  pub supplied : StaysSupplied (levels before) (knows before).pages (knows now).pages (logs before) (logs now)
   pub lives : LivesTold (knows before).grace.processor (lived_in (knows before).objects) (lived_in (knows now).objects) (logs before) (logs now)
 
 -- Each name that holds an object holds one that lives, of its type's class, no two names hold one object, and each object

@@ -23,3 +23,4 @@ pub mod NoBlock
 pub mod WrongWork
 pub mod Parceled
 pub mod Periods
+pub mod WrongShort

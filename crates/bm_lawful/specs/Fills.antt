@@ -1,16 +1,12 @@
 -- The units that caches begin with. (prefill_mem_cache in kernel/bpf/memalloc.c; the numbers, and which units of the stock
 -- they are, are this project's own.)
-use Rattle.std.specs.Prelude.{◌≡◌, ℕ, ◌*◌, List, [], ◌∷◌, None, map, replicate, nat_le, if◌then◌else◌}
-use Rattle.bm_class.specs.Sizes.{size_of_class}
+use Rattle.std.specs.Prelude.{◌≡◌, ℕ, ◌*◌, List, [], ◌∷◌, None, map, replicate}
 use Rattle.bm_journal.specs.declared.units.Units.TheVariants.{Whole}
 use Rattle.bm_journal.specs.declared.entry.Entry.{Entry}
 use Rattle.bm_journal.specs.declared.entry.Entry.TheVariants as entry
+pub use Rattle.bm_deferred.specs.Pages.{prefill}
 use Rattle.bm_page.specs.Stock.{Stock, fetched, unborn}
 use Rattle.bm_page.specs.UnitState.{UnitState}
-
--- a cache begins with 4 units of at most 256 bytes, or with 1 greater one
-abbrev pub prefill : ℕ → ℕ
-prefill c = if nat_le (size_of_class c) 256 then 4 else 1
 
 -- a stock of so many pages, none of which has a class by now
 abbrev pub fresh_stock : ℕ → Stock

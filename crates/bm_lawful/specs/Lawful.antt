@@ -14,6 +14,7 @@ use Rattle.bm_law.specs.Worked.{Emptied}
 use Rattle.bm_lawful.specs.Opened.{opened}
 use Rattle.bm_lawful.specs.Grammar.{IsLog}
 use Rattle.bm_lawful.specs.Parcels.{ParcelLaw, sends_alone}
+use Rattle.bm_lawful.specs.Short.{JournalShort}
 
 -- The heading names what the scenario declares.
 pub record HeadingOf (s : Parts) (j : Journal) : Type 0 where
@@ -35,9 +36,12 @@ pub record LawfulLog (s : Parts) (p : ℕ) (log : Log) : Type 0 where
   pub null : NullLaw p log
   pub parcels : sends_alone s ≡ true → ParcelLaw p log
 
+-- A journal: its heading; its logs, of which there is one a processor; where its caches and refills got fewer units than they
+-- wanted; no histories; and its totals.
 pub record Lawful (s : Parts) (j : Journal) : Type 0 where
   pub heading : HeadingOf s j
   pub count : length j.logs ≡ s.processors
   pub logs : (p : ℕ) (log : Log) → slice_get j.logs p ≡ Some log → LawfulLog s p log
+  pub short : JournalShort j.pages j.logs
   pub graphs : j.graphs ≡ []
   pub totals : j.totals ≡ totals_of j.logs

@@ -16,3 +16,5 @@ pub mod WrongJournals
 pub mod WorkedText
 pub mod WorkedDeferred
 pub mod WrongDeferred
+pub mod Short
+pub mod WrongShort

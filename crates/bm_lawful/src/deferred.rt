@@ -10,6 +10,7 @@ ghost use Rattle.bm_lawful.specs.Parcels.{ParcelLaw};
 ghost use Rattle.bm_lawful.specs.Works.{lowest_raised};
 ghost use Rattle.bm_lawful.specs.WorkedDeferred.{one_block, one_block_journal, no_block, no_block_journal};
 ghost use Rattle.bm_lawful.specs.WorkedText.{lines_text, one_block_lines};
+ghost use Rattle.bm_lawful.specs.WrongShort.{third_unnamed, three_pages};
 ghost use Rattle.bm_lawful.specs.WrongDeferred.{begun, ends, inbox_forgotten, left_out, not_asked, not_behind, not_received, other_received, raised, received, received_twice, sends, swept_from_inbox};
 
 /// Lawful journals with deferred work: of a script that makes an object of 4088 bytes and drops it, with its text; and of
@@ -21,11 +22,13 @@ pub fn worked_deferred()
 {}
 
 /// Journals that aren't lawful, each one step away from one above: no work behind a call that raised the flag; a work
-/// behind a statement though no flag is up; no work behind the script.
+/// behind a statement though no flag is up; no work behind the script; a fetch that gives fewer units than were wanted though a page
+/// was never named.
 pub fn wrong_deferred()
     ensures left_out { ¬ Lawful one_block left_out }
     ensures not_asked { ¬ Lawful no_block not_asked }
     ensures not_behind { ¬ Lawful no_block not_behind }
+    ensures unnamed { ¬ Lawful three_pages third_unnamed }
 {}
 
 /// Which class is worked for first, computed: the lowest one whose flag is up.

@@ -28,7 +28,7 @@ fresh_side pool = record {
 }
 
 -- The processor's caches were filled so: the log has a `fill` for each class, no flag is up, no object lives, no life began, none was asked for,
--- no parcel waits, no period is in progress, and no section was entered. (bpf_mem_alloc_init and prefill_mem_cache in
+-- no parcel waits, no period is in progress, no section was entered, and a page has a class where these fills left it one. (bpf_mem_alloc_init and prefill_mem_cache in
 -- kernel/bpf/memalloc.c; objects, parcels, periods and sections are this project's own.)
 pub record IsOpen (f : Filling) (m : Machine0) : Type 0 where
   pub sound : Sound m
@@ -40,3 +40,4 @@ pub record IsOpen (f : Filling) (m : Machine0) : Type 0 where
   pub parcels : (known_living m.side).parcels ≡ Some (λ c. [])
   pub numbers : (d : Domain) → (side d (known_living m.side)).number ≡ 0
   pub words : (d : Domain) → (side d (known_living m.side)).word ≡ 0
+  pub pages : (known_living m.side).pages ≡ f.pool.classes

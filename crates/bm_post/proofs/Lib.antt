@@ -4,3 +4,4 @@ pub mod Fetched
 pub mod Posts
 pub mod Room
 pub mod Told
+pub mod Pages

@@ -1,12 +1,13 @@
 //! The pool and the inboxes, as one processor sees them.
 
-ghost use Rattle.std.specs.Prelude.{◌≡◌, ◌<◌, ◌≤◌, ◌+◌, ◌^◌, true, ℕ, List, Option, [], length, IfOk, IfErr, IfSome, IfNone, OnOk, OnErr};
+ghost use Rattle.std.specs.Prelude.{◌≡◌, ◌<◌, ◌≤◌, ◌+◌, ◌^◌, true, ℕ, List, Option, [], drop, length, IfOk, IfErr, IfSome, IfNone, OnOk, OnErr};
 ghost use Rattle.std.specs.List.{All};
 ghost use Rattle.std.specs.Option.{option_map_or};
 ghost use Rattle.bm_page.specs.declared.units.Seal.{Seal};
+ghost use Rattle.bm_deferred.specs.Pages.{TakesPages, Spares};
 ghost use Rattle.bm_grace.specs.Rest.{StaysAtRest};
 ghost use Rattle.bm_grace.specs.Rights.{Rights};
-ghost use Rattle.bm_post.specs.Calls.{Fetches, GivesBack, IsOf, KeepsCalls, Mails, PostCall, Posts, Receives, TellsCall, fetched, received, returned_call, sent};
+ghost use Rattle.bm_post.specs.Calls.{Fetches, GivesBack, IsOf, KeepsCalls, Mails, PostCall, Posts, Receives, Stocks, TellsCall, fetched, received, returned_call, sent};
 ghost use Rattle.bm_post.specs.Parcels.{oldest, parcel_sent, parcel_taken};
 ghost use Rattle.bm_post.specs.Rights.{AreSame, Holds, Lasting, MayLeave, numbers};
 
@@ -27,13 +28,17 @@ pub trait Post: Knows {
     ghost calls: { Self → Option (List PostCall) };
 
     /// Appends up to `want` units of a class from the pool, and answers how many. They weren't mine before, and differ
-    /// from each other. `NoMemory`, where `out` can't grow, is the only error and changes nothing.
+    /// from each other. Fewer come only where each page has a class by now, so that it gave a unit that is out. `NoMemory`,
+    /// where `out` can't grow, is the only error and changes nothing.
     fn fetch(&mut self, class: Class, want: usize, out: &mut Vec<Unit>) -> Result<usize, NoMemory>
         ensures ok { IfOk result (λ n. Fetches class want n out.old.items out.new.items (Self.rights self.old) (Self.rights self.new)) }
         ensures err { OnErr result (out.new.items ≡ out.old.items) }
         ensures same { OnErr result (AreSame (Self.rights self.old) (Self.rights self.new)) }
         ensures lasts { Lasting [] (Self.rights self.old) (Self.rights self.new) }
-        ensures known { Posts Self.tells (Self.known self.old) (Self.known self.new) }
+        ensures known { Stocks Self.tells (Self.known self.old) (Self.known self.new) }
+        ensures pages { OnOk result
+            (TakesPages want (numbers (drop (length out.old.items) out.new.items)) (Self.known self.old).pages (Self.known self.new).pages) }
+        ensures same_pages { OnErr result ((Self.known self.new).pages ≡ (Self.known self.old).pages) }
         ensures rest { StaysAtRest Self.rest self.old self.new }
         ensures calls { IfOk result (λ n. TellsCall (fetched class want n out.old.items out.new.items) (calls self.old) (calls self.new)) }
         ensures no_call { OnErr result (KeepsCalls (calls self.old) (calls self.new)) };
@@ -44,7 +49,8 @@ pub trait Post: Knows {
         requires fit { All (MayLeave (Self.rights self.old)) units.items }
         ensures back { GivesBack (numbers units.items) (Self.rights self.old) (Self.rights self.new) }
         ensures lasts { Lasting (numbers units.items) (Self.rights self.old) (Self.rights self.new) }
-        ensures known { Posts Self.tells (Self.known self.old) (Self.known self.new) }
+        ensures known { Stocks Self.tells (Self.known self.old) (Self.known self.new) }
+        ensures pages { Spares (Self.known self.old).pages (Self.known self.new).pages }
         ensures rest { StaysAtRest Self.rest self.old self.new }
         ensures calls { TellsCall (returned_call units.items) (calls self.old) (calls self.new) };
 

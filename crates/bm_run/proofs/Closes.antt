@@ -16,6 +16,7 @@ use Rattle.bm_law.specs.SweepPhrases.{MayBegin, MayFinish, PollPhrase, SweepPhra
 use Rattle.bm_deferred.specs.Begun.{begun_after, begun_by, begun_over}
 use Rattle.bm_deferred.specs.Inboxes.{Inboxes, on_inbox}
 use Rattle.bm_deferred.specs.Parts.{Stand, Then}
+use Rattle.bm_deferred.proofs.Pages.{TakesNone}
 use Rattle.bm_deferred.proofs.Each.{AllOf, PartOf, of-append, of-map, part-nothing, part-say, part-stand, part-then}
 use Rattle.bm_lawful.specs.Closing.{AreSweeps, Closing, EndsOne, EndsPeriods, SweepOf, SweepWhere, in_progress}
 use Rattle.bm_mail.specs.SweepsTold.{ClosingTold, SweepsTold}
@@ -23,28 +24,28 @@ use Rattle.bm_lived.specs.Lifeless.{SaysNoLife}
 use Rattle.bm_closing.specs.EndsBegun.{EndsBegun}
 use Rattle.bm_exec.proofs.Said.{Silent}
 
--- ---- they neither ask for an object nor answer, and say nothing of lives
+-- ---- they neither ask for an object nor answer, say nothing of lives, and take nothing from the stock
 
 abbrev IsCalm : Entry → Type 0
-IsCalm e = (is_apart e ≡ true) × SaysNoLife e
+IsCalm e = (is_apart e ≡ true) × SaysNoLife e × TakesNone e
 
 finish-calm : (d : Domain) (own : List Entry) → MayFinish d own → AllOf IsCalm own
 finish-calm d own (inl e) = subst (AllOf IsCalm) (sym e) tt
-finish-calm d own (inr x) = subst (AllOf IsCalm) (sym x.1) (subst (λ (e : Entry). AllOf IsCalm (e ∷ [])) (sym x.2.2) ((refl, tt), tt))
+finish-calm d own (inr x) = subst (AllOf IsCalm) (sym x.1) (subst (λ (e : Entry). AllOf IsCalm (e ∷ [])) (sym x.2.2) ((refl, tt, tt), tt))
 
 begin-calm : (d : Domain) (own : List Entry) → MayBegin d own → AllOf IsCalm own
 begin-calm d own (inl e) = subst (AllOf IsCalm) (sym e) tt
-begin-calm d own (inr x) = subst (AllOf IsCalm) (sym x.2) ((refl, tt), finish-calm d x.1 x.3)
+begin-calm d own (inr x) = subst (AllOf IsCalm) (sym x.2) ((refl, tt, tt), finish-calm d x.1 x.3)
 
 poll-calm : (c : ℕ) (own : List Entry) → PollPhrase c Tracing own → AllOf IsCalm own
-poll-calm c own p = subst (AllOf IsCalm) (sym p.own_is) (of-append IsCalm p.ended (p.begun ++ entry.Pass c Tracing p.seen ∷ []) (finish-calm Tracing p.ended p.may_finish) (of-append IsCalm p.begun (entry.Pass c Tracing p.seen ∷ []) (begin-calm Tracing p.begun p.may_begin) ((refl, tt), tt)))
+poll-calm c own p = subst (AllOf IsCalm) (sym p.own_is) (of-append IsCalm p.ended (p.begun ++ entry.Pass c Tracing p.seen ∷ []) (finish-calm Tracing p.ended p.may_finish) (of-append IsCalm p.begun (entry.Pass c Tracing p.seen ∷ []) (begin-calm Tracing p.begun p.may_begin) ((refl, tt, tt), tt)))
 
 sweep-calm : (c : ℕ) (own : List Entry) → SweepPhrase c own → AllOf IsCalm own
-sweep-calm c own p = subst (AllOf IsCalm) (sym p.own_is) ((refl, tt), ((refl, tt), of-append IsCalm p.poll (entry.Return c (Whole p.returned) ∷ []) (poll-calm c p.poll p.polls) ((refl, tt), tt)))
+sweep-calm c own p = subst (AllOf IsCalm) (sym p.own_is) ((refl, tt, tt), ((refl, tt, tt), of-append IsCalm p.poll (entry.Return c (Whole p.returned) ∷ []) (poll-calm c p.poll p.polls) ((refl, tt, tt), tt)))
 
 ends-calm : (d : Domain) (begun : Option ℕ) → PartOf IsCalm 0 (EndsOne d begun)
 ends-calm d None = part-nothing IsCalm 0
-ends-calm d (Some n) = part-say IsCalm 0 _ (λ own h. subst (AllOf IsCalm) (sym h.3) ((refl, tt), tt))
+ends-calm d (Some n) = part-say IsCalm 0 _ (λ own h. subst (AllOf IsCalm) (sym h.3) ((refl, tt, tt), tt))
 
 where-calm : (c : ℕ) (us : List ℕ) → PartOf IsCalm 0 (SweepWhere c us)
 where-calm c [] = part-nothing IsCalm 0
@@ -67,13 +68,16 @@ closing-calm classes front boxes s part h =
     let plain : Option ℕ = in_progress Plain None front in
     let tracing : Option ℕ = in_progress Tracing None front in
     let ends : PartOf IsCalm 0 (EndsPeriods front) = part-then IsCalm 0 (EndsOne Plain plain) (EndsOne Tracing tracing) (ends-calm Plain plain) (ends-calm Tracing tracing) in
-    part-then IsCalm 0 (Stand 0 (entry.Ended ∷ entry.Close ∷ [])) (Then (EndsPeriods front) (SweepsTold classes boxes)) (part-stand IsCalm 0 (entry.Ended ∷ entry.Close ∷ []) ((refl, tt), ((refl, tt), tt))) (part-then IsCalm 0 (EndsPeriods front) (SweepsTold classes boxes) ends (sweeps-calm classes boxes)) s part h
+    part-then IsCalm 0 (Stand 0 (entry.Ended ∷ entry.Close ∷ [])) (Then (EndsPeriods front) (SweepsTold classes boxes)) (part-stand IsCalm 0 (entry.Ended ∷ entry.Close ∷ []) ((refl, tt, tt), ((refl, tt, tt), tt))) (part-then IsCalm 0 (EndsPeriods front) (SweepsTold classes boxes) ends (sweeps-calm classes boxes)) s part h
 
 pub closing-apart : (classes : List ℕ) (front : Log) (boxes : Inboxes) (s : State ℕ) (part : Log) → ClosingTold 0 classes front boxes s part → all_apart (own_entries 0 part) ≡ true
 closing-apart classes front boxes s part h = all-of-apart (own_entries 0 part) (closing-calm classes front boxes s part h)
 
 pub closing-silent : (classes : List ℕ) (front : Log) (boxes : Inboxes) (s : State ℕ) (part : Log) → ClosingTold 0 classes front boxes s part → Silent (own_entries 0 part)
 closing-silent classes front boxes s part h = of-map IsCalm SaysNoLife (λ e k. k.1) (own_entries 0 part) (closing-calm classes front boxes s part h)
+
+pub closing-takes-none : (classes : List ℕ) (front : Log) (boxes : Inboxes) (s : State ℕ) (part : Log) → ClosingTold 0 classes front boxes s part → AllOf TakesNone (own_entries 0 part)
+closing-takes-none classes front boxes s part h = of-map IsCalm TakesNone (λ e k. k.2) (own_entries 0 part) (closing-calm classes front boxes s part h)
 
 -- ---- what is said of the inboxes gives the closing
 

@@ -73,6 +73,7 @@ ordinary-undisturbed a b s u =
       alone = u.alone refl;
       periods = u.periods;
       mail = subst (λ n. D n 0) s.one (subst (D (known_of a).grace.processors) s.first u.mail);
+      supplied = u.supplied;
       lives = subst (λ p. LivesTold p (lived_of a) (lived_of b) (log_of a) (log_of b)) s.first u.lives;
     }
 

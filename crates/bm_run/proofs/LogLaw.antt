@@ -1,8 +1,8 @@
 -- The log of a run is lawful.
-use Rattle.std.proofs.Common.{◌≡◌, ℕ, suc, zero, Bool, true, false, List, [], ◌∷◌, ◌++◌, map, refl, sym, ap, subst, ◌∙◌, append_assoc, append-nil, ne_eqb, Option, Some, None, IfSome, IsSome, arith}
+use Rattle.std.proofs.Common.{◌≡◌, ℕ, suc, zero, Bool, true, false, List, [], ◌∷◌, ◌++◌, map, refl, sym, ap, subst, ◌∙◌, append_assoc, append-nil, ne_eqb, Option, Some, None, IfSome, IsSome, replicate, arith}
 use Rattle.std.specs.Prelude.{◌||◌, nat_eq, not}
 use Rattle.std.specs.List.{list_any}
-use Rattle.std.proofs.lemmas.List.{append_cancel_left}
+use Rattle.std.proofs.lemmas.List.{append_cancel_left, length-replicate}
 use Rattle.bm_journal.specs.declared.ids.Domain.{Domain}
 use Rattle.bm_journal.specs.declared.entry.Entry.{Entry}
 use Rattle.bm_journal.specs.declared.entry.Entry.TheVariants as entry
@@ -10,6 +10,8 @@ use Rattle.bm_lang.specs.declared.scenario.Parts.{Parts}
 use Rattle.bm_page.specs.Stock.{Stock, fetched}
 use Rattle.bm_grace.specs.Known.{side}
 use Rattle.bm_post.specs.PostState.{told_in}
+use Rattle.bm_post.specs.Rights.{numbers}
+use Rattle.bm_post.proofs.Pages.{fetched-brings, fetched-fewer}
 use Rattle.bm_law.specs.Alone.{AllAt, Alone, GrewAt, at_level}
 use Rattle.bm_law.specs.Lists.{Leaves, Log, after}
 use Rattle.bm_law.specs.Null.{Asked, Nothing, RepliesFit}
@@ -27,15 +29,18 @@ use Rattle.bm_cache.specs.Tokens.{Token, number_of}
 use Rattle.bm_deferred.specs.Begun.{Progressed, Progresses, begun_by, begun_over}
 use Rattle.bm_deferred.specs.Grown.{GrewBy, GrewPart}
 use Rattle.bm_deferred.specs.Inboxes.{Delivered, Delivers, Inboxes}
+use Rattle.bm_deferred.specs.Pages.{HasClass, HasShort, ShortLaw, Supplies, SuppliesBy}
 use Rattle.bm_deferred.specs.Parts.{Part, Say, Stand, Then}
 use Rattle.bm_deferred.proofs.Begun.{IsIdle, begun-append, over-idle}
 use Rattle.bm_deferred.proofs.Each.{AllOf}
+use Rattle.bm_deferred.proofs.Pages.{spares-same, supplies-brought, supplies-more}
 use Rattle.bm_lawful.specs.Closing.{AreSweeps, EndsPeriods, in_progress}
 use Rattle.bm_lawful.specs.Fills.{AreFills, fresh_stock, prefill}
 use Rattle.bm_lawful.specs.Grammar.{AreScripts, Front, lines_of}
 use Rattle.bm_lawful.specs.Lawful.{LawfulLog}
 use Rattle.bm_lawful.specs.Opened.{opened_classes, uses_class}
 use Rattle.bm_lawful.specs.Parcels.{ParcelLaw, no_parcels, sends_alone}
+use Rattle.bm_lawful.specs.Short.{JournalShort}
 use Rattle.bm_mail.specs.SweepsTold.{ClosingTold, SweepsTold}
 use Rattle.bm_front.specs.Owed.{AllReplied}
 use Rattle.bm_closing.specs.EndsBegun.{EndsBegun}
@@ -57,7 +62,7 @@ use Rattle.bm_opening.specs.Filling.{Filling, filling}
 use Rattle.bm_opening.specs.Opened.{IsOpen}
 use Rattle.bm_run.specs.Closed.{Closed}
 use Rattle.bm_run.specs.Lines.{known_of, lists_of, lived_of, log_of, Wrote}
-use Rattle.bm_run.proofs.Closes.{closing-apart, closing-is, closing-silent, ends-are, in-progress-own}
+use Rattle.bm_run.proofs.Closes.{closing-apart, closing-is, closing-silent, closing-takes-none, ends-are, in-progress-own}
 use Rattle.bm_run.proofs.OpenedList.{opened-has, opened-none}
 
 -- ---- the entries of the opening
@@ -86,6 +91,38 @@ level-at : (own : List Entry) → AllAt 0 (at_level 0 own)
 level-at [] = tt
 level-at (e ∷ es) = (refl, level-at es)
 
+-- ---- the pages of the opening
+
+none-fresh : (n page : ℕ) → ¬ HasClass page (replicate n (let o : Option ℕ = None in o))
+none-fresh zero page h = cc
+none-fresh (suc n) zero h = cc
+none-fresh (suc n) (suc page) h = none-fresh n page h
+
+fresh-supplied : (n : ℕ) → Supplies n (fresh_stock n).classes []
+fresh-supplied n = record {
+  count = length-replicate n None;
+  named = λ page h. absurd (none-fresh n page h);
+  short = λ h page lt. absurd h;
+}
+
+fills-supplied : (cs : List ℕ) (n : ℕ) (pool : Stock) (es : List Entry) → Supplies n pool.classes es → Supplies n (filling cs pool).pool.classes (es ++ fill_entries (filling cs pool).fills)
+fills-supplied [] n pool es h = subst (Supplies n pool.classes) (sym (append-nil es)) h
+fills-supplied (c ∷ cs) n pool es h =
+    let f = fetched c (prefill c) pool in
+    let e : Entry = entry.Fill c (named f.units) in
+    let one : Supplies n f.pool.classes (es ++ e ∷ []) = supplies-brought n (prefill c) (numbers f.units) e pool.classes f.pool.classes es refl refl (fetched-brings c (prefill c) pool f.pool refl (fetched-fewer c (prefill c) pool)) h in
+    subst (Supplies n (filling cs f.pool).pool.classes) (append_assoc es (e ∷ []) (fill_entries (filling cs f.pool).fills)) (fills-supplied cs n f.pool (es ++ e ∷ []) one)
+
+opened-supplied : (cs : List ℕ) (n : ℕ) (m : Machine0) → IsOpen (filling cs (fresh_stock n)) m → SuppliesBy 0 n (known_of m).pages (log_of m)
+opened-supplied cs n m o = subst (λ (x : List (Option ℕ)). SuppliesBy 0 n x (log_of m)) (sym o.pages) (by (log_of m) o.told)
+  where
+    by : (x : Option Log) → IfSome x (λ es. es ≡ fill_log (filling cs (fresh_stock n)).fills) → SuppliesBy 0 n (filling cs (fresh_stock n)).pool.classes x
+    by None h = tt
+    by (Some es) h =
+        let fs : Fills = (filling cs (fresh_stock n)).fills in
+        let own : own_entries 0 es ≡ fill_entries fs = ap (own_entries 0) (h ∙ fill-level fs) ∙ level-own 0 (fill_entries fs) in
+        subst (Supplies n (filling cs (fresh_stock n)).pool.classes) (sym own) (fills-supplied cs n (fresh_stock n) [] (fresh-supplied n))
+
 -- ---- what a run leaves, by its logs
 
 pub record Told (s : Parts) (final : Log) : Type 0 where
@@ -105,6 +142,7 @@ pub record Told (s : Parts) (final : Log) : Type 0 where
   pub none : (u : ℕ) → lived.homes u ≡ None
   pub before : State ℕ
   pub leaves : Leaves 0 (fills ++ scripts) before
+  pub short : ShortLaw s.pages (own_entries 0 ((fills ++ scripts) ++ closing))
 
 same-some : {x y : Log} → Some x ≡ Some y → x ≡ y
 same-some q = cc
@@ -194,6 +232,10 @@ told-run s m0 m2 m3 final none o w e same sound2 sound3 closed =
     let closes : ClosingTold 0 classes front boxes (after (opening 0) front) (e'.added ++ z.added) = record { one = e'.added; two = z.added; part_is = refl; is_first = record { from = e'.is_part.from; own_is = e'.is_part.own_is }; is_second = rest } in
     let front-live : LivesOn 0 no_lives (lived_of m2) front = lives-join 0 no_lives (lived_of m0) (lived_of m2) fills scripts (fills-live (filling classes (fresh_stock s.pages)).fills (filling classes (fresh_stock s.pages)) m0 fills o logged) (scripts-live m0 m2 fills scripts e'.log told0 e'.told w'.now_is w.ordinary.lives) in
     let back-live : LivesOn 0 (lived_of m2) (lived_of m2) (e'.added ++ z.added) = closing-live (lived_of m2) (e'.added ++ z.added) (at-append 0 e'.added z.added a2 a3) (closing-silent classes front boxes (after (opening 0) front) (e'.added ++ z.added) closes) in
+    let pages : List (Option ℕ) = (known_of m2).pages in
+    let supplied : Supplies s.pages pages (own_entries 0 e'.log) = subst (SuppliesBy 0 s.pages pages) e'.told (w.ordinary.supplied s.pages (opened-supplied classes s.pages m0 o)) in
+    let supplied-front : Supplies s.pages pages (own_entries 0 front) = subst (λ (l : Log). Supplies s.pages pages (own_entries 0 l)) w'.now_is supplied in
+    let supplied-all : Supplies s.pages pages (own_entries 0 front ++ own_entries 0 (e'.added ++ z.added)) = supplies-more s.pages pages pages (own_entries 0 front) (own_entries 0 (e'.added ++ z.added)) (closing-takes-none classes front boxes (after (opening 0) front) (e'.added ++ z.added) closes) (spares-same pages pages refl) supplied-front in
     let front2 : Leaves 0 e'.log (lists_of m2) = subst (λ (x : Option Log). IfSome x (λ es. Leaves 0 es (lists_of m2))) e'.told (sound_told m2 sound2) in (
       record {
         fills = fills;
@@ -212,6 +254,7 @@ told-run s m0 m2 m3 final none o w e same sound2 sound3 closed =
         none = λ u. ap home_of (none u);
         before = lists_of m2;
         leaves = subst (λ (l : Log). Leaves 0 l (lists_of m2)) w'.now_is front2;
+        short = subst (ShortLaw s.pages) (sym (own-append 0 front (e'.added ++ z.added))) supplied-all.short;
       },
       refl,
     )
@@ -337,6 +380,12 @@ lawful-run s m0 m2 m3 final kept replied sweeps mail none o w sound2 e same list
     (λ c. lists-end s c closed.last (list_any (uses_class c) s.types) refl (λ used. closed.empty c (opened-has s.types c used)) (λ never. ended-row s m2 m3 final t closed kept leaves lists c never))
     (λ l. ap (λ (h : Side Token). map number_of h.hand) (closed.ready.sides l (omega arith)))
     (λ c. (let h = closed.ready.active c in omega (arith, h)))
+
+-- where the whole log names fewer units than were wanted
+pub short-run : (s : Parts) (m0 m2 m3 : Machine0) (final : Log) → ((u : ℕ) → lives_of m2.side.slots u ≡ None) → IsOpen (filling (opened_classes s.types) (fresh_stock s.pages)) m0 → Wrote (AreScripts s (lines_of 0 s.runs) 0) m0 m2 → Wrote (Stand 0 (entry.Ended ∷ entry.Close ∷ [])) m2 m3 → m3.side ≡ m2.side → Sound m2 → Sound m3 → Closed (opened_classes s.types) m3 final → JournalShort s.pages (final ∷ [])
+short-run s m0 m2 m3 final none o w e same sound2 sound3 closed =
+    let t : Told s final = (told-run s m0 m2 m3 final none o w e same sound2 sound3 closed).0 in
+    subst (ShortLaw s.pages) (sym (append-nil (own_entries 0 final))) (subst (λ (l : Log). ShortLaw s.pages (own_entries 0 l)) (sym t.final_is) t.short)
 
 -- ---- lives over the whole log
 

@@ -14,6 +14,7 @@ use Rattle.bm_deferred.specs.Parts.{Part, Stand}
 use Rattle.bm_deferred.proofs.Begun.{IsStill, over-idle, progressed-join, progressed-none, progressed-records, still-idle}
 use Rattle.bm_deferred.proofs.Grown.{grew-join, grew-map, grew-stand}
 use Rattle.bm_deferred.proofs.Inboxes.{delivered-join, delivered-none, delivered-records, still-quiet}
+use Rattle.bm_deferred.proofs.Pages.{spares-same, still-takes-none, supplied-records, supplied-same}
 use Rattle.bm_lived.specs.Lifeless.{SaysNoLife}
 use Rattle.bm_lived.specs.Told.{LivesTold}
 use Rattle.bm_lived.proofs.Stretches.{told-join, told-none}
@@ -37,6 +38,7 @@ ordinary-none m = record {
   alone = Alone-none 0 (log_of m);
   periods = λ d. progressed-none 0 d (begun-of d m) (begun-of d m) (log_of m) refl;
   mail = delivered-none 0 1 0 (known_of m).parcels (known_of m).parcels (log_of m) refl;
+  supplied = supplied-same 0 (known_of m).pages (known_of m).pages (log_of m) (spares-same (known_of m).pages (known_of m).pages refl);
   lives = told-none 0 (lived_of m) (log_of m);
 }
 
@@ -45,6 +47,7 @@ ordinary-join a b c u v = record {
   alone = Alone-join 0 (log_of a) (log_of b) (log_of c) u.alone v.alone;
   periods = λ d. progressed-join 0 d (begun-of d a) (begun-of d b) (begun-of d c) (log_of a) (log_of b) (log_of c) (u.periods d) (v.periods d);
   mail = delivered-join 0 1 0 (known_of a).parcels (known_of b).parcels (known_of c).parcels (log_of a) (log_of b) (log_of c) u.mail v.mail;
+  supplied = λ pages h. v.supplied pages (u.supplied pages h);
   lives = told-join 0 (lived_of a) (lived_of b) (lived_of c) (log_of a) (log_of b) (log_of c) u.lives v.lives;
 }
 
@@ -69,7 +72,7 @@ stand-join v w s t one two f g = record {
 pub wrote-stands : (v w : List Entry) (a b c : Machine0) → Sound a → Sound b → Wrote (Stand 0 v) a b → Wrote (Stand 0 w) b c → Wrote (Stand 0 (v ++ w)) a c
 wrote-stands v w a b c = wrote-join (Stand 0 v) (Stand 0 w) (Stand 0 (v ++ w)) a b c (λ one two f g. stand-join v w (lists_of a) (after (lists_of a) one) one two f g)
 
--- an entry that has nothing to do with parcels, periods and lives was recorded
+-- an entry that has nothing to do with parcels, periods, lives and the stock was recorded
 pub wrote-noted : (a b : Machine0) (e : Entry) → Appends (log_of a) 0 e (log_of b) → IsStill e → SaysNoLife e → b.side ≡ a.side → Wrote (Stand 0 (e ∷ [])) a b
 wrote-noted a b e h q n s = record {
   grew = grew-stand 0 (e ∷ []) (lists_of a) (log_of a) (log_of b) (Records-one 0 e (log_of a) (log_of b) h);
@@ -77,18 +80,20 @@ wrote-noted a b e h q n s = record {
     alone = Alone-one 0 e (log_of a) (log_of b) h;
     periods = λ d. progressed-records 0 d (e ∷ []) (begun-of d a) (begun-of d b) (log_of a) (log_of b) (rw s (sym (over-idle d (begun-of d a) (e ∷ []) (still-idle e q, tt)))) (Records-one 0 e (log_of a) (log_of b) h);
     mail = delivered-records 0 1 0 (e ∷ []) (known_of a).parcels (known_of b).parcels (log_of a) (log_of b) (still-quiet e q, tt) (rw s refl) (Records-one 0 e (log_of a) (log_of b) h);
+    supplied = supplied-records 0 (e ∷ []) (known_of a).pages (known_of b).pages (log_of a) (log_of b) (still-takes-none e q, tt) (spares-same (known_of a).pages (known_of b).pages (rw s refl)) (Records-one 0 e (log_of a) (log_of b) h);
     lives = silent-told 0 (known_of a).objects (known_of b).objects (e ∷ []) (log_of a) (log_of b) (Records-one 0 e (log_of a) (log_of b) h) (Alone-one 0 e (log_of a) (log_of b) h) (n, tt) (rw s refl) (rw s refl);
   };
 }
 
--- the side changed before, and has the same periods in progress, the same parcels and the same objects
-pub wrote-turned : (P : Part) (a b c : Machine0) → b.caches ≡ a.caches → ((d : Domain) → (side d (known_of b)).number ≡ (side d (known_of a)).number) → (known_of b).parcels ≡ (known_of a).parcels → (known_of b).objects ≡ (known_of a).objects → Wrote P b c → Wrote P a c
-wrote-turned P a b c e n m k u = record {
+-- the side changed before, and has the same periods in progress, the same parcels, the same objects and the same classes of pages
+pub wrote-turned : (P : Part) (a b c : Machine0) → b.caches ≡ a.caches → ((d : Domain) → (side d (known_of b)).number ≡ (side d (known_of a)).number) → (known_of b).parcels ≡ (known_of a).parcels → (known_of b).objects ≡ (known_of a).objects → (known_of b).pages ≡ (known_of a).pages → Wrote P b c → Wrote P a c
+wrote-turned P a b c e n m k f u = record {
   grew = rw e at u.grew;
   ordinary = ordinary-join a b c (record {
     alone = rw e (Alone-none 0 (log_of a));
     periods = λ d. rw e (progressed-none 0 d (begun-of d a) (begun-of d b) (log_of a) (ap begun_by (n d)));
     mail = rw e (delivered-none 0 1 0 (known_of a).parcels (known_of b).parcels (log_of a) m);
+    supplied = rw e (supplied-same 0 (known_of a).pages (known_of b).pages (log_of a) (spares-same (known_of a).pages (known_of b).pages f));
     lives = rw e (subst (λ (o : Objects). LivesTold 0 (lived_of a) (lived_in o) (log_of a) (log_of a)) (sym k) (told-none 0 (lived_of a) (log_of a)));
   }) u.ordinary;
 }
@@ -103,6 +108,7 @@ wrote-worked classes n a b s w =
         alone = w.alone.alone refl;
         periods = w.periods;
         mail = subst (λ k. D k 0) s.one (subst (D (known_of a).grace.processors) s.first w.mail);
+        supplied = w.supplied;
         lives = works-told 0 (known_of a).objects (known_of b).objects (WorkBehind classes) (lists_of a) (log_of a) (log_of b) (behind-silent classes) w.phrase (w.alone.alone refl) w.goes.keeps.0.objects;
       };
     }

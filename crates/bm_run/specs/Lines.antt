@@ -14,6 +14,7 @@ use Rattle.bm_cache.specs.Shown.{shown}
 use Rattle.bm_cache.specs.Tokens.{number_of}
 use Rattle.bm_deferred.specs.Begun.{Progressed, begun_by}
 use Rattle.bm_deferred.specs.Inboxes.{Delivered}
+use Rattle.bm_deferred.specs.Pages.{StaysSupplied}
 use Rattle.bm_deferred.specs.Parts.{Part, Nothing}
 use Rattle.bm_deferred.specs.Grown.{GrewBy}
 use Rattle.bm_world.specs.LivingState.{known_living}
@@ -70,11 +71,13 @@ word_of d m = (side d (known_of m)).word
 
 -- The log, where it is told, has grown by entries of ordinary code alone; the side has those periods in progress that they tell;
 -- and of the parcels each that came was the oldest one, each that went goes to the one processor, nothing was swept, and those
--- that are left are what the entries tell. What is known of the lives of units is what they tell.
+-- that are left are what the entries tell. What is known of the lives of units is what they tell. If each page that has a class
+-- gave a unit by entries of the log, and these fetched fewer units than were wanted only where each page gave one, it is so now.
 pub record Ordinary (before now : Machine0) : Type 0 where
   pub alone : Alone 0 (log_of before) (log_of now)
   pub periods : (d : Domain) → Progressed 0 d (begun_by (side d (known_of before)).number) (begun_by (side d (known_of now)).number) (log_of before) (log_of now)
   pub mail : Delivered 0 1 0 (known_of before).parcels (known_of now).parcels (log_of before) (log_of now)
+  pub supplied : StaysSupplied 0 (known_of before).pages (known_of now).pages (log_of before) (log_of now)
   pub lives : LivesTold 0 (lived_of before) (lived_of now) (log_of before) (log_of now)
 
 -- The log, where it is told, has grown by such a part.

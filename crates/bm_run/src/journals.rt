@@ -15,6 +15,7 @@ ghost use Rattle.bm_exec.specs.Lists.{behind_of};
 ghost use Rattle.bm_exec.specs.Sound.{Sound};
 ghost use Rattle.bm_lawful.specs.Opened.{object_size, opened_classes};
 ghost use Rattle.bm_lawful.specs.Lawful.{LawfulLog};
+ghost use Rattle.bm_lawful.specs.Short.{JournalShort};
 ghost use Rattle.bm_lives.specs.Lives.{WholeLives};
 ghost use Rattle.bm_lives.specs.Returns.{ReturnsLaw};
 ghost use Rattle.bm_lives.specs.Whole.{LawfulWhole};
@@ -82,6 +83,7 @@ fn journal_of(
     requires classes { classes.now ≡ opened_classes scenario.now.types }
     requires whole { IsTrue (is_whole_log log) }
     requires lawful { LawfulLog scenario.now 0 log }
+    requires short { JournalShort scenario.now.pages (log ∷ []) }
     requires lives { WholeLives (log ∷ []) }
     requires returns { ReturnsLaw (log ∷ []) }
     ensures { IfOk result (LawfulWhole scenario.now) }
@@ -165,6 +167,7 @@ fn log_of(
     requires classes { map Some classes.now ≡ map (λ t. class_of_size (object_size t)) scenario.now.types }
     requires opened { opened.now ≡ opened_classes scenario.now.types }
     ensures lawful { IfOk result (LawfulLog scenario.now 0) }
+    ensures short { IfOk result (λ log. JournalShort scenario.now.pages (log ∷ [])) }
     ensures lives { IfOk result (λ log. WholeLives (log ∷ [])) }
     ensures returns { IfOk result (λ log. ReturnsLaw (log ∷ [])) }
     ensures whole { IfOk result (λ log. IsTrue (is_whole_log log)) }

@@ -20,7 +20,7 @@ use bm_grace::Grace;
 use bm_journal::{Domain, Entry, Level};
 use bm_word::{Name, NoMemory};
 
-// Records an entry that moves nothing, and has nothing to do with parcels, periods and lives.
+// Records an entry that moves nothing, and has nothing to do with parcels, periods, lives and the stock.
 fn note(machine: &mut Machine0, entry: Entry)
     requires sound { Sound machine.old }
     requires note { IsTrue (is_note entry) }

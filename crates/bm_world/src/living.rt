@@ -1,8 +1,9 @@
 //! The world on one thread with the units that live in it.
 
-ghost use Rattle.std.specs.Prelude.{◌≡◌, ◌≢◌, ◌+◌, ◌%◌, ◌^◌, ◌<◌, ◌≤◌, ◌∷◌, ◌++◌, [], ℕ, eqb, if◌then◌else◌, List, Option, None, Some, false, length, is_some, reverse, true, IfOk, IfErr, IfSome, IfNone, OnOk, OnErr};
+ghost use Rattle.std.specs.Prelude.{◌≡◌, ◌≢◌, ◌+◌, ◌%◌, ◌^◌, ◌<◌, ◌≤◌, ◌∷◌, ◌++◌, [], drop, ℕ, eqb, if◌then◌else◌, List, Option, None, Some, false, length, is_some, reverse, true, IfOk, IfErr, IfSome, IfNone, OnOk, OnErr};
 ghost use Rattle.std.specs.List.{All};
 ghost use Rattle.std.specs.Option.{option_map_or};
+ghost use Rattle.bm_deferred.specs.Pages.{TakesPages, Spares};
 ghost use Rattle.bm_page.specs.Stock.{fetched as stock_fetched};
 ghost use Rattle.bm_grace.specs.Answers.{Answers, BeganAt, CanFinish, Stamped, Verdict, ended, next, number_in};
 ghost use Rattle.bm_grace.specs.Calls.{began, entered, finished, found_at, left, looked, looks, read};
@@ -15,7 +16,7 @@ ghost use Rattle.bm_grace.specs.Known.{side};
 ghost use Rattle.bm_journal.specs.declared.ids.Domain.{Domain as DomainValue};
 ghost use Rattle.bm_grace.specs.PlainState.{domain_in, is_processor, period_begun, period_ended, period_looked, with_domain, word_moved, words_in};
 ghost use Rattle.bm_post.specs.PostState.{all_returned, inbox, sent_to, taken_by, told_in};
-ghost use Rattle.bm_post.specs.Calls.{Fetches, GivesBack, IsOf, Mails, Posts, Receives};
+ghost use Rattle.bm_post.specs.Calls.{Fetches, GivesBack, IsOf, Mails, Posts, Receives, Stocks};
 ghost use Rattle.bm_post.specs.Parcels.{oldest, parcel_sent, parcel_taken};
 ghost use Rattle.bm_post.specs.Rights.{AreSame, Gains, Holds, IsSettled, Lasting, Loses, MayLeave, numbers};
 ghost use Rattle.bm_world.specs.Slots.{AllEmpty, unit_at};
@@ -351,7 +352,9 @@ impl Post for LivingSide {
         ensures err { OnErr result (out.new.items ≡ out.old.items) }
         ensures same { OnErr result (AreSame (rights_living self.old) (rights_living self.new)) }
         ensures lasts { Lasting [] (rights_living self.old) (rights_living self.new) }
-        ensures known { Posts false (known_living self.old) (known_living self.new) }
+        ensures known { Stocks false (known_living self.old) (known_living self.new) }
+        ensures pages { OnOk result (TakesPages want (numbers (drop (length out.old.items) out.new.items)) self.old.side.post.pool.classes self.new.side.post.pool.classes) }
+        ensures same_pages { OnErr result (self.new.side.post.pool.classes ≡ self.old.side.post.pool.classes) }
         ensures rest { StaysAtRest LivingAtRest self.old self.new }
     {
         self.side.fetch(class, want, out)
@@ -367,7 +370,8 @@ impl Post for LivingSide {
         ensures asked { self.new.asked ≡ self.old.asked }
         ensures back { GivesBack (numbers units.items) (rights_living self.old) (rights_living self.new) }
         ensures lasts { Lasting (numbers units.items) (rights_living self.old) (rights_living self.new) }
-        ensures known { Posts false (known_living self.old) (known_living self.new) }
+        ensures known { Stocks false (known_living self.old) (known_living self.new) }
+        ensures pages { Spares self.old.side.post.pool.classes self.new.side.post.pool.classes }
         ensures rest { StaysAtRest LivingAtRest self.old self.new }
     {
         self.side.put_back(units);

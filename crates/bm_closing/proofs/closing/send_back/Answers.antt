@@ -12,7 +12,7 @@ use Rattle.bm_cache.specs.declared.caches.Caches.{Caches}
 use Rattle.bm_desk.specs.DeskTests.{tests_by}
 use Rattle.bm_desk.specs.Goes.{Alike}
 use Rattle.bm_desk.specs.Onward.{Onward}
-use Rattle.bm_desk.proofs.Alike.{alike-posts}
+use Rattle.bm_desk.proofs.Alike.{alike-stocks}
 use Rattle.bm_desk.proofs.Came.{lasting-onward}
 use Rattle.bm_desk.proofs.Gone.{returned-apart, returned-once}
 use Rattle.bm_desk.proofs.Sides.{tests-shared}
@@ -60,7 +60,7 @@ returns-clause-at_end g c =
     let k : Known 0 (entry.Return i (Whole ms)) = record { level = omega (arith); class = search rules } in
     let units : c.in_ok-units.units.items ≡ us = c.in_ok-units.ensures.units ∙ ap (λ (x : Caches g.row.R.Denot). ((shown x).rows i).deferred.second) c.caches.ensures.held in
     let named : c.in-Ok.numbers.items ≡ ms = c.in-Ok.ensures ∙ ap (map number_of) units in
-    let alike : Alike (N (g.H.Desk.shared h1)) (N w) = subst (λ x. Alike (N x) (N w)) c.world.ensures.held (alike-posts _ (N v) (N w) c.put_back.ensures.known) in
+    let alike : Alike (N (g.H.Desk.shared h1)) (N w) = subst (λ x. Alike (N x) (N w)) c.world.ensures.held (alike-stocks _ (N v) (N w) c.put_back.ensures.known) in
     let A : Caches g.row.R.Denot → Type 0 = λ x. Lends L C (with_second i [] (shown x)) x z in
     let E : Caches g.row.R.Denot → Type 0 = λ x. Ended L c.level-level.result (entry.Return i (Whole c.in-Ok.numbers.items)) x y in
     let lent : A (g.H.Host.held h) = subst A c.caches.ensures.held c.in_ok-units.ensures.lent in

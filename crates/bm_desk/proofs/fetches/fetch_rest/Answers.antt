@@ -7,11 +7,13 @@ use Rattle.bm_cache.specs.Shown.{shown}
 use Rattle.bm_cache.specs.Span.{Face}
 use Rattle.bm_cache.specs.Tokens.{Token, number_of}
 use Rattle.bm_deferred.specs.Parts.{Part, Say, Stand, Then}
+use Rattle.bm_deferred.proofs.Pages.{spares-same}
 use Rattle.bm_deferred.specs.WorkPhrases.{AddAll, IsOne}
 use Rattle.bm_work.specs.FromLists.{Fetched}
 use Rattle.bm_work.proofs.Grown.{then-after}
 use Rattle.bm_desk.specs.Works.{Works}
-use Rattle.bm_desk.proofs.Sides.{on-err-any, posted-works, works-posted, works-join, works-then}
+use Rattle.bm_desk.proofs.Mail.{works-fetched}
+use Rattle.bm_desk.proofs.Sides.{on-err-any, works-posted, works-join, works-then}
 use Rattle.bm_desk.proofs.fetches.fetch_rest.Goals as goal
 
 pub returns-clause-ok : goal.returns-clause-ok
@@ -29,16 +31,16 @@ returns-clause-ok g c =
     let z = c.add_all.new.host in
     let sy = shown (g.H.Host.held y) in
     let F : ℕ → Type 0 = λ k. (sy.sides k).hand ≡ us in
-    let h : F (g.H.Host.face y).level = subst F (sym (ap (λ (f : Face). f.level) c.note_fetched.ensures.works.goes.face)) (ap (λ (s : Side Token). s.hand) c.note_fetched.ensures.side) in
+    let h : F (g.H.Host.face y).level = subst F (sym (ap (λ (f : Face). f.level) c.note_fetched.ensures.handled.face)) (ap (λ (s : Side Token). s.hand) c.note_fetched.ensures.side) in
     let N : List ℕ → Type 0 = λ m. Works g.R.Recorder.log g.H.Host.face g.H.Host.pending g.H.Desk.stays g.H.Host.held (λ h. g.H.W.Knows.known (g.H.Desk.shared h)) 0 0 (λ l. AddAll l i m) y z in
     let V : ℕ → Type 0 = λ m. Works g.R.Recorder.log g.H.Host.face g.H.Host.pending g.H.Desk.stays g.H.Host.held (λ h. g.H.W.Knows.known (g.H.Desk.shared h)) 0 0 (λ l. Fetched l i m) a z in
-    let E : ℕ → Type 0 = λ m. Works g.R.Recorder.log g.H.Host.face g.H.Host.pending g.H.Desk.stays g.H.Host.held (λ h. g.H.W.Knows.known (g.H.Desk.shared h)) 0 0 (λ l. Say l (IsOne (entry.Fetch i m (Whole ns)))) x y in
+    let E : ℕ → Type 0 = λ m. Works g.R.Recorder.log g.H.Host.face g.H.Host.pending g.H.Desk.stays g.H.Host.held (λ h. g.H.W.Knows.known (g.H.Desk.shared h)) 0 0 (λ l. Say l (IsOne (entry.Fetch i m (Whole ns)))) b y in
     let P : ℕ → Part = λ l. Say l (IsOne (entry.Fetch i (suc n) (Whole ns))) in
     let Q : ℕ → Part = λ l. Then (P l) (AddAll l i ns) in
     let few : length ns ≤ suc n = omega (arith, c.in_ok-units.ensures.few, w, length-map us number_of) in
-    let t = works-then g.R.Recorder.log g.R.Recorder.counts g.H.Host.face g.H.Host.pending g.H.Desk.stays g.H.Host.held (λ h. g.H.W.Knows.known (g.H.Desk.shared h)) j 0 0 0 0 P (λ l. AddAll l i ns) x y z c.get_fetched.ensures.stands.fine.placed c.note_fetched.ensures.stands.fine.placed (subst E (sym w) c.note_fetched.ensures.works) (subst N (ap (λ (m : List Token). map number_of m) h) c.add_all.ensures.works) in
-    let u = posted-works g.R.Recorder.log g.R.Recorder.counts g.H.Host.face g.H.Host.pending g.H.Desk.stays g.H.Host.held (λ h. g.H.W.Knows.known (g.H.Desk.shared h)) g.H.Host.tests j [] 0 0 Q b x z c.pause.ensures.stands.fine.placed c.get_fetched.ensures.stands.fine.placed c.get_fetched.ensures.mail c.get_fetched.ensures.posted t in
+    let fetched = works-fetched g.R.Recorder.log g.H.Host.face g.H.Host.pending g.H.Desk.stays g.H.Host.held g.H.Desk.shared g.H.W.Knows.known g.H.Host.tests j b x y i c.args.want us c.get_fetched.ensures.posted c.get_fetched.ensures.mail c.in_ok-units.ensures.pages c.note_fetched.ensures.handled c.note_fetched.ensures.step in
+    let u = works-then g.R.Recorder.log g.R.Recorder.counts g.H.Host.face g.H.Host.pending g.H.Desk.stays g.H.Host.held (λ h. g.H.W.Knows.known (g.H.Desk.shared h)) j 0 0 0 0 P (λ l. AddAll l i ns) b y z c.pause.ensures.stands.fine.placed c.note_fetched.ensures.stands.fine.placed (subst E (sym w) fetched) (subst N (ap (λ (m : List Token). map number_of m) h) c.add_all.ensures.works) in
     subst V w (works-join g.R.Recorder.log g.R.Recorder.counts g.H.Host.face g.H.Host.pending g.H.Desk.stays g.H.Host.held (λ h. g.H.W.Knows.known (g.H.Desk.shared h)) j 0 0 0 0 (λ l. Stand l []) Q (λ l. Fetched l i (suc n)) a b z (λ l s one two p q. (ns, few, then-after l (IsOne (entry.Fetch i (suc n) (Whole ns))) (AddAll l i ns) s one two p q)) c.requires.stands.fine.placed c.pause.ensures.stands.fine.placed c.pause.ensures.works u)
 
 pub returns-in_err-units-clause-err : goal.returns-in_err-units-clause-err
-returns-in_err-units-clause-err g c = on-err-any c.from_residual.result (works-posted g.R.Recorder.log g.R.Recorder.counts g.H.Host.face g.H.Host.pending g.H.Desk.stays g.H.Host.held (λ h. g.H.W.Knows.known (g.H.Desk.shared h)) g.H.Host.tests g.met.H.Desk.stays_join [] 0 0 (λ l. Stand l []) c.args.host.now c.pause.new.host c.get_fetched.new.host c.pause.ensures.works c.get_fetched.ensures.mail c.get_fetched.ensures.posted)
+returns-in_err-units-clause-err g c = on-err-any c.from_residual.result (works-posted g.R.Recorder.log g.R.Recorder.counts g.H.Host.face g.H.Host.pending g.H.Desk.stays g.H.Host.held (λ h. g.H.W.Knows.known (g.H.Desk.shared h)) g.H.Host.tests g.met.H.Desk.stays_join [] 0 0 (λ l. Stand l []) c.args.host.now c.pause.new.host c.get_fetched.new.host c.pause.ensures.works (c.get_fetched.ensures.mail, spares-same _ _ c.in_err-units.ensures.same_pages) c.get_fetched.ensures.posted)

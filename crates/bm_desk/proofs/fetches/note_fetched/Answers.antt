@@ -1,7 +1,9 @@
-use Rattle.std.proofs.Common.{map, inl, refl}
+use Rattle.std.proofs.Common.{map, inl, sym, subst, refl}
 use Rattle.bm_journal.specs.declared.units.Units.TheVariants.{Whole}
 use Rattle.bm_journal.specs.declared.entry.Entry.TheVariants as entry
+use Rattle.bm_cache.specs.Listed.{TookUnits}
 use Rattle.bm_cache.specs.Tokens.{number_of}
+use Rattle.bm_cache.specs.declared.caches.Caches.{Caches}
 use Rattle.bm_desk.proofs.Steps.{stands-entry, units-at}
 use Rattle.bm_cache.proofs.Steady.{sound-step}
 use Rattle.bm_desk.proofs.fetches.note_fetched.Goals as goal
@@ -15,3 +17,12 @@ returns-clause-stands g c =
     let y = g.H.Host.held h in
     let t = units-at g.R.Recorder.log (g.H.Host.face h).level c.level-level.result (entry.Fetch i c.args.want) (map number_of us) us y c.caches.result.now z c.level-level.ensures.same c.caches.ensures.held c.take_fetched.ensures.step in
     stands-entry g.R.Recorder.log g.R.Recorder.counts g.H.Host.sound g.H.Host.tests g.H.Host.face g.H.Host.held h (g.H.Host.with_held h z) z (entry.Fetch i c.args.want (Whole (map number_of us))) us (g.met.H.Host.held_back h z) (g.met.H.Host.tests_back h z) (g.met.H.Host.face_back h z) (sound-step g.H.Host.face g.H.Host.held g.H.Host.with_held g.R.Recorder.log g.H.Host.asked g.H.Host.sound g.met.H.Host.sound_stepped h h c.caches.result.now z c.level-level.result (entry.Fetch i c.args.want c.take_fetched.ensures.step.units) refl c.requires.stands.sound c.level-level.ensures.same c.caches.ensures.held refl c.take_fetched.ensures.step.records) t.after t.processor c.take_fetched.ensures.placed tt (λ i u n. inl (c.requires.reusable i u n)) tt c.requires.stands.dated c.requires.stands
+
+pub returns-clause-step : goal.returns-clause-step
+returns-clause-step g c =
+    let h = c.args.host.now in
+    let z = c.take_fetched.new.self in
+    let us = c.args.units.items in
+    let e = entry.Fetch c.args.class c.args.want in
+    let F : Caches g.row.R.Denot → Type 0 = λ x. TookUnits g.R.Recorder.log (g.H.Host.face h).level e (map number_of us) us (g.H.Host.held h) x in
+    subst F (sym (g.met.H.Host.held_back h z)) (units-at g.R.Recorder.log (g.H.Host.face h).level c.level-level.result e (map number_of us) us (g.H.Host.held h) c.caches.result.now z c.level-level.ensures.same c.caches.ensures.held c.take_fetched.ensures.step)

@@ -52,6 +52,7 @@ returns-in-Ok-create c =
       parcels = no-parcels-told pool slots begun;
       numbers = no-numbers pool slots begun;
       words = no-words pool slots begun;
+      pages = ap (λ (s : Stock). s.classes) (v.pool ∙ ap (λ (s : Stock). (filling c.args.classes.now s).pool) first);
     } in
     subst
     (λ (s : LivingState). IsOpen (filling c.args.classes.now (fresh_stock c.args.pages)) (record { alloc = c.args.alloc; caches = caches; side = s; settled = 0 }))

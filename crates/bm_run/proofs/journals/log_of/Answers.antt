@@ -6,7 +6,7 @@ use Rattle.bm_run.specs.Closed.{Closed}
 use Rattle.bm_run.specs.Lines.{lists_of, when_on}
 use Rattle.bm_run.proofs.Declared.{all-declared}
 use Rattle.bm_run.proofs.Lines.{down-when, few-when}
-use Rattle.bm_run.proofs.LogLaw.{alone-sends, lawful-run, lived-run, unused-rows}
+use Rattle.bm_run.proofs.LogLaw.{alone-sends, lawful-run, lived-run, short-run, unused-rows}
 use Rattle.bm_run.proofs.OpenedList.{opened-ascend, opened-few}
 use Rattle.bm_run.proofs.Results.{both-if-ok, if-ok, not-err}
 use Rattle.bm_run.proofs.journals.log_of.Goals as goal
@@ -50,6 +50,18 @@ returns-clause-lawful c =
     let none = not-err c.run_lines.result _ e c.run_lines.ensures.none in
     if-ok c.close.result _ _ c.close.ensures.closed (λ final x. lawful-run s c.in_ok-machine.machine c.run_lines.new.machine m3 final c.front_law.ensures.rows c.front_law.ensures.replies c.parcels_law.ensures.sweeps c.parcels_law.ensures.law none o wrote sound
     c.begin_closing.ensures.wrote c.begin_closing.ensures.side c.begin_closing.ensures.lists c.begin_closing.ensures.sound (subst (λ cs. Closed cs m3 final) c.requires.opened x))
+
+pub returns-clause-short : goal.returns-clause-short
+returns-clause-short c =
+    let s = c.args.scenario.now in
+    let m3 = c.begin_closing.new.machine in
+    let e = c.if-is_err.ensures.value in
+    let o = rw c.requires.opened at c.in_ok-machine.ensures in
+    let wrote = not-err c.run_lines.result _ e c.run_lines.ensures.wrote in
+    let sound = not-err c.run_lines.result _ e c.run_lines.ensures.sound in
+    let none = not-err c.run_lines.result _ e c.run_lines.ensures.none in
+    if-ok c.close.result _ _ c.close.ensures.closed (λ final x. short-run s c.in_ok-machine.machine c.run_lines.new.machine m3 final none o wrote
+    c.begin_closing.ensures.wrote c.begin_closing.ensures.side sound c.begin_closing.ensures.sound (subst (λ cs. Closed cs m3 final) c.requires.opened x))
 
 lived-log : (c : goal.After-close) → IfOk c.close.result (λ final. WholeLives (final ∷ []) × FreedAsGiven final)
 lived-log c =

@@ -13,4 +13,4 @@ pub returns-clause-wrote : goal.returns-clause-wrote
 returns-clause-wrote c =
     let m = c.args.machine.now in
     let k = c.leave-word.ensures.known in
-    wrote-turned _ m (record m { side = c.leave-word.new.self }) c.note.new.machine refl (λ d. ap (λ (x : Known). (side d x).number) k ∙ number-moved Leave (known_living m.side) d) (ap (λ (x : Known). x.parcels) k) (ap (λ (x : Known). x.objects) k) (rw c.leave-word.ensures.word at c.note.ensures.wrote)
+    wrote-turned _ m (record m { side = c.leave-word.new.self }) c.note.new.machine refl (λ d. ap (λ (x : Known). (side d x).number) k ∙ number-moved Leave (known_living m.side) d) (ap (λ (x : Known). x.parcels) k) (ap (λ (x : Known). x.objects) k) (ap (λ (x : Known). x.pages) k) (rw c.leave-word.ensures.word at c.note.ensures.wrote)

@@ -93,7 +93,7 @@ returns-in-Unit-clause-alone c =
     let lives = begun-lives c.args.class p u m.side.slots z.slots class home is b.lives in
     let allocates = subst (λ (r : ObjId). Allocates c.args.class d.own (reply_of (Some r))) b.object d.allocates in
     let counts = λ (v : ℕ). b.counted v ∙ ap (λ (w : LivingState). if eqb u.number v then begun_at w.begun v + 1 else begun_at w.begun v) same in
-    undisturbed-still (λ (m : Machine0). 0) (λ (m : Machine0). 0) (λ (m : Machine0). m.caches.recorder.told) (λ (m : Machine0). known_living m.side) m (record c.alloc.new.host { side = z }) (entry.New c.args.name c.args.values ∷ d.own) refl alone d.records (still-created _ _ _ _ _ _ _ _ _ d) (ap (λ (x : LivingState). (known_living x).grace) e) (ap (λ (x : LivingState). (known_living x).parcels) e)
+    undisturbed-still (λ (m : Machine0). 0) (λ (m : Machine0). 0) (λ (m : Machine0). m.caches.recorder.told) (λ (m : Machine0). known_living m.side) m (record c.alloc.new.host { side = z }) (entry.New c.args.name c.args.values ∷ d.own) refl alone d.records (still-created _ _ _ _ _ _ _ _ _ d) (ap (λ (x : LivingState). (known_living x).grace) e) (ap (λ (x : LivingState). (known_living x).parcels) e) (ap (λ (x : LivingState). (known_living x).pages) e)
     (created-told p (known_living m.side).objects (known_living z).objects c.args.name c.args.values c.args.class u.number (u.life + 1) d.own _ _ d.records alone allocates next none lives counts)
 
 pub returns-in-Empty-clause-alone : goal.returns-in-Empty-clause-alone
@@ -104,7 +104,7 @@ returns-in-Empty-clause-alone c =
     let z : LivingState = c.ask.new.self in
     let e = c.ask.ensures.state ∙ ap with_asked c.alloc.ensures.goes.keeps.0 in
     let alone = after-one 0 _ _ _ _ n.records (c.alloc.ensures.alone.alone refl) in
-    undisturbed-still (λ (m : Machine0). 0) (λ (m : Machine0). 0) (λ (m : Machine0). m.caches.recorder.told) (λ (m : Machine0). known_living m.side) m (record c.alloc.new.host { side = z }) (entry.New c.args.name c.args.values ∷ d.own) refl alone d.records (still-created _ _ _ _ _ _ _ _ _ d) (ap (λ (x : LivingState). (known_living x).grace) e) (ap (λ (x : LivingState). (known_living x).parcels) e)
+    undisturbed-still (λ (m : Machine0). 0) (λ (m : Machine0). 0) (λ (m : Machine0). m.caches.recorder.told) (λ (m : Machine0). known_living m.side) m (record c.alloc.new.host { side = z }) (entry.New c.args.name c.args.values ∷ d.own) refl alone d.records (still-created _ _ _ _ _ _ _ _ _ d) (ap (λ (x : LivingState). (known_living x).grace) e) (ap (λ (x : LivingState). (known_living x).parcels) e) (ap (λ (x : LivingState). (known_living x).pages) e)
     (silent-told m.side.side.grace.processor (known_living m.side).objects (known_living z).objects (entry.New c.args.name c.args.values ∷ d.own) _ _ d.records alone (tt, silent-null c.args.class d.own d.allocates) (ap (λ (x : LivingState). (known_living x).objects.begun) e) (ap (λ (x : LivingState). (known_living x).objects.lives) e))
 
 pub returns-in-Busy-clause-alone : goal.returns-in-Busy-clause-alone
@@ -115,5 +115,5 @@ returns-in-Busy-clause-alone c =
     let z : LivingState = c.ask-in-Busy.new.self in
     let e = c.ask-in-Busy.ensures.state ∙ ap with_asked c.alloc.ensures.goes.keeps.0 in
     let alone = after-one 0 _ _ _ _ n.records (c.alloc.ensures.alone.alone refl) in
-    undisturbed-still (λ (m : Machine0). 0) (λ (m : Machine0). 0) (λ (m : Machine0). m.caches.recorder.told) (λ (m : Machine0). known_living m.side) m (record c.alloc.new.host { side = z }) (entry.New c.args.name c.args.values ∷ d.own) refl alone d.records (still-created _ _ _ _ _ _ _ _ _ d) (ap (λ (x : LivingState). (known_living x).grace) e) (ap (λ (x : LivingState). (known_living x).parcels) e)
+    undisturbed-still (λ (m : Machine0). 0) (λ (m : Machine0). 0) (λ (m : Machine0). m.caches.recorder.told) (λ (m : Machine0). known_living m.side) m (record c.alloc.new.host { side = z }) (entry.New c.args.name c.args.values ∷ d.own) refl alone d.records (still-created _ _ _ _ _ _ _ _ _ d) (ap (λ (x : LivingState). (known_living x).grace) e) (ap (λ (x : LivingState). (known_living x).parcels) e) (ap (λ (x : LivingState). (known_living x).pages) e)
     (silent-told m.side.side.grace.processor (known_living m.side).objects (known_living z).objects (entry.New c.args.name c.args.values ∷ d.own) _ _ d.records alone (tt, silent-null c.args.class d.own d.allocates) (ap (λ (x : LivingState). (known_living x).objects.begun) e) (ap (λ (x : LivingState). (known_living x).objects.lives) e))

@@ -59,5 +59,5 @@ returns-clause-alone c =
     let e = c.free.ensures.goes.keeps.0 ∙ x.state in
     let alone = after-one 0 _ _ _ _ n.records (after-one 0 _ _ _ _ k.records (c.free.ensures.alone.alone refl)) in
     let now = living-now o.unit o.life l.0 c.end_life-unit.result m.side.slots x.unit l.1 in
-    undisturbed-still (λ (m : Machine0). 0) (λ (m : Machine0). 0) (λ (m : Machine0). m.caches.recorder.told) (λ (m : Machine0). known_living m.side) m c.free.new.host (entry.Drop o.unit o.life ∷ entry.Last ∷ d.own) refl alone d.records (still-disposed _ _ _ _ _ _ _ d) (ap (λ (y : LivingState). (known_living y).grace) e) (ap (λ (y : LivingState). (known_living y).parcels) e)
+    undisturbed-still (λ (m : Machine0). 0) (λ (m : Machine0). 0) (λ (m : Machine0). m.caches.recorder.told) (λ (m : Machine0). known_living m.side) m c.free.new.host (entry.Drop o.unit o.life ∷ entry.Last ∷ d.own) refl alone d.records (still-disposed _ _ _ _ _ _ _ d) (ap (λ (y : LivingState). (known_living y).grace) e) (ap (λ (y : LivingState). (known_living y).parcels) e) (ap (λ (y : LivingState). (known_living y).pages) e)
     (disposed-told m.side.side.grace.processor l.0 (known_living m.side).objects (known_living z).objects o.unit o.life d.home d.own _ _ d.records alone d.frees (sym now ∙ x.last) d.to_home d.ends (ap (λ (y : LivingState). (known_living y).objects.begun) e))

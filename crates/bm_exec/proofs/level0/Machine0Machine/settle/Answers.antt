@@ -47,5 +47,6 @@ returns-clause-alone c =
       processor = a.processor;
       periods = w.periods;
       mail = w.mail;
+      supplied = w.supplied;
       lives = works-told c.args.self.now.side.side.grace.processor (known_living c.args.self.now.side).objects (known_living c.until_down.new.host.side).objects (UntilDown c.args.classes.now) _ _ _ (until-silent c.args.classes.now) w.phrase (w.alone.alone refl) a.objects;
     })

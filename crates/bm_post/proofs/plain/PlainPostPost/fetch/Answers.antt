@@ -1,4 +1,5 @@
 use Rattle.bm_post.proofs.Posts.{post-fetch, fetches}
+use Rattle.bm_post.proofs.Pages.{fetch-brings, stocks-of}
 use Rattle.bm_post.proofs.plain.PlainPostPost.fetch.Goals as goal
 
 pub invariant_of-self : goal.invariant_of-self
@@ -12,3 +13,14 @@ returns-clause-ok c =
     let inside = c.self.inside in
     let said = c.fetch.ensures in
     rw (← c.self.view_is) (fetches c.fetch.result c.args.class c.args.want inside.processors inside.processor inside.pool c.fetch.new.self inside.inboxes.items c.args.out.now.items c.fetch.new.out.items said.count said.units said.pool said.most said.each said.out c.self.invariant)
+
+pub returns-clause-known : goal.returns-clause-known
+returns-clause-known c =
+    let inside = c.self.inside in
+    rw (← c.self.view_is) (stocks-of inside.pool c.fetch.new.self inside.processors inside.processor inside.inboxes.items)
+
+pub returns-clause-pages : goal.returns-clause-pages
+returns-clause-pages c =
+    let inside = c.self.inside in
+    let said = c.fetch.ensures in
+    rw (← c.self.view_is) (fetch-brings c.fetch.result c.args.class c.args.want inside.pool c.fetch.new.self c.args.out.now.items c.fetch.new.out.items said.count said.units said.pool said.fewer)

@@ -3,6 +3,7 @@ use Rattle.std.specs.List.{All}
 use Rattle.bm_post.specs.Rights.{Holds, MayLeave}
 use Rattle.bm_post.specs.PostState.{PostState, rights_in}
 use Rattle.bm_post.proofs.Posts.{post-back, back-loses}
+use Rattle.bm_post.proofs.Pages.{back-spares, stocks-of}
 use Rattle.bm_post.proofs.plain.PlainPostPost.put_back.Goals as goal
 
 pub invariant_of-self : goal.invariant_of-self
@@ -15,3 +16,13 @@ pub returns-clause-back : goal.returns-clause-back
 returns-clause-back c =
     let inside = c.self.inside in
     rw (← c.self.view_is) (back-loses inside.processors inside.processor inside.pool c.put_all_back.new.pool inside.inboxes.items c.args.units.items c.put_all_back.ensures)
+
+pub returns-clause-known : goal.returns-clause-known
+returns-clause-known c =
+    let inside = c.self.inside in
+    rw (← c.self.view_is) (stocks-of inside.pool c.put_all_back.new.pool inside.processors inside.processor inside.inboxes.items)
+
+pub returns-clause-pages : goal.returns-clause-pages
+returns-clause-pages c =
+    let inside = c.self.inside in
+    rw (← c.self.view_is) (back-spares c.args.units.items inside.pool c.put_all_back.new.pool c.put_all_back.ensures)
