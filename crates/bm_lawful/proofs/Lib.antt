@@ -23,3 +23,9 @@ pub mod NoBlock
 pub mod WrongWork
 pub mod Parceled
 pub mod Periods
+pub mod Words
+pub mod Cuts
+pub mod OfCall
+pub mod GoneBack
+pub mod Levels
+pub mod Unplanned
