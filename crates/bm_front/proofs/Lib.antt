@@ -4,3 +4,6 @@ pub mod Blocks
 pub mod Fronts
 pub mod Replied
 pub mod Spared
+pub mod OfClosing
+pub mod AllBare
+pub mod Counts
