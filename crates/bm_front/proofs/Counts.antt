@@ -123,12 +123,12 @@ module _ (s : Parts) where
       let e = b.is_second in
       let parts : own_entries 0 part ≡ head ++ (own_entries 0 b.one ++ (last ++ own_entries 0 e.two)) =
       two-parts (Stand 0 head) (Then (IsBody s x) stop) l part h ∙ ap (λ z. z ++ own_entries 0 h.two) h.is_first.own_is
-          ∙ ap (λ z. head ++ z) (two-parts (IsBody s x) stop _ h.two b ∙ ap (λ z. own_entries 0 b.one ++ z) (two-parts (Stand 0 last) (behind_script s) _ b.two e ∙ ap (λ z. z ++ own_entries 0 e.two) e.is_first.own_is)) in
+      ∙ ap (λ z. head ++ z) (two-parts (IsBody s x) stop _ h.two b ∙ ap (λ z. own_entries 0 b.one ++ z) (two-parts (Stand 0 last) (behind_script s) _ b.two e ∙ ap (λ z. z ++ own_entries 0 e.two) e.is_first.own_is)) in
       let inside : Counts (w + 1) (w + 1) (own_entries 0 b.one) = counts-bare (w + 1) (own_entries 0 b.one) (body-bare x _ b.one b.is_first) in
       let works : Counts (w + 2) (w + 2) (own_entries 0 e.two) = counts-bare (w + 2) (own_entries 0 e.two) (behind-bare _ e.two e.is_second) in
       subst (Counts w (w + 2)) (sym parts)
       (counts-join w (w + 1) (w + 2) head (own_entries 0 b.one ++ (last ++ own_entries 0 e.two)) (counts-begin w x.name out)
-          (counts-join (w + 1) (w + 1) (w + 2) (own_entries 0 b.one) (last ++ own_entries 0 e.two) inside (counts-join (w + 1) (w + 2) (w + 2) last (own_entries 0 e.two) (counts-end w x.name out) works)))
+      (counts-join (w + 1) (w + 1) (w + 2) (own_entries 0 b.one) (last ++ own_entries 0 e.two) inside (counts-join (w + 1) (w + 2) (w + 2) last (own_entries 0 e.two) (counts-end w x.name out) works)))
 
   scripts-count : (rs : List RunLine) (w : ℕ) (l : State ℕ) (part : Log) → is_outside w ≡ true → CountedScripts s rs w l part → (v : ℕ) × Counts w v (own_entries 0 part)
   scripts-count [] w l part out h =

@@ -148,11 +148,12 @@ pub record Code (k : ℕ) (a b : Standing) : Type 0 where
   pub level : k ≡ level_of a.running
   pub same : b.running ≡ a.running
   pub left : b.left ≡ a.left
+  pub over : a.ended ≡ true → b.ended ≡ true
 
 by-steps : (names : List (List ℕ)) (k n : ℕ) (a b : Standing) → after_kind names k (step_or_not n) a ≡ Some b → Code k a b
 by-steps names k n a b = elim (n == 0) as (λ t. after_kind names k (cond t Stays Steps) a ≡ Some b → Code k a b) [
-  | true ↦ λ h. (let w = stayed-tells k a b h in record { level = w.0; same = ap (λ (z : Standing). z.running) w.2; left = ap (λ (z : Standing). z.left) w.2 })
-  | false ↦ λ h. (let w = stepped-tells k a b h in record { level = w.0; same = ap (λ (z : Standing). z.running) w.2; left = ap (λ (z : Standing). z.left) w.2 })
+  | true ↦ λ h. (let w = stayed-tells k a b h in record { level = w.0; same = ap (λ (z : Standing). z.running) w.2; left = ap (λ (z : Standing). z.left) w.2; over = λ q. ap (λ (z : Standing). z.ended) w.2 ∙ q })
+  | false ↦ λ h. (let w = stepped-tells k a b h in record { level = w.0; same = ap (λ (z : Standing). z.running) w.2; left = ap (λ (z : Standing). z.left) w.2; over = λ q. ap (λ (z : Standing). z.ended) w.2 ∙ q })
 ]
 
 pub by-entry : (names : List (List ℕ)) (k : ℕ) (e : Entry) (a b : Standing) → is_within e ≡ true → after_kind names k (kind_of e) a ≡ Some b → Code k a b
@@ -160,7 +161,7 @@ by-entry names k (entry.Handler name) a b w h = absurd (cc)
 by-entry names k (entry.Back name) a b w h = absurd (cc)
 by-entry names k entry.Ended a b w h =
     let t = stopped-tells k a.running a b h in
-    record { level = t.0 ∙ ap level_of (sym t.1); same = ap (λ (z : Standing). z.running) t.3; left = ap (λ (z : Standing). z.left) t.3 }
+    record { level = t.0 ∙ ap level_of (sym t.1); same = ap (λ (z : Standing). z.running) t.3; left = ap (λ (z : Standing). z.left) t.3; over = λ q. ap (λ (z : Standing). z.ended) t.3 }
 by-entry names k e a b w h = by-steps names k (share_of total.Steps (counts_of e)) a b h
 
 -- where level l is, and each handler above what it interrupts

@@ -29,3 +29,5 @@ pub mod OfCall
 pub mod GoneBack
 pub mod Levels
 pub mod Unplanned
+pub mod EachLevel
+pub mod Ended

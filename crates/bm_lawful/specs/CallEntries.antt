@@ -25,3 +25,11 @@ IsOfCall (entry.Lost c) = Unit {0}
 IsOfCall (entry.Leave c a) = Unit {0}
 IsOfCall (entry.Raise c) = Unit {0}
 IsOfCall _ = ⊥
+
+-- An entry that a handler may write: of a call, or its begin and its end and those of its section.
+abbrev pub IsOfHandler : Entry → Type 0
+IsOfHandler (entry.Handler name) = Unit {0}
+IsOfHandler (entry.Back name) = Unit {0}
+IsOfHandler (entry.In d w) = Unit {0}
+IsOfHandler (entry.Out d w) = Unit {0}
+IsOfHandler e = IsOfCall e

@@ -1,4 +1,6 @@
 use Rattle.bm_lawful.proofs.GoneBack.{done-back, done-front, done-grow, done-none}
+use Rattle.bm_lawful.proofs.EachLevel.{handler-entries}
+use Rattle.bm_lawful.proofs.Ended.{before-end}
 use Rattle.bm_lawful.proofs.Levels.{levels}
 use Rattle.bm_lawful.proofs.handlers.handlers_law.Goals as goal
 
@@ -16,3 +18,9 @@ returns-clause-before c = done-front
 
 pub returns-clause-levels : goal.returns-clause-levels
 returns-clause-levels c = levels
+
+pub returns-clause-entries : goal.returns-clause-entries
+returns-clause-entries c = handler-entries
+
+pub returns-clause-closing : goal.returns-clause-closing
+returns-clause-closing c = before-end
