@@ -7,3 +7,4 @@ pub mod Spared
 pub mod OfClosing
 pub mod AllBare
 pub mod Counts
+pub mod Handled
