@@ -1,5 +1,5 @@
 -- What holds of handlers, and of all entries of a log above ordinary code.
-use Rattle.std.proofs.Common.{◌≡◌, ◌<◌, ℕ, zero, suc, ◌+◌, Bool, true, false, cond, eqb, if◌then◌else◌, List, [], ◌∷◌, ◌++◌, refl, sym, ap, subst, ◌∙◌, arith, eq-eqb}
+use Rattle.std.proofs.Common.{◌≡◌, ◌<◌, ℕ, ◌+◌, true, false, cond, eqb, if◌then◌else◌, List, [], ◌∷◌, ◌++◌, refl, sym, subst, eq-eqb}
 use Rattle.bm_journal.specs.declared.ids.Domain.TheVariants.{Plain}
 use Rattle.bm_journal.specs.declared.entry.Entry.{Entry}
 use Rattle.bm_journal.specs.declared.entry.Entry.TheVariants as entry
@@ -13,7 +13,7 @@ use Rattle.bm_lawful.specs.Handlers.{AreHandlers, HandlerPhrase, HandlersDone, e
 use Rattle.bm_lawful.specs.Held.{no_names}
 use Rattle.bm_lawful.specs.SectionWords.{is_outside}
 use Rattle.bm_lawful.proofs.Levels.{levels}
-use Rattle.bm_lawful.proofs.OfCall.{OfCalls, of-calls}
+use Rattle.bm_lawful.proofs.OfCall.{of-calls}
 use Rattle.bm_lawful.proofs.RunsAll.{Closed, block-all}
 
 -- ---- whole handlers

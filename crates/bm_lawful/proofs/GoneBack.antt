@@ -1,5 +1,5 @@
 -- Handlers that have gone back left their phrases, entry by entry.
-use Rattle.std.proofs.Common.{◌≡◌, inl, inr, ℕ, ◌+◌, Bool, true, false, ◌&&◌, if◌then◌else◌, List, [], ◌∷◌, ◌++◌, refl, sym, ap, subst, ◌∙◌, append_assoc}
+use Rattle.std.proofs.Common.{◌≡◌, inl, inr, ℕ, ◌+◌, true, false, if◌then◌else◌, List, [], ◌∷◌, ◌++◌, refl, sym, ap, subst, ◌∙◌, append_assoc}
 use Rattle.std.proofs.lemmas.Bool.{and_from, and_parts, eq-eqb}
 use Rattle.bm_journal.specs.declared.ids.Domain.TheVariants.{Plain}
 use Rattle.bm_journal.specs.declared.entry.Entry.{Entry}
@@ -8,12 +8,11 @@ use Rattle.bm_lang.specs.declared.scenario.Parts.{Parts}
 use Rattle.bm_law.specs.Lists.{Log}
 use Rattle.bm_law.specs.Spans.{own_entries}
 use Rattle.bm_law.proofs.Spans.{own-append}
-use Rattle.bm_deferred.proofs.Each.{AllOf}
 use Rattle.bm_lawful.specs.CallEntries.{IsOfCall}
 use Rattle.bm_lawful.specs.Held.{no_names}
 use Rattle.bm_lawful.specs.SectionWords.{is_outside, word_after}
-use Rattle.bm_lawful.specs.Handlers.{AreHandlers, Handled, HandlerPhrase, HandlersDone, all_within, enclosed, is_within, more, none}
-use Rattle.bm_lawful.proofs.Cuts.{Before, Behind, Last, Same, cuts, last-cut}
+use Rattle.bm_lawful.specs.Handlers.{Handled, HandlerPhrase, HandlersDone, all_within, enclosed, is_within}
+use Rattle.bm_lawful.proofs.Cuts.{Before, cuts, last-cut}
 use Rattle.bm_lawful.proofs.OfCall.{OfCalls, of-calls}
 use Rattle.bm_lawful.proofs.RunsAll.{block-all}
 

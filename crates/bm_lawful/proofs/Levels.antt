@@ -1,6 +1,6 @@
 -- In a log where handlers stand where they are due, and those that have gone back left their phrases, the entries of each level
 -- above ordinary code are whole handlers.
-use Rattle.std.proofs.Common.{◌≡◌, ◌≢◌, ◌<◌, ◌⊎◌, inl, inr, ℕ, zero, suc, ◌+◌, Bool, true, false, cond, ◌&&◌, ◌==◌, eqb, if◌then◌else◌, List, [], ◌∷◌, ◌++◌, Option, Some, None, refl, sym, ap, subst, ◌∙◌, append_assoc, append-nil, arith, ne_eqb, eq-eqb, map}
+use Rattle.std.proofs.Common.{◌≡◌, ◌≢◌, ◌<◌, inl, inr, ℕ, ◌+◌, Bool, true, false, cond, ◌&&◌, ◌==◌, eqb, if◌then◌else◌, List, [], ◌∷◌, ◌++◌, Option, Some, None, refl, sym, ap, subst, ◌∙◌, append_assoc, append-nil, arith, ne_eqb, eq-eqb, map}
 use Rattle.std.proofs.lemmas.Bool.Decides.{eqb_tells}
 use Rattle.bm_journal.specs.declared.entry.Entry.{Entry}
 use Rattle.bm_journal.specs.declared.entry.Entry.TheVariants as entry
@@ -9,15 +9,14 @@ use Rattle.bm_journal.specs.Totals.{counts_of, share_of}
 use Rattle.bm_lang.specs.declared.scenario.AtLine.{AtLine}
 use Rattle.bm_lang.specs.declared.scenario.Parts.{Parts}
 use Rattle.bm_lang.specs.declared.scenario.Script.{Script}
-use Rattle.bm_law.specs.Alone.{AllAt}
 use Rattle.bm_law.specs.Lists.{Log}
 use Rattle.bm_law.specs.Spans.{own_entries}
 use Rattle.bm_law.proofs.Spans.{own-append}
 use Rattle.bm_due.specs.Due.{planned_for}
-use Rattle.bm_due.specs.Standing.{HandlersStand, Standing, Stays, Steps, after_kind, at_first, due_in, is_nobody, is_ordinary, kind_of, level_of, left_in, standing_after, step_or_not}
+use Rattle.bm_due.specs.Standing.{HandlersStand, Standing, Stays, Steps, after_kind, at_first, due_in, is_nobody, is_ordinary, kind_of, level_of, standing_after, step_or_not}
 use Rattle.bm_due.proofs.Selected.{due-above}
 use Rattle.bm_due.proofs.Standings.{begun-tells, returned-tells, split-first, stayed-tells, stepped-tells, stopped-tells}
-use Rattle.bm_lawful.specs.Handlers.{AreHandlers, Handled, HandlersDone, all_within, is_within, more, none}
+use Rattle.bm_lawful.specs.Handlers.{AreHandlers, HandlersDone, all_within, is_within, more, none}
 use Rattle.bm_lawful.proofs.GoneBack.{done-front, within-append}
 
 -- ---- the handlers that run

@@ -31,3 +31,4 @@ pub mod Levels
 pub mod Unplanned
 pub mod EachLevel
 pub mod Ended
+pub mod WorkedHandled

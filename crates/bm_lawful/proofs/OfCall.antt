@@ -1,5 +1,5 @@
 -- A block writes what its calls write.
-use Rattle.std.proofs.Common.{◌≡◌, ℕ, Bool, true, false, List, [], ◌∷◌, ◌++◌, Option, Some, None, refl, sym, subst, inl, inr, nat_lt, if◌then◌else◌}
+use Rattle.std.proofs.Common.{ℕ, Bool, true, false, List, [], ◌∷◌, Option, Some, None, sym, subst, inl, inr, nat_lt, if◌then◌else◌}
 use Rattle.bm_class.specs.Sizes.{size_of_class}
 use Rattle.bm_class.specs.Watermarks.{low_of_size, high_of_size}
 use Rattle.bm_journal.specs.declared.entry.Entry.{Entry}

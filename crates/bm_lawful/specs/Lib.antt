@@ -20,3 +20,4 @@ pub mod WrongJournals
 pub mod WorkedText
 pub mod WorkedDeferred
 pub mod WrongDeferred
+pub mod WorkedHandlers
