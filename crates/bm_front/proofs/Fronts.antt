@@ -51,12 +51,12 @@ module _ (s : Parts) (P : List Entry → Type 0) (k : Fronted s P) where
       has-then P j (Stand 0 head) (Then (IsBody s x) stop) (has-stand P j head (k.begins x.name w))
       (has-then P j (IsBody s x) stop (body x) (has-then P j (Stand 0 last) (behind_script s) (has-stand P j last (k.ends x.name (w + 1))) (has-if P j s.deferred (WorkBehind classes) Nothing (has-behind P j classes k.work) (has-nothing P j))))
 
-  scripts : (rs : List RunLine) (w : ℕ) → Has P (AreScripts s rs w)
-  scripts [] w t part h = has-nothing P (joins s.types P k.closed) t part h
-  scripts (r ∷ rs) w t part h = has-then P (joins s.types P k.closed) (IsScript s h.0 (w + 1)) (AreScripts s rs (w + 2)) (script h.0 (w + 1)) (scripts rs (w + 2)) t part h.2
+  scripts : (rs : List RunLine) → Has P (AreScripts s rs)
+  scripts [] t part h = has-nothing P (joins s.types P k.closed) t part h
+  scripts (r ∷ rs) t part h = has-then P (joins s.types P k.closed) (IsScript s h.0 h.2) (AreScripts s rs) (script h.0 h.2) (scripts rs) t part h.3
 
   pub front-has : (p : ℕ) → Has P (Front s p)
   front-has p =
       let classes : List ℕ = opened_classes s.types in
       let j : Joins P = joins s.types P k.closed in
-      has-then P j (Say 0 (AreFills classes (fresh_stock s.pages))) (AreScripts s (lines_of p s.runs) 0) (has-say P j (AreFills classes (fresh_stock s.pages)) (λ own h. fills classes (fresh_stock s.pages) own (λ c e. e) h)) (scripts (lines_of p s.runs) 0)
+      has-then P j (Say 0 (AreFills classes (fresh_stock s.pages))) (AreScripts s (lines_of p s.runs)) (has-say P j (AreFills classes (fresh_stock s.pages)) (λ own h. fills classes (fresh_stock s.pages) own (λ c e. e) h)) (scripts (lines_of p s.runs))

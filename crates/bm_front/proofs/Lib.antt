@@ -4,3 +4,7 @@ pub mod Blocks
 pub mod Fronts
 pub mod Replied
 pub mod Spared
+pub mod OfClosing
+pub mod AllBare
+pub mod Counts
+pub mod Handled

@@ -82,28 +82,28 @@ sent-other k c l [] s ne = other-row k c _ s ne
 sent-other k c l (u ∷ us) s ne = refl
 
 work-spares : (k c : ℕ) (e : Entry) → k ≢ c → IsOfWork c e → Spares k e
-work-spares k c (entry.Work d) ne h = λ us s. other-row k d _ s (λ q. ne (q ∙ h))
-work-spares k c (entry.Receive d vs) ne h = λ us s. other-row k d _ s (λ q. ne (q ∙ h))
-work-spares k c (entry.Read d n) ne h = λ us s. refl
-work-spares k c (entry.Ready d u) ne h = λ us s. other-row k d _ s (λ q. ne (q ∙ h))
-work-spares k c (entry.Second d u) ne h = λ us s. other-row k d _ s (λ q. ne (q ∙ h))
-work-spares k c (entry.Fetch d want vs) ne h = λ us s. refl
-work-spares k c (entry.Enter d n) ne h = λ us s. other-row k d _ s (λ q. ne (q ∙ h))
-work-spares k c (entry.Push d u) ne h = λ us s. other-row k d _ s (λ q. ne (q ∙ h))
-work-spares k c (entry.Pop d u) ne h = λ us s. other-row k d _ s (λ q. ne (q ∙ h))
-work-spares k c (entry.PopNone d) ne h = λ us s. refl
-work-spares k c (entry.Count d n) ne h = λ us s. other-row k d _ s (λ q. ne (q ∙ h))
-work-spares k c (entry.Leave d n) ne h = λ us s. other-row k d _ s (λ q. ne (q ∙ h))
-work-spares k c (entry.TakeExtra d vs) ne h = λ us s. other-row k d _ s (λ q. ne (q ∙ h))
-work-spares k c (entry.Send d to vs) ne h = λ us s. sent-other k d 0 (s.sides 0).hand s (λ q. ne (q ∙ h))
-work-spares k c (entry.TakeDelayed d vs) ne h = λ us s. other-row k d _ s (λ q. ne (q ∙ h))
-work-spares k c (entry.Batch d vs) ne h = λ us s. other-row k d _ s (λ q. ne (q ∙ h))
-work-spares k c (entry.Stamp d domain n) ne h = λ us s. other-row k d _ s (λ q. ne (q ∙ h))
-work-spares k c (entry.Pass d domain n) ne h = λ us s. refl
-work-spares k c (entry.BeginSecond d vs) ne h = λ us s. other-row k d _ s (λ q. ne (q ∙ h))
-work-spares k c (entry.Return d vs) ne h = λ us s. other-row k d _ s (λ q. ne (q ∙ h))
-work-spares k c (entry.Begin domain n) ne h = λ us s. refl
-work-spares k c (entry.Finish period) ne h = λ us s. refl
+work-spares k c (entry.Work d) ne h = λ l us s. other-row k d _ s (λ q. ne (q ∙ h))
+work-spares k c (entry.Receive d vs) ne h = λ l us s. other-row k d _ s (λ q. ne (q ∙ h))
+work-spares k c (entry.Read d n) ne h = λ l us s. refl
+work-spares k c (entry.Ready d u) ne h = λ l us s. other-row k d _ s (λ q. ne (q ∙ h))
+work-spares k c (entry.Second d u) ne h = λ l us s. other-row k d _ s (λ q. ne (q ∙ h))
+work-spares k c (entry.Fetch d want vs) ne h = λ l us s. refl
+work-spares k c (entry.Enter d n) ne h = λ l us s. other-row k d _ s (λ q. ne (q ∙ h))
+work-spares k c (entry.Push d u) ne h = λ l us s. other-row k d _ s (λ q. ne (q ∙ h))
+work-spares k c (entry.Pop d u) ne h = λ l us s. other-row k d _ s (λ q. ne (q ∙ h))
+work-spares k c (entry.PopNone d) ne h = λ l us s. refl
+work-spares k c (entry.Count d n) ne h = λ l us s. other-row k d _ s (λ q. ne (q ∙ h))
+work-spares k c (entry.Leave d n) ne h = λ l us s. other-row k d _ s (λ q. ne (q ∙ h))
+work-spares k c (entry.TakeExtra d vs) ne h = λ l us s. other-row k d _ s (λ q. ne (q ∙ h))
+work-spares k c (entry.Send d to vs) ne h = λ l us s. sent-other k d l (s.sides l).hand s (λ q. ne (q ∙ h))
+work-spares k c (entry.TakeDelayed d vs) ne h = λ l us s. other-row k d _ s (λ q. ne (q ∙ h))
+work-spares k c (entry.Batch d vs) ne h = λ l us s. other-row k d _ s (λ q. ne (q ∙ h))
+work-spares k c (entry.Stamp d domain n) ne h = λ l us s. other-row k d _ s (λ q. ne (q ∙ h))
+work-spares k c (entry.Pass d domain n) ne h = λ l us s. refl
+work-spares k c (entry.BeginSecond d vs) ne h = λ l us s. other-row k d _ s (λ q. ne (q ∙ h))
+work-spares k c (entry.Return d vs) ne h = λ l us s. other-row k d _ s (λ q. ne (q ∙ h))
+work-spares k c (entry.Begin domain n) ne h = λ l us s. refl
+work-spares k c (entry.Finish period) ne h = λ l us s. refl
 work-spares k c _ ne h = absurd h
 
 all-work-spare : (k c : ℕ) (es : List Entry) → k ≢ c → AllOf (IsOfWork c) es → AllSpare k es
@@ -114,21 +114,21 @@ closed : (types : List TypeDeclaration) (c : ℕ) → list_any (uses_class c) ty
 closed types c e = record {
   none = tt;
   join = spare-join c;
-  new = λ x t values names part after r. subst (AllSpare c) (sym r.part_is) (λ us s. refl, spare-alloc c r.class r.own r.reply (other-class types c r.class e (used types t.0 r.class r.declared r.of_class)) r.allocates);
-  dropped = λ x names part after r. subst (AllSpare c) (sym r.part_is) (λ us s. refl, (λ us s. refl, spare-free c r.class r.unit r.home r.own (other-class types c r.class e (used types r.type.0 r.class r.declared r.of_class)) r.frees));
+  new = λ x t values names part after r. subst (AllSpare c) (sym r.part_is) (λ l us s. refl, spare-alloc c r.class r.own r.reply (other-class types c r.class e (used types t.0 r.class r.declared r.of_class)) r.allocates);
+  dropped = λ x names part after r. subst (AllSpare c) (sym r.part_is) (λ l us s. refl, (λ l us s. refl, spare-free c r.class r.unit r.home r.own (other-class types c r.class e (used types r.type.0 r.class r.declared r.of_class)) r.frees));
 }
 
 fill-spares : (types : List TypeDeclaration) (c d : ℕ) (us : List ℕ) → list_any (uses_class c) types ≡ false → among d (opened_classes types) ≡ true → AllSpare c (entry.Fill d (Whole us) ∷ [])
-fill-spares types c d us e m = (λ vs t. other-row c d _ t (other-class types c d e (opened-used types d m)), tt)
+fill-spares types c d us e m = (λ l vs t. other-row c d _ t (other-class types c d e (opened-used types d m)), tt)
 
 work-part-spares : (types : List TypeDeclaration) (c d : ℕ) → list_any (uses_class c) types ≡ false → among d (opened_classes types) ≡ true → Has (AllSpare c) (Work 0 d)
 work-part-spares types c d e m t part h = all-work-spare c d (own_entries 0 part) (other-class types c d e (opened-used types d m)) (work-writes 0 d t part h)
 
 begins-spare : (c w : ℕ) (name : List ℕ) → AllSpare c (entry.Script name ∷ entry.In Plain w ∷ [])
-begins-spare c w name = (λ us t. refl, (λ us t. refl, tt))
+begins-spare c w name = (λ l us t. refl, (λ l us t. refl, tt))
 
 ends-spare : (c w : ℕ) (name : List ℕ) → AllSpare c (entry.Out Plain w ∷ entry.Done name ∷ [])
-ends-spare c w name = (λ us t. refl, (λ us t. refl, tt))
+ends-spare c w name = (λ l us t. refl, (λ l us t. refl, tt))
 
 pub spared : (s : Parts) (c : ℕ) → list_any (uses_class c) s.types ≡ false → Fronted s (AllSpare c)
 spared s c e = record {
@@ -146,7 +146,7 @@ rows-spared c [] s a h = refl
 rows-spared c (e ∷ es) s a h =
     let g : Spares c e.1 × AllSpare c (own_entries 0 es) = rw (eq-eqb e.0 0 a.0) at h in
     let F : ℕ → Type 0 = λ l. (effect l e.1 (brought e.1 s) s).rows c ≡ s.rows c in
-    rows-spared c es (next s e) a.1 g.1 ∙ subst F (sym a.0) (g.0 (brought e.1 s) s)
+    rows-spared c es (next s e) a.1 g.1 ∙ subst F (sym a.0) (g.0 0 (brought e.1 s) s)
 
 pub rows-kept : (s : Parts) (front : Log) (t : State ℕ) → AllAt 0 front → Front s 0 t front → (c : ℕ) → list_any (uses_class c) s.types ≡ false → (after t front).rows c ≡ t.rows c
 rows-kept s front t a f c e = rows-spared c front t a (front-has s (AllSpare c) (spared s c e) 0 t front f)

@@ -1,2 +1,4 @@
 pub mod WorkEntries
 pub mod Owed
+pub mod ClosingEntries
+pub mod Bare

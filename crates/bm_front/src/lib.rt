@@ -4,4 +4,4 @@
 
 mod laws;
 
-pub use laws::front_law;
+pub use laws::{counted_law, front_law, handled_law};

@@ -24,3 +24,12 @@ pub mod WrongWork
 pub mod Parceled
 pub mod Periods
 pub mod WrongShort
+pub mod Words
+pub mod Cuts
+pub mod OfCall
+pub mod GoneBack
+pub mod Levels
+pub mod Unplanned
+pub mod EachLevel
+pub mod Ended
+pub mod WorkedHandled

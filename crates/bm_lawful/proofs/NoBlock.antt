@@ -24,6 +24,8 @@ use Rattle.bm_lawful.specs.Runs.{Run, RunsBlock}
 use Rattle.bm_lawful.specs.Parcels.{ParcelLaw}
 use Rattle.bm_lawful.specs.Grammar.{IsLog}
 use Rattle.bm_lawful.specs.OwnGrammar.{ordinary}
+use Rattle.bm_lawful.proofs.Unplanned.{done-ordinary}
+use Rattle.bm_lawful.specs.SectionWords.{SectionWords}
 use Rattle.bm_lawful.specs.Lawful.{HeadingOf, Lawful, LawfulLog}
 use Rattle.bm_lawful.specs.Short.{ordinary_entries}
 use Rattle.bm_deferred.proofs.Pages.{short-named}
@@ -129,6 +131,7 @@ is-log = record {
   is_front = then-of _ _ (opening 0) (entry.Fill 10 (Whole (0 ∷ [])) ∷ []) script (says _ _ _ ([], ap (λ units. entry.Fill 10 (Whole units) ∷ []) (sym first-block), refl)) (
     _,
     refl,
+    1,
     then-of _ _ _ script [] (then-of _ _ _ (entry.Script (codes "main") ∷ entry.In Plain 1 ∷ []) (stops ++ work1) (stands _ _)
         (then-of _ _ _ [] (stops ++ work1) (no_names, body-runs, λ y. tt) (then-of _ _ _ stops work1 (stands _ _) (then-of _ _ _ work1 [] (then-of _ _ _ work1 [] is-work1 refl) (0, (refl, refl))))))
         refl,
@@ -136,9 +139,15 @@ is-log = record {
   is_closing = then-of _ _ _ (entry.Ended ∷ entry.Close ∷ []) swept (stands _ _) (then-of _ _ _ [] swept (then-of _ _ _ [] [] refl refl) ([], then-of _ _ _ swept [] (says _ _ _ (record { phrase = sweep; taken = refl; given = refl })) refl));
 }
 
+words : SectionWords no_block_log
+words Plain = refl
+words Tracing = refl
+
 log-lawful : LawfulLog no_block 0 no_block_log
 log-lawful = record {
-  ordinary = all-ordinary (entry.Fill 10 (Whole (0 ∷ [])) ∷ script ++ closes (256 ∷ 0 ∷ []));
+  handlers = refl;
+  phrases = done-ordinary _ _ (all-ordinary (entry.Fill 10 (Whole (0 ∷ [])) ∷ script ++ closes (256 ∷ 0 ∷ []))) refl;
+  words = words;
   is_log = is-log;
   last = last;
   lists = leaves;

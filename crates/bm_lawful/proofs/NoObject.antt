@@ -3,7 +3,7 @@ use Rattle.std.proofs.Common.{ℕ, inl, inr, List, [], ◌∷◌, ◌++◌, refl
 use Rattle.std.proofs.lemmas.Bool.Decides.{eqb_tells}
 use Rattle.bm_class.specs.Sizes.{class_of_size, size_of_class}
 use Rattle.bm_class.specs.Watermarks.{low_of_size, high_of_size, batch_of_size}
-use Rattle.bm_journal.specs.declared.ids.Domain.TheVariants.{Plain}
+use Rattle.bm_journal.specs.declared.ids.Domain.TheVariants.{Plain, Tracing}
 use Rattle.bm_journal.specs.declared.units.Units.TheVariants.{Whole}
 use Rattle.bm_journal.specs.declared.entry.Entry.{Entry}
 use Rattle.bm_journal.specs.declared.entry.Entry.TheVariants as entry
@@ -17,6 +17,7 @@ use Rattle.bm_law.proofs.Folds.{Leaves-append}
 use Rattle.bm_lawful.proofs.Opening.{no-page}
 use Rattle.bm_lawful.specs.Held.{no_names}
 use Rattle.bm_lawful.specs.OwnGrammar.{IsLog, LawfulLog, ordinary}
+use Rattle.bm_lawful.specs.SectionWords.{SectionWords}
 use Rattle.bm_lawful.specs.Lawful.{HeadingOf, Lawful}
 use Rattle.bm_lawful.specs.Short.{ordinary_entries}
 use Rattle.bm_deferred.proofs.Pages.{short-named}
@@ -70,17 +71,22 @@ is-log = record {
   sweeps = [];
   own_is = refl;
   are_fills = ([], ap (λ units. entry.Fill 0 (Whole units) ∷ []) (sym no-page), refl);
-  are_scripts = (_, refl, (part, [], refl, record { part = asks ∷ took_none; after = with_null no_names; own_is = refl; runs = null-runs 7 8 9 no_names; owns_nothing = null-owns_nothing }, refl));
+  are_scripts = (_, refl, (1, part, [], refl, record { part = asks ∷ took_none; after = with_null no_names; own_is = refl; runs = null-runs 7 8 9 no_names; owns_nothing = null-owns_nothing }, refl));
   before = after (opening 0) front;
   before_is = Leaves-append 0 front (ordinary (entry.Ended ∷ entry.Close ∷ [])) last leaves;
   are_sweeps = refl;
 }
+
+words : SectionWords no_object_log
+words Plain = refl
+words Tracing = refl
 
 log-lawful : LawfulLog no_object 0 no_object_log
 log-lawful = record {
   own = asked [] ++ took_none ++ ended;
   log_is = refl;
   is_log = is-log;
+  words = words;
   last = last;
   lists = leaves;
   emptied = emptied;
@@ -91,7 +97,7 @@ pub no_object-lawful : Lawful no_object no_object_journal
 no_object-lawful = record {
   heading = heading;
   count = refl;
-  logs = one-log no_object no_object_log (told-log no_object refl 0 no_object_log log-lawful);
+  logs = one-log no_object no_object_log (told-log no_object refl 0 refl no_object_log log-lawful);
   short = short-named 0 (ordinary_entries no_object_journal.logs) refl;
   graphs = refl;
   totals = refl;

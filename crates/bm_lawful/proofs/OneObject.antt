@@ -17,6 +17,7 @@ use Rattle.bm_law.proofs.Null.{pops-fit}
 use Rattle.bm_law.proofs.Folds.{Leaves-append}
 use Rattle.bm_lawful.proofs.Opening.{first-four}
 use Rattle.bm_lawful.specs.OwnGrammar.{IsLog, LawfulLog, ordinary}
+use Rattle.bm_lawful.specs.SectionWords.{SectionWords}
 use Rattle.bm_lawful.specs.Lawful.{HeadingOf, Lawful}
 use Rattle.bm_lawful.specs.Short.{ordinary_entries}
 use Rattle.bm_deferred.proofs.Pages.{short-named}
@@ -87,17 +88,22 @@ is-log = record {
   sweeps = swept (3 ∷ 2 ∷ 1 ∷ 0 ∷ []);
   own_is = refl;
   are_fills = ([], ap (λ units. entry.Fill 0 (Whole units) ∷ []) (sym first-four), refl);
-  are_scripts = (_, refl, (part, [], refl, record { part = asks ∷ took 3 ++ gave 3 4; after = dropped; own_is = refl; runs = object-runs 7 8 9; owns_nothing = dropped-owns_nothing }, refl));
+  are_scripts = (_, refl, (1, part, [], refl, record { part = asks ∷ took 3 ++ gave 3 4; after = dropped; own_is = refl; runs = object-runs 7 8 9; owns_nothing = dropped-owns_nothing }, refl));
   before = after (opening 0) front;
   before_is = Leaves-append 0 front (ordinary (entry.Ended ∷ entry.Close ∷ swept (3 ∷ 2 ∷ 1 ∷ 0 ∷ []))) last leaves;
   are_sweeps = (swept (3 ∷ 2 ∷ 1 ∷ 0 ∷ []), [], refl, record { phrase = sweep; taken = refl; given = refl }, refl);
 }
+
+words : SectionWords one_object_log
+words Plain = refl
+words Tracing = refl
 
 log-lawful : LawfulLog one_object 0 one_object_log
 log-lawful = record {
   own = asked one_page ++ took 3 ++ gave 3 4 ++ ended ++ swept (3 ∷ 2 ∷ 1 ∷ 0 ∷ []);
   log_is = refl;
   is_log = is-log;
+  words = words;
   last = last;
   lists = leaves;
   emptied = emptied;
@@ -108,7 +114,7 @@ pub one_object-lawful : Lawful one_object one_object_journal
 one_object-lawful = record {
   heading = heading;
   count = refl;
-  logs = one-log one_object one_object_log (told-log one_object refl 0 one_object_log log-lawful);
+  logs = one-log one_object one_object_log (told-log one_object refl 0 refl one_object_log log-lawful);
   short = short-named 1 (ordinary_entries one_object_journal.logs) refl;
   graphs = refl;
   totals = refl;

@@ -15,7 +15,7 @@ use Rattle.bm_lawful.specs.WorkedJournal.{vector_of, block_of, types, x_name, it
 use Rattle.bm_lawful.proofs.Blocks.{RunsList, block-runs}
 use Rattle.bm_lawful.proofs.Taken.{holding}
 
-of-item : OfClass types 0 0 (record item { line = 5 })
+pub of-item : OfClass types 0 0 (record item { line = 5 })
 unfolding class_of_size
 of-item = record { found = refl; class = refl }
 

@@ -1,5 +1,5 @@
 -- Where no deferred work runs, a log is lawful exactly where its entries are so by the grammar of entries of one level.
-use Rattle.std.proofs.Common.{◌≡◌, ◌≢◌, ◌≤◌, ℕ, zero, suc, ◌+◌, Bool, true, false, not, ◌||◌, nat_eq, eqb, ◌==◌, if◌then◌else◌, List, [], ◌∷◌, ◌++◌, length, drop, None, refl, sym, ap, ◌∙◌, subst, arith, append_assoc, append-nil}
+use Rattle.std.proofs.Common.{◌≡◌, ◌≢◌, ◌≤◌, ℕ, zero, suc, ◌+◌, Bool, true, false, not, ◌||◌, nat_eq, ◌==◌, if◌then◌else◌, List, [], ◌∷◌, ◌++◌, length, drop, None, refl, sym, ap, ◌∙◌, subst, arith, append_assoc, append-nil}
 use Rattle.std.specs.List.{concat, filter, list_any}
 use Rattle.std.proofs.Math.Seq.{drop-append_seam}
 use Rattle.bm_journal.specs.declared.ids.Domain.{Domain}
@@ -27,6 +27,10 @@ use Rattle.bm_lawful.specs.Runs.{RunsBlock}
 use Rattle.bm_lawful.specs.Closing.{close_of, in_progress, EndsOne, EndsPeriods, SweepOf, SweepWhere, AreSweeps, Closing}
 use Rattle.bm_deferred.specs.Inboxes.{Inboxes, inboxes_after}
 use Rattle.bm_lawful.specs.Parcels.{no_parcels, ParcelsFit, sends_alone}
+use Rattle.bm_due.specs.Due.{planned_for}
+use Rattle.bm_lawful.specs.Handlers.{all_within}
+use Rattle.bm_lawful.proofs.GoneBack.{within-append}
+use Rattle.bm_lawful.proofs.Unplanned.{done-ordinary, unplanned-at, unplanned-stands}
 use Rattle.bm_lawful.specs.Grammar.{behind_statement, behind_script, IsBody, IsScript, AreScripts, lines_of, Front}
 use Rattle.bm_lawful.specs.OwnGrammar.{ordinary}
 use Rattle.bm_lawful.specs.OwnGrammar as own
@@ -34,7 +38,7 @@ use Rattle.bm_lawful.specs.Lawful.{LawfulLog}
 use Rattle.bm_lawful.proofs.Ordinary.{all-ordinary, stands, stood, said, then-of, parted, cut-of}
 use Rattle.bm_lawful.proofs.SameRuns.{block-same}
 use Rattle.bm_lawful.proofs.Spares.{AllSpare, spared, spare-sweep}
-use Rattle.bm_lawful.proofs.Calm.{Empty, AllCalm, calm-join, calm-quiet, calm-idle, quiet-fit, quiet-fitted, quiet-behind, calm-fills, calm-scripts, calm-ended}
+use Rattle.bm_lawful.proofs.Calm.{Empty, AllCalm, calm-join, calm-quiet, calm-idle, quiet-fit, quiet-fitted, quiet-behind, quiet-within, calm-fills, calm-scripts, calm-ended}
 
 -- ---- scripts
 
@@ -79,22 +83,25 @@ script-owned s e x w l es h =
       owns_nothing = u.is_first.2;
     }
 
-scripts-told : (s : Parts) → s.deferred ≡ false → (rs : List RunLine) (w : ℕ) (l : State ℕ) (es : List Entry) → own.AreScripts s rs w es → AreScripts s rs w l (ordinary es)
-scripts-told s e [] w l es h = ap ordinary h
-scripts-told s e (r ∷ rs) w l es h =
-    let one = h.2.0 in
-    let two = h.2.1 in (
+scripts-told : (s : Parts) → s.deferred ≡ false → (rs : List RunLine) (l : State ℕ) (es : List Entry) → own.AreScripts s rs es → AreScripts s rs l (ordinary es)
+scripts-told s e [] l es h = ap ordinary h
+scripts-told s e (r ∷ rs) l es h =
+    let w = h.2.0 in
+    let one = h.2.1 in
+    let two = h.2.2 in (
       h.0,
       h.1,
-      subst (λ v. Then (IsScript s h.0 (w + 1)) (AreScripts s rs (w + 2)) l (ordinary v)) (sym h.2.2)
-          (then-of (IsScript s h.0 (w + 1)) (AreScripts s rs (w + 2)) l one two (script-told s e h.0 (w + 1) l one h.2.3) (scripts-told s e rs (w + 2) (after l (ordinary one)) two h.2.4)),
+      w,
+      subst (λ v. Then (IsScript s h.0 w) (AreScripts s rs) l (ordinary v)) (sym h.2.3)
+          (then-of (IsScript s h.0 w) (AreScripts s rs) l one two (script-told s e h.0 w l one h.2.4) (scripts-told s e rs (after l (ordinary one)) two h.2.5)),
     )
 
-pub scripts-owned : (s : Parts) → s.deferred ≡ false → (rs : List RunLine) (w : ℕ) (l : State ℕ) (es : List Entry) → AreScripts s rs w l (ordinary es) → own.AreScripts s rs w es
-scripts-owned s e [] w l es h = sym (level-own 0 es) ∙ ap (own_entries 0) h
-scripts-owned s e (r ∷ rs) w l es h =
-    let t = parted (IsScript s h.0 (w + 1)) (AreScripts s rs (w + 2)) l es h.2 in
-    (h.0, h.1, (t.left, t.right, t.whole, script-owned s e h.0 (w + 1) l t.left t.is_first, scripts-owned s e rs (w + 2) (after l (ordinary t.left)) t.right t.is_second))
+pub scripts-owned : (s : Parts) → s.deferred ≡ false → (rs : List RunLine) (l : State ℕ) (es : List Entry) → AreScripts s rs l (ordinary es) → own.AreScripts s rs es
+scripts-owned s e [] l es h = sym (level-own 0 es) ∙ ap (own_entries 0) h
+scripts-owned s e (r ∷ rs) l es h =
+    let w = h.2 in
+    let t = parted (IsScript s h.0 w) (AreScripts s rs) l es h.3 in
+    (h.0, h.1, (w, t.left, t.right, t.whole, script-owned s e h.0 w l t.left t.is_first, scripts-owned s e rs (after l (ordinary t.left)) t.right t.is_second))
 
 -- ---- classes that ascend
 
@@ -254,6 +261,22 @@ closing-owned p classes front s boxes es f c z h fit =
     let rest = quiet-fitted p s boxes head (ordinary u.right) (calm-quiet head (calm-ended p)) z (subst (ParcelsFit p s boxes) (ap ordinary whole ∙ level-append 0 head u.right) fit) in
     record { sweeps = u.right; whole = whole; are = sweeps-owned p 0 classes s s2 rest.0 u.right rest.1 f (λ k le. ap (λ (q : State ℕ). q.rows k) (ended-same p s)) swept rest.2 }
 
+-- no handler begins or ends in the closing
+swept-within : (c : ℕ) (units : List ℕ) (Rest : List Entry → Type 0) → ((es : List Entry) → Rest es → all_within es ≡ true) → (es : List Entry) → own.Swept c units Rest es → all_within es ≡ true
+swept-within c [] Rest f es h = f es h
+swept-within c (u ∷ us) Rest f es h =
+    let x = h.3.phrase in
+    let tail : List Entry = entry.Stamp c Tracing x.stamp ∷ x.poll ++ entry.Return c (Whole x.returned) ∷ [] in
+    let one : all_within h.0 ≡ true = ap all_within x.own_is ∙ quiet-within tail (quiet-behind c x.stamp x.poll x.returned x.polls) in
+    ap all_within h.2 ∙ within-append h.0 h.1 one (f h.1 h.4)
+
+sweeps-within : (s : State ℕ) (cs : List ℕ) (es : List Entry) → own.AreSweeps s cs es → all_within es ≡ true
+sweeps-within s [] es h = ap all_within h
+sweeps-within s (c ∷ cs) es h = swept-within c (seven_lists (s.rows c)) (own.AreSweeps s cs) (sweeps-within s cs) es h
+
+closing-within : (p : ℕ) (classes : List ℕ) (s : State ℕ) (sweeps : List Entry) → own.AreSweeps s classes sweeps → all_within ((entry.Ended ∷ close_of p) ++ sweeps) ≡ true
+closing-within p classes s sweeps h = within-append (entry.Ended ∷ close_of p) sweeps (quiet-within (entry.Ended ∷ close_of p) (calm-quiet (entry.Ended ∷ close_of p) (calm-ended p))) (sweeps-within s classes sweeps h)
+
 -- ---- the whole log
 
 -- the law of parcels holds where no deferred work runs
@@ -261,24 +284,28 @@ alone-off : (s : Parts) → s.deferred ≡ false → sends_alone s ≡ true
 alone-off s e = ap (λ b. not b || nat_eq s.processors 1) e
 
 -- a log by the grammar of entries is lawful
-pub told-log : (s : Parts) → s.deferred ≡ false → (p : ℕ) (log : Log) → own.LawfulLog s p log → LawfulLog s p log
-told-log s e p log h =
+pub told-log : (s : Parts) → s.deferred ≡ false → (p : ℕ) → planned_for p s ≡ [] → (log : Log) → own.LawfulLog s p log → LawfulLog s p log
+told-log s e p none log h =
     let i = h.is_log in
     let classes = opened_classes s.types in
     let front : List Entry = i.fills ++ i.scripts in
     let rest : List Entry = (entry.Ended ∷ close_of p) ++ i.sweeps in
     let t = after (opening p) (ordinary front) in
-    let calm : AllCalm front = calm-join i.fills i.scripts (calm-fills classes (fresh_stock s.pages) i.fills i.are_fills) (calm-scripts s (lines_of p s.runs) 0 i.scripts i.are_scripts) in
+    let calm : AllCalm front = calm-join i.fills i.scripts (calm-fills classes (fresh_stock s.pages) i.fills i.are_fills) (calm-scripts s (lines_of p s.runs) i.scripts i.are_scripts) in
     let whole : log ≡ ordinary front ++ ordinary rest = h.log_is ∙ ap ordinary (i.own_is ∙ sym (append_assoc i.fills i.scripts rest)) ∙ level-append 0 front rest in
     let swept : own.AreSweeps t classes i.sweeps = subst (λ q. own.AreSweeps q classes i.sweeps) (sym i.before_is.lists) i.are_sweeps in
     let start = opening p in
+    let at : AllAt 0 log = subst (AllAt 0) (sym h.log_is) (all-ordinary h.own) in
+    let within : all_within (own_entries 0 log) ≡ true = ap all_within (ap (own_entries 0) (whole ∙ sym (level-append 0 front rest)) ∙ level-own 0 (front ++ rest)) ∙ within-append front rest (quiet-within front (calm-quiet front calm)) (closing-within p classes i.before i.sweeps i.are_sweeps) in
     record {
-      ordinary = subst (AllAt 0) (sym h.log_is) (all-ordinary h.own);
+      handlers = unplanned-stands s p log none at within;
+      phrases = done-ordinary s log at within;
+      words = h.words;
       is_log = record {
         front = ordinary front;
         closing = ordinary rest;
         log_is = whole;
-        is_front = then-of _ (AreScripts s (lines_of p s.runs) 0) start i.fills i.scripts (i.fills, i.are_fills, stands i.fills start) (scripts-told s e (lines_of p s.runs) 0 (after start (ordinary i.fills)) i.scripts i.are_scripts);
+        is_front = then-of _ (AreScripts s (lines_of p s.runs)) start i.fills i.scripts (i.fills, i.are_fills, stands i.fills start) (scripts-told s e (lines_of p s.runs) (after start (ordinary i.fills)) i.scripts i.are_scripts);
         is_closing = closing-told p classes front t i.sweeps (opened-from s.types) calm swept;
       };
       last = h.last;
@@ -289,19 +316,19 @@ told-log s e p log h =
     }
 
 -- and the other way round
-pub owned-log : (s : Parts) → s.deferred ≡ false → (p : ℕ) (log : Log) → LawfulLog s p log → own.LawfulLog s p log
-owned-log s e p log h =
+pub owned-log : (s : Parts) → s.deferred ≡ false → (p : ℕ) → planned_for p s ≡ [] → (log : Log) → LawfulLog s p log → own.LawfulLog s p log
+owned-log s e p none log h =
     let i = h.is_log in
     let classes = opened_classes s.types in
     let start = opening p in
     let es : List Entry = own_entries 0 log in
-    let all : log ≡ ordinary es = at-own 0 log h.ordinary in
+    let all : log ≡ ordinary es = at-own 0 log (unplanned-at s p log none h.handlers) in
     let x = cut-of es i.front i.closing (sym all ∙ i.log_is) in
     let F : Log → Type 0 = λ v. Front s p start v in
-    let t = parted (part.Say 0 (AreFills classes (fresh_stock s.pages))) (AreScripts s (lines_of p s.runs) 0) start x.left (subst F x.one_is i.is_front) in
+    let t = parted (part.Say 0 (AreFills classes (fresh_stock s.pages))) (AreScripts s (lines_of p s.runs)) start x.left (subst F x.one_is i.is_front) in
     let fills : AreFills classes (fresh_stock s.pages) t.left = said (AreFills classes (fresh_stock s.pages)) start t.left t.is_first in
-    let scripts = scripts-owned s e (lines_of p s.runs) 0 (after start (ordinary t.left)) t.right t.is_second in
-    let calm : AllCalm x.left = subst AllCalm (sym t.whole) (calm-join t.left t.right (calm-fills classes (fresh_stock s.pages) t.left fills) (calm-scripts s (lines_of p s.runs) 0 t.right scripts)) in
+    let scripts = scripts-owned s e (lines_of p s.runs) (after start (ordinary t.left)) t.right t.is_second in
+    let calm : AllCalm x.left = subst AllCalm (sym t.whole) (calm-join t.left t.right (calm-fills classes (fresh_stock s.pages) t.left fills) (calm-scripts s (lines_of p s.runs) t.right scripts)) in
     let G : Log → Log → Type 0 = λ v w. Closing p classes v (after start v) w in
     let close : G (ordinary x.left) (ordinary x.right) = subst (λ w. G (ordinary x.left) w) x.two_is (subst (λ v. G v i.closing) x.one_is i.is_closing) in
     let whole : log ≡ ordinary x.left ++ ordinary x.right = all ∙ ap ordinary x.whole ∙ level-append 0 x.left x.right in
@@ -322,6 +349,7 @@ owned-log s e p log h =
         before_is = subst (λ v. Leaves p (ordinary v) (after start (ordinary x.left))) t.whole leaves;
         are_sweeps = end.are;
       };
+      words = h.words;
       last = h.last;
       lists = h.lists;
       emptied = h.emptied;

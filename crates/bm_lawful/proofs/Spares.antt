@@ -15,9 +15,9 @@ use Rattle.bm_law.specs.SweepPhrases.{Finishes, MayFinish, MayBegin, PollPhrase,
 use Rattle.bm_lawful.specs.Calls.{Allocates}
 use Rattle.bm_lawful.specs.OwnGrammar.{ordinary}
 
--- an entry leaves the lists of class c as they are, whatever it brings
+-- an entry leaves the lists of class c as they are, of whatever level it is and whatever it brings
 abbrev pub Spares : ℕ → Entry → Type 0
-Spares c e = (us : List ℕ) (s : State ℕ) → (effect 0 e us s).rows c ≡ s.rows c
+Spares c e = (l : ℕ) (us : List ℕ) (s : State ℕ) → (effect l e us s).rows c ≡ s.rows c
 
 abbrev pub AllSpare : ℕ → List Entry → Type 0
 AllSpare c [] = Unit {0}
@@ -29,67 +29,67 @@ spare-join c (e ∷ es) w a b = (a.0, spare-join c es w a.1 b)
 
 pub spared : (c : ℕ) (own : List Entry) (s : State ℕ) → AllSpare c own → (after s (ordinary own)).rows c ≡ s.rows c
 spared c [] s h = refl
-spared c (e ∷ es) s h = spared c es (next s (0, e)) h.1 ∙ h.0 _ s
+spared c (e ∷ es) s h = spared c es (next s (0, e)) h.1 ∙ h.0 0 _ s
 
 -- a step on another class
 pub other-row : (c d : ℕ) (r : Row ℕ) (s : State ℕ) → c ≢ d → (with_row d r s).rows c ≡ s.rows c
 other-row c d r s ne = rw (ne_eqb c d ne) refl
 
 spare-raise : (c d : ℕ) (b : Bool) → c ≢ d → AllSpare c (if b then entry.Raise d ∷ [] else [])
-spare-raise c d true ne = (λ us s. other-row c d _ s ne, tt)
+spare-raise c d true ne = (λ l us s. other-row c d _ s ne, tt)
 spare-raise c d false ne = tt
 
 spare-given : (c u life : ℕ) (seal : Option (ℕ × ℕ)) → Spares c (given u life seal)
-spare-given c u life None = λ us s. refl
-spare-given c u life (Some seal) = λ us s. refl
+spare-given c u life None = λ l us s. refl
+spare-given c u life (Some seal) = λ l us s. refl
 
 pub spare-alloc : (c d : ℕ) (own : List Entry) (reply : Option (ℕ × ℕ)) → c ≢ d → Allocates d own reply → AllSpare c own
 spare-alloc c d own (Some o) ne x = subst (AllSpare c) (sym x.3) (
-  λ us s. other-row c d _ s ne,
+  λ l us s. other-row c d _ s ne,
   (
-    λ us s. other-row c d _ s ne,
+    λ l us s. other-row c d _ s ne,
     (
-      λ us s. other-row c d _ s ne,
+      λ l us s. other-row c d _ s ne,
       (
-        λ us s. other-row c d _ s ne,
+        λ l us s. other-row c d _ s ne,
         spare-join c (raise_below d x.1) (given o.0 o.1 x.0 ∷ []) (spare-raise c d (nat_lt x.1 (low_of_size (size_of_class d))) ne) (spare-given c o.0 o.1 x.0, tt),
       ),
     ),
   ),
 )
 spare-alloc c d own None ne (inl x) = subst (AllSpare c) (sym x.1) (
-  λ us s. other-row c d _ s ne,
+  λ l us s. other-row c d _ s ne,
   (
-    λ us s. refl,
+    λ l us s. refl,
     (
-      λ us s. other-row c d _ s ne,
-      spare-join c (raise_below d 0) (entry.Empty ∷ []) (spare-raise c d (nat_lt 0 (low_of_size (size_of_class d))) ne) (λ us s. refl, tt),
+      λ l us s. other-row c d _ s ne,
+      spare-join c (raise_below d 0) (entry.Empty ∷ []) (spare-raise c d (nat_lt 0 (low_of_size (size_of_class d))) ne) (λ l us s. refl, tt),
     ),
   ),
 )
 spare-alloc c d own None ne (inr x) = subst (AllSpare c) (sym x.3) (
-  λ us s. other-row c d _ s ne,
+  λ l us s. other-row c d _ s ne,
   (
-    λ us s. other-row c d _ s ne,
-    spare-join c (raise_below d 0) (entry.Busy x.0 ∷ []) (spare-raise c d (nat_lt 0 (low_of_size (size_of_class d))) ne) (λ us s. refl, tt),
+    λ l us s. other-row c d _ s ne,
+    spare-join c (raise_below d 0) (entry.Busy x.0 ∷ []) (spare-raise c d (nat_lt 0 (low_of_size (size_of_class d))) ne) (λ l us s. refl, tt),
   ),
 )
 
 spare-overtaken : (c d : ℕ) (ks : List ℕ) → AllSpare c (overtaken d ks)
 spare-overtaken c d [] = tt
-spare-overtaken c d (k ∷ ks) = (λ us s. refl, (λ us s. refl, spare-overtaken c d ks))
+spare-overtaken c d (k ∷ ks) = (λ l us s. refl, (λ l us s. refl, spare-overtaken c d ks))
 
 pub spare-free : (c d u home : ℕ) (own : List Entry) → c ≢ d → FreePhrase d u home own → AllSpare c own
 spare-free c d u home own ne (inl x) = subst (AllSpare c) (sym x.2) (
-  λ us s. refl,
+  λ l us s. refl,
   (
-    λ us s. other-row c d _ s ne,
+    λ l us s. other-row c d _ s ne,
     (
-      λ us s. other-row c d _ s ne,
+      λ l us s. other-row c d _ s ne,
       (
-        λ us s. other-row c d _ s ne,
+        λ l us s. other-row c d _ s ne,
         (
-          λ us s. other-row c d _ s ne,
+          λ l us s. other-row c d _ s ne,
           spare-raise c d (nat_lt (high_of_size (size_of_class d)) x.0) ne,
         ),
       ),
@@ -97,11 +97,11 @@ spare-free c d u home own ne (inl x) = subst (AllSpare c) (sym x.2) (
   ),
 )
 spare-free c d u home own ne (inr x) = subst (AllSpare c) (sym x.5) (
-  λ us s. refl,
+  λ l us s. refl,
   (
-    λ us s. other-row c d _ s ne,
+    λ l us s. other-row c d _ s ne,
     spare-join c (overtaken d x.1) (entry.Look d x.2 ∷ entry.Put d u ∷ entry.Leave d x.3 ∷ []) (spare-overtaken c d x.1)
-        (λ us s. refl, (λ us s. other-row c d _ s ne, (λ us s. other-row c d _ s ne, tt))),
+        (λ l us s. refl, (λ l us s. other-row c d _ s ne, (λ l us s. other-row c d _ s ne, tt))),
   ),
 )
 
@@ -131,16 +131,16 @@ spare-poll : (k c : ℕ) → Polled c Tracing (AllSpare k)
 spare-poll k c = record {
   none = tt;
   join = spare-join k;
-  begin = λ e n q. subst (λ x. AllSpare k (x ∷ [])) (sym q) (λ us s. refl, tt);
-  pass = λ n. (λ us s. refl, tt);
-  finish = λ e q. subst (λ x. AllSpare k (x ∷ [])) (sym q.2) (λ us s. refl, tt);
+  begin = λ e n q. subst (λ x. AllSpare k (x ∷ [])) (sym q) (λ l us s. refl, tt);
+  pass = λ n. (λ l us s. refl, tt);
+  finish = λ e q. subst (λ x. AllSpare k (x ∷ [])) (sym q.2) (λ l us s. refl, tt);
 }
 
 pub spare-sweep : (k c : ℕ) (own : List Entry) → k ≢ c → SweepPhrase c own → AllSpare k own
 spare-sweep k c own ne p = subst (AllSpare k) (sym p.own_is) (
-  λ us s. other-row k c _ s ne,
+  λ l us s. other-row k c _ s ne,
   (
-    λ us s. other-row k c _ s ne,
-    spare-join k p.poll (entry.Return c (Whole p.returned) ∷ []) (poll-all c Tracing (AllSpare k) (spare-poll k c) p.poll p.polls) (λ us s. other-row k c _ s ne, tt),
+    λ l us s. other-row k c _ s ne,
+    spare-join k p.poll (entry.Return c (Whole p.returned) ∷ []) (poll-all c Tracing (AllSpare k) (spare-poll k c) p.poll p.polls) (λ l us s. other-row k c _ s ne, tt),
   ),
 )

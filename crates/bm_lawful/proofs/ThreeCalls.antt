@@ -3,6 +3,7 @@ use Rattle.std.proofs.Common.{ℕ, inl, inr, [], ◌∷◌, ◌++◌, refl, sym,
 use Rattle.std.proofs.lemmas.Bool.Decides.{eqb_tells}
 use Rattle.bm_class.specs.Sizes.{class_of_size, size_of_class}
 use Rattle.bm_class.specs.Watermarks.{low_of_size, high_of_size, batch_of_size}
+use Rattle.bm_journal.specs.declared.ids.Domain.TheVariants.{Plain, Tracing}
 use Rattle.bm_journal.specs.declared.units.Units.TheVariants.{Whole}
 use Rattle.bm_journal.specs.declared.entry.Entry.TheVariants as entry
 use Rattle.bm_law.specs.State.{State, opening}
@@ -15,6 +16,7 @@ use Rattle.bm_law.proofs.Folds.{Leaves-append}
 use Rattle.bm_lawful.proofs.Opening.{no-page}
 use Rattle.bm_lawful.specs.Held.{no_names}
 use Rattle.bm_lawful.specs.OwnGrammar.{IsLog, LawfulLog, ordinary}
+use Rattle.bm_lawful.specs.SectionWords.{SectionWords}
 use Rattle.bm_lawful.specs.Lawful.{HeadingOf, Lawful}
 use Rattle.bm_lawful.specs.Short.{ordinary_entries}
 use Rattle.bm_deferred.proofs.Pages.{short-named}
@@ -69,11 +71,12 @@ is-log = record {
     _,
     refl,
     (
+      1,
       twice_part,
       main_part,
       refl,
       record { part = two_nulls; after = with_null (with_null no_names); own_is = refl; runs = twice-runs 11 12; owns_nothing = nulls-own_nothing },
-      (_, refl, (main_part, [], refl, record { part = asks ∷ took_none; after = with_null no_names; own_is = refl; runs = null-runs 7 8 9 no_names; owns_nothing = null-owns_nothing }, refl)),
+      (_, refl, (3, main_part, [], refl, record { part = asks ∷ took_none; after = with_null no_names; own_is = refl; runs = null-runs 7 8 9 no_names; owns_nothing = null-owns_nothing }, refl)),
     ),
   );
   before = after (opening 0) front;
@@ -81,11 +84,16 @@ is-log = record {
   are_sweeps = refl;
 }
 
+words : SectionWords three_calls_log
+words Plain = refl
+words Tracing = refl
+
 log-lawful : LawfulLog three_calls 0 three_calls_log
 log-lawful = record {
   own = entry.Fill 0 (Whole []) ∷ twice_part ++ main_part ++ entry.Ended ∷ entry.Close ∷ [];
   log_is = refl;
   is_log = is-log;
+  words = words;
   last = last;
   lists = leaves;
   emptied = emptied;
@@ -96,7 +104,7 @@ pub three_calls-lawful : Lawful three_calls three_calls_journal
 three_calls-lawful = record {
   heading = heading;
   count = refl;
-  logs = one-log three_calls three_calls_log (told-log three_calls refl 0 three_calls_log log-lawful);
+  logs = one-log three_calls three_calls_log (told-log three_calls refl 0 refl three_calls_log log-lawful);
   short = short-named 0 (ordinary_entries three_calls_journal.logs) refl;
   graphs = refl;
   totals = refl;

@@ -1,5 +1,6 @@
 -- What a lawful journal of a worked scenario tells of its one log.
-use Rattle.std.proofs.Common.{◌≡◌, ℕ, zero, suc, List, [], ◌∷◌, ◌++◌, Option, Some, None, refl, sym, ap, subst, ◌∙◌, append_assoc, append-nil, codes, map, slice_get}
+use Rattle.std.proofs.Common.{◌≡◌, ℕ, zero, suc, List, [], ◌∷◌, ◌++◌, Option, Some, None, refl, sym, ap, subst, ◌∙◌, append_assoc, append-nil, codes, map, slice_get, true, ◌+◌, nat_eq, eqb-true}
+use Rattle.std.proofs.lemmas.Bool.{and_parts}
 use Rattle.bm_class.specs.Sizes.{class_of_size}
 use Rattle.bm_journal.specs.declared.ids.Domain.TheVariants.{Plain}
 use Rattle.bm_journal.specs.declared.units.Units.TheVariants.{Whole}
@@ -17,7 +18,8 @@ use Rattle.bm_page.specs.Stock.{fetched}
 use Rattle.bm_lawful.specs.Fills.{fresh_stock, numbers_of, prefill}
 use Rattle.bm_lawful.specs.Lawful as lawful
 use Rattle.bm_lawful.specs.OwnGrammar.{IsLog, IsScript, LawfulLog, Swept, ordinary}
-use Rattle.bm_lawful.specs.WorkedJournal.{types, scenario_of}
+use Rattle.bm_lawful.specs.SectionWords.{SectionWords, word_fits, word_next, words_fit}
+use Rattle.bm_lawful.specs.WorkedJournal.{types, scenario_of, script_of}
 
 -- its entries
 abbrev pub entries_of : Log → List Entry
@@ -53,17 +55,32 @@ joined a b c d e f g v w = simp append_assoc
 pub same-script : {a b : Script} → Some a ≡ Some b → a ≡ b
 same-script e = cc
 
-made-of : (pages : ℕ) (body : Block) (own : List Entry) → IsLog (scenario_of pages body) 0 own → IsMade body own
+-- the first section of a script that runs first has word 1
+pub first-word : (w : ℕ) (fill script : Entry) (own rest : List Entry) → word_next Plain 0 fill ≡ 0 → word_next Plain 0 script ≡ 0 → own ≡ fill ∷ script ∷ entry.In Plain w ∷ rest → SectionWords (ordinary own) → w ≡ 1
+first-word w fill script own rest f g e h =
+    let one = and_parts (word_fits Plain 0 fill) (words_fit Plain (word_next Plain 0 fill) (ordinary (script ∷ entry.In Plain w ∷ rest))) (subst (λ es. words_fit Plain 0 (ordinary es) ≡ true) e (h Plain)) in
+    let two = and_parts (word_fits Plain 0 script) (words_fit Plain (word_next Plain 0 script) (ordinary (entry.In Plain w ∷ rest))) (subst (λ n. words_fit Plain n (ordinary (script ∷ entry.In Plain w ∷ rest)) ≡ true) f one.1) in
+    let three = and_parts (nat_eq w 1) (words_fit Plain w (ordinary rest)) (subst (λ n. words_fit Plain n (ordinary (entry.In Plain w ∷ rest)) ≡ true) g two.1) in
+    eqb-true w 1 three.0
+
+made-of : (pages : ℕ) (body : Block) (own : List Entry) → IsLog (scenario_of pages body) 0 own → SectionWords (ordinary own) → IsMade body own
 unfolding class_of_size
-made-of pages body own h =
+made-of pages body own h words =
     let opened : List ℕ = numbers_of (fetched 0 (prefill 0) (fresh_stock pages)).units in
     let f : (rest : List Entry) × (h.fills ≡ entry.Fill 0 (Whole opened) ∷ rest) × (rest ≡ []) = h.are_fills in
     let r = h.are_scripts in
-    let P : Script → Type 0 = λ s. IsScript (scenario_of pages body) s 1 r.2.0 in
-    let k = subst P (sym (same-script r.1)) r.2.3 in
+    let P : Script → Type 0 = λ s. IsScript (scenario_of pages body) s r.2.0 r.2.1 in
+    let k0 = subst P (sym (same-script r.1)) r.2.4 in
     let front : h.fills ≡ entry.Fill 0 (Whole opened) ∷ [] = f.1 ∙ ap (λ v. entry.Fill 0 (Whole opened) ∷ v) f.2 in
+    let behind : List Entry = entry.Ended ∷ entry.Close ∷ h.sweeps in
+    let inside : List Entry = k0.part ++ entry.Out Plain (r.2.0 + 1) ∷ entry.Done (codes "main") ∷ [] in
+    let begins : own ≡ entry.Fill 0 (Whole opened) ∷ entry.Script (codes "main") ∷ entry.In Plain r.2.0 ∷ ((inside ++ r.2.2) ++ behind) =
+    h.own_is ∙ ap (λ v. v ++ (h.scripts ++ behind)) front ∙ ap (λ v. (entry.Fill 0 (Whole opened) ∷ []) ++ (v ++ behind)) (r.2.3 ∙ ap (λ v. v ++ r.2.2) k0.own_is) in
+    let word : r.2.0 ≡ 1 = first-word r.2.0 (entry.Fill 0 (Whole opened)) (entry.Script (codes "main")) own ((inside ++ r.2.2) ++ behind) refl refl begins words in
+    let W : ℕ → Type 0 = λ n. IsScript (scenario_of pages body) (script_of 6 (codes "main") body) n r.2.1 in
+    let k : IsScript (scenario_of pages body) (script_of 6 (codes "main") body) 1 r.2.1 = subst W word k0 in
     let ran : List Entry = entry.Script (codes "main") ∷ entry.In Plain 1 ∷ k.part ++ entry.Out Plain 2 ∷ entry.Done (codes "main") ∷ [] in
-    let script : h.scripts ≡ ran ++ [] = r.2.2 ∙ ap (λ v. r.2.0 ++ v) r.2.4 ∙ ap (λ v. v ++ []) k.own_is in
+    let script : h.scripts ≡ ran ++ [] = r.2.3 ∙ ap (λ v. r.2.1 ++ v) r.2.5 ∙ ap (λ v. v ++ []) k.own_is in
     record {
       units = opened;
       part = k.part;
@@ -83,7 +100,9 @@ pub own-is : (s : Parts) (p : ℕ) (log : Log) (h : LawfulLog s p log) → h.own
 own-is s p log h = sym (of-ordinary h.own) ∙ ap entries_of (sym h.log_is)
 
 pub log-made : (pages : ℕ) (body : Block) (log : Log) → LawfulLog (scenario_of pages body) 0 log → IsMade body (entries_of log)
-log-made pages body log h = made-of pages body (entries_of log) (subst (IsLog (scenario_of pages body) 0) (own-is (scenario_of pages body) 0 log h) h.is_log)
+log-made pages body log h =
+    let same = own-is (scenario_of pages body) 0 log h in
+    made-of pages body (entries_of log) (subst (IsLog (scenario_of pages body) 0) same h.is_log) (subst SectionWords (h.log_is ∙ ap ordinary same) h.words)
 
 none-some : {A X : Type 0} {a : A} → None ≡ Some a → X
 none-some e = absurd (cc)

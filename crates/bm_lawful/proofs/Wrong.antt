@@ -85,22 +85,22 @@ no_log-wrong h = none-one h.count
 -- ---- entries that don't name what is there
 
 pub null_with_units-wrong : Lawful one_object null_with_units → ⊥
-null_with_units-wrong h = unlisted one_object null_with_units_log refl (owned-log one_object refl 0 null_with_units_log (h.logs 0 null_with_units_log refl))
+null_with_units-wrong h = unlisted one_object null_with_units_log refl (owned-log one_object refl 0 refl null_with_units_log (h.logs 0 null_with_units_log refl))
 
 pub below_the_top-wrong : Lawful one_object below_the_top → ⊥
-below_the_top-wrong h = unlisted one_object below_the_top_log refl (owned-log one_object refl 0 below_the_top_log (h.logs 0 below_the_top_log refl))
+below_the_top-wrong h = unlisted one_object below_the_top_log refl (owned-log one_object refl 0 refl below_the_top_log (h.logs 0 below_the_top_log refl))
 
 pub other_order-wrong : Lawful one_object other_order → ⊥
-other_order-wrong h = unlisted one_object other_order_log refl (owned-log one_object refl 0 other_order_log (h.logs 0 other_order_log refl))
+other_order-wrong h = unlisted one_object other_order_log refl (owned-log one_object refl 0 refl other_order_log (h.logs 0 other_order_log refl))
 
 pub one_left_out-wrong : Lawful one_object one_left_out → ⊥
-one_left_out-wrong h = unlisted one_object one_left_out_log refl (owned-log one_object refl 0 one_left_out_log (h.logs 0 one_left_out_log refl))
+one_left_out-wrong h = unlisted one_object one_left_out_log refl (owned-log one_object refl 0 refl one_left_out_log (h.logs 0 one_left_out_log refl))
 
 -- ---- lists that aren't empty at the end
 
 pub not_swept-wrong : Lawful one_object not_swept → ⊥
 not_swept-wrong h =
-    let l = owned-log one_object refl 0 not_swept_log (h.logs 0 not_swept_log refl) in
+    let l = owned-log one_object refl 0 refl not_swept_log (h.logs 0 not_swept_log refl) in
     not-empty (subst (λ (s : State ℕ). seven_lists (s.rows 0) ≡ []) (sym l.lists.lists) (l.emptied.lists 0))
 
 -- ---- entries that no run leaves
@@ -139,21 +139,21 @@ out-drop w u n v v' e = cc
 
 pub never_dropped-wrong : Lawful one_object never_dropped → ⊥
 never_dropped-wrong h =
-    let d = drops never_dropped_log (ended ++ swept (2 ∷ 1 ∷ 0 ∷ [])) (owned-log one_object refl 0 never_dropped_log (h.logs 0 never_dropped_log refl)) refl in
+    let d = drops never_dropped_log (ended ++ swept (2 ∷ 1 ∷ 0 ∷ [])) (owned-log one_object refl 0 refl never_dropped_log (h.logs 0 never_dropped_log refl)) refl in
     let b = drop-begins Done holding d.0 (ended ++ d.1) (ended ++ swept (2 ∷ 1 ∷ 0 ∷ [])) d.2 in
     out-drop 2 b.0 b.1 _ _ b.3
 
 pub dropped_twice-wrong : Lawful one_object dropped_twice → ⊥
 dropped_twice-wrong h =
     let later : List Entry = gave 3 5 ++ ended ++ swept (3 ∷ 3 ∷ 2 ∷ 1 ∷ 0 ∷ []) in
-    let d = drops dropped_twice_log (gave 3 4 ++ later) (owned-log one_object refl 0 dropped_twice_log (h.logs 0 dropped_twice_log refl)) refl in
+    let d = drops dropped_twice_log (gave 3 4 ++ later) (owned-log one_object refl 0 refl dropped_twice_log (h.logs 0 dropped_twice_log refl)) refl in
     let t = drop-taken Done holding d.0 (ended ++ d.1) later d.2 in
     out-drop 2 3 1 _ _ (ap (λ v. v ++ (ended ++ d.1)) (sym t.2.0) ∙ t.3)
 
 pub not_counted-wrong : Lawful one_object not_counted → ⊥
 not_counted-wrong h =
     let later : List Entry = ended ++ swept (3 ∷ 2 ∷ 1 ∷ 0 ∷ []) in
-    let d = drops not_counted_log (entry.Drop 3 1 ∷ entry.Last ∷ entry.Free 3 0 ∷ entry.Enter 0 1 ∷ entry.Push 0 3 ∷ entry.Leave 0 0 ∷ later) (owned-log one_object refl 0 not_counted_log (h.logs 0 not_counted_log refl)) refl in
+    let d = drops not_counted_log (entry.Drop 3 1 ∷ entry.Last ∷ entry.Free 3 0 ∷ entry.Enter 0 1 ∷ entry.Push 0 3 ∷ entry.Leave 0 0 ∷ later) (owned-log one_object refl 0 refl not_counted_log (h.logs 0 not_counted_log refl)) refl in
     drop-counts Done holding d.0 (ended ++ d.1) later d.2
 
 two-three : ◌≡◌ {A = ℕ} 2 3 → ⊥
@@ -161,7 +161,7 @@ two-three e = cc
 
 pub other_dropped-wrong : Lawful one_object other_dropped → ⊥
 other_dropped-wrong h =
-    let d = drops other_dropped_log (gave 2 4 ++ ended ++ swept (2 ∷ 2 ∷ 1 ∷ 0 ∷ [])) (owned-log one_object refl 0 other_dropped_log (h.logs 0 other_dropped_log refl)) refl in
+    let d = drops other_dropped_log (gave 2 4 ++ ended ++ swept (2 ∷ 2 ∷ 1 ∷ 0 ∷ [])) (owned-log one_object refl 0 refl other_dropped_log (h.logs 0 other_dropped_log refl)) refl in
     two-three (drop-holds Done d.0 (ended ++ d.1) _ 2 1 d.2).0
 
 eight-seven : ◌≡◌ {A = List ℕ} (8 ∷ []) (7 ∷ []) → ⊥
@@ -170,7 +170,7 @@ eight-seven e = cc
 pub other_value-wrong : Lawful one_object other_value → ⊥
 other_value-wrong h =
     let later : List Entry = took 3 ++ gave 3 4 ++ ended ++ swept (3 ∷ 2 ∷ 1 ∷ 0 ∷ []) in
-    let s = ran-of other_value_log (entry.New (codes "item") (8 ∷ []) ∷ later) (owned-log one_object refl 0 other_value_log (h.logs 0 other_value_log refl)) refl in
+    let s = ran-of other_value_log (entry.New (codes "item") (8 ∷ []) ∷ later) (owned-log one_object refl 0 refl other_value_log (h.logs 0 other_value_log refl)) refl in
     eight-seven (new-asks (RunsList types (drops_x_unless_null 8 ∷ [])) no_names s.after s.part (ended ++ s.sweeps) later (codes "item") (8 ∷ []) s.runs s.more_is)
 
 one-none : ◌≡◌ {A = ℕ} 1 0 → ⊥
@@ -179,7 +179,7 @@ one-none e = cc
 pub other_class-wrong : Lawful one_object other_class → ⊥
 other_class-wrong h =
     let later : List Entry = entry.PopNone 1 ∷ entry.Leave 1 0 ∷ entry.Raise 1 ∷ entry.Empty ∷ ended ++ swept (3 ∷ 2 ∷ 1 ∷ 0 ∷ []) in
-    let s = ran-of other_class_log (asks ∷ entry.Enter 1 1 ∷ later) (owned-log one_object refl 0 other_class_log (h.logs 0 other_class_log refl)) refl in
+    let s = ran-of other_class_log (asks ∷ entry.Enter 1 1 ∷ later) (owned-log one_object refl 0 refl other_class_log (h.logs 0 other_class_log refl)) refl in
     one-none (new-enters (RunsList types (drops_x_unless_null 8 ∷ [])) no_names s.after s.part (ended ++ s.sweeps) later asks 1 s.runs s.more_is)
 
 no-close : (v w : List Entry) (us : Units) → entry.Out Plain 2 ∷ entry.Done (codes "main") ∷ entry.Ended ∷ entry.Close ∷ v ≡ entry.Out Plain 2 ∷ entry.Done (codes "main") ∷ entry.Ended ∷ entry.Sweep 0 us ∷ w → ⊥
@@ -188,7 +188,7 @@ no-close v w us e = cc
 pub not_closed-wrong : Lawful one_object not_closed → ⊥
 not_closed-wrong h =
     let later : List Entry = entry.Out Plain 2 ∷ entry.Done (codes "main") ∷ entry.Ended ∷ swept (3 ∷ 2 ∷ 1 ∷ 0 ∷ []) in
-    let d = drops not_closed_log (gave 3 4 ++ later) (owned-log one_object refl 0 not_closed_log (h.logs 0 not_closed_log refl)) refl in
+    let d = drops not_closed_log (gave 3 4 ++ later) (owned-log one_object refl 0 refl not_closed_log (h.logs 0 not_closed_log refl)) refl in
     let t = drop-taken Done holding d.0 (ended ++ d.1) later d.2 in
     no-close _ _ _ (ap (λ v. v ++ (ended ++ d.1)) (sym t.2.0) ∙ t.3)
 
@@ -196,7 +196,7 @@ not_closed-wrong h =
 
 pub object_left-wrong : Lawful object_left never_dropped → ⊥
 object_left-wrong h =
-    let l = owned-log object_left refl 0 never_dropped_log (h.logs 0 never_dropped_log refl) in
+    let l = owned-log object_left refl 0 refl never_dropped_log (h.logs 0 never_dropped_log refl) in
     let k = log-made 1 makes_alone never_dropped_log l in
     let list = subst (λ (run : Run). run no_names k.part k.after) (block-runs types (vector_of (makes_x 7 ∷ []) (lit≤ tt)) 9) k.runs in
     let s = new-taken Done k.part k.after (ended ++ k.sweeps) (ended ++ swept (2 ∷ 1 ∷ 0 ∷ [])) list (begun k.units _ _ k.own_is) in

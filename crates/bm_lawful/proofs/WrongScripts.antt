@@ -26,8 +26,9 @@ record AreMade (own : List Entry) : Type 0 where
   two : List Entry
   rest : List Entry
   own_is : own ≡ entry.Fill 0 (Whole units) ∷ ((one ++ two) ++ rest)
-  first : IsScript three_calls (script_of 10 (codes "twice") (makes_and_drops_twice 11 12)) 1 one
-  second : IsScript three_calls (script_of 6 (codes "main") (makes_and_drops 7 8 9)) 3 two
+  words : ℕ × ℕ
+  first : IsScript three_calls (script_of 10 (codes "twice") (makes_and_drops_twice 11 12)) words.0 one
+  second : IsScript three_calls (script_of 6 (codes "main") (makes_and_drops 7 8 9)) words.1 two
 
 made-of : (own : List Entry) → IsLog three_calls 0 own → AreMade own
 unfolding class_of_size
@@ -35,20 +36,21 @@ made-of own h =
     let opened : List ℕ = numbers_of (fetched 0 (prefill 0) (fresh_stock 0)).units in
     let f : (rest : List Entry) × (h.fills ≡ entry.Fill 0 (Whole opened) ∷ rest) × (rest ≡ []) = h.are_fills in
     let r = h.are_scripts in
-    let q = r.2.4 in
+    let q = r.2.5 in
     let rest : List Entry = entry.Ended ∷ entry.Close ∷ h.sweeps in
-    let P : Script → Type 0 = λ s. IsScript three_calls s 1 r.2.0 in
-    let Q : Script → Type 0 = λ s. IsScript three_calls s 3 q.2.0 in
+    let P : Script → Type 0 = λ s. IsScript three_calls s r.2.0 r.2.1 in
+    let Q : Script → Type 0 = λ s. IsScript three_calls s q.2.0 q.2.1 in
     let front : h.fills ≡ entry.Fill 0 (Whole opened) ∷ [] = f.1 ∙ ap (λ v. entry.Fill 0 (Whole opened) ∷ v) f.2 in
-    let scripts : h.scripts ≡ r.2.0 ++ (q.2.0 ++ []) = r.2.2 ∙ ap (λ v. r.2.0 ++ v) (q.2.2 ∙ ap (λ v. q.2.0 ++ v) q.2.4) in
+    let scripts : h.scripts ≡ r.2.1 ++ (q.2.1 ++ []) = r.2.3 ∙ ap (λ v. r.2.1 ++ v) (q.2.3 ∙ ap (λ v. q.2.1 ++ v) q.2.5) in
     record {
       units = opened;
-      one = r.2.0;
-      two = q.2.0 ++ [];
+      one = r.2.1;
+      two = q.2.1 ++ [];
       rest = rest;
       own_is = h.own_is ∙ ap (λ v. v ++ (h.scripts ++ rest)) front ∙ ap (λ v. (entry.Fill 0 (Whole opened) ∷ []) ++ (v ++ rest)) scripts;
-      first = subst P (sym (same-script r.1)) r.2.3;
-      second = rw (append-nil q.2.0) (subst Q (sym (same-script q.1)) q.2.3);
+      words = (r.2.0, q.2.0);
+      first = subst P (sym (same-script r.1)) r.2.4;
+      second = rw (append-nil q.2.1) (subst Q (sym (same-script q.1)) q.2.4);
     }
 
 -- ---- the order
@@ -61,7 +63,7 @@ other-name e = omega (arith, ap (λ (v : List ℕ). slice_index v 0) e)
 
 pub main_first-wrong : Lawful three_calls main_first → ⊥
 main_first-wrong h =
-    let l = owned-log three_calls refl 0 main_first_log (h.logs 0 main_first_log refl) in
+    let l = owned-log three_calls refl 0 refl main_first_log (h.logs 0 main_first_log refl) in
     let m = made-of (entries_of main_first_log) (subst (IsLog three_calls 0) (own-is three_calls 0 main_first_log l) l.is_log) in
     other-name (apart [] m.units _ _ (m.own_is ∙ ap (λ v. entry.Fill 0 (Whole m.units) ∷ ((v ++ m.two) ++ m.rest)) m.first.own_is))
 
@@ -110,7 +112,7 @@ script-calls s w own k = omega (arith, ap calls k.own_is, calls-append k.part (e
 pub repeated_once-wrong : Lawful three_calls repeated_once → ⊥
 unfolding calls asks-one
 repeated_once-wrong h =
-    let l = owned-log three_calls refl 0 repeated_once_log (h.logs 0 repeated_once_log refl) in
+    let l = owned-log three_calls refl 0 refl repeated_once_log (h.logs 0 repeated_once_log refl) in
     let m = made-of (entries_of repeated_once_log) (subst (IsLog three_calls 0) (own-is three_calls 0 repeated_once_log l) l.is_log) in
     let twice = twice-calls 11 12 no_names m.first.part m.first.after m.first.runs in
     let main = block-calls 7 8 9 no_names m.second.part m.second.after m.second.runs in

@@ -89,7 +89,7 @@ not-empty e q = cc
 
 pub empty_swept-wrong : Lawful no_object empty_swept → ⊥
 empty_swept-wrong h =
-    let k = log-made 0 (makes_and_drops 7 8 9) empty_swept_log (owned-log no_object refl 0 empty_swept_log (h.logs 0 empty_swept_log refl)) in
+    let k = log-made 0 (makes_and_drops 7 8 9) empty_swept_log (owned-log no_object refl 0 refl empty_swept_log (h.logs 0 empty_swept_log refl)) in
     let b = begun k.units _ _ k.own_is in
     let list = subst (λ (run : Run). run no_names k.part k.after) (block-runs types (vector_of (makes_x 7 ∷ drops_x_unless_null 8 ∷ []) (lit≤ tt)) 9) k.runs in
     let t = block-taken k.part k.after (ended ++ k.sweeps) (ended ++ swept []) list b.1 in

@@ -1,5 +1,5 @@
 -- The wrong journals with deferred work are not lawful.
-use Rattle.std.proofs.Common.{◌≡◌, ℕ, zero, suc, inl, inr, List, [], ◌∷◌, ◌++◌, Option, Some, None, refl, sym, ap, subst, ◌∙◌, append_assoc, codes, lit≤}
+use Rattle.std.proofs.Common.{◌≡◌, ℕ, zero, suc, ◌+◌, inl, inr, List, [], ◌∷◌, ◌++◌, Option, Some, None, refl, sym, ap, subst, ◌∙◌, append_assoc, codes, lit≤}
 use Rattle.bm_class.specs.Sizes.{class_of_size, size_of_class}
 use Rattle.bm_class.specs.Watermarks.{low_of_size}
 use Rattle.bm_journal.specs.declared.ids.Domain.TheVariants.{Plain}
@@ -31,7 +31,7 @@ use Rattle.bm_lawful.specs.WrongDeferred.{left_out_log, left_out, not_asked_log,
 use Rattle.bm_lawful.proofs.Ordinary.{stood, said, parted, cut-of}
 use Rattle.bm_lawful.proofs.BlockParts.{RunsList, block-parts}
 use Rattle.bm_lawful.proofs.OpeningBlock.{first-block}
-use Rattle.bm_lawful.proofs.Told.{same-script}
+use Rattle.bm_lawful.proofs.Told.{first-word, same-script}
 
 -- works until the flag of the one class is down
 abbrev until : Part
@@ -52,27 +52,28 @@ record IsWorked (body : Block) (es : List Entry) : Type 0 where
   runs : RunsBlock (block ∷ []) 0 until body no_names names begun (ordinary main)
   behind : WorkBehind (10 ∷ []) lists (ordinary work)
 
--- what a script left
-record IsRun (body : Block) (s : State ℕ) (es : List Entry) : Type 0 where
+-- what a script left in its section with word n
+record IsRun (body : Block) (n : ℕ) (s : State ℕ) (es : List Entry) : Type 0 where
   main : List Entry
   names : Names
   work : List Entry
   lists : State ℕ
-  own_is : es ≡ entry.Script (codes "main") ∷ entry.In Plain 1 ∷ main ++ (stops ++ work)
-  runs : RunsBlock (block ∷ []) 0 until body no_names names (after s (ordinary (entry.Script (codes "main") ∷ entry.In Plain 1 ∷ []))) (ordinary main)
+  own_is : es ≡ entry.Script (codes "main") ∷ entry.In Plain n ∷ main ++ ((entry.Out Plain (n + 1) ∷ entry.Done (codes "main") ∷ []) ++ work)
+  runs : RunsBlock (block ∷ []) 0 until body no_names names (after s (ordinary (entry.Script (codes "main") ∷ entry.In Plain n ∷ []))) (ordinary main)
   behind : WorkBehind (10 ∷ []) lists (ordinary work)
 
-run-of : (body : Block) (s : State ℕ) (es : List Entry) → IsScript (with_work body) (script_of 6 (codes "main") body) 1 s (ordinary es) → IsRun body s es
+run-of : (body : Block) (n : ℕ) (s : State ℕ) (es : List Entry) → IsScript (with_work body) (script_of 6 (codes "main") body) n s (ordinary es) → IsRun body n s es
 unfolding class_of_size
-run-of body s es h =
-    let head : List Entry = entry.Script (codes "main") ∷ entry.In Plain 1 ∷ [] in
+run-of body n s es h =
+    let head : List Entry = entry.Script (codes "main") ∷ entry.In Plain n ∷ [] in
+    let last : List Entry = entry.Out Plain (n + 1) ∷ entry.Done (codes "main") ∷ [] in
     let x = script_of 6 (codes "main") body in
     let w = with_work body in
-    let t = parted (Stand 0 head) (Then (IsBody w x) (Then (Stand 0 stops) (behind_script w))) s es h in
+    let t = parted (Stand 0 head) (Then (IsBody w x) (Then (Stand 0 last) (behind_script w))) s es h in
     let s1 = after s (ordinary t.left) in
-    let u = parted (IsBody w x) (Then (Stand 0 stops) (behind_script w)) s1 t.right t.is_second in
+    let u = parted (IsBody w x) (Then (Stand 0 last) (behind_script w)) s1 t.right t.is_second in
     let s2 = after s1 (ordinary u.left) in
-    let v = parted (Stand 0 stops) (behind_script w) s2 u.right u.is_second in
+    let v = parted (Stand 0 last) (behind_script w) s2 u.right u.is_second in
     let first : t.left ≡ head = stood head s t.left t.is_first in
     let names : Names = u.is_first.0 in
     let runs : RunsBlock (block ∷ []) 0 until body no_names names s1 (ordinary u.left) = u.is_first.1 in
@@ -81,7 +82,7 @@ run-of body s es h =
       names = names;
       work = v.right;
       lists = after s2 (ordinary v.left);
-      own_is = t.whole ∙ ap (λ z. z ++ t.right) first ∙ ap (λ z. head ++ z) (u.whole ∙ ap (λ z. u.left ++ z) (v.whole ∙ ap (λ z. z ++ v.right) (stood stops s2 v.left v.is_first)));
+      own_is = t.whole ∙ ap (λ z. z ++ t.right) first ∙ ap (λ z. head ++ z) (u.whole ∙ ap (λ z. u.left ++ z) (v.whole ∙ ap (λ z. z ++ v.right) (stood last s2 v.left v.is_first)));
       runs = subst (λ z. RunsBlock (block ∷ []) 0 until body no_names names (after s (ordinary z)) (ordinary u.left)) first runs;
       behind = v.is_second;
     }
@@ -98,15 +99,20 @@ worked-of body es h =
     let x = cut-of es i.front i.closing i.log_is in
     let F : Log → Type 0 = λ v. Front s 0 start v in
     let fills : List Entry → Type 0 = AreFills (10 ∷ []) (fresh_stock 2) in
-    let t = parted (Say 0 fills) (AreScripts s s.runs 0) start x.left (subst F x.one_is i.is_front) in
+    let t = parted (Say 0 fills) (AreScripts s s.runs) start x.left (subst F x.one_is i.is_front) in
     let f : (rest : List Entry) × (t.left ≡ entry.Fill 10 (Whole (numbers_of (fetched 10 (prefill 10) (fresh_stock 2)).units)) ∷ rest) × (rest ≡ []) = said fills start t.left t.is_first in
     let fill : t.left ≡ entry.Fill 10 (Whole (0 ∷ [])) ∷ [] = f.1 ∙ (λ k. entry.Fill 10 (Whole (first-block k)) ∷ f.2 k) in
     let r = t.is_second in
     let s1 = after start (ordinary t.left) in
-    let q = parted (IsScript s r.0 1) (AreScripts s [] 2) s1 t.right r.2 in
+    let q = parted (IsScript s r.0 r.2) (AreScripts s []) s1 t.right r.3 in
     let none : q.right ≡ [] = sym (level-own 0 q.right) ∙ ap (own_entries 0) q.is_second in
-    let P : Script → Type 0 = λ z. IsScript s z 1 s1 (ordinary q.left) in
-    let k = run-of body s1 q.left (subst P (sym (same-script r.1)) q.is_first) in
+    let P : Script → Type 0 = λ z. IsScript s z r.2 s1 (ordinary q.left) in
+    let k0 = run-of body r.2 s1 q.left (subst P (sym (same-script r.1)) q.is_first) in
+    let inside : List Entry = k0.main ++ ((entry.Out Plain (r.2 + 1) ∷ entry.Done (codes "main") ∷ []) ++ k0.work) in
+    let begins : es ≡ entry.Fill 10 (Whole (0 ∷ [])) ∷ entry.Script (codes "main") ∷ entry.In Plain r.2 ∷ ((inside ++ q.right) ++ x.right) =
+    x.whole ∙ ap (λ z. z ++ x.right) (t.whole ∙ ap (λ z. z ++ t.right) fill ∙ ap (λ z. (entry.Fill 10 (Whole (0 ∷ [])) ∷ []) ++ z) (q.whole ∙ ap (λ z. z ++ q.right) k0.own_is)) in
+    let word : r.2 ≡ 1 = first-word r.2 (entry.Fill 10 (Whole (0 ∷ []))) (entry.Script (codes "main")) es ((inside ++ q.right) ++ x.right) refl refl begins h.words in
+    let k : IsRun body 1 s1 q.left = subst (λ n. IsRun body n s1 q.left) word k0 in
     let G : Log → Log → Type 0 = λ v w. Closing 0 (10 ∷ []) v (after start v) w in
     let close : G (ordinary x.left) (ordinary x.right) = subst (λ w. G (ordinary x.left) w) x.two_is (subst (λ v. G v i.closing) x.one_is i.is_closing) in
     let last = after start (ordinary x.left) in

@@ -34,10 +34,11 @@ IsScript s script w =
     (Then (IsBody s script)
     (Then (Stand 0 (entry.Out Plain (w + 1) ∷ entry.Done script.name ∷ [])) (behind_script s)))
 
--- the scripts that these lines run, in order, where the plain section's word was w before
-abbrev pub AreScripts : Parts → List RunLine → ℕ → Part
-AreScripts s [] w l part = Nothing l part
-AreScripts s (r ∷ rs) w l part = (script : Script) × (slice_get s.scripts r.script.0 ≡ Some script) × Then (IsScript s script (w + 1)) (AreScripts s rs (w + 2)) l part
+-- The scripts that these lines run, in order. Which word each section has, the words of the whole log tell: handlers in the
+-- deferred work behind a script have sections of their own.
+abbrev pub AreScripts : Parts → List RunLine → Part
+AreScripts s [] l part = Nothing l part
+AreScripts s (r ∷ rs) l part = (script : Script) × (slice_get s.scripts r.script.0 ≡ Some script) × (w : ℕ) × Then (IsScript s script w) (AreScripts s rs) l part
 
 -- the `run` lines of processor p
 abbrev pub lines_of : ℕ → List RunLine → List RunLine
@@ -45,7 +46,7 @@ lines_of p runs = filter (λ r. nat_eq r.processor p) runs
 
 -- the opening of a cache for each class from a fresh stock, and the scripts of processor p
 abbrev pub Front : Parts → ℕ → Part
-Front s p = Then (Say 0 (AreFills (opened_classes s.types) (fresh_stock s.pages))) (AreScripts s (lines_of p s.runs) 0)
+Front s p = Then (Say 0 (AreFills (opened_classes s.types) (fresh_stock s.pages))) (AreScripts s (lines_of p s.runs))
 
 -- The log of processor p, while there is one: the opening, its scripts, and the closing.
 pub record IsLog (s : Parts) (p : ℕ) (log : Log) : Type 0 where

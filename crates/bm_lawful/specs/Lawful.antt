@@ -7,14 +7,16 @@ use Rattle.bm_lang.specs.declared.scenario.Script.{Script}
 use Rattle.bm_lang.specs.declared.scenario.MapDeclaration.{MapDeclaration}
 use Rattle.bm_lang.specs.declared.scenario.TypeDeclaration.{TypeDeclaration}
 use Rattle.bm_law.specs.State.{State}
-use Rattle.bm_law.specs.Alone.{AllAt}
 use Rattle.bm_law.specs.Lists.{Log, Leaves}
 use Rattle.bm_law.specs.Null.{NullLaw}
 use Rattle.bm_law.specs.Worked.{Emptied}
+use Rattle.bm_due.specs.Standing.{HandlersStand}
 use Rattle.bm_lawful.specs.Opened.{opened}
 use Rattle.bm_lawful.specs.Grammar.{IsLog}
+use Rattle.bm_lawful.specs.Handlers.{HandlersDone}
 use Rattle.bm_lawful.specs.Parcels.{ParcelLaw, sends_alone}
 use Rattle.bm_lawful.specs.Short.{JournalShort}
+use Rattle.bm_lawful.specs.SectionWords.{SectionWords}
 
 -- The heading names what the scenario declares.
 pub record HeadingOf (s : Parts) (j : Journal) : Type 0 where
@@ -25,11 +27,14 @@ pub record HeadingOf (s : Parts) (j : Journal) : Type 0 where
   pub scripts : j.scripts ≡ map (λ (x : Script). x.name) s.scripts
   pub classes : j.classes ≡ opened s.types
 
--- A log of processor p: no handler runs in it by now; what it is made of; the lists that it leaves, in which nothing
--- stands at its end; when its allocations answer null; and which parcels it receives, where it alone sends any.
+-- A log of processor p: handlers stand in it exactly where they are due, each of which left its phrase; what it is made of
+-- besides; the words of its sections; the lists that it leaves, in which nothing stands at its end; when its allocations
+-- answer null; and which parcels it receives, where it alone sends any.
 pub record LawfulLog (s : Parts) (p : ℕ) (log : Log) : Type 0 where
-  pub ordinary : AllAt 0 log
+  pub handlers : HandlersStand s p log
+  pub phrases : HandlersDone s log
   pub is_log : IsLog s p log
+  pub words : SectionWords log
   pub last : State ℕ
   pub lists : Leaves p log last
   pub emptied : Emptied last

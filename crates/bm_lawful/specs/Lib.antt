@@ -5,9 +5,13 @@ pub mod Works
 pub mod Runs
 pub mod Fills
 pub mod Parcels
+pub mod SectionWords
 pub mod Closing
 pub mod Grammar
+pub mod Counted
 pub mod OwnRuns
+pub mod CallEntries
+pub mod Handlers
 pub mod OwnGrammar
 pub mod Lawful
 pub mod Worked
@@ -18,3 +22,4 @@ pub mod WorkedDeferred
 pub mod WrongDeferred
 pub mod Short
 pub mod WrongShort
+pub mod WorkedHandlers

@@ -15,6 +15,7 @@ use Rattle.bm_law.specs.Worked.{Emptied}
 use Rattle.bm_lawful.specs.Held.{Names, no_names, OwnsNothing}
 use Rattle.bm_lawful.specs.Fills.{AreFills, fresh_stock}
 use Rattle.bm_lawful.specs.Opened.{opened_classes}
+use Rattle.bm_lawful.specs.SectionWords.{SectionWords}
 use Rattle.bm_lawful.specs.OwnRuns.{RunsBlock}
 use Rattle.bm_lawful.specs.Closing.{close_of, SweepOf}
 use Rattle.bm_lawful.specs.Grammar.{lines_of}
@@ -32,12 +33,12 @@ pub record IsScript (s : Parts) (script : Script) (w : ℕ) (own : List Entry) :
   pub runs : RunsBlock s.types script.body no_names part after
   pub owns_nothing : (x : List ℕ) → OwnsNothing (after x)
 
--- the scripts that these lines run, in order, where the plain section's word was w before
-abbrev pub AreScripts : Parts → List RunLine → ℕ → List Entry → Type 0
-AreScripts s [] w own = own ≡ []
-AreScripts s (r ∷ rs) w own =
+-- the scripts that these lines run, in order
+abbrev pub AreScripts : Parts → List RunLine → List Entry → Type 0
+AreScripts s [] own = own ≡ []
+AreScripts s (r ∷ rs) own =
     (script : Script) × (slice_get s.scripts r.script.0 ≡ Some script) ×
-    ((one two : List Entry) × (own ≡ one ++ two) × IsScript s script (w + 1) one × AreScripts s rs (w + 2) two)
+    ((w : ℕ) × (one two : List Entry) × (own ≡ one ++ two) × IsScript s script w one × AreScripts s rs two)
 
 -- a sweep where these units stand in the class's lists, and what follows
 abbrev pub Swept : ℕ → List ℕ → (List Entry → Type 0) → List Entry → Type 0
@@ -57,17 +58,18 @@ pub record IsLog (s : Parts) (p : ℕ) (own : List Entry) : Type 0 where
   pub sweeps : List Entry
   pub own_is : own ≡ fills ++ (scripts ++ (entry.Ended ∷ close_of p ++ sweeps))
   pub are_fills : AreFills (opened_classes s.types) (fresh_stock s.pages) fills
-  pub are_scripts : AreScripts s (lines_of p s.runs) 0 scripts
+  pub are_scripts : AreScripts s (lines_of p s.runs) scripts
   pub before : State ℕ
   pub before_is : Leaves p (ordinary (fills ++ scripts)) before
   pub are_sweeps : AreSweeps before (opened_classes s.types) sweeps
 
--- A log of processor p: what it is made of, the lists that it leaves, in which nothing stands at its end, and when its
+-- A log of processor p: what it is made of, the words of its sections, the lists that it leaves, in which nothing stands at its end, and when its
 -- allocations answer null.
 pub record LawfulLog (s : Parts) (p : ℕ) (log : Log) : Type 0 where
   pub own : List Entry
   pub log_is : log ≡ ordinary own
   pub is_log : IsLog s p own
+  pub words : SectionWords log
   pub last : State ℕ
   pub lists : Leaves p log last
   pub emptied : Emptied last

@@ -29,8 +29,9 @@ pub fn worked_names()
 mod tests {
     use super::*;
     use crate::{
-        logs_without_work, worked_deferred, worked_flags, worked_journals, worked_parcels,
-        worked_periods, wrong_deferred, wrong_journals,
+        handlers_law, logs_without_work, unplanned_law, words_law, worked_deferred, worked_flags,
+        worked_handlers, worked_journals, worked_parcels, worked_periods, wrong_deferred,
+        wrong_handlers, wrong_journals, wrong_words,
     };
 
     #[test]
@@ -45,5 +46,11 @@ mod tests {
         worked_flags();
         worked_periods();
         worked_parcels();
+        handlers_law();
+        unplanned_law();
+        words_law();
+        worked_handlers();
+        wrong_handlers();
+        wrong_words();
     }
 }

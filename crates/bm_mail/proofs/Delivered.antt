@@ -32,7 +32,7 @@ at-back : (a b : Log) → AllAt 0 (a ++ b) → AllAt 0 b
 at-back [] b h = h
 at-back (e ∷ a) b h = at-back a b h.1
 
-pub parcels-fit : (s : Parts) (fills scripts closing : Log) (boxes : Inboxes) → AllAt 0 ((fills ++ scripts) ++ closing) → Say 0 (AreFills (opened_classes s.types) (fresh_stock s.pages)) (opening 0) fills → AreScripts s (lines_of 0 s.runs) 0 (after (opening 0) fills) scripts →
+pub parcels-fit : (s : Parts) (fills scripts closing : Log) (boxes : Inboxes) → AllAt 0 ((fills ++ scripts) ++ closing) → Say 0 (AreFills (opened_classes s.types) (fresh_stock s.pages)) (opening 0) fills → AreScripts s (lines_of 0 s.runs) (after (opening 0) fills) scripts →
     Delivers 0 1 0 (Some no_parcels) boxes (Some fills) (fills ++ scripts) → ClosingTold 0 (opened_classes s.types) (fills ++ scripts) boxes (after (opening 0) (fills ++ scripts)) closing → ParcelLaw 0 ((fills ++ scripts) ++ closing)
 parcels-fit s fills scripts closing boxes at f x d c =
     let classes : List ℕ = opened_classes s.types in
@@ -43,7 +43,7 @@ parcels-fit s fills scripts closing boxes at f x d c =
     let ws : List Entry = own_entries 0 scripts in
     let quiet : AllQuiet es = part-say IsQuiet 0 (AreFills classes (fresh_stock s.pages)) (quiet-fills classes (fresh_stock s.pages)) start fills f in
     let told : Stretch 0 1 0 no_parcels boxes scripts = stretch-of 0 1 0 no_parcels boxes fills scripts d in
-    let inside : Inside classes boxes = subst (Inside classes) (sym told.left) (over-inside classes ws no_parcels (sends-scripts s (lines_of 0 s.runs) 0 filled scripts x) (λ k e. refl)) in
+    let inside : Inside classes boxes = subst (Inside classes) (sym told.left) (over-inside classes ws no_parcels (sends-scripts s (lines_of 0 s.runs) filled scripts x) (λ k e. refl)) in
     let closed : ParcelsFit 0 (after start (fills ++ scripts)) boxes closing = closing-fits classes (fills ++ scripts) boxes (after start (fills ++ scripts)) closing (at-back (fills ++ scripts) closing at) inside c in
     let F : State ℕ → Inboxes → Type 0 = λ t m. ParcelsFit 0 t m closing in
     let behind : F (after filled scripts) (inboxes_over 0 ws no_parcels) = subst (F (after filled scripts)) told.left (subst (λ t. F t boxes) (after-append start fills scripts) closed) in

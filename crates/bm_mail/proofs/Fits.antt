@@ -13,7 +13,7 @@ use Rattle.bm_deferred.proofs.Inboxes.{AllQuiet, all-quiet, all-within, over-qui
 use Rattle.bm_lawful.specs.OwnGrammar.{ordinary}
 use Rattle.bm_lawful.specs.Parcels.{ParcelFits, ParcelsFit}
 
-fits-one : (e : Entry) (s : State ℕ) (boxes : Inboxes) → TakesOldest e boxes → IsWithin 1 e → ParcelFits 0 e s boxes
+pub fits-one : (e : Entry) (s : State ℕ) (boxes : Inboxes) → TakesOldest e boxes → IsWithin 1 e → ParcelFits 0 e s boxes
 fits-one (entry.Send c to us) s boxes o w = omega (arith, w)
 fits-one (entry.Receive c us) s boxes o w = o
 fits-one (entry.Sweep c us) s boxes o w = absurd w

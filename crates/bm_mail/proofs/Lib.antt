@@ -7,3 +7,4 @@ pub mod Fits
 pub mod Inside
 pub mod Closed
 pub mod Delivered
+pub mod WithHandlers

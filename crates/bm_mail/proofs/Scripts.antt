@@ -29,6 +29,6 @@ sends-script s x w =
     sends-then classes (Stand 0 head) (Then (IsBody s x) stop) (sends-stand classes head (tt, (tt, tt)))
     (sends-then classes (IsBody s x) stop (sends-body s x) (sends-then classes (Stand 0 last) (behind_script s) (sends-stand classes last (tt, (tt, tt))) works))
 
-pub sends-scripts : (s : Parts) (rs : List RunLine) (w : ℕ) → SendsPart (opened_classes s.types) (AreScripts s rs w)
-sends-scripts s [] w l part h = sends-nothing (opened_classes s.types) l part h
-sends-scripts s (r ∷ rs) w l part h = sends-then (opened_classes s.types) (IsScript s h.0 (w + 1)) (AreScripts s rs (w + 2)) (sends-script s h.0 (w + 1)) (sends-scripts s rs (w + 2)) l part h.2
+pub sends-scripts : (s : Parts) (rs : List RunLine) → SendsPart (opened_classes s.types) (AreScripts s rs)
+sends-scripts s [] l part h = sends-nothing (opened_classes s.types) l part h
+sends-scripts s (r ∷ rs) l part h = sends-then (opened_classes s.types) (IsScript s h.0 h.2) (AreScripts s rs) (sends-script s h.0 h.2) (sends-scripts s rs) l part h.3

@@ -22,7 +22,7 @@ pub fn parcels_law()
     ensures law { (s : Parts) (fills scripts closing : Log) (boxes : Inboxes) →
         AllAt 0 ((fills ++ scripts) ++ closing) →
         Say 0 (AreFills (opened_classes s.types) (fresh_stock s.pages)) (opening 0) fills →
-        AreScripts s (lines_of 0 s.runs) 0 (after (opening 0) fills) scripts →
+        AreScripts s (lines_of 0 s.runs) (after (opening 0) fills) scripts →
         Delivers 0 1 0 (Some no_parcels) boxes (Some fills) (fills ++ scripts) →
         ClosingTold 0 (opened_classes s.types) (fills ++ scripts) boxes (after (opening 0) (fills ++ scripts)) closing →
         ParcelLaw 0 ((fills ++ scripts) ++ closing) }

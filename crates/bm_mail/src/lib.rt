@@ -2,8 +2,10 @@
 //! runs.
 #![tactic(auto)]
 
+mod handled;
 mod laws;
 mod worked;
 
+pub use handled::handled_law;
 pub use laws::parcels_law;
 pub use worked::worked_inboxes;

@@ -25,11 +25,12 @@ pub fn worked_inboxes()
 #[cfg(test)]
 mod tests {
     use super::*;
-    use crate::parcels_law;
+    use crate::{handled_law, parcels_law};
 
     #[test]
     fn laws_take_no_step(_rt: HostRuntime) {
         parcels_law();
+        handled_law();
         worked_inboxes();
     }
 }

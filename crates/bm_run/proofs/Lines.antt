@@ -16,7 +16,8 @@ use Rattle.bm_deferred.specs.Inboxes.{Delivered}
 use Rattle.bm_deferred.specs.Parts.{Part, Nothing, Stand, Then, If}
 use Rattle.bm_deferred.specs.Grown.{GrewBy}
 use Rattle.bm_deferred.proofs.Grown.{grew-join, grew-none}
-use Rattle.bm_lawful.specs.Grammar.{behind_script, behind_statement, IsBody, IsScript, AreScripts, lines_of}
+use Rattle.bm_lawful.specs.Counted.{CountedScripts}
+use Rattle.bm_lawful.specs.Grammar.{behind_script, behind_statement, IsBody, IsScript, lines_of}
 use Rattle.bm_lawful.specs.Held.{no_names}
 use Rattle.bm_lawful.specs.Opened.{opened_classes}
 use Rattle.bm_lawful.specs.Runs.{RunsBlock}
@@ -104,7 +105,7 @@ script-wrote s script word w a b c d e f sa sb sc sd u v x y =
 
 -- What the lines so far have left: whatever the others leave then, all of them have left.
 pub record Wrote_so_far (s : Parts) (rest : List RunLine) (word : ℕ) (before now : Machine0) : Type 0 where
-  pub grew : (final : Option Log) → GrewBy (AreScripts s (lines_of 0 rest) word) (lists_of now) (log_of now) final → GrewBy (AreScripts s (lines_of 0 s.runs) 0) (lists_of before) (log_of before) final
+  pub grew : (final : Option Log) → GrewBy (CountedScripts s (lines_of 0 rest) word) (lists_of now) (log_of now) final → GrewBy (CountedScripts s (lines_of 0 s.runs) 0) (lists_of before) (log_of before) final
   pub ordinary : Ordinary before now
 
 pub wrote-none : (s : Parts) (word : ℕ) (m : Machine0) → word ≡ 0 → Wrote_so_far s s.runs word m m
@@ -115,9 +116,9 @@ wrote-line : (s : Parts) (r : RunLine) (rest : List RunLine) (script : Script) (
     Wrote_so_far s (r ∷ rest) word a b → Wrote (IsScript s script (word + 1)) b c → Wrote_so_far s rest (word + 2) a c
 wrote-line s r rest script word a b c here e sb sc w x = record {
   grew = λ final y.
-      (let Q : Part = AreScripts s (lines_of 0 rest) (word + 2) in
-      let all : GrewBy (AreScripts s (r ∷ lines_of 0 rest) word) (lists_of b) (log_of b) final =
-      grew-join (IsScript s script (word + 1)) Q (AreScripts s (r ∷ lines_of 0 rest) word) 0 (lists_of b) (lists_of c) (log_of b) (log_of c) final (λ one two i j. (script, e, record { one = one; two = two; part_is = refl; is_first = i; is_second = j })) (sound_told b sb) (sound_told c sc) x.grew y in
+      (let Q : Part = CountedScripts s (lines_of 0 rest) (word + 2) in
+      let all : GrewBy (CountedScripts s (r ∷ lines_of 0 rest) word) (lists_of b) (log_of b) final =
+      grew-join (IsScript s script (word + 1)) Q (CountedScripts s (r ∷ lines_of 0 rest) word) 0 (lists_of b) (lists_of c) (log_of b) (log_of c) final (λ one two i j. (script, e, record { one = one; two = two; part_is = refl; is_first = i; is_second = j })) (sound_told b sb) (sound_told c sc) x.grew y in
       w.grew final (rw (ap (λ p. nat_eq p 0) here) all));
   ordinary = ordinary-join a b c w.ordinary x.ordinary;
 }
@@ -134,10 +135,10 @@ pub lines-other : (s : Parts) (i : ℕ) (d : RunLine) (word : ℕ) (a b : Machin
 lines-other s i d word a b lt there w =
     wrote-other s (get_or s.runs i d) (drop (i + 1) s.runs) word a b (ne_eqb (get_or s.runs i d).processor 0 there) (subst (λ l. Wrote_so_far s l word a b) (drop_more s.runs i d lt) w)
 
-pub lines-all : (s : Parts) (i word : ℕ) (a b : Machine0) → drop i s.runs ≡ [] → Wrote_so_far s (drop i s.runs) word a b → Wrote (AreScripts s (lines_of 0 s.runs) 0) a b
+pub lines-all : (s : Parts) (i word : ℕ) (a b : Machine0) → drop i s.runs ≡ [] → Wrote_so_far s (drop i s.runs) word a b → Wrote (CountedScripts s (lines_of 0 s.runs) 0) a b
 lines-all s i word a b none w =
     let v = subst (λ l. Wrote_so_far s l word a b) none w in
-    record { grew = v.grew (log_of b) (grew-none (AreScripts s [] word) (lists_of b) (log_of b) refl); ordinary = v.ordinary }
+    record { grew = v.grew (log_of b) (grew-none (CountedScripts s [] word) (lists_of b) (log_of b) refl); ordinary = v.ordinary }
 
 -- ---- what lines cost
 

@@ -7,6 +7,7 @@ use Rattle.bm_journal.specs.declared.ids.Domain.{Domain}
 use Rattle.bm_journal.specs.declared.entry.Entry.{Entry}
 use Rattle.bm_journal.specs.declared.entry.Entry.TheVariants as entry
 use Rattle.bm_lang.specs.declared.scenario.Parts.{Parts}
+use Rattle.bm_lang.specs.declared.scenario.RunLine.{RunLine}
 use Rattle.bm_page.specs.Stock.{Stock, fetched}
 use Rattle.bm_grace.specs.Known.{side}
 use Rattle.bm_post.specs.PostState.{told_in}
@@ -34,9 +35,14 @@ use Rattle.bm_deferred.specs.Parts.{Part, Say, Stand, Then}
 use Rattle.bm_deferred.proofs.Begun.{IsIdle, begun-append, over-idle}
 use Rattle.bm_deferred.proofs.Each.{AllOf}
 use Rattle.bm_deferred.proofs.Pages.{spares-same, supplies-brought, supplies-more}
-use Rattle.bm_lawful.specs.Closing.{AreSweeps, EndsPeriods, in_progress}
+use Rattle.bm_lawful.specs.Closing.{AreSweeps, Closing, EndsPeriods, in_progress}
 use Rattle.bm_lawful.specs.Fills.{AreFills, fresh_stock, prefill}
+use Rattle.bm_due.specs.Due.{planned_for}
+use Rattle.bm_due.specs.Standing.{HandlersStand}
+use Rattle.bm_lawful.specs.Counted.{CountedScripts}
 use Rattle.bm_lawful.specs.Grammar.{AreScripts, Front, lines_of}
+use Rattle.bm_lawful.specs.Handlers.{HandlersDone}
+use Rattle.bm_lawful.specs.SectionWords.{SectionWords}
 use Rattle.bm_lawful.specs.Lawful.{LawfulLog}
 use Rattle.bm_lawful.specs.Opened.{opened_classes, uses_class}
 use Rattle.bm_lawful.specs.Parcels.{ParcelLaw, no_parcels, sends_alone}
@@ -134,7 +140,7 @@ pub record Told (s : Parts) (final : Log) : Type 0 where
   pub at : AllAt 0 ((fills ++ scripts) ++ closing)
   pub at_front : AllAt 0 (fills ++ scripts)
   pub are_fills : Say 0 (AreFills (opened_classes s.types) (fresh_stock s.pages)) (opening 0) fills
-  pub are_scripts : AreScripts s (lines_of 0 s.runs) 0 (after (opening 0) fills) scripts
+  pub are_scripts : CountedScripts s (lines_of 0 s.runs) 0 (after (opening 0) fills) scripts
   pub mail : Delivers 0 1 0 (Some no_parcels) boxes (Some fills) (fills ++ scripts)
   pub closes : ClosingTold 0 (opened_classes s.types) (fills ++ scripts) boxes (after (opening 0) (fills ++ scripts)) closing
   pub lived : Lived
@@ -200,10 +206,10 @@ begun-told d m0 m2 fills scripts log2 zero-first told0 told2 is at none p =
     q.left ∙ ap (λ o. begun_over d o (own_entries 0 q.added)) start ∙ ap (λ (l : Log). begun_over d None (own_entries 0 l)) added
     ∙ ap (λ o. begun_over d o (own_entries 0 scripts)) (sym none) ∙ sym (begun-append d None (own_entries 0 fills) (own_entries 0 scripts)) ∙ ap (begun_over d None) (sym (own-append 0 fills scripts)) ∙ sym (in-progress-own d None (fills ++ scripts) at)
 
-pub told-run : (s : Parts) (m0 m2 m3 : Machine0) (final : Log) → ((u : ℕ) → lives_of m2.side.slots u ≡ None) → IsOpen (filling (opened_classes s.types) (fresh_stock s.pages)) m0 → Wrote (AreScripts s (lines_of 0 s.runs) 0) m0 m2 → Wrote (Stand 0 (entry.Ended ∷ entry.Close ∷ [])) m2 m3 → m3.side ≡ m2.side → Sound m2 → Sound m3 → Closed (opened_classes s.types) m3 final → (t : Told s final) × (t.before ≡ lists_of m2)
+pub told-run : (s : Parts) (m0 m2 m3 : Machine0) (final : Log) → ((u : ℕ) → lives_of m2.side.slots u ≡ None) → IsOpen (filling (opened_classes s.types) (fresh_stock s.pages)) m0 → Wrote (CountedScripts s (lines_of 0 s.runs) 0) m0 m2 → Wrote (Stand 0 (entry.Ended ∷ entry.Close ∷ [])) m2 m3 → m3.side ≡ m2.side → Sound m2 → Sound m3 → Closed (opened_classes s.types) m3 final → (t : Told s final) × (t.before ≡ lists_of m2)
 told-run s m0 m2 m3 final none o w e same sound2 sound3 closed =
     let classes : List ℕ = opened_classes s.types in
-    let Scripts : Part = AreScripts s (lines_of 0 s.runs) 0 in
+    let Scripts : Part = CountedScripts s (lines_of 0 s.runs) 0 in
     let Ends : Part = Stand 0 (entry.Ended ∷ entry.Close ∷ []) in
     let Sweeps : LivingState → Part = λ v. SweepsTold classes (told_in v.side.post) in
     let z = closed.closes in
@@ -273,8 +279,18 @@ never-used s c none false e = e
 abbrev pub RowsKept : Type 0
 RowsKept = (s : Parts) (front : Log) → AllAt 0 front → Front s 0 (opening 0) front → (c : ℕ) → list_any (uses_class c) s.types ≡ false → (after (opening 0) front).rows c ≡ (opening 0).rows c
 
-front-of : (s : Parts) (fills scripts : Log) → Say 0 (AreFills (opened_classes s.types) (fresh_stock s.pages)) (opening 0) fills → AreScripts s (lines_of 0 s.runs) 0 (after (opening 0) fills) scripts → Front s 0 (opening 0) (fills ++ scripts)
-front-of s fills scripts f x = record { one = fills; two = scripts; part_is = refl; is_first = f; is_second = x }
+-- Scripts whose words count on are scripts of the grammar.
+abbrev pub Forgets : Type 0
+Forgets = (s : Parts) (lines : List RunLine) (w : ℕ) (l : State ℕ) (part : Log) → CountedScripts s lines w l part → AreScripts s lines l part
+
+-- What a log of ordinary code alone has, where no handler is planned.
+abbrev pub LogAlone : Type 0
+LogAlone = (s : Parts) (p : ℕ) (fills scripts closing : Log) → planned_for p s ≡ [] → AllAt 0 ((fills ++ scripts) ++ closing) → Say 0 (AreFills (opened_classes s.types) (fresh_stock s.pages)) (opening p) fills → CountedScripts s (lines_of p s.runs) 0 (after (opening p) fills) scripts →
+    Closing p (opened_classes s.types) (fills ++ scripts) (after (opening p) (fills ++ scripts)) closing →
+    HandlersStand s p ((fills ++ scripts) ++ closing) × HandlersDone s ((fills ++ scripts) ++ closing) × SectionWords ((fills ++ scripts) ++ closing)
+
+front-of : Forgets → (s : Parts) (fills scripts : Log) → Say 0 (AreFills (opened_classes s.types) (fresh_stock s.pages)) (opening 0) fills → CountedScripts s (lines_of 0 s.runs) 0 (after (opening 0) fills) scripts → Front s 0 (opening 0) (fills ++ scripts)
+front-of forgets s fills scripts f x = record { one = fills; two = scripts; part_is = refl; is_first = f; is_second = forgets s (lines_of 0 s.runs) 0 (after (opening 0) fills) scripts x }
 
 row-empty : (s : Parts) (front : Log) (m : Machine0) (c : ℕ) → RowsKept → AllAt 0 front → Front s 0 (opening 0) front → Leaves 0 front (lists_of m) → list_any (uses_class c) s.types ≡ false → seven_lists ((lists_of m).rows c) ≡ []
 row-empty s front m c kept at is leaves never =
@@ -286,9 +302,9 @@ told-some None h = cc
 told-some (Some l) h = (l, refl)
 
 -- .. before the closing
-pub unused-rows : (s : Parts) (m0 m2 m3 : Machine0) → RowsKept → IsOpen (filling (opened_classes s.types) (fresh_stock s.pages)) m0 → Wrote (AreScripts s (lines_of 0 s.runs) 0) m0 m2 → Sound m2 → Wrote (Stand 0 (entry.Ended ∷ entry.Close ∷ [])) m2 m3 → shown m3.caches ≡ shown m2.caches → IsSome (log_of m3) → (c : ℕ) → times c (opened_classes s.types) ≡ 0 → seven_lists ((shown m3.caches).rows c) ≡ []
-unused-rows s m0 m2 m3 kept o w sound2 e same some c none =
-    let Scripts : Part = AreScripts s (lines_of 0 s.runs) 0 in
+pub unused-rows : (s : Parts) (m0 m2 m3 : Machine0) → RowsKept → Forgets → IsOpen (filling (opened_classes s.types) (fresh_stock s.pages)) m0 → Wrote (CountedScripts s (lines_of 0 s.runs) 0) m0 m2 → Sound m2 → Wrote (Stand 0 (entry.Ended ∷ entry.Close ∷ [])) m2 m3 → shown m3.caches ≡ shown m2.caches → IsSome (log_of m3) → (c : ℕ) → times c (opened_classes s.types) ≡ 0 → seven_lists ((shown m3.caches).rows c) ≡ []
+unused-rows s m0 m2 m3 kept forgets o w sound2 e same some c none =
+    let Scripts : Part = CountedScripts s (lines_of 0 s.runs) 0 in
     let Ends : Part = Stand 0 (entry.Ended ∷ entry.Close ∷ []) in
     let t = told-some (log_of m3) some in
     let e' : GrewPart Ends (lists_of m2) (log_of m2) t.0 = subst (GrewBy Ends (lists_of m2) (log_of m2)) t.1 e.grew in
@@ -300,7 +316,7 @@ unused-rows s m0 m2 m3 kept o w sound2 e same some c none =
     let classes : List ℕ = opened_classes s.types in
     let logged : fills ≡ fill_log (filling classes (fresh_stock s.pages)).fills = fills-logged classes (fresh_stock s.pages) m0 fills o told0 in
     let at : AllAt 0 (fills ++ scripts) = at-append 0 fills scripts (fills-at (filling classes (fresh_stock s.pages)).fills fills logged) a1 in
-    let is : Front s 0 (opening 0) (fills ++ scripts) = front-of s fills scripts (fills-said classes (fresh_stock s.pages) fills logged) (subst (λ (x : State ℕ). Scripts x scripts) (fills-leave m0 fills o.sound told0) w'.is_part) in
+    let is : Front s 0 (opening 0) (fills ++ scripts) = front-of forgets s fills scripts (fills-said classes (fresh_stock s.pages) fills logged) (subst (λ (x : State ℕ). Scripts x scripts) (fills-leave m0 fills o.sound told0) w'.is_part) in
     let leaves : Leaves 0 e'.log (lists_of m2) = subst (λ (x : Option Log). IfSome x (λ es. Leaves 0 es (lists_of m2))) e'.told (sound_told m2 sound2) in
     let empty : seven_lists ((lists_of m2).rows c) ≡ [] = row-empty s (fills ++ scripts) m2 c kept at is (subst (λ (l : Log). Leaves 0 l (lists_of m2)) w'.now_is leaves) (never-used s c none (list_any (uses_class c) s.types) refl) in
     rw same (no-tokens (seven_lists ((shown m2.caches).rows c)) (map-seven number_of ((shown m2.caches).rows c) ∙ empty))
@@ -322,23 +338,27 @@ lists-end : (s : Parts) (c : ℕ) (last : State Token) (b : Bool) → list_any (
 lists-end s c last true e f g = sym (map-seven number_of (last.rows c)) ∙ no-seen (seven_lists (last.rows c)) (f e)
 lists-end s c last false e f g = g e
 
-pub lawful-log : (s : Parts) (final : Log) (t : Told s final) (last : State Token) →
+pub lawful-log : (s : Parts) (final : Log) (t : Told s final) (last : State Token) → Forgets → LogAlone → planned_for 0 s ≡ [] →
     ((u : State ℕ) (more : Log) → SweepsTold (opened_classes s.types) t.boxes u more → AreSweeps (opened_classes s.types) u more) → ParcelLaw 0 ((t.fills ++ t.scripts) ++ t.closing) → AllReplied (own_entries 0 (t.fills ++ t.scripts)) →
     Leaves 0 final (seen number_of last) → ((c : ℕ) → seven_lists ((seen number_of last).rows c) ≡ []) → ((l : ℕ) → ((seen number_of last).sides l).hand ≡ []) → ((c : ℕ) → ((seen number_of last).rows c).active ≡ 0) → LawfulLog s 0 final
-lawful-log s final t last sweeps mail replied leaves empty hands active =
+lawful-log s final t last forgets alone planned sweeps mail replied leaves empty hands active =
     let classes : List ℕ = opened_classes s.types in
     let front : Log = t.fills ++ t.scripts in
     let whole : Log = front ++ t.closing in
     let back : whole ≡ final = sym t.final_is in
     let closing : RepliesFit Nothing (own_entries 0 t.closing) = (apart-answers (own_entries 0 t.closing) (closing-apart classes front t.boxes (after (opening 0) front) t.closing t.closes)).0 in
+    let closes : Closing 0 classes front (after (opening 0) front) t.closing = closing-is classes front t.boxes (after (opening 0) front) t.closing sweeps t.closes in
+    let has = alone s 0 t.fills t.scripts t.closing planned t.at t.are_fills t.are_scripts closes in
     record {
-      ordinary = subst (AllAt 0) back t.at;
+      handlers = subst (HandlersStand s 0) back has.0;
+      phrases = subst (HandlersDone s) back has.1;
+      words = subst SectionWords back has.2;
       is_log = record {
         front = front;
         closing = t.closing;
         log_is = t.final_is;
-        is_front = front-of s t.fills t.scripts t.are_fills t.are_scripts;
-        is_closing = closing-is classes front t.boxes (after (opening 0) front) t.closing sweeps t.closes;
+        is_front = front-of forgets s t.fills t.scripts t.are_fills t.are_scripts;
+        is_closing = closes;
       };
       last = seen number_of last;
       lists = leaves;
@@ -351,11 +371,11 @@ lawful-log s final t last sweeps mail replied leaves empty hands active =
     }
 
 -- the lists at the end
-ended-row : (s : Parts) (m2 m3 : Machine0) (final : Log) (t : Told s final) (closed : Closed (opened_classes s.types) m3 final) → RowsKept → Leaves 0 (t.fills ++ t.scripts) (lists_of m2) → shown m3.caches ≡ shown m2.caches → (c : ℕ) → list_any (uses_class c) s.types ≡ false → seven_lists ((seen number_of closed.last).rows c) ≡ []
-ended-row s m2 m3 final t closed kept leaves same c never =
+ended-row : (s : Parts) (m2 m3 : Machine0) (final : Log) (t : Told s final) (closed : Closed (opened_classes s.types) m3 final) → RowsKept → Forgets → Leaves 0 (t.fills ++ t.scripts) (lists_of m2) → shown m3.caches ≡ shown m2.caches → (c : ℕ) → list_any (uses_class c) s.types ≡ false → seven_lists ((seen number_of closed.last).rows c) ≡ []
+ended-row s m2 m3 final t closed kept forgets leaves same c never =
     let others : closed.last.rows c ≡ (shown m2.caches).rows c = closed.others c (opened-none s.types c never) ∙ ap (λ (x : State Token). x.rows c) same in
     let row : (seen number_of closed.last).rows c ≡ (lists_of m2).rows c = ap (seen_row number_of) others in
-    ap seven_lists row ∙ row-empty s (t.fills ++ t.scripts) m2 c kept t.at_front (front-of s t.fills t.scripts t.are_fills t.are_scripts) leaves never
+    ap seven_lists row ∙ row-empty s (t.fills ++ t.scripts) m2 c kept t.at_front (front-of forgets s t.fills t.scripts t.are_fills t.are_scripts) leaves never
 
 -- Of the front of a log: no reply is owed at its end.
 abbrev pub FrontReplied : Type 0
@@ -365,19 +385,20 @@ abbrev pub ToldSweeps : Type 0
 ToldSweeps = (classes : List ℕ) (boxes : Inboxes) (t : State ℕ) (part : Log) → SweepsTold classes boxes t part → AreSweeps classes t part
 
 abbrev pub MailLaw : Type 0
-MailLaw = (s : Parts) (fills scripts closing : Log) (boxes : Inboxes) → AllAt 0 ((fills ++ scripts) ++ closing) → Say 0 (AreFills (opened_classes s.types) (fresh_stock s.pages)) (opening 0) fills → AreScripts s (lines_of 0 s.runs) 0 (after (opening 0) fills) scripts →
+MailLaw = (s : Parts) (fills scripts closing : Log) (boxes : Inboxes) → AllAt 0 ((fills ++ scripts) ++ closing) → Say 0 (AreFills (opened_classes s.types) (fresh_stock s.pages)) (opening 0) fills → AreScripts s (lines_of 0 s.runs) (after (opening 0) fills) scripts →
     Delivers 0 1 0 (Some no_parcels) boxes (Some fills) (fills ++ scripts) → ClosingTold 0 (opened_classes s.types) (fills ++ scripts) boxes (after (opening 0) (fills ++ scripts)) closing → ParcelLaw 0 ((fills ++ scripts) ++ closing)
 
-pub lawful-run : (s : Parts) (m0 m2 m3 : Machine0) (final : Log) → RowsKept → FrontReplied → ToldSweeps → MailLaw → ((u : ℕ) → lives_of m2.side.slots u ≡ None) →
-    IsOpen (filling (opened_classes s.types) (fresh_stock s.pages)) m0 → Wrote (AreScripts s (lines_of 0 s.runs) 0) m0 m2 → Sound m2 → Wrote (Stand 0 (entry.Ended ∷ entry.Close ∷ [])) m2 m3 → m3.side ≡ m2.side → shown m3.caches ≡ shown m2.caches → Sound m3 → Closed (opened_classes s.types) m3 final → LawfulLog s 0 final
-lawful-run s m0 m2 m3 final kept replied sweeps mail none o w sound2 e same lists sound3 closed =
+pub lawful-run : (s : Parts) (m0 m2 m3 : Machine0) (final : Log) → RowsKept → Forgets → LogAlone → planned_for 0 s ≡ [] → FrontReplied → ToldSweeps → MailLaw → ((u : ℕ) → lives_of m2.side.slots u ≡ None) →
+    IsOpen (filling (opened_classes s.types) (fresh_stock s.pages)) m0 → Wrote (CountedScripts s (lines_of 0 s.runs) 0) m0 m2 → Sound m2 → Wrote (Stand 0 (entry.Ended ∷ entry.Close ∷ [])) m2 m3 → m3.side ≡ m2.side → shown m3.caches ≡ shown m2.caches → Sound m3 → Closed (opened_classes s.types) m3 final → LawfulLog s 0 final
+lawful-run s m0 m2 m3 final kept forgets alone planned replied sweeps mail none o w sound2 e same lists sound3 closed =
     let r = told-run s m0 m2 m3 final none o w e same sound2 sound3 closed in
     let t : Told s final = r.0 in
     let front : Log = t.fills ++ t.scripts in
     let leaves : Leaves 0 front (lists_of m2) = subst (Leaves 0 front) r.1 t.leaves in
-    lawful-log s final t closed.last (sweeps (opened_classes s.types) t.boxes) (mail s t.fills t.scripts t.closing t.boxes t.at t.are_fills t.are_scripts t.mail t.closes) (replied s front (front-of s t.fills t.scripts t.are_fills t.are_scripts))
+    let scripts : AreScripts s (lines_of 0 s.runs) (after (opening 0) t.fills) t.scripts = forgets s (lines_of 0 s.runs) 0 (after (opening 0) t.fills) t.scripts t.are_scripts in
+    lawful-log s final t closed.last forgets alone planned (sweeps (opened_classes s.types) t.boxes) (mail s t.fills t.scripts t.closing t.boxes t.at t.are_fills scripts t.mail t.closes) (replied s front (front-of forgets s t.fills t.scripts t.are_fills t.are_scripts))
     closed.leaves
-    (λ c. lists-end s c closed.last (list_any (uses_class c) s.types) refl (λ used. closed.empty c (opened-has s.types c used)) (λ never. ended-row s m2 m3 final t closed kept leaves lists c never))
+    (λ c. lists-end s c closed.last (list_any (uses_class c) s.types) refl (λ used. closed.empty c (opened-has s.types c used)) (λ never. ended-row s m2 m3 final t closed kept forgets leaves lists c never))
     (λ l. ap (λ (h : Side Token). map number_of h.hand) (closed.ready.sides l (omega arith)))
     (λ c. (let h = closed.ready.active c in omega (arith, h)))
 
@@ -402,7 +423,7 @@ one-freed : (log : Log) → ((u : ℕ) → times_in u (named_all freed_units (lo
 one-freed log h u = ap (times_in u) (sym (append-nil (named_in freed_units log))) ∙ h u ∙ ap (times_in u) (append-nil (named_in given_units log))
 
 pub lived-run : (s : Parts) (m0 m2 m3 : Machine0) (final : Log) → OneLived → AllLived → AllFreed → ((u : ℕ) → lives_of m2.side.slots u ≡ None) →
-    IsOpen (filling (opened_classes s.types) (fresh_stock s.pages)) m0 → Wrote (AreScripts s (lines_of 0 s.runs) 0) m0 m2 → Sound m2 → Wrote (Stand 0 (entry.Ended ∷ entry.Close ∷ [])) m2 m3 → m3.side ≡ m2.side → Sound m3 → Closed (opened_classes s.types) m3 final → WholeLives (final ∷ []) × FreedAsGiven final
+    IsOpen (filling (opened_classes s.types) (fresh_stock s.pages)) m0 → Wrote (CountedScripts s (lines_of 0 s.runs) 0) m0 m2 → Sound m2 → Wrote (Stand 0 (entry.Ended ∷ entry.Close ∷ [])) m2 m3 → m3.side ≡ m2.side → Sound m3 → Closed (opened_classes s.types) m3 final → WholeLives (final ∷ []) × FreedAsGiven final
 lived-run s m0 m2 m3 final one all freed none o w sound2 e same sound3 closed =
     let t : Told s final = (told-run s m0 m2 m3 final none o w e same sound2 sound3 closed).0 in
     let lived : AreLived t.lived (final ∷ []) = one t.lived final (subst (LivesOn 0 no_lives t.lived) (sym t.final_is) t.lives) in
@@ -411,6 +432,10 @@ lived-run s m0 m2 m3 final one all freed none o w sound2 e same sound3 closed =
 or-right : (a b : Bool) → b ≡ true → (a || b) ≡ true
 or-right true b e = refl
 or-right false b e = e
+
+-- no handler is planned where there are none
+pub none-planned : (s : Parts) (p : ℕ) → s.ats ≡ [] → planned_for p s ≡ []
+none-planned s p e = rw e refl
 
 -- one processor sends alone
 pub alone-sends : (s : Parts) → s.processors ≡ 1 → sends_alone s ≡ true

@@ -30,7 +30,7 @@ use bm_check::Checked;
 use bm_class::Class;
 use bm_closing::{ClosingDesk, close as close_classes};
 use bm_exec::{Machine0, Types};
-use bm_front::front_law;
+use bm_front::{counted_law, front_law};
 use bm_journal::{Histories, Journal, Log, Logs, Names, Opened, Recorder, totals_of};
 use bm_lang::{Parts, Script, TypeDeclaration};
 use bm_lived::lives_law;
@@ -173,6 +173,7 @@ fn log_of(
     ensures whole { IfOk result (λ log. IsTrue (is_whole_log log)) }
 {
     front_law();
+    counted_law();
     parcels_law();
     lives_law();
     returns_law();

@@ -9,7 +9,8 @@ ghost use Rattle.bm_exec.specs.Lists.{Behind, behind_of};
 ghost use Rattle.bm_exec.specs.Runnable.{Classes, can_run_block};
 ghost use Rattle.bm_exec.specs.Sound.{Sound};
 ghost use Rattle.bm_exec.specs.declared.running.Stopped.TheVariants as stopped;
-ghost use Rattle.bm_lawful.specs.Grammar.{AreScripts, IsScript, lines_of};
+ghost use Rattle.bm_lawful.specs.Counted.{CountedScripts};
+ghost use Rattle.bm_lawful.specs.Grammar.{IsScript, lines_of};
 ghost use Rattle.bm_world.specs.LivingState.{lives_of};
 ghost use Rattle.bm_built.specs.Yet.{RunsYet};
 ghost use Rattle.bm_run.specs.Lines.{asked_of, lines_cost, lists_of, word_of, works_for, AllDeclared, Wrote};
@@ -79,7 +80,7 @@ pub(crate) fn run_lines<'s>(
     requires yet { RunsYet scenario.now }
     requires declared { AllDeclared scenario.now }
     requires accepted { AllAccepted scenario.now }
-    ensures wrote { OnOk result (Wrote (AreScripts scenario.now (lines_of 0 scenario.now.runs) 0) machine.old machine.new) }
+    ensures wrote { OnOk result (Wrote (CountedScripts scenario.now (lines_of 0 scenario.now.runs) 0) machine.old machine.new) }
     ensures none { OnOk result ((u : ℕ) → lives_of machine.new.side.slots u ≡ None) }
     ensures outside { OnOk result ((d : DomainValue) → word_of d machine.new % 2 ≡ 0) }
     ensures asked { OnOk result (asked_of machine.new ≤ 40000) }

@@ -6,7 +6,7 @@ use Rattle.bm_run.specs.Closed.{Closed}
 use Rattle.bm_run.specs.Lines.{lists_of, when_on}
 use Rattle.bm_run.proofs.Declared.{all-declared}
 use Rattle.bm_run.proofs.Lines.{down-when, few-when}
-use Rattle.bm_run.proofs.LogLaw.{alone-sends, lawful-run, lived-run, short-run, unused-rows}
+use Rattle.bm_run.proofs.LogLaw.{alone-sends, lawful-run, lived-run, none-planned, short-run, unused-rows}
 use Rattle.bm_run.proofs.OpenedList.{opened-ascend, opened-few}
 use Rattle.bm_run.proofs.Results.{both-if-ok, if-ok, not-err}
 use Rattle.bm_run.proofs.journals.log_of.Goals as goal
@@ -37,7 +37,7 @@ close-requires-clause-unused c some k =
     let o = rw c.requires.opened at c.in_ok-machine.ensures in
     let wrote = not-err c.run_lines.result _ e c.run_lines.ensures.wrote in
     let sound = not-err c.run_lines.result _ e c.run_lines.ensures.sound in
-    rw c.requires.opened (unused-rows c.args.scenario.now c.in_ok-machine.machine c.run_lines.new.machine c.begin_closing.new.machine c.front_law.ensures.rows o wrote sound c.begin_closing.ensures.wrote c.begin_closing.ensures.lists some k)
+    rw c.requires.opened (unused-rows c.args.scenario.now c.in_ok-machine.machine c.run_lines.new.machine c.begin_closing.new.machine c.front_law.ensures.rows c.counted_law.ensures.scripts o wrote sound c.begin_closing.ensures.wrote c.begin_closing.ensures.lists some k)
 
 pub returns-clause-lawful : goal.returns-clause-lawful
 returns-clause-lawful c =
@@ -48,7 +48,7 @@ returns-clause-lawful c =
     let wrote = not-err c.run_lines.result _ e c.run_lines.ensures.wrote in
     let sound = not-err c.run_lines.result _ e c.run_lines.ensures.sound in
     let none = not-err c.run_lines.result _ e c.run_lines.ensures.none in
-    if-ok c.close.result _ _ c.close.ensures.closed (λ final x. lawful-run s c.in_ok-machine.machine c.run_lines.new.machine m3 final c.front_law.ensures.rows c.front_law.ensures.replies c.parcels_law.ensures.sweeps c.parcels_law.ensures.law none o wrote sound
+    if-ok c.close.result _ _ c.close.ensures.closed (λ final x. lawful-run s c.in_ok-machine.machine c.run_lines.new.machine m3 final c.front_law.ensures.rows c.counted_law.ensures.scripts c.counted_law.ensures.alone (none-planned s 0 c.requires.yet.no_handlers) c.front_law.ensures.replies c.parcels_law.ensures.sweeps c.parcels_law.ensures.law none o wrote sound
     c.begin_closing.ensures.wrote c.begin_closing.ensures.side c.begin_closing.ensures.lists c.begin_closing.ensures.sound (subst (λ cs. Closed cs m3 final) c.requires.opened x))
 
 pub returns-clause-short : goal.returns-clause-short

@@ -1,0 +1,8 @@
+use Rattle.bm_front.proofs.Counts.{alone, forget}
+use Rattle.bm_front.proofs.laws.counted_law.Goals as goal
+
+pub returns-clause-scripts : goal.returns-clause-scripts
+returns-clause-scripts c = forget
+
+pub returns-clause-alone : goal.returns-clause-alone
+returns-clause-alone c = alone

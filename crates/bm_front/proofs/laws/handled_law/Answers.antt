@@ -1,0 +1,14 @@
+use Rattle.bm_front.proofs.Handled.{null-handled, periods-handled, replies-handled, rows-handled}
+use Rattle.bm_front.proofs.laws.handled_law.Goals as goal
+
+pub returns-clause-rows : goal.returns-clause-rows
+returns-clause-rows c = rows-handled
+
+pub returns-clause-replies : goal.returns-clause-replies
+returns-clause-replies c = replies-handled
+
+pub returns-clause-null : goal.returns-clause-null
+returns-clause-null c = null-handled
+
+pub returns-clause-periods : goal.returns-clause-periods
+returns-clause-periods c = periods-handled

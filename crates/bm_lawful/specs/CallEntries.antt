@@ -1,0 +1,35 @@
+-- What the calls of a script write. (unit_alloc and unit_free in kernel/bpf/memalloc.c touch one cache, and none of them sends
+-- units to another processor or waits for a grace period.)
+use Rattle.bm_journal.specs.declared.entry.Entry.{Entry}
+use Rattle.bm_journal.specs.declared.entry.Entry.TheVariants as entry
+
+-- An entry that a call may write. None of them begins or ends a section, a handler or a period, and none is of deferred work
+-- alone.
+abbrev pub IsOfCall : Entry → Type 0
+IsOfCall (entry.New name values) = Unit {0}
+IsOfCall (entry.Given u life) = Unit {0}
+IsOfCall (entry.GivenAfter u life stamp seen) = Unit {0}
+IsOfCall entry.Empty = Unit {0}
+IsOfCall (entry.Busy a) = Unit {0}
+IsOfCall (entry.Drop u life) = Unit {0}
+IsOfCall entry.Last = Unit {0}
+IsOfCall (entry.Free u home) = Unit {0}
+IsOfCall (entry.Enter c a) = Unit {0}
+IsOfCall (entry.Pop c u) = Unit {0}
+IsOfCall (entry.PopNone c) = Unit {0}
+IsOfCall (entry.Push c u) = Unit {0}
+IsOfCall (entry.Count c k) = Unit {0}
+IsOfCall (entry.Look c k) = Unit {0}
+IsOfCall (entry.Put c u) = Unit {0}
+IsOfCall (entry.Lost c) = Unit {0}
+IsOfCall (entry.Leave c a) = Unit {0}
+IsOfCall (entry.Raise c) = Unit {0}
+IsOfCall _ = ⊥
+
+-- An entry that a handler may write: of a call, or its begin and its end and those of its section.
+abbrev pub IsOfHandler : Entry → Type 0
+IsOfHandler (entry.Handler name) = Unit {0}
+IsOfHandler (entry.Back name) = Unit {0}
+IsOfHandler (entry.In d w) = Unit {0}
+IsOfHandler (entry.Out d w) = Unit {0}
+IsOfHandler e = IsOfCall e
