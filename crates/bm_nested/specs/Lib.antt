@@ -1,3 +1,0 @@
-pub mod Here
-pub mod Turns
-pub mod AtKept
