@@ -1,6 +1,6 @@
 -- Where the scripts' words count on, a log of ordinary code has the words of sections, and no handler in it begins or ends.
-use Rattle.std.proofs.Common.{◌≡◌, ℕ, suc, ◌+◌, true, not, ◌&&◌, List, [], ◌∷◌, ◌++◌, refl, sym, ap, subst, ◌∙◌, arith, nat_eq, eq-eqb}
-use Rattle.std.proofs.lemmas.Bool.{and_from}
+use Rattle.std.proofs.Common.{◌≡◌, ℕ, suc, ◌+◌, true, not, ◌&&◌, List, [], ◌∷◌, ◌++◌, refl, sym, ap, subst, ◌∙◌, arith, nat_eq, eq-eqb, eqb-true}
+use Rattle.std.proofs.lemmas.Bool.{and_from, and_parts}
 use Rattle.bm_journal.specs.declared.ids.Domain.{Domain}
 use Rattle.bm_journal.specs.declared.ids.Domain.TheVariants.{Plain, Tracing}
 use Rattle.bm_journal.specs.declared.units.Units.TheVariants.{Whole}
@@ -30,7 +30,7 @@ use Rattle.bm_lawful.specs.SectionWords.{SectionWords, is_outside, word_over, wo
 use Rattle.bm_lawful.specs.Works.{UntilDown, WorkBehind}
 use Rattle.bm_lawful.proofs.GoneBack.{within-append}
 use Rattle.bm_lawful.proofs.Unplanned.{done-ordinary, unplanned-stands}
-use Rattle.bm_lawful.proofs.Words.{word-append, words-append}
+use Rattle.bm_lawful.proofs.Words.{word-append, words-append, words-back, words-front}
 use Rattle.bm_front.proofs.AllBare.{AllBare, bare-closed, bare-join, bare-within, bare-word, bare-words, closes-bare, works-bare}
 use Rattle.bm_front.proofs.Blocks.{has-block, joins}
 use Rattle.bm_front.proofs.OfClosing.{closing-writes}
@@ -142,6 +142,33 @@ module _ (s : Parts) where
     where
       plus-two : (w : ℕ) → w + 2 ≡ w + 1 + 1
       plus-two w = omega arith
+
+  -- the words of a script's section follow the word before
+  script-word : (x : Script) (w n : ℕ) (l : State ℕ) (part : Log) → words_fit Plain w (at_level 0 (own_entries 0 part)) ≡ true → IsScript s x n l part → (is_outside w ≡ true) × (n ≡ w + 1)
+  script-word x w n l part fits h =
+      let head : List Entry = entry.Script x.name ∷ entry.In Plain n ∷ [] in
+      let begins : own_entries 0 part ≡ head ++ own_entries 0 h.two = ap (own_entries 0) h.part_is ∙ own-append 0 h.one h.two ∙ ap (λ z. z ++ own_entries 0 h.two) h.is_first.own_is in
+      let f : words_fit Plain w (at_level 0 (head ++ own_entries 0 h.two)) ≡ true = subst (λ es. words_fit Plain w (at_level 0 es) ≡ true) begins fits in
+      let first = and_parts (is_outside w && nat_eq n (w + 1)) (words_fit Plain n (at_level 0 (own_entries 0 h.two))) f in
+      let both = and_parts (is_outside w) (nat_eq n (w + 1)) first.0 in
+      (both.0, eqb-true n (w + 1) both.1)
+
+  -- scripts whose words fit count on
+  pub count-on : (rs : List RunLine) (w : ℕ) (l : State ℕ) (part : Log) → words_fit Plain w (at_level 0 (own_entries 0 part)) ≡ true → AreScripts s rs l part → CountedScripts s rs w l part
+  count-on [] w l part fits h = h
+  count-on (r ∷ rs) w l part fits h =
+      let t = h.3 in
+      let split : at_level 0 (own_entries 0 part) ≡ at_level 0 (own_entries 0 t.one) ++ at_level 0 (own_entries 0 t.two) = ap (at_level 0) (ap (own_entries 0) t.part_is ∙ own-append 0 t.one t.two) ∙ level-append 0 (own_entries 0 t.one) (own_entries 0 t.two) in
+      let all : words_fit Plain w (at_level 0 (own_entries 0 t.one) ++ at_level 0 (own_entries 0 t.two)) ≡ true = ap (words_fit Plain w) (sym split) ∙ fits in
+      let one = script-word h.0 w h.2 l t.one (words-front Plain w (at_level 0 (own_entries 0 t.one)) (at_level 0 (own_entries 0 t.two)) all) t.is_first in
+      let script : IsScript s h.0 (w + 1) l t.one = subst (λ n. IsScript s h.0 n l t.one) one.1 t.is_first in
+      let word : word_over Plain w (at_level 0 (own_entries 0 t.one)) ≡ w + 2 = (script-counts h.0 w l t.one one.0 script).word in
+      let rest : words_fit Plain (w + 2) (at_level 0 (own_entries 0 t.two)) ≡ true = ap (λ n. words_fit Plain n (at_level 0 (own_entries 0 t.two))) (sym word) ∙ words-back Plain w (at_level 0 (own_entries 0 t.one)) (at_level 0 (own_entries 0 t.two)) all in
+      (h.0, h.1, record { one = t.one; two = t.two; part_is = t.part_is; is_first = script; is_second = count-on rs (w + 2) (after l t.one) t.two rest t.is_second })
+
+  -- the same of a part of a log of ordinary code
+  pub count-alone : (rs : List RunLine) (w : ℕ) (l : State ℕ) (part : Log) → AllAt 0 part → words_fit Plain w part ≡ true → AreScripts s rs l part → CountedScripts s rs w l part
+  count-alone rs w l part at fits h = count-on rs w l part (ap (words_fit Plain w) (sym (at-own 0 part at)) ∙ fits) h
 
   fills-bare : (cs : List ℕ) (pool : Stock) (own : List Entry) → AreFills cs pool own → AllBare own
   fills-bare [] pool own e = subst AllBare (sym e) refl

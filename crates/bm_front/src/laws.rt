@@ -1,8 +1,9 @@
 //! Laws of the front of a log.
 
-ghost use Rattle.std.specs.Prelude.{◌≡◌, ◌<◌, ℕ, ◌++◌, List, [], None, false};
+ghost use Rattle.std.specs.Prelude.{◌≡◌, ◌<◌, ℕ, ◌++◌, List, [], None, false, true};
 ghost use Rattle.std.specs.List.{list_any};
 ghost use Rattle.bm_journal.specs.declared.ids.Domain.{Domain};
+ghost use Rattle.bm_journal.specs.declared.ids.Domain.TheVariants.{Plain};
 ghost use Rattle.bm_lang.specs.declared.scenario.Parts.{Parts};
 ghost use Rattle.bm_lang.specs.declared.scenario.RunLine.{RunLine};
 ghost use Rattle.bm_law.specs.Alone.{AllAt};
@@ -22,7 +23,7 @@ ghost use Rattle.bm_lawful.specs.Fills.{AreFills, fresh_stock};
 ghost use Rattle.bm_lawful.specs.Grammar.{AreScripts, Front, IsLog, lines_of};
 ghost use Rattle.bm_lawful.specs.Handlers.{HandlersDone};
 ghost use Rattle.bm_lawful.specs.Opened.{opened_classes, uses_class};
-ghost use Rattle.bm_lawful.specs.SectionWords.{SectionWords};
+ghost use Rattle.bm_lawful.specs.SectionWords.{SectionWords, words_fit};
 ghost use Rattle.bm_front.specs.ClosingEntries.{IsOfClosing};
 ghost use Rattle.bm_front.specs.Owed.{AllReplied};
 ghost use Rattle.bm_front.specs.WorkEntries.{IsOfWork};
@@ -38,12 +39,15 @@ pub fn front_law()
     ensures replies { (s : Parts) (front : Log) → Front s 0 (opening 0) front → AllReplied (own_entries 0 front) }
 {}
 
-/// Scripts whose words count on from script to script are scripts of the grammar. Where no handler is planned, a log of ordinary
+/// Scripts whose words count on from script to script are scripts of the grammar; and scripts of ordinary code whose words are
+/// those of sections count on. Where no handler is planned, a log of ordinary
 /// code with such scripts has the words of sections; that handlers stand where they are due says nothing more of it, nor does
 /// that each left its phrase.
 pub fn counted_law()
     ensures scripts { (s : Parts) (lines : List RunLine) (w : ℕ) (l : State ℕ) (part : Log) →
         CountedScripts s lines w l part → AreScripts s lines l part }
+    ensures only { (s : Parts) (lines : List RunLine) (w : ℕ) (l : State ℕ) (part : Log) → AllAt 0 part →
+        words_fit Plain w part ≡ true → AreScripts s lines l part → CountedScripts s lines w l part }
     ensures alone { (s : Parts) (p : ℕ) (fills scripts closing : Log) → planned_for p s ≡ [] →
         AllAt 0 ((fills ++ scripts) ++ closing) →
         Say 0 (AreFills (opened_classes s.types) (fresh_stock s.pages)) (opening p) fills →

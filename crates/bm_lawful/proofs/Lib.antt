@@ -33,3 +33,4 @@ pub mod Unplanned
 pub mod EachLevel
 pub mod Ended
 pub mod WorkedHandled
+pub mod InterruptedLog

@@ -56,7 +56,7 @@ heading : HeadingOf one_object one_object_journal
 unfolding class_of_size size_of_class low_of_size high_of_size batch_of_size
 heading = record { processors = refl; pages = refl; types = refl; maps = refl; scripts = refl; classes = refl }
 
-sweep : SweepPhrase 0 (swept (3 ∷ 2 ∷ 1 ∷ 0 ∷ []))
+unfoldable pub sweep : SweepPhrase 0 (swept (3 ∷ 2 ∷ 1 ∷ 0 ∷ []))
 sweep = record {
   swept = 3 ∷ 2 ∷ 1 ∷ 0 ∷ [];
   returned = 3 ∷ 2 ∷ 1 ∷ 0 ∷ [];

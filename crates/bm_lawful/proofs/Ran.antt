@@ -29,7 +29,7 @@ takes : Allocates 0 (took 3) (Some (3, 1))
 unfolding size_of_class low_of_size
 takes = (None, 3, 0, refl)
 
-new-runs : RunsNew types x_name item_id (7 ∷ []) no_names (asks ∷ took 3) holding
+pub new-runs : RunsNew types x_name item_id (7 ∷ []) no_names (asks ∷ took 3) holding
 new-runs = record {
   class = 0;
   declared = record item { line = 5 };
@@ -49,7 +49,7 @@ frees : FreePhrase 0 3 0 freed
 unfolding size_of_class high_of_size
 frees = inl (4, 0, refl)
 
-drop-runs : RunsDrop types x_name holding (gave 3 4) dropped
+pub drop-runs : RunsDrop types x_name holding (gave 3 4) dropped
 drop-runs = record {
   type = item_id;
   unit = 3;

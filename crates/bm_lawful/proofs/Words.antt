@@ -26,3 +26,7 @@ words-front d w (e ∷ es) two f =
 -- one entry more
 pub words-grow : (log : Log) (l : ℕ) (e : Entry) → SectionWords log → ((d : Domain) → word_fits d (word_after d log) e ≡ true) → SectionWords (log ++ (l, e) ∷ [])
 words-grow log l e h f d = words-append d 0 log ((l, e) ∷ []) (h d) (and_from (word_fits d (word_after d log) e) true (f d) refl)
+
+pub words-back : (d : Domain) (w : ℕ) (one two : Log) → words_fit d w (one ++ two) ≡ true → words_fit d (word_over d w one) two ≡ true
+words-back d w [] two f = f
+words-back d w (e ∷ es) two f = words-back d (word_next d w e.1) es two (and_parts (word_fits d w e.1) (words_fit d (word_next d w e.1) (es ++ two)) f).1

@@ -1,10 +1,11 @@
 -- Worked logs with handlers, and logs that are each one step away from one.
-use Rattle.std.specs.Prelude.{ℕ, List, [], ◌∷◌, ◌++◌, codes}
+use Rattle.std.specs.Prelude.{ℕ, List, [], ◌∷◌, ◌++◌, codes, refl}
 use Rattle.std.proofs.Common.{lit≤}
 use Rattle.bm_journal.specs.declared.ids.Domain.TheVariants.{Plain}
 use Rattle.bm_journal.specs.declared.units.Units.TheVariants.{Whole}
 use Rattle.bm_journal.specs.declared.entry.Entry.{Entry}
 use Rattle.bm_journal.specs.declared.entry.Entry.TheVariants as entry
+use Rattle.bm_journal.specs.declared.journal.Journal.{Journal}
 use Rattle.bm_lang.specs.declared.scenario.Block.{Block}
 use Rattle.bm_lang.specs.declared.scenario.Parts.{Parts}
 use Rattle.bm_lang.specs.declared.scenario.ScriptKind.TheVariants as kind
@@ -12,7 +13,7 @@ use Rattle.bm_law.specs.Alone.{at_level}
 use Rattle.bm_law.specs.Lists.{Log}
 use Rattle.bm_due.specs.Worked.{at_step}
 use Rattle.bm_lawful.specs.OwnGrammar.{ordinary}
-use Rattle.bm_lawful.specs.WorkedJournal.{asks, block_of, gave, makes_and_drops, makes_x, one_object, one_page, script_of, took}
+use Rattle.bm_lawful.specs.WorkedJournal.{asks, block_of, gave, journal_of, makes_and_drops, makes_x, one_object, one_object_journal, one_page, script_of, swept, took}
 
 -- one object is made and dropped by the plain script `main`, and a handler `h` with this body is planned for the third step
 abbrev pub handled : Block → Parts
@@ -96,3 +97,16 @@ begins_with_two = ordinary (entry.In Plain 2 ∷ entry.Out Plain 3 ∷ [])
 
 abbrev pub ends_first : Log
 ends_first = ordinary (entry.Out Plain 1 ∷ [])
+
+-- ---- a whole journal
+
+-- the interrupted log with the closing behind it
+abbrev pub interrupted_log : Log
+interrupted_log = interrupted ++ ordinary (entry.Close ∷ swept (3 ∷ 2 ∷ 1 ∷ 0 ∷ []))
+
+abbrev pub interrupted_journal : Journal
+interrupted_journal = record (journal_of 1 (interrupted_log ∷ []) refl (16 ∷ 1 ∷ 0 ∷ 1 ∷ 1 ∷ 0 ∷ 0 ∷ 0 ∷ 0 ∷ 0 ∷ 0 ∷ 0 ∷ 2 ∷ 0 ∷ 4 ∷ 4 ∷ 0 ∷ 1 ∷ 1 ∷ [])) { scripts = codes "main" ∷ codes "h" ∷ [] }
+
+-- the journal of one object, in which no handler stands, with the names of both scripts
+abbrev pub uninterrupted_journal : Journal
+uninterrupted_journal = record one_object_journal { scripts = codes "main" ∷ codes "h" ∷ [] }

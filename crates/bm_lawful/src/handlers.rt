@@ -14,7 +14,7 @@ ghost use Rattle.bm_due.specs.Due.{planned_for};
 ghost use Rattle.bm_due.specs.Standing.{HandlersStand};
 ghost use Rattle.bm_lawful.specs.CallEntries.{IsOfHandler};
 ghost use Rattle.bm_lawful.specs.Handlers.{AreHandlers, HandlerPhrase, HandlersDone, all_within};
-ghost use Rattle.bm_lawful.specs.SectionWords.{SectionWords, word_after, word_fits};
+ghost use Rattle.bm_lawful.specs.SectionWords.{SectionWords, word_after, word_fits, word_next};
 
 /// The handlers of a log that have gone back left their phrases: so it is before the first entry, behind each entry that ends
 /// no handler, and where one goes back that left its phrase; and so it was at each time before. Where handlers stand where they
@@ -44,6 +44,8 @@ pub fn words_law()
     ensures goes_on { (log : Log) (l : ℕ) (e : Entry) → SectionWords log →
         ((d : Domain) → word_fits d (word_after d log) e ≡ true) → SectionWords (log ++ (l, e) ∷ []) }
     ensures before { (one two : Log) → SectionWords (one ++ two) → SectionWords one }
+    ensures last { (d : Domain) (log : Log) (l : ℕ) (e : Entry) →
+        word_after d (log ++ (l, e) ∷ []) ≡ word_next d (word_after d log) e }
 {}
 
 /// Where no handler is planned for a processor, its log is of ordinary code alone; and a log of ordinary code that begins and

@@ -1,3 +1,4 @@
+use Rattle.bm_lawful.proofs.InterruptedLog.{interrupted-lawful}
 use Rattle.bm_lawful.proofs.WorkedHandled.{behind_script-done, behind_script-words, interrupted-done, interrupted-words}
 use Rattle.bm_lawful.proofs.interrupted.worked_handlers.Goals as goal
 
@@ -12,3 +13,6 @@ returns-clause-behind c = behind_script-done
 
 pub returns-clause-words_behind : goal.returns-clause-words_behind
 returns-clause-words_behind c = behind_script-words
+
+pub returns-clause-journal : goal.returns-clause-journal
+returns-clause-journal c = interrupted-lawful

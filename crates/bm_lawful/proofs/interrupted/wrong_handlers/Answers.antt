@@ -1,3 +1,4 @@
+use Rattle.bm_lawful.proofs.InterruptedLog.{uninterrupted-wrong, unplanned-wrong}
 use Rattle.bm_lawful.proofs.WorkedHandled.{asks_too-wrong, back_as_other-wrong, encloses_inside-wrong, keeps_it-wrong, no_section-wrong, plain_script-wrong}
 use Rattle.bm_lawful.proofs.interrupted.wrong_handlers.Goals as goal
 
@@ -18,3 +19,9 @@ returns-clause-plain c = plain_script-wrong
 
 pub returns-clause-back : goal.returns-clause-back
 returns-clause-back c = back_as_other-wrong
+
+pub returns-clause-unplanned : goal.returns-clause-unplanned
+returns-clause-unplanned c = unplanned-wrong
+
+pub returns-clause-left_out : goal.returns-clause-left_out
+returns-clause-left_out c = uninterrupted-wrong
