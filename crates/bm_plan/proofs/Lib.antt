@@ -1,0 +1,4 @@
+pub mod Numbers
+pub mod Positions
+pub mod Begins
+pub mod Wrong
