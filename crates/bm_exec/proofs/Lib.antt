@@ -6,7 +6,7 @@ mod Results
 mod Objects
 mod Performing
 mod Going
-mod Undisturbed
+pub mod Undisturbed
 mod Still
 mod Rights
 pub mod Sounds

@@ -59,6 +59,19 @@ undisturbed-join {M} {levels} {waits} {logs} {knows} {a} {b} {c} e u v =
       lives = told-join p (lived_in (knows a).objects) (lived_in (knows b).objects) (lived_in (knows c).objects) (logs a) (logs b) (logs c) u.lives (subst L u.processor v.lives);
     }
 
+-- of what a machine works on
+pub undisturbed-own : {M N : Type 0} (own : M → N) {levels waits : N → ℕ} {logs : N → Option Log} {knows : N → Known} {a b : M} → Undisturbed (λ m. levels (own m)) (λ m. waits (own m)) (λ m. logs (own m)) (λ m. knows (own m)) a b → Undisturbed levels waits logs knows (own a) (own b)
+undisturbed-own own u = record {
+  pending = u.pending;
+  alone = u.alone;
+  words = u.words;
+  processors = u.processors;
+  processor = u.processor;
+  periods = u.periods;
+  mail = u.mail;
+  lives = u.lives;
+}
+
 -- an entry, and what came after it
 pub after-one : (l : ℕ) (e : Entry) (a b c : Option Log) → Appends a l e b → Alone l b c → Alone l a c
 after-one l e a b c h g = Alone-join l a b c (Alone-one l e a b h) g

@@ -8,3 +8,4 @@ pub mod Living
 pub mod Steps
 pub mod Running
 pub mod Sound
+pub mod Ground

@@ -1,15 +1,8 @@
-//! The machine of ordinary code.
+//! What the machine of ordinary code works on.
 
-ghost use Rattle.std.specs.Prelude.{◌≡◌, ◌+◌, None};
-ghost use Rattle.bm_exec.specs.Sound.{Sound};
-
-use crate::machine::Machine;
-use bm_behind::until_down;
-use bm_cache::{Caches, Given, Host, alloc, free};
-use bm_class::Class;
+use bm_cache::{Caches, Host};
 use bm_desk::Desk;
-use bm_journal::{Entry, Keep, Level, ObjId, Values};
-use bm_word::{Name, NoMemory};
+use bm_journal::{Keep, Level};
 use bm_world::LivingSide;
 use std::alloc::Global;
 
@@ -131,62 +124,4 @@ impl Desk<Keep> for Machine0 {
     ghost keeps_stays = { λ a b k. (alike-still (known_living a.side) (known_living b.side) (ap known_living k.0), k.1) };
 
     ghost stays_join = { λ a b c k m. (alike-joined (known_living a.side) (known_living b.side) (known_living c.side) k.0 m.0, m.1 ∙ k.1) };
-}
-
-impl Machine for Machine0 {
-    ghost use Rattle.std.specs.Prelude.{◌+◌};
-    ghost use Rattle.bm_law.specs.State.{seen};
-    ghost use Rattle.bm_cache.specs.Shown.{shown};
-    ghost use Rattle.bm_cache.specs.Tokens.{number_of};
-    ghost use Rattle.bm_world.specs.LivingState.{known_living, lives_of};
-    ghost use Rattle.bm_exec.specs.Sound.{Sound, sound_told};
-
-    ghost log = { λ m. m.caches.recorder.told };
-
-    ghost lists = { λ m. seen number_of (shown m.caches) };
-
-    ghost processor = { λ _. 0 };
-
-    ghost level = { λ _. 0 };
-
-    ghost pending = { λ _. 0 };
-
-    ghost lives = { λ m. lives_of m.side.slots };
-
-    ghost asked = { λ m. m.side.asked + m.settled };
-
-    ghost known = { λ m. known_living m.side };
-
-    ghost sound = { λ m. Sound m };
-
-    ghost told = { λ m s. sound_told m s };
-
-    fn create(&mut self, class: Class, name: Name, values: Values) -> Option<ObjId> {
-        self.caches
-            .note(Level::ordinary(), Entry::New(name, values));
-        match alloc(self, class) {
-            Given::Unit(unit) => Some(self.side.begin_life(unit)),
-            Given::Empty => {
-                self.side.ask();
-                None
-            }
-            Given::Busy(_) => {
-                self.side.ask();
-                None
-            }
-        }
-    }
-
-    fn dispose(&mut self, object: ObjId) {
-        self.caches
-            .note(Level::ordinary(), Entry::Drop(object.unit, object.life));
-        self.caches.note(Level::ordinary(), Entry::Last);
-        let unit = self.side.end_life(object.unit);
-        free(self, unit);
-    }
-
-    fn settle(&mut self, classes: &[Class]) -> Result<(), NoMemory> {
-        self.settled += 1;
-        until_down(self.alloc, self, classes)
-    }
 }

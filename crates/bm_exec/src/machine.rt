@@ -1,11 +1,11 @@
 //! Machines: what statements run on.
 
-ghost use Rattle.std.specs.Prelude.{◌≡◌, ◌+◌, ◌<◌, ◌≤◌, ◌^◌, ℕ, IfSome, None, OnOk, Option, length};
+ghost use Rattle.std.specs.Prelude.{◌≡◌, ◌+◌, ◌<◌, ◌≤◌, ◌^◌, [], ℕ, IfSome, List, OnOk, Option};
 ghost use Rattle.bm_grace.specs.Known.{Known};
 ghost use Rattle.bm_law.specs.State.{State};
 ghost use Rattle.bm_law.specs.Lists.{Log, Leaves};
 ghost use Rattle.bm_deferred.specs.Grown.{GrewBy};
-ghost use Rattle.bm_lawful.specs.Works.{UntilDown, lowest_raised};
+ghost use Rattle.bm_exec.specs.Lists.{Behind};
 ghost use Rattle.bm_exec.specs.Living.{Lives, Created, Disposed, LivesAs, Undisturbed};
 
 use bm_class::Class;
@@ -39,6 +39,12 @@ pub trait Machine {
     /// What its processor's side of all that processors share knows.
     ghost known: { Self → Known };
 
+    /// The classes for which deferred work runs behind each statement, until no flag is up; none where none runs.
+    ghost behind: { Self → Option (List ℕ) };
+
+    /// The name of the reference to what it works on; 0 where it owns that.
+    ghost through: { Self → ℕ };
+
     /// What the machine needs and leaves.
     ghost sound: { Self → Type 0 };
 
@@ -52,6 +58,8 @@ pub trait Machine {
         ensures level { level self.new ≡ level self.old }
         ensures asked { asked self.new ≡ asked self.old + 1 }
         ensures processor { processor self.new ≡ processor self.old }
+        ensures behind { behind self.new ≡ behind self.old }
+        ensures through { through self.new ≡ through self.old }
         ensures alone { Undisturbed level pending log known self.old self.new };
 
     /// Gives up the one reference to an object that lives.
@@ -63,22 +71,25 @@ pub trait Machine {
         ensures level { level self.new ≡ level self.old }
         ensures asked { asked self.new ≡ asked self.old }
         ensures processor { processor self.new ≡ processor self.old }
+        ensures behind { behind self.new ≡ behind self.old }
+        ensures through { through self.new ≡ through self.old }
         ensures alone { Undisturbed level pending log known self.old self.new };
 
-    /// Runs the deferred work that stands behind a statement: the work of the first of these classes whose flag is up, and again,
-    /// until no flag is up. Want of memory is the only refusal. In kernel/bpf/memalloc.c it runs behind the code that asked for it,
-    /// by irq_work_raise.
-    fn settle(&mut self, classes: &[Class]) -> Result<(), NoMemory>
+    /// Runs the deferred work that stands behind a statement, if any runs: the work of the first of its classes whose flag is up,
+    /// and again, until no flag is up. Want of memory is the only refusal. In kernel/bpf/memalloc.c it runs behind the code that
+    /// asked for it, by irq_work_raise.
+    fn settle(&mut self) -> Result<(), NoMemory>
         requires sound { sound self.old }
         requires room { asked self.old + 1 < 2 ^ 22 }
-        requires few { length classes.now ≤ 11 }
-        ensures settled { OnOk result (GrewBy (UntilDown classes.now) (lists self.old) (log self.old) (log self.new)) }
-        ensures down { OnOk result (lowest_raised classes.now (lists self.new) ≡ None) }
+        ensures settled { OnOk result (GrewBy (Behind (behind self.old)) (lists self.old) (log self.old) (log self.new)) }
+        ensures down { OnOk result (Behind (behind self.old) (lists self.new) []) }
         ensures sound { OnOk result (sound self.new) }
         ensures lives { OnOk result (lives self.new ≡ lives self.old) }
-        ensures asked { OnOk result (asked self.new ≡ asked self.old + 1) }
+        ensures asked { OnOk result (asked self.new ≤ asked self.old + 1) }
         ensures level { OnOk result (level self.new ≡ level self.old) }
         ensures processor { OnOk result (processor self.new ≡ processor self.old) }
+        ensures behind { OnOk result (behind self.new ≡ behind self.old) }
+        ensures through { through self.new ≡ through self.old }
         ensures alone { OnOk result (Undisturbed level pending log known self.old self.new) };
 
     /// A log that is told leaves these lists.

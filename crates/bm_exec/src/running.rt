@@ -13,8 +13,7 @@ ghost use Rattle.bm_exec.specs.Stores.{store_of, value_of};
 ghost use Rattle.bm_exec.specs.Stack.{SafeStack};
 ghost use Rattle.bm_exec.specs.Cost.{stack_cost};
 ghost use Rattle.bm_exec.specs.Runnable.{Classes, can_run_action, can_run_block, can_run_stack};
-ghost use Rattle.bm_deferred.specs.Grown.{GrewBy};
-ghost use Rattle.bm_exec.specs.Lists.{Behind, behind_of};
+ghost use Rattle.bm_exec.specs.Lists.{Behind};
 ghost use Rattle.bm_exec.specs.Living.{Holds, Undisturbed};
 ghost use Rattle.bm_exec.specs.declared.frame.Open.{Open};
 ghost use Rattle.bm_exec.specs.Running.{Performed, Ran, RanScript};
@@ -31,13 +30,11 @@ use bm_lang::{Action, Items, Parts, Script, Statement, TypeDeclaration, TypeId};
 use bm_word::{Name, NoMemory};
 use std::alloc::Global;
 
-/// A scenario's types, the class of each, and the classes for which deferred work runs behind each statement, until no flag is
-/// up; none where none runs.
+/// A scenario's types, and the class of each.
 #[derive(Clone, Copy)]
 pub struct Types<'s> {
     pub declared: &'s [TypeDeclaration],
     pub classes: &'s [Class],
-    pub behind: Option<&'s [Class]>,
 }
 
 /// Why a script stopped.
@@ -47,26 +44,6 @@ pub enum Stopped {
     Ended,
     /// Memory ran out.
     NoMemory,
-}
-
-// Runs the deferred work behind a statement, if any runs.
-fn settle<'s, M: Machine>(machine: &mut M, types: &Types<'s>) -> Result<(), NoMemory>
-    requires sound { M.sound machine.old }
-    requires room { M.asked machine.old + 1 < 2 ^ 22 }
-    requires few { IfSome types.now.behind (λ classes. length classes.now ≤ 11) }
-    ensures settled { OnOk result (GrewBy (Behind (behind_of types.now.behind)) (M.lists machine.old) (M.log machine.old) (M.log machine.new)) }
-    ensures down { OnOk result (Behind (behind_of types.now.behind) (M.lists machine.new) []) }
-    ensures sound { OnOk result (M.sound machine.new) }
-    ensures lives { OnOk result (M.lives machine.new ≡ M.lives machine.old) }
-    ensures asked { OnOk result (M.asked machine.new ≤ M.asked machine.old + 1) }
-    ensures level { OnOk result (M.level machine.new ≡ M.level machine.old) }
-    ensures processor { OnOk result (M.processor machine.new ≡ M.processor machine.old) }
-    ensures alone { OnOk result (Undisturbed M.level M.pending M.log M.known machine.old machine.new) }
-{
-    match types.behind {
-        Some(classes) => machine.settle(classes),
-        None => Ok(()),
-    }
 }
 
 // `new x T v..`: asks for an object, which the name then holds, or null. Deferred work runs behind it.
@@ -80,15 +57,16 @@ fn perform_new<'s, M: Machine>(
 ) -> Result<(), NoMemory>
     requires sound { M.sound machine.old }
     requires classes { Classes types.now.declared.now types.now.classes.now }
-    requires few { IfSome types.now.behind (λ classes. length classes.now ≤ 11) }
     requires room { M.asked machine.old + 2 < 2 ^ 22 }
     requires holds { Holds types.now.declared.now (M.lives machine.old) (names_of names.old) }
     requires can { can_run_action types.now.declared.now (action.New name.now type_id values.now) ≡ true }
     requires free { is_owning (value_of (names_of names.old name.now)) ≡ false }
-    ensures performed { OnOk result ((os : List Open) → Performed types.now.declared.now (M.level machine.old) (behind_of types.now.behind) (M.lists machine.old) (M.lists machine.new) (action.New name.now type_id values.now) (names_of names.old) (names_of names.new) os os (M.lives machine.new) (M.asked machine.old) (M.asked machine.new) (M.log machine.old) (M.log machine.new)) }
+    ensures performed { OnOk result ((os : List Open) → Performed types.now.declared.now (M.level machine.old) (M.behind machine.old) (M.lists machine.old) (M.lists machine.new) (action.New name.now type_id values.now) (names_of names.old) (names_of names.new) os os (M.lives machine.new) (M.asked machine.old) (M.asked machine.new) (M.log machine.old) (M.log machine.new)) }
     ensures sound { OnOk result (M.sound machine.new) }
     ensures level { OnOk result (M.level machine.new ≡ M.level machine.old) }
     ensures processor { OnOk result (M.processor machine.new ≡ M.processor machine.old) }
+    ensures behind { OnOk result (M.behind machine.new ≡ M.behind machine.old) }
+    ensures through { M.through machine.new ≡ M.through machine.old }
     ensures asked { OnOk result (M.asked machine.new ≤ M.asked machine.old + 2) }
     ensures alone { OnOk result (Undisturbed M.level M.pending M.log M.known machine.old machine.new) }
 {
@@ -103,7 +81,7 @@ fn perform_new<'s, M: Machine>(
     };
     let reply = machine.create(*class, declared.name.duplicate(), values);
     names.put(name.as_bytes(), holding_of(type_id, reply))?;
-    settle(machine, types)
+    machine.settle()
 }
 
 // `drop x`: gives up the object that the name holds. Deferred work runs behind it.
@@ -115,14 +93,15 @@ fn perform_drop<'s, M: Machine>(
 ) -> Result<(), NoMemory>
     requires sound { M.sound machine.old }
     requires classes { Classes types.now.declared.now types.now.classes.now }
-    requires few { IfSome types.now.behind (λ classes. length classes.now ≤ 11) }
     requires room { M.asked machine.old + 2 < 2 ^ 22 }
     requires holds { Holds types.now.declared.now (M.lives machine.old) (names_of names.old) }
     requires owned { is_owning (value_of (names_of names.old name.now)) ≡ true }
-    ensures performed { OnOk result ((os : List Open) → Performed types.now.declared.now (M.level machine.old) (behind_of types.now.behind) (M.lists machine.old) (M.lists machine.new) (action.Drop name.now) (names_of names.old) (names_of names.new) os os (M.lives machine.new) (M.asked machine.old) (M.asked machine.new) (M.log machine.old) (M.log machine.new)) }
+    ensures performed { OnOk result ((os : List Open) → Performed types.now.declared.now (M.level machine.old) (M.behind machine.old) (M.lists machine.old) (M.lists machine.new) (action.Drop name.now) (names_of names.old) (names_of names.new) os os (M.lives machine.new) (M.asked machine.old) (M.asked machine.new) (M.log machine.old) (M.log machine.new)) }
     ensures sound { OnOk result (M.sound machine.new) }
     ensures level { OnOk result (M.level machine.new ≡ M.level machine.old) }
     ensures processor { OnOk result (M.processor machine.new ≡ M.processor machine.old) }
+    ensures behind { OnOk result (M.behind machine.new ≡ M.behind machine.old) }
+    ensures through { M.through machine.new ≡ M.through machine.old }
     ensures asked { OnOk result (M.asked machine.new ≤ M.asked machine.old + 2) }
     ensures alone { OnOk result (Undisturbed M.level M.pending M.log M.known machine.old machine.new) }
 {
@@ -131,7 +110,7 @@ fn perform_drop<'s, M: Machine>(
     };
     machine.dispose(object);
     names.put(name.as_bytes(), Holding::Nothing)?;
-    settle(machine, types)
+    machine.settle()
 }
 
 // Performs a statement that was taken off the open blocks, where no work is left to run. Deferred work runs behind a call.
@@ -143,17 +122,18 @@ fn perform<'s, M: Machine>(
 ) -> Result<(), NoMemory>
     requires sound { M.sound machine.old }
     requires classes { Classes types.now.declared.now types.now.classes.now }
-    requires few { IfSome types.now.behind (λ classes. length classes.now ≤ 11) }
     requires room { M.asked machine.old + 2 < 2 ^ 22 }
     requires holds { Holds types.now.declared.now (M.lives machine.old) (names_of frame.old.names) }
     requires can { can_run_action types.now.declared.now statement.now.action ≡ true }
-    requires down { Behind (behind_of types.now.behind) (M.lists machine.old) [] }
+    requires down { Behind (M.behind machine.old) (M.lists machine.old) [] }
     requires open { 0 < length (reverse frame.old.blocks.items) }
     requires needed { (e : Setting) × SafeAction e (store_of (names_of frame.old.names)) statement.now.action (λ r. SafeStack e r (reverse frame.old.blocks.items)) }
-    ensures performed { OnOk result (Performed types.now.declared.now (M.level machine.old) (behind_of types.now.behind) (M.lists machine.old) (M.lists machine.new) statement.now.action (names_of frame.old.names) (names_of frame.new.names) (reverse frame.old.blocks.items) (reverse frame.new.blocks.items) (M.lives machine.new) (M.asked machine.old) (M.asked machine.new) (M.log machine.old) (M.log machine.new)) }
+    ensures performed { OnOk result (Performed types.now.declared.now (M.level machine.old) (M.behind machine.old) (M.lists machine.old) (M.lists machine.new) statement.now.action (names_of frame.old.names) (names_of frame.new.names) (reverse frame.old.blocks.items) (reverse frame.new.blocks.items) (M.lives machine.new) (M.asked machine.old) (M.asked machine.new) (M.log machine.old) (M.log machine.new)) }
     ensures sound { OnOk result (M.sound machine.new) }
     ensures level { OnOk result (M.level machine.new ≡ M.level machine.old) }
     ensures processor { OnOk result (M.processor machine.new ≡ M.processor machine.old) }
+    ensures behind { OnOk result (M.behind machine.new ≡ M.behind machine.old) }
+    ensures through { M.through machine.new ≡ M.through machine.old }
     ensures asked { OnOk result (M.asked machine.new ≤ M.asked machine.old + 2) }
     ensures alone { OnOk result (Undisturbed M.level M.pending M.log M.known machine.old machine.new) }
 {
@@ -187,19 +167,20 @@ fn perform<'s, M: Machine>(
 pub fn resume<'s, M: Machine>(frame: &mut Frame<'s>, machine: &mut M, types: &Types<'s>) -> Stopped
     requires sound { M.sound machine.old }
     requires classes { Classes types.now.declared.now types.now.classes.now }
-    requires few { IfSome types.now.behind (λ classes. length classes.now ≤ 11) }
     requires room { M.asked machine.old + 2 * stack_cost (reverse frame.old.blocks.items) < 2 ^ 22 }
     requires holds { Holds types.now.declared.now (M.lives machine.old) (names_of frame.old.names) }
     requires can { can_run_stack types.now.declared.now (reverse frame.old.blocks.items) ≡ true }
-    requires down { Behind (behind_of types.now.behind) (M.lists machine.old) [] }
+    requires down { Behind (M.behind machine.old) (M.lists machine.old) [] }
     requires accepted { (e : Setting) × SafeStack e (store_of (names_of frame.old.names)) (reverse frame.old.blocks.items) }
-    ensures ended { result ≡ stopped.Ended → Ran types.now.declared.now (M.level machine.old) (behind_of types.now.behind) (M.lists machine.old) (names_of frame.old.names) (names_of frame.new.names) (reverse frame.old.blocks.items) (M.pending machine.old) (M.pending machine.new) (M.log machine.old) (M.log machine.new) }
+    ensures ended { result ≡ stopped.Ended → Ran types.now.declared.now (M.level machine.old) (M.behind machine.old) (M.lists machine.old) (names_of frame.old.names) (names_of frame.new.names) (reverse frame.old.blocks.items) (M.pending machine.old) (M.pending machine.new) (M.log machine.old) (M.log machine.new) }
     ensures none { result ≡ stopped.Ended → (u : ℕ) → M.lives machine.new u ≡ None }
     ensures asked { result ≡ stopped.Ended → M.asked machine.new ≤ M.asked machine.old + 2 * stack_cost (reverse frame.old.blocks.items) }
-    ensures down { result ≡ stopped.Ended → Behind (behind_of types.now.behind) (M.lists machine.new) [] }
+    ensures down { result ≡ stopped.Ended → Behind (M.behind machine.old) (M.lists machine.new) [] }
     ensures sound { result ≡ stopped.Ended → M.sound machine.new }
     ensures level { result ≡ stopped.Ended → M.level machine.new ≡ M.level machine.old }
     ensures processor { result ≡ stopped.Ended → M.processor machine.new ≡ M.processor machine.old }
+    ensures behind { result ≡ stopped.Ended → M.behind machine.new ≡ M.behind machine.old }
+    ensures through { M.through machine.new ≡ M.through machine.old }
     ensures alone { result ≡ stopped.Ended → Undisturbed M.level M.pending M.log M.known machine.old machine.new }
 {
     loop {
@@ -228,19 +209,20 @@ pub fn run_script<'s, M: Machine>(
 ) -> Stopped
     requires sound { M.sound machine.old }
     requires classes { Classes types.now.declared.now types.now.classes.now }
-    requires few { IfSome types.now.behind (λ classes. length classes.now ≤ 11) }
     requires room { M.asked machine.old + 2 * block_cost script.now.body < 2 ^ 22 }
     requires none { (u : ℕ) → M.lives machine.old u ≡ None }
     requires can { can_run_block types.now.declared.now script.now.body ≡ true }
-    requires down { Behind (behind_of types.now.behind) (M.lists machine.old) [] }
+    requires down { Behind (M.behind machine.old) (M.lists machine.old) [] }
     requires accepted { Accepted scenario.now script.now }
-    ensures ended { result ≡ stopped.Ended → RanScript types.now.declared.now (M.level machine.old) (behind_of types.now.behind) (M.lists machine.old) script.now (M.pending machine.old) (M.pending machine.new) (M.log machine.old) (M.log machine.new) }
+    ensures ended { result ≡ stopped.Ended → RanScript types.now.declared.now (M.level machine.old) (M.behind machine.old) (M.lists machine.old) script.now (M.pending machine.old) (M.pending machine.new) (M.log machine.old) (M.log machine.new) }
     ensures none { result ≡ stopped.Ended → (u : ℕ) → M.lives machine.new u ≡ None }
     ensures asked { result ≡ stopped.Ended → M.asked machine.new ≤ M.asked machine.old + 2 * block_cost script.now.body }
-    ensures down { result ≡ stopped.Ended → Behind (behind_of types.now.behind) (M.lists machine.new) [] }
+    ensures down { result ≡ stopped.Ended → Behind (M.behind machine.old) (M.lists machine.new) [] }
     ensures sound { result ≡ stopped.Ended → M.sound machine.new }
     ensures level { result ≡ stopped.Ended → M.level machine.new ≡ M.level machine.old }
     ensures processor { result ≡ stopped.Ended → M.processor machine.new ≡ M.processor machine.old }
+    ensures behind { result ≡ stopped.Ended → M.behind machine.new ≡ M.behind machine.old }
+    ensures through { M.through machine.new ≡ M.through machine.old }
     ensures alone { result ≡ stopped.Ended → Undisturbed M.level M.pending M.log M.known machine.old machine.new }
 {
     accepted_scripts_are_safe();

@@ -29,7 +29,7 @@ use crate::stretches::begin_closing;
 use bm_check::Checked;
 use bm_class::Class;
 use bm_closing::{ClosingDesk, close as close_classes};
-use bm_exec::{Machine0, Types};
+use bm_exec::{Deferred, Machine0, Types};
 use bm_front::{counted_law, front_law};
 use bm_journal::{Histories, Journal, Log, Logs, Names, Opened, Recorder, totals_of};
 use bm_lang::{Parts, Script, TypeDeclaration};
@@ -181,9 +181,11 @@ fn log_of(
     let types = Types {
         declared: scenario.types.as_slice(),
         classes,
+    };
+    let deferred = Deferred {
         behind: when_on(scenario.deferred, opened),
     };
-    if run_lines(alloc, &mut machine, &types, scenario).is_err() {
+    if run_lines(alloc, &mut machine, &types, &deferred, scenario).is_err() {
         give_up(machine);
         return Err(NoMemory);
     }

@@ -15,7 +15,7 @@ ghost use Rattle.bm_world.specs.LivingState.{lives_of};
 ghost use Rattle.bm_run.specs.Lines.{asked_of, lists_of, word_of, BehindScript, Wrote};
 
 use bm_behind::work_behind;
-use bm_exec::{Machine0, Types};
+use bm_exec::{Deferred, Machine0};
 use bm_grace::Grace;
 use bm_journal::{Domain, Entry, Level};
 use bm_word::{Name, NoMemory};
@@ -102,18 +102,21 @@ pub(crate) fn end_script(machine: &mut Machine0, name: &Name)
 }
 
 /// Runs the deferred work that stands behind a script, if any runs. Want of memory is the only refusal.
-pub(crate) fn settle_script<'s>(machine: &mut Machine0, types: &Types<'s>) -> Result<(), NoMemory>
+pub(crate) fn settle_script<'s>(
+    machine: &mut Machine0,
+    deferred: &Deferred<'s>,
+) -> Result<(), NoMemory>
     requires sound { Sound machine.old }
     requires room { asked_of machine.old + 1 < 2 ^ 22 }
-    requires few { IfSome types.now.behind (λ classes. length classes.now ≤ 11) }
-    ensures wrote { OnOk result (Wrote (BehindScript (behind_of types.now.behind)) machine.old machine.new) }
-    ensures down { OnOk result (Behind (behind_of types.now.behind) (lists_of machine.new) []) }
+    requires few { IfSome deferred.now.behind (λ classes. length classes.now ≤ 11) }
+    ensures wrote { OnOk result (Wrote (BehindScript (behind_of deferred.now.behind)) machine.old machine.new) }
+    ensures down { OnOk result (Behind (behind_of deferred.now.behind) (lists_of machine.new) []) }
     ensures words { OnOk result ((d : DomainValue) → word_of d machine.new ≡ word_of d machine.old) }
     ensures lives { OnOk result (lives_of machine.new.side.slots ≡ lives_of machine.old.side.slots) }
     ensures asked { OnOk result (asked_of machine.new ≤ asked_of machine.old + 1) }
     ensures sound { OnOk result (Sound machine.new) }
 {
-    let Some(classes) = types.behind else {
+    let Some(classes) = deferred.behind else {
         return Ok(());
     };
     machine.settled += 1;

@@ -11,6 +11,8 @@ loop-next-init g c = record {
   sound = c.requires.sound;
   level = refl;
   processor = refl;
+  behind = refl;
+  through = refl;
   alone = undisturbed-none g.M.Machine.level g.M.Machine.pending g.M.Machine.log g.M.Machine.known c.args.machine.now;
 }
 
@@ -38,7 +40,7 @@ pub perform-requires-clause-can : goal.perform-requires-clause-can
 perform-requires-clause-can g c = let t = rw c.in-Some.is at c.in-Ok.ensures.stepped in t.can_action _ (c.loop-next.invariant.went.can c.requires.can)
 
 pub perform-requires-clause-down : goal.perform-requires-clause-down
-perform-requires-clause-down g c = c.loop-next.invariant.went.down
+perform-requires-clause-down g c = rw c.loop-next.invariant.behind c.loop-next.invariant.went.down
 
 pub perform-requires-clause-open : goal.perform-requires-clause-open
 perform-requires-clause-open g c = let t = rw c.in-Some.is at c.in-Ok.ensures.stepped in t.some
@@ -59,9 +61,11 @@ loop-next-preserved g c =
     let e = c.if-is_err.ensures.value in
     let p = not-err c.perform.result _ e c.perform.ensures.performed in
     record {
-      went = went-step _ _ _ _ _ _ _ _ _ _ _ _ _ _ _ _ _ _ _ _ _ _ i.went t (rw i.level at p);
+      went = went-step _ _ _ _ _ _ _ _ _ _ _ _ _ _ _ _ _ _ _ _ _ _ i.went t (rw (i.level, i.behind) at p);
       sound = not-err c.perform.result _ e c.perform.ensures.sound;
       level = not-err c.perform.result _ e c.perform.ensures.level ∙ i.level;
       processor = not-err c.perform.result _ e c.perform.ensures.processor ∙ i.processor;
+      behind = not-err c.perform.result _ e c.perform.ensures.behind ∙ i.behind;
+      through = c.perform.ensures.through ∙ i.through;
       alone = undisturbed-join i.level i.alone (not-err c.perform.result _ e c.perform.ensures.alone);
     }

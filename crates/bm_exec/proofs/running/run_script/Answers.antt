@@ -1,7 +1,6 @@
 use Rattle.std.proofs.Common.{arith}
 use Rattle.bm_check.specs.Statements.{setting_of}
 use Rattle.bm_deferred.proofs.Grown.{grew-map}
-use Rattle.bm_exec.specs.Lists.{behind_of}
 use Rattle.bm_exec.proofs.Results.{not-err}
 use Rattle.bm_exec.proofs.Starting.{start-cost, start-can, start-safe, start-runs, start-holds}
 use Rattle.bm_exec.proofs.running.run_script.Goals as goal
@@ -36,7 +35,7 @@ returns-clause-ended g c =
     λ e. (let r = c.resume.ensures.ended e in
     record {
       after = _;
-      grew = grew-map _ _ (g.M.Machine.lists c.args.machine.now) (g.M.Machine.log c.args.machine.now) _ (λ part y. start-runs c.args.types.now.declared.now (g.M.Machine.level c.args.machine.now) (behind_of c.args.types.now.behind) _ _ o _ _ (g.M.Machine.lists c.args.machine.now) part y) (rw c.new-2.ensures at r.grew);
+      grew = grew-map _ _ (g.M.Machine.lists c.args.machine.now) (g.M.Machine.log c.args.machine.now) _ (λ part y. start-runs c.args.types.now.declared.now (g.M.Machine.level c.args.machine.now) (g.M.Machine.behind c.args.machine.now) _ _ o _ _ (g.M.Machine.lists c.args.machine.now) part y) (rw c.new-2.ensures at r.grew);
       alone = r.alone;
       owns_nothing = r.owns_nothing;
     })

@@ -17,11 +17,11 @@ pub returns-in-Ended-clause-wrote : goal.returns-in-Ended-clause-wrote
 returns-in-Ended-clause-wrote c =
     let m = c.args.machine.now in
     let m1 = c.begin_script.new.machine in
-    let m2 = c.run_script.new.machine in
+    let m2 = c.run_body.new.machine in
     let m3 = c.end_script.new.machine in
     let s = c.args.scenario.now in
     let script = c.args.script.now in
-    let w = behind_of c.args.types.now.behind in
+    let w = behind_of c.args.deferred.now.behind in
     let alone = c.in-Ended.ensures.alone refl in
     let word : word_of Plain m2 ≡ word_of Plain m + 1 = alone.words refl Plain ∙ c.begin_script.ensures.word in
     let ends = subst (λ k. Wrote (Stand 0 (entry.Out Plain (k + 1) ∷ entry.Done script.name ∷ [])) m2 m3) word c.end_script.ensures.wrote in

@@ -11,7 +11,7 @@ abbrev pub invariant-loop-run : goal.invariant-loop-run
 invariant-loop-run l = record {
   sound : Sound l.machine;
   none : (u : ℕ) → lives_of l.machine.side.slots u ≡ None;
-  down : Behind (behind_of l.types.behind) (lists_of l.machine) [];
+  down : Behind (behind_of l.deferred.behind) (lists_of l.machine) [];
   even : word_of Plain l.machine % 2 ≡ 0;
   tracing : word_of Tracing l.machine ≡ 0;
   cost : asked_of l.machine + (9 * word_of Plain l.machine + 2 * lines_cost l.scenario.scripts (drop l.run-index l.run-items)) ≤ 40000;
