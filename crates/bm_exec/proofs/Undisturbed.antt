@@ -69,6 +69,7 @@ undisturbed-own own u = record {
   processor = u.processor;
   periods = u.periods;
   mail = u.mail;
+  supplied = u.supplied;
   lives = u.lives;
 }
 
