@@ -403,7 +403,7 @@ lawful-run s m0 m2 m3 final kept forgets alone planned replied sweeps mail none 
     (λ c. (let h = closed.ready.active c in omega (arith, h)))
 
 -- where the whole log names fewer units than were wanted
-pub short-run : (s : Parts) (m0 m2 m3 : Machine0) (final : Log) → ((u : ℕ) → lives_of m2.side.slots u ≡ None) → IsOpen (filling (opened_classes s.types) (fresh_stock s.pages)) m0 → Wrote (AreScripts s (lines_of 0 s.runs) 0) m0 m2 → Wrote (Stand 0 (entry.Ended ∷ entry.Close ∷ [])) m2 m3 → m3.side ≡ m2.side → Sound m2 → Sound m3 → Closed (opened_classes s.types) m3 final → JournalShort s.pages (final ∷ [])
+pub short-run : (s : Parts) (m0 m2 m3 : Machine0) (final : Log) → ((u : ℕ) → lives_of m2.side.slots u ≡ None) → IsOpen (filling (opened_classes s.types) (fresh_stock s.pages)) m0 → Wrote (CountedScripts s (lines_of 0 s.runs) 0) m0 m2 → Wrote (Stand 0 (entry.Ended ∷ entry.Close ∷ [])) m2 m3 → m3.side ≡ m2.side → Sound m2 → Sound m3 → Closed (opened_classes s.types) m3 final → JournalShort s.pages (final ∷ [])
 short-run s m0 m2 m3 final none o w e same sound2 sound3 closed =
     let t : Told s final = (told-run s m0 m2 m3 final none o w e same sound2 sound3 closed).0 in
     subst (ShortLaw s.pages) (sym (append-nil (own_entries 0 final))) (subst (λ (l : Log). ShortLaw s.pages (own_entries 0 l)) (sym t.final_is) t.short)
