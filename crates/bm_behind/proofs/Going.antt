@@ -1,5 +1,5 @@
 -- Works on a desk, one after the other, until no flag is up.
-use Rattle.std.proofs.Common.{◌≡◌, ◌≢◌, ◌≤◌, ◌+◌, ℕ, false, List, [], Option, Some, None, refl, sym, ◌∙◌, ap, subst, arith, inl, inr}
+use Rattle.std.proofs.Common.{◌≡◌, ◌≢◌, ◌≤◌, ◌+◌, ◌*◌, ℕ, false, List, [], Option, Some, None, refl, sym, ◌∙◌, ap, length, subst, arith, inl, inr}
 use Rattle.std.proofs.lemmas.Bool.Decides.{eqb_tells}
 use Rattle.bm_journal.specs.declared.counts.Counts.{Counts}
 use Rattle.bm_journal.specs.declared.ids.Domain.{Domain}
@@ -113,7 +113,7 @@ module _ {H R : Type 0} (log : R → Option Log) (counts : R → Counts) (sound 
       }
 
   -- no flag is up any more
-  pub going-end : (rights : H → Rights) (n : ℕ) (a b : H) → stays b b → left_on waits holds classes a ≤ n → Settled log counts sound tests faces holds a → Settled log counts sound tests faces holds b → None ≡ lowest_raised classes (seen number_of (shown (holds b))) → Going log faces waits stays holds known classes a b → Works log faces waits stays holds known n n (λ l. UntilDown classes) a b
+  pub going-end : (rights : H → Rights) (n : ℕ) (a b : H) → stays b b → left_on waits holds classes a ≤ n + waits b * (length classes + 1) → Settled log counts sound tests faces holds a → Settled log counts sound tests faces holds b → None ≡ lowest_raised classes (seen number_of (shown (holds b))) → Going log faces waits stays holds known classes a b → Works log faces waits stays holds known n n (λ l. UntilDown classes) a b
   going-end rights n a b k most x y e g =
       let m = g.done in
       let le : m + 0 ≤ n = omega (arith, g.left, most) in

@@ -1,5 +1,5 @@
 -- How many works are left at most, by the flags that are up and the handlers that haven't run.
-use Rattle.std.proofs.Common.{◌≡◌, ◌≤◌, ◌+◌, ◌*◌, ◌⊎◌, ℕ, Bool, true, false, cond, List, [], ◌∷◌, length, Some, refl, ◌∙◌, ap, add-one, arith, inl, inr}
+use Rattle.std.proofs.Common.{◌≡◌, ◌≤◌, ◌+◌, ◌-◌, ◌*◌, ◌⊎◌, ℕ, Bool, true, false, cond, List, [], ◌∷◌, length, Some, refl, ◌∙◌, ap, add-one, arith, inl, inr}
 use Rattle.std.specs.Prelude.{find}
 use Rattle.std.proofs.Math.Nat.{eq-or-lt_of_le, mul_comm, suc-mul}
 use Rattle.std.proofs.lemmas.Nat.{mul-le}
@@ -72,3 +72,15 @@ works-left-most m xs p =
     let k = length xs + 1 in
     let a : k * (m + 1) ≡ (m + 1) * k = mul_comm k (m + 1) in
     omega (arith, a, one-times m k, passing-length p xs)
+
+-- So many works were left, and where fewer handlers wait now these are for those that ran and the flags that were up, and for
+-- those that wait.
+pub works-left-ran : (m n : ℕ) (xs : List ℕ) (p : ℕ → Bool) → n ≤ m → works_left m xs p ≤ (length xs + 1) * (m - n + 1) + n * (length xs + 1)
+works-left-ran m n xs p le =
+    let k = length xs + 1 in
+    let d = m - n in
+    let whole : m ≡ d + n = omega (arith, le) in
+    let a : m * k ≡ (d + n) * k = ap (λ (z : ℕ). z * k) whole in
+    let b : (d + n) * k ≡ d * k + n * k = omega arith in
+    let c : k * (d + 1) ≡ (d + 1) * k = mul_comm k (d + 1) in
+    omega (arith, a, b, c, one-times d k, passing-length p xs)

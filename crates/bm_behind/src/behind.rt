@@ -1,6 +1,6 @@
 //! Deferred work behind statements and scripts.
 
-ghost use Rattle.std.specs.Prelude.{◌≡◌, ◌≤◌, ◌+◌, ◌*◌, ℕ, None, length, OnOk};
+ghost use Rattle.std.specs.Prelude.{◌≡◌, ◌≤◌, ◌+◌, ◌-◌, ◌*◌, ℕ, None, length, OnOk};
 ghost use Rattle.bm_journal.specs.declared.ids.Domain.{Domain};
 ghost use Rattle.bm_grace.specs.Known.{side};
 ghost use Rattle.bm_law.specs.State.{seen};
@@ -20,8 +20,8 @@ use std::alloc::Global;
 
 /// Deferred work behind a statement of a script: the work of the first of these classes whose flag is up, and again, until no
 /// flag is up. It ends: a work leaves the flag of its class down, a flag is raised only where a handler ran, and no handler runs
-/// twice. Each work begins at most one grace period of each domain. Want of memory is the only refusal; the desk is of no further
-/// use then.
+/// twice. Each work begins at most one grace period of each domain; how many begin at most is told by the handlers that ran. Want
+/// of memory is the only refusal; the desk is of no further use then.
 ///
 /// In kernel/bpf/memalloc.c `irq_work_raise` asks for the work, and `bpf_mem_refill` runs behind the code that asked. That it
 /// runs directly behind the statement, for the least class first, is this project's own.
@@ -32,7 +32,7 @@ pub fn until_down<R: Recorder, H: Desk<R>>(
 ) -> Result<(), NoMemory>
     requires at_rest { Settled R.log R.counts H.Host.sound H.Host.tests H.Host.face H.Host.held host.old }
     requires begins { (d : Domain) → (length classes.now + 1) * (H.Host.pending host.old + 1) ≤ (side d (H.W.Knows.known (H.shared host.old))).begins }
-    ensures works { OnOk result (Works R.log H.Host.face H.Host.pending H.stays H.Host.held (λ h. H.W.Knows.known (H.shared h)) ((length classes.now + 1) * (H.Host.pending host.old + 1)) ((length classes.now + 1) * (H.Host.pending host.old + 1)) (λ l. UntilDown classes.now) host.old host.new) }
+    ensures works { OnOk result (Works R.log H.Host.face H.Host.pending H.stays H.Host.held (λ h. H.W.Knows.known (H.shared h)) ((length classes.now + 1) * (H.Host.pending host.old - H.Host.pending host.new + 1)) ((length classes.now + 1) * (H.Host.pending host.old - H.Host.pending host.new + 1)) (λ l. UntilDown classes.now) host.old host.new) }
     ensures down { OnOk result (lowest_raised classes.now (seen number_of (shown (H.Host.held host.new))) ≡ None) }
     ensures at_rest { OnOk result (Settled R.log R.counts H.Host.sound H.Host.tests H.Host.face H.Host.held host.new) }
 {
@@ -54,7 +54,7 @@ pub fn work_behind<R: Recorder, H: Desk<R>>(
 ) -> Result<(), NoMemory>
     requires at_rest { Settled R.log R.counts H.Host.sound H.Host.tests H.Host.face H.Host.held host.old }
     requires begins { (d : Domain) → length classes.now + (length classes.now + 1) * (H.Host.pending host.old + 1) ≤ (side d (H.W.Knows.known (H.shared host.old))).begins }
-    ensures works { OnOk result (Works R.log H.Host.face H.Host.pending H.stays H.Host.held (λ h. H.W.Knows.known (H.shared h)) (length classes.now + (length classes.now + 1) * (H.Host.pending host.old + 1)) (length classes.now + (length classes.now + 1) * (H.Host.pending host.old + 1)) (λ l. WorkBehind classes.now) host.old host.new) }
+    ensures works { OnOk result (Works R.log H.Host.face H.Host.pending H.stays H.Host.held (λ h. H.W.Knows.known (H.shared h)) (length classes.now + (length classes.now + 1) * (H.Host.pending host.old - H.Host.pending host.new + 1)) (length classes.now + (length classes.now + 1) * (H.Host.pending host.old - H.Host.pending host.new + 1)) (λ l. WorkBehind classes.now) host.old host.new) }
     ensures down { OnOk result (lowest_raised classes.now (seen number_of (shown (H.Host.held host.new))) ≡ None) }
     ensures at_rest { OnOk result (Settled R.log R.counts H.Host.sound H.Host.tests H.Host.face H.Host.held host.new) }
 {

@@ -1,5 +1,5 @@
 -- What an answer of the planned handlers tells the code that asked.
-use Rattle.std.proofs.Common.{◌≡◌, ◌∙◌, ℕ, ◌+◌, ◌<◌, List, [], ◌∷◌, ◌++◌, Option, Some, None, length, refl, sym, ap, subst}
+use Rattle.std.proofs.Common.{◌≡◌, ◌∙◌, ℕ, Bool, true, false, ◌+◌, ◌<◌, List, [], ◌∷◌, ◌++◌, Option, Some, None, length, refl, sym, ap, subst}
 use Rattle.std.specs.Prelude.{All, IfNone, IfSome}
 use Rattle.std.specs.List.{slice_get}
 use Rattle.std.specs.Option.{option_map}
@@ -8,10 +8,12 @@ use Rattle.bm_journal.specs.declared.entry.Entry.TheVariants as entry
 use Rattle.bm_lang.specs.declared.scenario.AtLine.{AtLine}
 use Rattle.bm_law.specs.Lists.{Log}
 use Rattle.bm_cache.specs.Steps.{steps_in}
+use Rattle.bm_due.specs.Due.{due_handler, left_after}
 use Rattle.bm_due.specs.Plan.{Plan, due_of, plan_after}
 use Rattle.bm_due.specs.Told.{told_of}
 use Rattle.bm_due.specs.declared.planned.Due.{Due}
-use Rattle.bm_due.proofs.Selected.{among}
+use Rattle.bm_due.proofs.Selected.{among, due-to, others-from}
+use Rattle.bm_plan.specs.Takes.{Takes}
 use Rattle.bm_plan.specs.Position.{AboutTo, AskedAt, Position, StandsAt, level_in, within}
 use Rattle.bm_plan.specs.declared.handlers.Handlers.{Handlers}
 use Rattle.bm_plan.proofs.Positions.{asks-none, begins-here}
@@ -59,15 +61,29 @@ script-among n l k plan (Some due) all q =
     let t : Told (due_of n l plan) due = told-some _ due q in
     subst (λ (z : Due). z.script.0 < k) t.told (among (λ (line : AtLine). line.script.0 < k) plan.ended n l plan.left t.line all t.is)
 
+-- the line stood among those that haven't run
+takes-left : (n l : ℕ) (ended : Bool) (left : List AtLine) (line : AtLine) → due_handler ended n l left ≡ Some line → Takes (told_of line) left (left_after ended n l left)
+takes-left n l true left line e = absurd cc
+takes-left n l false left line e =
+    let h = due-to n l left line e in
+    record { front = h.before; line = line; rest = h.behind; was = h.left_is; now_is = others-from n l left line h; told = refl }
+
+pub takes-line : (n l : ℕ) (plan after : Plan) (o : Option Due) → o ≡ option_map told_of (due_of n l plan) → after ≡ plan_after n l plan → IfSome o (λ (due : Due). Takes due plan.left after.left)
+takes-line n l plan after None q u = tt
+takes-line n l plan after (Some due) q u =
+    let t : Told (due_of n l plan) due = told-some _ due q in
+    let T : Due → Type 0 = λ (z : Due). Takes z plan.left after.left in
+    subst T t.told (subst (λ (z : Plan). Takes (told_of t.line) plan.left z.left) (sym u) (takes-left n l plan.ended plan.left t.line t.is))
+
 -- the same plan and scripts
 same-fact : (k : ℕ) (plan : Plan) (a b : All (λ (line : AtLine). line.script.0 < k) plan.left) → a ≡ b
 same-fact k plan a b = let f : IsProp (All (λ (line : AtLine). line.script.0 < k) plan.left) = hlevel props in f a b
 
-pub same-handlers : (h : Handlers) (plan : Plan) (a : All (λ (line : AtLine). line.script.0 < length h.scripts.now) plan.left) → plan ≡ h.planned → record { planned = plan; scripts = h.scripts; among = a } ≡ h
+pub same-handlers : (h : Handlers) (plan : Plan) (a : All (λ (line : AtLine). line.script.0 < h.scripts) plan.left) → plan ≡ h.planned → record { planned = plan; scripts = h.scripts; among = a } ≡ h
 same-handlers h plan a e =
-    let Same : Plan → Type 0 = λ (z : Plan). (b : All (λ (line : AtLine). line.script.0 < length h.scripts.now) z.left) → ◌≡◌ {A = Handlers} (record { planned = plan; scripts = h.scripts; among = a }) (record { planned = z; scripts = h.scripts; among = b }) in
-    subst Same e (λ b. ap (λ (f : All (λ (line : AtLine). line.script.0 < length h.scripts.now) plan.left). let x : Handlers = record { planned = plan; scripts = h.scripts; among = f } in x) (same-fact (length h.scripts.now) plan a b)) h.among
+    let Same : Plan → Type 0 = λ (z : Plan). (b : All (λ (line : AtLine). line.script.0 < h.scripts) z.left) → ◌≡◌ {A = Handlers} (record { planned = plan; scripts = h.scripts; among = a }) (record { planned = z; scripts = h.scripts; among = b }) in
+    subst Same e (λ b. ap (λ (f : All (λ (line : AtLine). line.script.0 < h.scripts) plan.left). let x : Handlers = record { planned = plan; scripts = h.scripts; among = f } in x) (same-fact (h.scripts) plan a b)) h.among
 
-pub none-same : (h : Handlers) (plan : Plan) (a : All (λ (line : AtLine). line.script.0 < length h.scripts.now) plan.left) (o : Option Due) → IfNone o (plan ≡ h.planned) → IfNone o (◌≡◌ {A = Handlers} (record { planned = plan; scripts = h.scripts; among = a }) h)
+pub none-same : (h : Handlers) (plan : Plan) (a : All (λ (line : AtLine). line.script.0 < h.scripts) plan.left) (o : Option Due) → IfNone o (plan ≡ h.planned) → IfNone o (◌≡◌ {A = Handlers} (record { planned = plan; scripts = h.scripts; among = a }) h)
 none-same h plan a (Some due) e = tt
 none-same h plan a None e = same-handlers h plan a e

@@ -1,7 +1,7 @@
-use Rattle.std.proofs.Common.{◌≤◌, ◌+◌, ◌*◌, length, arith}
+use Rattle.std.proofs.Common.{◌≤◌, ◌+◌, ◌-◌, ◌*◌, length, arith}
 use Rattle.bm_cache.specs.Shown.{shown}
 use Rattle.bm_behind.proofs.Going.{going-asked, going-begins, going-end, going-more, going-none, left-asked, left-less, left_on}
-use Rattle.bm_behind.proofs.Left.{works-left-most}
+use Rattle.bm_behind.proofs.Left.{works-left-most, works-left-ran}
 use Rattle.bm_behind.proofs.behind.until_down.Goals as goal
 
 pub loop-class-init : goal.loop-class-init
@@ -55,9 +55,10 @@ returns-clause-works g c =
     let b = c.loop-class.host in
     let d = c.lowest_raised.new.host in
     let cs = c.args.classes.now in
-    let n = (length cs + 1) * (g.H.Host.pending a + 1) in
+    let p = g.H.Host.pending a in
+    let q = g.H.Host.pending d in
+    let n = (length cs + 1) * (p - q + 1) in
     let e = c.lowest_raised.ensures in
-    let most = works-left-most (g.H.Host.pending a) cs (λ k. ((shown (g.H.Host.held a)).rows k).raised) in
-    let le : left_on g.H.Host.pending g.H.Host.held cs a ≤ n = omega (arith, most) in
     let going = going-asked g.R.Recorder.log g.R.Recorder.counts g.H.Host.sound g.H.Host.tests g.H.Host.face g.H.Host.pending g.H.Desk.stays g.H.Host.held (λ h. g.H.W.Knows.known (g.H.Desk.shared h)) g.met.H.Desk.stays_join cs a b d e.parcels e.pages e.posted c.loop-class.invariant.going in
+    let le : left_on g.H.Host.pending g.H.Host.held cs a ≤ n + q * (length cs + 1) = works-left-ran p q cs (λ k. ((shown (g.H.Host.held a)).rows k).raised) going.works.goes.pending in
     going-end g.R.Recorder.log g.R.Recorder.counts g.H.Host.sound g.H.Host.tests g.H.Host.face g.H.Host.pending g.H.Desk.stays g.H.Host.held (λ h. g.H.W.Knows.known (g.H.Desk.shared h)) g.met.H.Desk.stays_join cs (λ h. g.H.W.Knows.rights (g.H.Desk.shared h)) n a d (g.met.H.Desk.keeps_stays d d (g.met.H.Host.keeps_same d)) le c.requires.at_rest e.at_rest c.in_default.ensures.answer going

@@ -1,4 +1,4 @@
-use Rattle.std.proofs.Common.{◌≤◌, ◌+◌, ◌*◌, ℕ, length, arith}
+use Rattle.std.proofs.Common.{◌≤◌, ◌+◌, ◌-◌, ◌*◌, ℕ, length, arith}
 use Rattle.std.proofs.lemmas.Nat.{mul-le}
 use Rattle.bm_deferred.specs.Parts.{Part}
 use Rattle.bm_lawful.specs.Works.{UntilDown, WorkBehind, WorkEach}
@@ -35,8 +35,10 @@ returns-clause-works g c =
     let v = c.in_ok-work_each.ensures in
     let E : ℕ → Part = λ l. WorkEach cs in
     let U : ℕ → Part = λ l. UntilDown cs in
-    let less = more-left k p q v.works.goes.pending in
-    let le : k + (k + 1) * (q + 1) ≤ k + (k + 1) * (p + 1) = omega (arith, less) in
+    let r = g.H.Host.pending z in
+    let fewer : q - r ≤ p - r = (let h = v.works.goes.pending in omega (arith, h)) in
+    let less = more-left k (p - r) (q - r) fewer in
+    let le : k + (k + 1) * (q - r + 1) ≤ k + (k + 1) * (p - r + 1) = omega (arith, less) in
     on-ok c.until_down.result (λ w.
-    works-at-most g.R.Recorder.log g.R.Recorder.counts g.H.Host.face g.H.Host.pending g.H.Desk.stays g.H.Host.held (λ h. g.H.W.Knows.known (g.H.Desk.shared h)) (λ h. g.H.W.Knows.rights (g.H.Desk.shared h)) (k + (k + 1) * (q + 1)) (k + (k + 1) * (q + 1)) (k + (k + 1) * (p + 1)) (k + (k + 1) * (p + 1)) (λ l. WorkBehind cs) a z le le
-    (works-then g.R.Recorder.log g.R.Recorder.counts g.H.Host.face g.H.Host.pending g.H.Desk.stays g.H.Host.held (λ h. g.H.W.Knows.known (g.H.Desk.shared h)) g.met.H.Desk.stays_join k k ((k + 1) * (q + 1)) ((k + 1) * (q + 1)) E U a b z c.requires.at_rest.stands.fine.placed v.at_rest.stands.fine.placed v.works w)) c.until_down.ensures.works
+    works-at-most g.R.Recorder.log g.R.Recorder.counts g.H.Host.face g.H.Host.pending g.H.Desk.stays g.H.Host.held (λ h. g.H.W.Knows.known (g.H.Desk.shared h)) (λ h. g.H.W.Knows.rights (g.H.Desk.shared h)) (k + (k + 1) * (q - r + 1)) (k + (k + 1) * (q - r + 1)) (k + (k + 1) * (p - r + 1)) (k + (k + 1) * (p - r + 1)) (λ l. WorkBehind cs) a z le le
+    (works-then g.R.Recorder.log g.R.Recorder.counts g.H.Host.face g.H.Host.pending g.H.Desk.stays g.H.Host.held (λ h. g.H.W.Knows.known (g.H.Desk.shared h)) g.met.H.Desk.stays_join k k ((k + 1) * (q - r + 1)) ((k + 1) * (q - r + 1)) E U a b z c.requires.at_rest.stands.fine.placed v.at_rest.stands.fine.placed v.works w)) c.until_down.ensures.works

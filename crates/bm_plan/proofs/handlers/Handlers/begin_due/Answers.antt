@@ -1,6 +1,6 @@
 use Rattle.std.proofs.Common.{ℕ, ◌+◌}
 use Rattle.bm_cache.specs.Steps.{steps_in}
-use Rattle.bm_plan.proofs.Begins.{none-asked, none-same, same-handlers, script-among, some-begun}
+use Rattle.bm_plan.proofs.Begins.{none-asked, none-same, same-handlers, script-among, some-begun, takes-line}
 use Rattle.bm_plan.proofs.handlers.Handlers.begin_due.Goals as goal
 
 pub returns-clause-none : goal.returns-clause-none
@@ -16,3 +16,6 @@ pub returns-clause-begun : goal.returns-clause-begun
 returns-clause-begun c p log name a e h s =
     let q = c.take_due.ensures.greatest (steps_in log + 1) s in
     some-begun p log name c.take_due.result c.args.level c.args.self.now.planned c.take_due.new.self a e h q.0 q.1
+
+pub returns-clause-takes : goal.returns-clause-takes
+returns-clause-takes c = takes-line c.args.step c.args.level c.args.self.now.planned c.take_due.new.self c.take_due.result c.take_due.ensures.due c.take_due.ensures.left
