@@ -1,5 +1,5 @@
 -- A scenario in whose words no form begins that can't be run yet runs by now.
-use Rattle.std.proofs.Common.{◌≡◌, ℕ, zero, suc, Bool, true, false, not, ◌&&◌, ◌==◌, if◌then◌else◌, List, [], ◌∷◌, ◌++◌, map, length, nat_lt, Option, Some, None, slice_get, refl, subst, arith}
+use Rattle.std.proofs.Common.{◌≡◌, ◌≢◌, ℕ, zero, suc, Bool, true, false, not, ◌&&◌, ◌==◌, if◌then◌else◌, List, [], ◌∷◌, ◌++◌, map, length, nat_lt, Option, Some, None, slice_get, refl, subst, arith}
 use Rattle.std.specs.List.{list_all, flat_map}
 use Rattle.std.proofs.lemmas.Bool.Decides.{nat_tests}
 use Rattle.bm_lang.specs.declared.bounds.Limit.{Limit}
@@ -13,8 +13,6 @@ use Rattle.bm_lang.specs.declared.scenario.Node.TheVariants as node
 use Rattle.bm_lang.specs.declared.scenario.Script.{Script}
 use Rattle.bm_lang.specs.declared.scenario.ScriptKind.{ScriptKind}
 use Rattle.bm_lang.specs.declared.scenario.ScriptKind.TheVariants as script
-use Rattle.bm_lang.specs.declared.scenario.RunLine.{RunLine}
-use Rattle.bm_lang.specs.declared.scenario.AtLine.{AtLine}
 use Rattle.bm_lang.specs.Tokens.{Open, Close, End, tokens, start}
 use Rattle.bm_lang.specs.Names.{TypeForm, MapForm, ScriptForm}
 use Rattle.bm_lang.specs.Limits.{first_limit}
@@ -61,14 +59,14 @@ maps_built : (types : List TypeForm) (maps : List MapDeclaration) (rest : List W
 maps_built types [] rest b = (refl, b)
 maps_built types (m ∷ ms) rest b = let e : true ≡ false = not_begun (is_unbuilt_word (map_word m.kind)) _ (map_begins m.kind) b in cc
 
-kind_built : (k : ScriptKind) (rest : List Word) → built false (reserved (script_word k) ∷ rest) ≡ true → (k ≡ script.Plain) × (built false rest ≡ true)
-kind_built script.Plain rest b = (refl, b)
+kind_built : (k : ScriptKind) (rest : List Word) → built false (reserved (script_word k) ∷ rest) ≡ true → (k ≢ script.Sleepable) × (built false rest ≡ true)
+kind_built script.Plain rest b = (λ e. cc, b)
 kind_built script.Sleepable rest b = cc
-kind_built script.Handler rest b = cc
+kind_built script.Handler rest b = (λ e. cc, b)
 
 -- what RunsYet asks of a script
 abbrev Runs : List TypeDeclaration → Script → Type 0
-Runs types x = (x.kind ≡ script.Plain) × (can_run_block types x.body ≡ true)
+Runs types x = (x.kind ≢ script.Sleepable) × (can_run_block types x.body ≡ true)
 
 script_built : (types : List TypeDeclaration) (maps : List MapForm) (before : List ScriptForm) (scripts : List Script) (rest : List Word) → has_many types ≡ false → FineScripts (map type_form types) maps before scripts → built false (flat_map (spell_script (map type_form types) maps) scripts ++ rest) ≡ true → ((i : ℕ) (x : Script) → slice_get scripts i ≡ Some x → Runs types x) × (built false rest ≡ true)
 script_built types maps before [] rest h fine b = (λ i x e. cc, b)
@@ -80,17 +78,9 @@ script_built types maps before (s ∷ ss) rest h fine b =
     let others = script_built types maps (before ++ script_form s ∷ []) ss rest h fine.2 body.1 in
     (found kind.0 body.0 others.0, others.1)
   where
-    found : s.kind ≡ script.Plain → can_run_block types s.body ≡ true → ((i : ℕ) (x : Script) → slice_get ss i ≡ Some x → Runs types x) → (i : ℕ) (x : Script) → slice_get (s ∷ ss) i ≡ Some x → Runs types x
+    found : s.kind ≢ script.Sleepable → can_run_block types s.body ≡ true → ((i : ℕ) (x : Script) → slice_get ss i ≡ Some x → Runs types x) → (i : ℕ) (x : Script) → slice_get (s ∷ ss) i ≡ Some x → Runs types x
     found k r o zero x e = let same : s ≡ x = cc in subst (λ (y : Script). Runs types y) same (k, r)
     found k r o (suc i) x e = o i x e
-
-runs_built : (scripts : List ScriptForm) (runs : List RunLine) (rest : List Word) → built false (flat_map (spell_run scripts) runs ++ rest) ≡ true → built false rest ≡ true
-runs_built scripts [] rest b = b
-runs_built scripts (r ∷ rs) rest b = runs_built scripts rs rest b
-
-ats_built : (scripts : List ScriptForm) (ats : List AtLine) (rest : List Word) → built false (flat_map (spell_at scripts) ats ++ rest) ≡ true → ats ≡ []
-ats_built scripts [] rest b = refl
-ats_built scripts (a ∷ as') rest b = cc
 
 switch_built : (deferred : Bool) (rest : List Word) → built false (reserved (on_or_off deferred) ∷ rest) ≡ true → built false rest ≡ true
 switch_built true rest b = b
@@ -123,16 +113,13 @@ words_run s fine limits b =
     let switched = switch_built s.deferred ((types ++ (maps ++ (scripts ++ (runs ++ (ats ++ last))))) ++ end) alone.1 in
     let uncounted = types_built s.types ((maps ++ (scripts ++ (runs ++ (ats ++ last)))) ++ end) (along types (maps ++ (scripts ++ (runs ++ (ats ++ last)))) end switched) in
     let unmapped = maps_built d.types s.maps ((scripts ++ (runs ++ (ats ++ last))) ++ end) (along maps (scripts ++ (runs ++ (ats ++ last))) end uncounted.1) in
-    let plain = script_built s.types d.maps [] s.scripts ((runs ++ (ats ++ last)) ++ end) few fine.scripts (along scripts (runs ++ (ats ++ last)) end unmapped.1) in
-    let run = runs_built d.scripts s.runs ((ats ++ last) ++ end) (along runs (ats ++ last) end plain.1) in
-    let unhandled = ats_built d.scripts s.ats (last ++ end) (along ats last end run) in
+    let awake = script_built s.types d.maps [] s.scripts ((runs ++ (ats ++ last)) ++ end) few fine.scripts (along scripts (runs ++ (ats ++ last)) end unmapped.1) in
     record {
       one = alone.0;
       no_maps = unmapped.0;
-      no_handlers = unhandled;
       uncounted = uncounted.0;
-      plain = λ i x e. (plain.0 i x e).0;
-      scripts = λ i x e. (plain.0 i x e).1;
+      awake = λ i x e. (awake.0 i x e).0;
+      scripts = λ i x e. (awake.0 i x e).1;
     }
 
 pub built_runs : (bytes : List ℕ) (s : Parts) → Reads bytes s → unbuilt_before None false (tokens start bytes) ≡ None → first_limit s ≡ None → RunsYet s

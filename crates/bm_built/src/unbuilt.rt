@@ -17,8 +17,6 @@ fn is_unbuilt_word(word: Keyword) -> bool
             | Keyword::Tree
             | Keyword::Slot
             | Keyword::Sleepable
-            | Keyword::Handler
-            | Keyword::At
             | Keyword::Turns
             | Keyword::Acquire
             | Keyword::Get

@@ -1,4 +1,7 @@
 mod Then
+mod Bound
+mod Handling
+mod Sizes
 mod Blocks
 mod Stacks
 mod Tables
@@ -6,10 +9,8 @@ mod Results
 mod Objects
 mod Performing
 mod Going
-pub mod Undisturbed
-mod Still
-mod Rights
+pub mod Still
 pub mod Sounds
-mod Lives
+pub mod Lives
 mod Starting
 pub mod Said

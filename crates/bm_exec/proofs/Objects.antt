@@ -62,8 +62,8 @@ kept-name x y v names t u n free f = elim (is_or_not (bytes_eq x y)) [
     owns-not : {b : Bool} → b ≡ true → b ≡ false → ⊥
     owns-not p q = cc
 
-holds-null : (types : List TypeDeclaration) (lives lives' : Lives) (names : Names) (x : List ℕ) (v : Held) → ((t : TypeId) (u n : ℕ) → v ≡ Object t u n → ⊥) → is_owning (value_of (names x)) ≡ false → lives' ≡ lives → Holds types lives names → Holds types lives' (with_name x v names)
-holds-null types lives lives' names x v none free e h = record {
+holds-null : (types : List TypeDeclaration) (base lives lives' : Lives) (names : Names) (x : List ℕ) (v : Held) → ((t : TypeId) (u n : ℕ) → v ≡ Object t u n → ⊥) → is_owning (value_of (names x)) ≡ false → lives' ≡ lives → Holds types base lives names → Holds types base lives' (with_name x v names)
+holds-null types base lives lives' names x v none free e h = record {
   living = λ y t u n f. elim (is_or_not (bytes_eq x y)) [
     | inl same ↦ absurd (none t u n (sym (here x v names y same) ∙ f))
     | inr other ↦ rw e (h.living y t u n (sym (elsewhere x v names y other) ∙ f))
@@ -75,7 +75,12 @@ holds-null types lives lives' names x v none free e h = record {
       | inr other' ↦ h.once y z t t' u n n' (sym (elsewhere x v names y other) ∙ f) (sym (elsewhere x v names z other') ∙ g)
     ]
   ];
-  reached = λ u l f. let r = h.reached u l (rw e at f) in (r.0, r.1, r.2, kept-name x r.0 v names r.1 u r.2 free r.3);
+  apart = λ y t u n f. elim (is_or_not (bytes_eq x y)) [
+    | inl same ↦ absurd (none t u n (sym (here x v names y same) ∙ f))
+    | inr other ↦ h.apart y t u n (sym (elsewhere x v names y other) ∙ f)
+  ];
+  before = λ u l f. rw e (h.before u l f);
+  reached = λ u l f. elim (h.reached u l (rw e at f)) [ inl b ↦ inl b | inr r ↦ inr (r.0, r.1, r.2, kept-name x r.0 v names r.1 u r.2 free r.3) ];
 }
 
 with-here : (u u' c n n' home : ℕ) (lives lives' : Lives) → lives' ≡ with_life u (Some (record { class = c; life = n; home = home })) lives → u ≡ u' → n ≡ n' → LivesAs lives' c u' n'
@@ -98,9 +103,17 @@ fresh-other u v lives l e f = elim (is_or_not (eqb u v)) [
 clash : (t t' : TypeId) (u u' n n' : ℕ) → Object t u n ≡ Object t' u' n' → eqb u u' ≡ false → ⊥
 clash t t' u u' n n' e f = let q = same-object t t' u u' n n' e in let w : eqb u u' ≡ true = eq-eqb u u' q.1 in cc
 
+-- under a unit of which nothing lives now, nothing lived before
+none-before : (u : ℕ) (base lives : Lives) → ((l : Living) → base u ≡ Some l → lives u ≡ Some l) → lives u ≡ None → base u ≡ None
+none-before u base lives before e = unlived (base u) refl
+  where
+    unlived : (l : Option Living) → base u ≡ l → l ≡ None
+    unlived None f = refl
+    unlived (Some l) f = let g = before l f in absurd (cc)
+
 -- a name that holds a new object
-holds-new : (types : List TypeDeclaration) (lives lives' : Lives) (names : Names) (x : List ℕ) (t : TypeId) (u n c home : ℕ) (d : TypeDeclaration) → OfClass types t.0 c d → lives u ≡ None → is_owning (value_of (names x)) ≡ false → lives' ≡ with_life u (Some (record { class = c; life = n; home = home })) lives → Holds types lives names → Holds types lives' (with_name x (Object t u n) names)
-holds-new types lives lives' names x t u n c home d of fresh free e h =
+holds-new : (types : List TypeDeclaration) (base lives lives' : Lives) (names : Names) (x : List ℕ) (t : TypeId) (u n c home : ℕ) (d : TypeDeclaration) → OfClass types t.0 c d → lives u ≡ None → is_owning (value_of (names x)) ≡ false → lives' ≡ with_life u (Some (record { class = c; life = n; home = home })) lives → Holds types base lives names → Holds types base lives' (with_name x (Object t u n) names)
+holds-new types base lives lives' names x t u n c home d of fresh free e h =
     let kept = λ (y : List ℕ) (t' : TypeId) (u' n' : ℕ) (f : names y ≡ Object t' u' n'). (let l = h.living y t' u' n' f in fresh-other u u' lives _ fresh l.3.is) in record {
       living = λ y t' u' n' f. elim (is_or_not (bytes_eq x y)) [
         | inl same ↦ (let q = same-object t t' u u' n n' (sym (here x (Object t u n) names y same) ∙ f) in
@@ -118,19 +131,25 @@ holds-new types lives lives' names x t u n c home d of fresh free e h =
           | inr other' ↦ h.once y z t' t'' u' n' n'' (sym (elsewhere x (Object t u n) names y other) ∙ f) (sym (elsewhere x (Object t u n) names z other') ∙ g)
         ]
       ];
+      apart = λ y t' u' n' f. elim (is_or_not (bytes_eq x y)) [
+        | inl same ↦ (let q = same-object t t' u u' n n' (sym (here x (Object t u n) names y same) ∙ f) in
+            subst (λ k. base k ≡ None) q.1 (none-before u base lives (h.before u) fresh))
+        | inr other ↦ h.apart y t' u' n' (sym (elsewhere x (Object t u n) names y other) ∙ f)
+      ];
+      before = λ u' l f. let g = h.before u' l f in rw e (with-other u u' _ lives (fresh-other u u' lives l fresh g) ∙ g);
       reached = λ u' l f. elim (is_or_not (eqb u u')) [
-        | inl same ↦ (x, t, n, here x (Object t u n) names x (word_is_itself x) ∙ ap (λ k. Object t k n) ((Decides-eqb u u').0 same))
-        | inr other ↦ (let r = h.reached u' l (sym (with-other u u' _ lives other) ∙ (rw e at f)) in (r.0, r.1, r.2, kept-name x r.0 (Object t u n) names r.1 u' r.2 free r.3))
+        | inl same ↦ inr (x, t, n, here x (Object t u n) names x (word_is_itself x) ∙ ap (λ k. Object t k n) ((Decides-eqb u u').0 same))
+        | inr other ↦ elim (h.reached u' l (sym (with-other u u' _ lives other) ∙ (rw e at f))) [ inl b ↦ inl b | inr r ↦ inr (r.0, r.1, r.2, kept-name x r.0 (Object t u n) names r.1 u' r.2 free r.3) ]
       ];
     }
 
 -- the names after an object was given up by the name that held it
-pub holds-less : (types : List TypeDeclaration) (lives lives' : Lives) (names : Names) (x : List ℕ) (t : TypeId) (u n : ℕ) → names x ≡ Object t u n → lives' ≡ with_life u None lives → Holds types lives names → Holds types lives' (with_name x Nothing names)
-holds-less types lives lives' names x t u n held e h = record {
+pub holds-less : (types : List TypeDeclaration) (base lives lives' : Lives) (names : Names) (x : List ℕ) (t : TypeId) (u n : ℕ) → names x ≡ Object t u n → lives' ≡ with_life u None lives → Holds types base lives names → Holds types base lives' (with_name x Nothing names)
+holds-less types base lives lives' names x t u n held e h = record {
   living = λ y t' u' n' f. elim (is_or_not (bytes_eq x y)) [
     | inl same ↦ absurd (nothing-is-none t' u' n' (sym (here x Nothing names y same) ∙ f))
     | inr other ↦ (let f' = sym (elsewhere x Nothing names y other) ∙ f in let l = h.living y t' u' n' f' in
-        (l.0, l.1, l.2, still-lives u u' l.0 n' None lives lives' e (apart y t' u' n' other f') l.3))
+        (l.0, l.1, l.2, still-lives u u' l.0 n' None lives lives' e (others y t' u' n' other f') l.3))
   ];
   once = λ y z t' t'' u' n' n'' f g. elim (is_or_not (bytes_eq x y)) [
     | inl same ↦ absurd (nothing-is-none t' u' n' (sym (here x Nothing names y same) ∙ f))
@@ -139,25 +158,33 @@ holds-less types lives lives' names x t u n held e h = record {
       | inr other' ↦ h.once y z t' t'' u' n' n'' (sym (elsewhere x Nothing names y other) ∙ f) (sym (elsewhere x Nothing names z other') ∙ g)
     ]
   ];
+  apart = λ y t' u' n' f. elim (is_or_not (bytes_eq x y)) [
+    | inl same ↦ absurd (nothing-is-none t' u' n' (sym (here x Nothing names y same) ∙ f))
+    | inr other ↦ h.apart y t' u' n' (sym (elsewhere x Nothing names y other) ∙ f)
+  ];
+  before = λ u' l f. rw e (with-other u u' None lives (fresh-other u u' base l (h.apart x t u n held) f) ∙ h.before u' l f);
   reached = λ u' l f. elim (is_or_not (eqb u u')) [
     | inl same ↦ absurd (lives-no-more u u' l lives same (rw e at f))
-    | inr other ↦ (let r = h.reached u' l (sym (with-other u u' None lives other) ∙ (rw e at f)) in (
-      r.0,
-      r.1,
-      r.2,
-      elim (is_or_not (bytes_eq x r.0)) [
-        | inl same ↦ absurd (clash t r.1 u u' n r.2 (sym held ∙ ap names (same_word x r.0 same) ∙ r.3) other)
-        | inr apart ↦ elsewhere x Nothing names r.0 apart ∙ r.3
-      ],
-    ))
+    | inr other ↦ elim (h.reached u' l (sym (with-other u u' None lives other) ∙ (rw e at f))) [
+      | inl b ↦ inl b
+      | inr r ↦ inr (
+        r.0,
+        r.1,
+        r.2,
+        elim (is_or_not (bytes_eq x r.0)) [
+          | inl same ↦ absurd (clash t r.1 u u' n r.2 (sym held ∙ ap names (same_word x r.0 same) ∙ r.3) other)
+          | inr apart ↦ elsewhere x Nothing names r.0 apart ∙ r.3
+        ],
+      )
+    ]
   ];
 }
   where
     lives-no-more : (u v : ℕ) (l : Living) (lives : Lives) → eqb u v ≡ true → with_life u None lives v ≡ Some l → ⊥
     lives-no-more u v l lives same f = let g = rw same at f in cc
 
-    apart : (y : List ℕ) (t' : TypeId) (u' n' : ℕ) → bytes_eq x y ≡ false → names y ≡ Object t' u' n' → eqb u u' ≡ false
-    apart y t' u' n' other f = elim (is_or_not (eqb u u')) [
+    others : (y : List ℕ) (t' : TypeId) (u' n' : ℕ) → bytes_eq x y ≡ false → names y ≡ Object t' u' n' → eqb u u' ≡ false
+    others y t' u' n' other f = elim (is_or_not (eqb u u')) [
       | inl same ↦ (let q : u ≡ u' = (Decides-eqb u u').0 same in
           let r : x ≡ y = h.once x y t t' u n n' held (f ∙ ap (λ k. Object t' k n') (sym q)) in
           let w : bytes_eq x y ≡ true = rw (sym r) (word_is_itself x) in cc)
@@ -165,14 +192,15 @@ holds-less types lives lives' names x t u n held e h = record {
     ]
 
 -- what a reply leaves
-pub holds-reply : (types : List TypeDeclaration) (lives lives' : Lives) (names : Names) (x : List ℕ) (t : TypeId) (c : ℕ) (d : TypeDeclaration) (reply : Option ObjId) → OfClass types t.0 c d → is_owning (value_of (names x)) ≡ false → Begins c lives lives' reply → Holds types lives names → Holds types lives' (with_name x (answered t (reply_of reply)) names)
-holds-reply types lives lives' names x t c d None of free e h = holds-null types lives lives' names x Null (λ t u n f. null-is-none t u n f) free e h
-holds-reply types lives lives' names x t c d (Some o) of free e h = holds-new types lives lives' names x t o.unit o.life c e.home d of e.none free e.now h
+pub holds-reply : (types : List TypeDeclaration) (base lives lives' : Lives) (names : Names) (x : List ℕ) (t : TypeId) (c : ℕ) (d : TypeDeclaration) (reply : Option ObjId) → OfClass types t.0 c d → is_owning (value_of (names x)) ≡ false → Begins c lives lives' reply → Holds types base lives names → Holds types base lives' (with_name x (answered t (reply_of reply)) names)
+holds-reply types base lives lives' names x t c d None of free e h = holds-null types base lives lives' names x Null (λ t u n f. null-is-none t u n f) free e h
+holds-reply types base lives lives' names x t c d (Some o) of free e h = holds-new types base lives lives' names x t o.unit o.life c e.home d of e.none free e.now h
 
--- where no name owns, nothing lives
-pub no-lives : (types : List TypeDeclaration) (lives : Lives) (names : Names) → Holds types lives names → ((x : List ℕ) → OwnsNothing (names x)) → (u : ℕ) → lives u ≡ None
-no-lives types lives names h o u = unheld (lives u) refl
+-- where no name owns, those live that lived before
+pub only-base : (types : List TypeDeclaration) (base lives : Lives) (names : Names) → Holds types base lives names → ((x : List ℕ) → OwnsNothing (names x)) → lives ≡ base
+only-base types base lives names h o = fun_ext (λ u. alike u (lives u) (base u) refl refl)
   where
-    unheld : (l : Option Living) → lives u ≡ l → l ≡ None
-    unheld None e = refl
-    unheld (Some l) e = let r = h.reached u l e in absurd (subst OwnsNothing r.3 (o r.0))
+    alike : (u : ℕ) (l b : Option Living) → lives u ≡ l → base u ≡ b → lives u ≡ base u
+    alike u None None e f = e ∙ sym f
+    alike u None (Some k) e f = h.before u k f ∙ sym f
+    alike u (Some l) b e f = elim (h.reached u l e) [ inl g ↦ e ∙ sym g | inr r ↦ absurd (subst OwnsNothing r.3 (o r.0)) ]

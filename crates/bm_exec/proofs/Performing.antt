@@ -47,15 +47,15 @@ called types l w p a s s1 s' names names' os log log1 log' x x1 x' y b last fina
     (λ one two i j. (names', record { one = one; two = two; part_is = refl; is_first = i; is_second = j })) x x' g z
 
 pub new-performed : (types : List TypeDeclaration) (classes : List ℕ) (l : ℕ) (w : Option (List ℕ)) (p : ℕ) (s s1 s' : State ℕ) (x : List ℕ) (t : TypeId) (values : List ℕ) (names names' : Names) (lives lives' lives'' : Lives) (asked asked' : ℕ) (log log1 log' : Option Log) (reply : Option ObjId) (d : TypeDeclaration) (c : ℕ) →
-    IfSome log (λ es. Leaves p es s) → IfSome log1 (λ es. Leaves p es s1) → IfSome log' (λ es. Leaves p es s') → Classes types classes → slice_get types t.0 ≡ Some d → slice_get classes t.0 ≡ Some c → safe.is_owning (value_of (names x)) ≡ false → Holds types lives names → Created l c d.name values log log1 lives lives' reply → names' ≡ with_name x (answered t (reply_of reply)) names → asked' ≤ asked + 2 →
-    lives'' ≡ lives' → GrewBy (Behind w) s1 log1 log' → Behind w s' [] → (os : List Open) → Performed types l w s s' (New x t values) names names' os os lives'' asked asked' log log'
-new-performed types classes l w p s s1 s' x t values names names' lives lives' lives'' asked asked' log log1 log' reply d c leaves leaves1 leaves' cs f g free h made e n same work down os =
+    IfSome log (λ es. Leaves p es s) → IfSome log1 (λ es. Leaves p es s1) → IfSome log' (λ es. Leaves p es s') → Classes types classes → slice_get types t.0 ≡ Some d → slice_get classes t.0 ≡ Some c → safe.is_owning (value_of (names x)) ≡ false → Created l c d.name values log log1 lives lives' reply → names' ≡ with_name x (answered t (reply_of reply)) names → asked' ≤ asked + 2 →
+    lives'' ≡ lives' → GrewBy (Behind w) s1 log1 log' → Behind w s' [] → (os : List Open) → Performed types l w s s' (New x t values) names names' os os lives lives'' asked asked' log log'
+new-performed types classes l w p s s1 s' x t values names names' lives lives' lives'' asked asked' log log1 log' reply d c leaves leaves1 leaves' cs f g free made e n same work down os =
     let of = class-at types classes t.0 d c cs f g in record {
       grew = called types l w p (New x t values) s s1 s' names names' os log log1 log' leaves leaves1 leaves'
           (grew-say l (λ own. RunsNew types x t values names own names') (entry.New d.name values ∷ made.own) s log log1 made.records
           (record { class = c; declared = d; of_class = of; own = made.own; reply = reply_of reply; part_is = refl; allocates = made.allocates; after_is = e })) work;
       safe = λ s y. rw e (safe-reply s os names x t values reply y);
-      holds = rw same (rw e (holds-reply types lives lives' names x t c d reply of free made.begins h));
+      holds = λ base h. rw same (rw e (holds-reply types base lives lives' names x t c d reply of free made.begins h));
       can = λ a b. b;
       cost = omega (arith, n);
       weight = omega arith;
@@ -77,14 +77,14 @@ plain-at (x ∷ xs) zero d e f = let q : x ≡ d = cc in rw q at (not-true x.cou
 plain-at (x ∷ xs) (suc t) d e f = plain-at xs t d (all-behind x.counted _ e) f
 
 pub drop-performed : (types : List TypeDeclaration) (classes : List ℕ) (l : ℕ) (w : Option (List ℕ)) (p : ℕ) (s s1 s' : State ℕ) (x : List ℕ) (t : TypeId) (o : ObjId) (names names' : Names) (lives lives' lives'' : Lives) (asked asked' : ℕ) (log log1 log' : Option Log) (c : ℕ) (d : TypeDeclaration) →
-    IfSome log (λ es. Leaves p es s) → IfSome log1 (λ es. Leaves p es s1) → IfSome log' (λ es. Leaves p es s') → Classes types classes → OfClass types t.0 c d → names x ≡ Object t o.unit o.life → Holds types lives names → Disposed l c o log log1 lives lives' → names' ≡ with_name x Nothing names → asked' ≤ asked + 2 →
-    lives'' ≡ lives' → GrewBy (Behind w) s1 log1 log' → Behind w s' [] → (os : List Open) → Performed types l w s s' (Drop x) names names' os os lives'' asked asked' log log'
-drop-performed types classes l w p s s1 s' x t o names names' lives lives' lives'' asked asked' log log1 log' c d leaves leaves1 leaves' cs of held h gone e n same work down os = record {
+    IfSome log (λ es. Leaves p es s) → IfSome log1 (λ es. Leaves p es s1) → IfSome log' (λ es. Leaves p es s') → Classes types classes → OfClass types t.0 c d → names x ≡ Object t o.unit o.life → Disposed l c o log log1 lives lives' → names' ≡ with_name x Nothing names → asked' ≤ asked + 2 →
+    lives'' ≡ lives' → GrewBy (Behind w) s1 log1 log' → Behind w s' [] → (os : List Open) → Performed types l w s s' (Drop x) names names' os os lives lives'' asked asked' log log'
+drop-performed types classes l w p s s1 s' x t o names names' lives lives' lives'' asked asked' log log1 log' c d leaves leaves1 leaves' cs of held gone e n same work down os = record {
   grew = called types l w p (Drop x) s s1 s' names names' os log log1 log' leaves leaves1 leaves'
       (grew-say l (λ own. RunsDrop types x names own names') (entry.Drop o.unit o.life ∷ entry.Last ∷ gone.own) s log log1 gone.records
       (record { type = t; unit = o.unit; life = o.life; held = held; class = c; declared = d; of_class = of; plain = plain-at types t.0 d cs.plain of.found; home = gone.home; own = gone.own; part_is = refl; frees = gone.frees; after_is = e })) work;
   safe = λ s y. rw e (rw (store-with x Nothing names) y.1.3);
-  holds = rw same (rw e (holds-less types lives lives' names x t o.unit o.life held gone.ends h));
+  holds = λ base h. rw same (rw e (holds-less types base lives lives' names x t o.unit o.life held gone.ends h));
   can = λ a b. b;
   cost = omega (arith, n);
   weight = omega arith;
@@ -92,8 +92,8 @@ drop-performed types classes l w p s s1 s' x t o names names' lives lives' lives
 }
 
 -- what a name that owns holds
-pub owned-object : (types : List TypeDeclaration) (lives : Lives) (names : Names) (x : List ℕ) (t : TypeId) (o : ObjId) → names x ≡ Object t o.unit o.life → Holds types lives names → (c : ℕ) × LivesAs lives c o.unit o.life
-owned-object types lives names x t o held h = let l = h.living x t o.unit o.life held in (l.0, l.3)
+pub owned-object : (types : List TypeDeclaration) (base lives : Lives) (names : Names) (x : List ℕ) (t : TypeId) (o : ObjId) → names x ≡ Object t o.unit o.life → Holds types base lives names → (c : ℕ) × LivesAs lives c o.unit o.life
+owned-object types base lives names x t o held h = let l = h.living x t o.unit o.life held in (l.0, l.3)
 
 -- a block that runs once
 pub block-once : (types : List TypeDeclaration) (l : ℕ) (w : Option (List ℕ)) (o : Open) (body : Block) → o.rest.now ≡ block_list body → o.repeats ≡ 0 → (names last : Names) (s : State ℕ) (part : Log) → RunsOpen types l w o names last s part → RunsBlock types l (Behind w) body names last s part
@@ -141,16 +141,16 @@ max-right : (a b : ℕ) → b ≤ max a b
 max-right a b = omega arith
 
 -- a statement that opens a block
-push-performed : (types : List TypeDeclaration) (l : ℕ) (w : Option (List ℕ)) (s : State ℕ) (a : Action) (names : Names) (before now : List Open) (rest : List Statement) (n : ℕ) (body : Block) (lives : Lives) (asked : ℕ) (log : Option Log) → 0 < length before → Behind w s [] → (o : Pushed before now rest n body) → Holds types lives names →
+push-performed : (types : List TypeDeclaration) (l : ℕ) (w : Option (List ℕ)) (s : State ℕ) (a : Action) (names : Names) (before now : List Open) (rest : List Statement) (n : ℕ) (body : Block) (lives : Lives) (asked : ℕ) (log : Option Log) → 0 < length before → Behind w s [] → (o : Pushed before now rest n body) →
     ((m : Names) (p : Log) → RunsOpen types l w o.top names m s p → RunsAction types l (Behind w) a names m s p) →
     ((e : Setting) → safe.SafeAction e (store_of names) a (λ r. SafeStack e r before) → SafeStack e (store_of names) (o.top ∷ before)) →
     (can_run_action types a ≡ true → (can_run_list types o.top.rest.now ≡ true) × (can_run_block types o.top.body.now ≡ true)) →
     suc (open_cost o.top) ≤ action_cost a →
-    Performed types l w s s a names names before now lives asked asked log log
-push-performed types l w s a names before now rest n body lives asked log some down o h runs safe can cost = record {
+    Performed types l w s s a names names before now lives lives asked asked log log
+push-performed types l w s a names before now rest n body lives asked log some down o runs safe can cost = record {
   grew = λ last final z. grew-map (RunsStack types l w (o.top ∷ before) names last) (Followed (RunsStatement types l w a) (RunsStack types l w before) names last) s log final (λ part y. opened types l w a o.top before names last s part some runs y) (rw o.now_is at z);
   safe = λ e y. rw o.now_is (safe e y);
-  holds = h;
+  holds = λ base h. h;
   can = λ x y. rw o.now_is (let c = can x in both (can_run_list types o.top.rest.now) (can_run_block types o.top.body.now && can_run_stack types before) c.0 (both (can_run_block types o.top.body.now) (can_run_stack types before) c.1 y));
   cost = rw o.now_is (omega (arith, cost));
   weight = rw o.now_is (omega (arith, cost));
@@ -163,25 +163,25 @@ once-cost types o body r n = rw r (rw n (omega (arith, block-cost body)))
 times-cost : (o : Open) (k : ℕ) (body : Block) → o.rest.now ≡ [] → o.repeats ≡ k → o.body.now ≡ body → open_cost o ≡ k * (1 + block_cost body)
 times-cost o k body r n b = rw r (rw n (rw b (omega arith)))
 
-pub repeat-performed : (types : List TypeDeclaration) (l : ℕ) (w : Option (List ℕ)) (s : State ℕ) (k : ℕ) (body : Block) (names : Names) (before now : List Open) (lives : Lives) (asked : ℕ) (log : Option Log) → 0 < length before → Behind w s [] → Pushed before now [] k body → Holds types lives names → Performed types l w s s (Repeat k body) names names before now lives asked asked log log
-repeat-performed types l w s k body names before now lives asked log some down o h =
-    push-performed types l w s (Repeat k body) names before now [] k body lives asked log some down o h
+pub repeat-performed : (types : List TypeDeclaration) (l : ℕ) (w : Option (List ℕ)) (s : State ℕ) (k : ℕ) (body : Block) (names : Names) (before now : List Open) (lives : Lives) (asked : ℕ) (log : Option Log) → 0 < length before → Behind w s [] → Pushed before now [] k body → Performed types l w s s (Repeat k body) names names before now lives lives asked asked log log
+repeat-performed types l w s k body names before now lives asked log some down o =
+    push-performed types l w s (Repeat k body) names before now [] k body lives asked log some down o
     (λ m p y. block-times types l w o.top k body o.rest_is o.repeats_is o.body_is names m s p y)
     (λ e y. times-safe e o.top before names k body o.rest_is o.repeats_is o.body_is y)
     (λ y. (rw o.rest_is refl, rw o.body_is y))
     (let c = times-cost o.top k body o.rest_is o.repeats_is o.body_is in omega (arith, c))
 
-pub first-performed : (types : List TypeDeclaration) (l : ℕ) (w : Option (List ℕ)) (s : State ℕ) (x : List ℕ) (t : TypeId) (u n : ℕ) (body : Block) (otherwise : Held-Action-If-2) (names : Names) (before now : List Open) (lives : Lives) (asked : ℕ) (log : Option Log) → 0 < length before → Behind w s [] → names x ≡ Object t u n → Pushed before now (block_list body) 0 body → Holds types lives names → Performed types l w s s (If' x body otherwise) names names before now lives asked asked log log
-first-performed types l w s x t u n body otherwise names before now lives asked log some down held o h =
-    push-performed types l w s (If' x body otherwise) names before now (block_list body) 0 body lives asked log some down o h
+pub first-performed : (types : List TypeDeclaration) (l : ℕ) (w : Option (List ℕ)) (s : State ℕ) (x : List ℕ) (t : TypeId) (u n : ℕ) (body : Block) (otherwise : Held-Action-If-2) (names : Names) (before now : List Open) (lives : Lives) (asked : ℕ) (log : Option Log) → 0 < length before → Behind w s [] → names x ≡ Object t u n → Pushed before now (block_list body) 0 body → Performed types l w s s (If' x body otherwise) names names before now lives lives asked asked log log
+first-performed types l w s x t u n body otherwise names before now lives asked log some down held o =
+    push-performed types l w s (If' x body otherwise) names before now (block_list body) 0 body lives asked log some down o
     (λ m p y. rw held (block-once types l w o.top body o.rest_is o.repeats_is names m s p y))
     (λ e y. once-safe e o.top before names body o.rest_is o.repeats_is (y.1 t (inl (ap value_of held))))
     (λ y. let c = left (can_run_block types body) (can_run_else types otherwise) y in (rw o.rest_is (sym (block-can types body) ∙ c), rw o.body_is c))
     (let c = once-cost types o.top body o.rest_is o.repeats_is in omega (arith, c, max-left (block_cost body) (else_cost otherwise)))
 
-pub other-performed : (types : List TypeDeclaration) (l : ℕ) (w : Option (List ℕ)) (s : State ℕ) (x : List ℕ) (body other : Block) (otherwise : Held-Action-If-2) (names : Names) (before now : List Open) (lives : Lives) (asked : ℕ) (log : Option Log) → 0 < length before → Behind w s [] → names x ≡ Null → otherwise ≡ Some' other → Pushed before now (block_list other) 0 other → Holds types lives names → Performed types l w s s (If' x body otherwise) names names before now lives asked asked log log
-other-performed types l w s x body other otherwise names before now lives asked log some down held q o h =
-    push-performed types l w s (If' x body otherwise) names before now (block_list other) 0 other lives asked log some down o h
+pub other-performed : (types : List TypeDeclaration) (l : ℕ) (w : Option (List ℕ)) (s : State ℕ) (x : List ℕ) (body other : Block) (otherwise : Held-Action-If-2) (names : Names) (before now : List Open) (lives : Lives) (asked : ℕ) (log : Option Log) → 0 < length before → Behind w s [] → names x ≡ Null → otherwise ≡ Some' other → Pushed before now (block_list other) 0 other → Performed types l w s s (If' x body otherwise) names names before now lives lives asked asked log log
+other-performed types l w s x body other otherwise names before now lives asked log some down held q o =
+    push-performed types l w s (If' x body otherwise) names before now (block_list other) 0 other lives asked log some down o
     (λ m p y. rw held (rw q (block-once types l w o.top other o.rest_is o.repeats_is names m s p y)))
     (λ e y. once-safe e o.top before names other o.rest_is o.repeats_is (rw q at (y.0 (ap value_of held))))
     (λ y. let c = rw q at (right (can_run_block types body) (can_run_else types otherwise) y) in (rw o.rest_is (sym (block-can types other) ∙ c), rw o.body_is c))
@@ -190,12 +190,12 @@ other-performed types l w s x body other otherwise names before now lives asked 
 skip-runs : (types : List TypeDeclaration) (l : ℕ) (w : Option (List ℕ)) (s : State ℕ) (x : List ℕ) (body : Block) (otherwise : Held-Action-If-2) (names : Names) → names x ≡ Null → otherwise ≡ None' → RunsAction types l (Behind w) (If' x body otherwise) names names s []
 skip-runs types l w s x body otherwise names held q = rw held (rw q (refl, refl))
 
-pub skip-performed : (types : List TypeDeclaration) (l : ℕ) (w : Option (List ℕ)) (s : State ℕ) (x : List ℕ) (body : Block) (otherwise : Held-Action-If-2) (names : Names) (before : List Open) (lives : Lives) (asked : ℕ) (log : Option Log) → Behind w s [] → names x ≡ Null → otherwise ≡ None' → Holds types lives names → Performed types l w s s (If' x body otherwise) names names before before lives asked asked log log
-skip-performed types l w s x body otherwise names before lives asked log down held q h = record {
+pub skip-performed : (types : List TypeDeclaration) (l : ℕ) (w : Option (List ℕ)) (s : State ℕ) (x : List ℕ) (body : Block) (otherwise : Held-Action-If-2) (names : Names) (before : List Open) (lives : Lives) (asked : ℕ) (log : Option Log) → Behind w s [] → names x ≡ Null → otherwise ≡ None' → Performed types l w s s (If' x body otherwise) names names before before lives lives asked asked log log
+skip-performed types l w s x body otherwise names before lives asked log down held q = record {
   grew = λ last final z. grew-map (RunsStack types l w before names last) (Followed (RunsStatement types l w (If' x body otherwise)) (RunsStack types l w before) names last) s log final
       (λ part y. (names, record { one = []; two = part; part_is = refl; is_first = (names, record { one = []; two = []; part_is = refl; is_first = skip-runs types l w s x body otherwise names held q; is_second = (refl, down) }); is_second = y })) z;
   safe = λ e y. rw q at (y.0 (ap value_of held));
-  holds = h;
+  holds = λ base h. h;
   can = λ x y. y;
   cost = omega arith;
   weight = omega arith;

@@ -1,5 +1,5 @@
 -- A frame at a script's beginning.
-use Rattle.std.proofs.Common.{◌≡◌, true, ◌&&◌, List, [], refl, sym, ◌∙◌, arith, ℕ, Option, Some, None}
+use Rattle.std.proofs.Common.{◌≡◌, true, ◌&&◌, List, [], refl, sym, ◌∙◌, arith, ℕ, Option, inl}
 use Rattle.bm_lang.specs.declared.scenario.Block.{Block}
 use Rattle.bm_lang.specs.declared.scenario.TypeDeclaration.{TypeDeclaration}
 use Rattle.bm_lang.specs.Limits.{block_cost}
@@ -15,7 +15,7 @@ use Rattle.bm_exec.specs.Lists.{block_list, Behind}
 use Rattle.bm_exec.specs.Cost.{stack_cost}
 use Rattle.bm_exec.specs.Stack.{RunsOpen, RunsStack, SafeStack}
 use Rattle.bm_exec.specs.Runnable.{can_run_block, can_run_list, can_run_stack}
-use Rattle.bm_exec.specs.Living.{Living, Lives, Holds}
+use Rattle.bm_exec.specs.Living.{Lives, Holds}
 use Rattle.bm_exec.specs.Steps.{Pushed}
 use Rattle.bm_exec.proofs.Blocks.{block-can}
 use Rattle.bm_exec.proofs.Objects.{nothing-is-none}
@@ -34,12 +34,12 @@ start-safe e b now names q p s = rw q (rw p.now_is (once-safe e p.top [] no_name
 pub start-runs : (types : List TypeDeclaration) (l : ℕ) (w : Option (List ℕ)) (b : Block) (now : List Open) → Pushed [] now (block_list b) 0 b → (names last : Names) (s : State ℕ) (part : Log) → RunsStack types l w now names last s part → RunsBlock types l (Behind w) b names last s part
 start-runs types l w b now p names last s part x = block-once types l w p.top b p.rest_is p.repeats_is names last s part (undone-last (RunsOpen types l w p.top) names last s part (rw p.now_is at x))
 
-pub start-holds : (types : List TypeDeclaration) (lives : Lives) (names : Names) → names ≡ no_names → ((u : ℕ) → lives u ≡ None) → Holds types lives names
-start-holds types lives names e none = rw e (record {
+-- what lives then is nobody's of the script
+pub start-holds : (types : List TypeDeclaration) (lives : Lives) (names : Names) → names ≡ no_names → Holds types lives lives names
+start-holds types lives names e = rw e (record {
   living = λ x t u n f. absurd (nothing-is-none t u n f);
   once = λ x y t t' u n n' f g. absurd (nothing-is-none t u n f);
-  reached = λ u l f. absurd (none-lives (none u) f);
+  apart = λ x t u n f. absurd (nothing-is-none t u n f);
+  before = λ u l f. f;
+  reached = λ u l f. inl f;
 })
-  where
-    none-lives : {x : Option Living} {l : Living} → x ≡ None → x ≡ Some l → ⊥
-    none-lives p q = cc

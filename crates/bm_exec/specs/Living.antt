@@ -1,23 +1,17 @@
 -- The objects that live, by their units.
-use Rattle.std.specs.Prelude.{◌≡◌, ◌≤◌, ℕ, List, ◌∷◌, Option, Some, None, eqb, if◌then◌else◌}
-use Rattle.bm_journal.specs.declared.ids.Domain.{Domain}
+use Rattle.std.specs.Prelude.{◌≡◌, ◌⊎◌, ℕ, List, ◌∷◌, Option, Some, None, eqb, if◌then◌else◌}
 use Rattle.bm_journal.specs.declared.entry.Entry.{Entry}
 use Rattle.bm_journal.specs.declared.entry.Entry.TheVariants as entry
 use Rattle.bm_journal.specs.declared.ids.ObjId.{ObjId}
 use Rattle.bm_lang.specs.declared.scenario.TypeDeclaration.{TypeDeclaration}
 use Rattle.bm_lang.specs.declared.scenario.TypeId.{TypeId}
 pub use Rattle.bm_grace.specs.Known.{Living, Lives}
-use Rattle.bm_grace.specs.Known.{Known, Objects, side}
+use Rattle.bm_grace.specs.Known.{Objects}
 use Rattle.bm_law.specs.Lists.{Log}
 use Rattle.bm_law.specs.Phrases.{FreePhrase}
 use Rattle.bm_law.specs.Spans.{Records}
-use Rattle.bm_law.specs.Alone.{Alone}
-use Rattle.bm_deferred.specs.Begun.{Progressed, begun_by}
-use Rattle.bm_deferred.specs.Inboxes.{Delivered}
-use Rattle.bm_deferred.specs.Pages.{StaysSupplied}
 use Rattle.bm_lawful.specs.Held.{Names, Object}
 use Rattle.bm_lived.specs.Lived.{Lived}
-use Rattle.bm_lived.specs.Told.{LivesTold}
 use Rattle.bm_lawful.specs.Opened.{OfClass}
 use Rattle.bm_lawful.specs.Calls.{Allocates}
 
@@ -69,26 +63,12 @@ pub record Disposed (l c : ℕ) (o : ObjId) (log log' : Option Log) (lives lives
   pub to_home : home_of (lives o.unit) ≡ Some home
   pub ends : lives' ≡ with_life o.unit None lives
 
--- No handler was added to those that wait; where none ran, the log has grown by entries of the machine's level alone, and no
--- section began or ended. The side is the same one, and has those periods in progress that the entries tell; and of the parcels
--- that are told, each that came was the oldest one, each that went goes to one of the processors, nothing was swept, and those
--- that are left are what the entries tell. The objects that live, and how many lives began, are what they tell. If each page that
--- has a class gave a unit by entries of the log, and these fetched fewer units than were wanted only where each page gave one, it is
--- so now.
-pub record Undisturbed {M : Type 0} (levels waits : M → ℕ) (logs : M → Option Log) (knows : M → Known) (before now : M) : Type 0 where
-  pub pending : waits now ≤ waits before
-  pub alone : waits now ≡ waits before → Alone (levels before) (logs before) (logs now)
-  pub words : waits now ≡ waits before → (d : Domain) → (side d (knows now)).word ≡ (side d (knows before)).word
-  pub processors : (knows now).grace.processors ≡ (knows before).grace.processors
-  pub processor : (knows now).grace.processor ≡ (knows before).grace.processor
-  pub periods : (d : Domain) → Progressed (levels before) d (begun_by (side d (knows before)).number) (begun_by (side d (knows now)).number) (logs before) (logs now)
-  pub mail : Delivered (levels before) (knows before).grace.processors (knows before).grace.processor (knows before).parcels (knows now).parcels (logs before) (logs now)
-  pub supplied : StaysSupplied (levels before) (knows before).pages (knows now).pages (logs before) (logs now)
-  pub lives : LivesTold (knows before).grace.processor (lived_in (knows before).objects) (lived_in (knows now).objects) (logs before) (logs now)
-
--- Each name that holds an object holds one that lives, of its type's class, no two names hold one object, and each object
--- that lives is held by a name.
-pub record Holds (types : List TypeDeclaration) (lives : Lives) (names : Names) : Type 0 where
+-- The names of a script, before which the objects of `base` lived. Each name that holds an object holds one that lives, of its
+-- type's class and none of those, and no two names hold one object. Those still live as they did, and each other object that
+-- lives is held by a name.
+pub record Holds (types : List TypeDeclaration) (base lives : Lives) (names : Names) : Type 0 where
   pub living : (x : List ℕ) (t : TypeId) (u n : ℕ) → names x ≡ Object t u n → (c : ℕ) × (d : TypeDeclaration) × OfClass types t.0 c d × LivesAs lives c u n
   pub once : (x y : List ℕ) (t t' : TypeId) (u n n' : ℕ) → names x ≡ Object t u n → names y ≡ Object t' u n' → x ≡ y
-  pub reached : (u : ℕ) (l : Living) → lives u ≡ Some l → (x : List ℕ) × (t : TypeId) × (n : ℕ) × (names x ≡ Object t u n)
+  pub apart : (x : List ℕ) (t : TypeId) (u n : ℕ) → names x ≡ Object t u n → base u ≡ None
+  pub before : (u : ℕ) (l : Living) → base u ≡ Some l → lives u ≡ Some l
+  pub reached : (u : ℕ) (l : Living) → lives u ≡ Some l → (base u ≡ Some l) ⊎ ((x : List ℕ) × (t : TypeId) × (n : ℕ) × (names x ≡ Object t u n))

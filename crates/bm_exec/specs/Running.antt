@@ -7,7 +7,6 @@ use Rattle.bm_lang.specs.declared.scenario.TypeDeclaration.{TypeDeclaration}
 use Rattle.bm_lang.specs.Limits.{action_cost}
 use Rattle.bm_law.specs.State.{State}
 use Rattle.bm_law.specs.Lists.{Log}
-use Rattle.bm_law.specs.Alone.{Alone}
 use Rattle.bm_deferred.specs.Grown.{GrewBy}
 use Rattle.bm_lawful.specs.Held.{Names, no_names, OwnsNothing}
 use Rattle.bm_lawful.specs.Runs.{Followed, RunsBlock}
@@ -24,36 +23,33 @@ use Rattle.bm_exec.specs.Steps.{weight}
 
 -- One statement, which was taken off the open blocks `before`, was performed with the work behind it, and the lists went from
 -- s to s'. Whatever the blocks left add to the log then, with what the statement added that is the statement, and then what
--- follows it. No work is left to run behind it.
-pub record Performed (types : List TypeDeclaration) (l : ℕ) (w : Option (List ℕ)) (s s' : State ℕ) (a : Action) (names names' : Names) (before now : List Open) (lives' : Lives) (asked asked' : ℕ) (log log' : Option Log) : Type 0 where
+-- follows it. No work is left to run behind it. Whatever objects were nobody's here before are so still.
+pub record Performed (types : List TypeDeclaration) (l : ℕ) (w : Option (List ℕ)) (s s' : State ℕ) (a : Action) (names names' : Names) (before now : List Open) (lives lives' : Lives) (asked asked' : ℕ) (log log' : Option Log) : Type 0 where
   pub grew : (after : Names) (final : Option Log) → GrewBy (RunsStack types l w now names' after) s' log' final → GrewBy (Followed (RunsStatement types l w a) (RunsStack types l w before) names after) s log final
   pub safe : (e : Setting) → SafeAction e (store_of names) a (λ r. SafeStack e r before) → SafeStack e (store_of names') now
-  pub holds : Holds types lives' names'
+  pub holds : (base : Lives) → Holds types base lives names → Holds types base lives' names'
   pub can : can_run_action types a ≡ true → can_run_stack types before ≡ true → can_run_stack types now ≡ true
   pub cost : asked' + 2 * stack_cost now ≤ asked + 2 * (action_cost a + stack_cost before)
   pub weight : weight now < 2 * action_cost a + weight before
   pub down : Behind w s' []
 
 -- Some statements were performed, from the frame's blocks `before` and names on.
-pub record Went (types : List TypeDeclaration) (l : ℕ) (w : Option (List ℕ)) (s s' : State ℕ) (names names' : Names) (before now : List Open) (lives' : Lives) (asked asked' : ℕ) (log log' : Option Log) : Type 0 where
+pub record Went (types : List TypeDeclaration) (l : ℕ) (w : Option (List ℕ)) (s s' : State ℕ) (names names' : Names) (before now : List Open) (lives lives' : Lives) (asked asked' : ℕ) (log log' : Option Log) : Type 0 where
   pub grew : (after : Names) (final : Option Log) → GrewBy (RunsStack types l w now names' after) s' log' final → GrewBy (RunsStack types l w before names after) s log final
   pub safe : (e : Setting) → SafeStack e (store_of names) before → SafeStack e (store_of names') now
-  pub holds : Holds types lives' names'
+  pub holds : (base : Lives) → Holds types base lives names → Holds types base lives' names'
   pub can : can_run_stack types before ≡ true → can_run_stack types now ≡ true
   pub cost : asked' + 2 * stack_cost now ≤ asked + 2 * stack_cost before
   pub down : Behind w s' []
 
--- All was run, and the names own nothing: the log has grown by what the open blocks run, begun with the lists s. Of the
--- handlers so many waited before and so many wait now: where none ran, all entries are of the script's level.
-pub record Ran (types : List TypeDeclaration) (l : ℕ) (w : Option (List ℕ)) (s : State ℕ) (names names' : Names) (before : List Open) (waits waits' : ℕ) (log log' : Option Log) : Type 0 where
+-- All was run, and the names own nothing: the log has grown by what the open blocks run, begun with the lists s.
+pub record Ran (types : List TypeDeclaration) (l : ℕ) (w : Option (List ℕ)) (s : State ℕ) (names names' : Names) (before : List Open) (log log' : Option Log) : Type 0 where
   pub grew : GrewBy (RunsStack types l w before names names') s log log'
-  pub alone : waits' ≡ waits → Alone l log log'
   pub owns_nothing : (x : List ℕ) → OwnsNothing (names' x)
 
 -- A script was run from its beginning to its end: the log has grown by a run of its block, begun with names that hold
--- nothing, and at the end its names own nothing. Where no handler ran, all entries are of the script's level.
-pub record RanScript (types : List TypeDeclaration) (l : ℕ) (w : Option (List ℕ)) (s : State ℕ) (script : Script) (waits waits' : ℕ) (log log' : Option Log) : Type 0 where
+-- nothing, and at the end its names own nothing.
+pub record RanScript (types : List TypeDeclaration) (l : ℕ) (w : Option (List ℕ)) (s : State ℕ) (script : Script) (log log' : Option Log) : Type 0 where
   pub after : Names
   pub grew : GrewBy (RunsBlock types l (Behind w) script.body no_names after) s log log'
-  pub alone : waits' ≡ waits → Alone l log log'
   pub owns_nothing : (x : List ℕ) → OwnsNothing (after x)

@@ -31,7 +31,7 @@ pub struct Open<'s> {
 #[derive(Drop)]
 pub struct Frame<'s> {
     pub blocks: Vec<Open<'s>>,
-    pub names: NameTable<'s>,
+    pub names: NameTable,
 }
 
 // The statements of a block.

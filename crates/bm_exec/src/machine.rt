@@ -1,12 +1,11 @@
 //! Machines: what statements run on.
 
-ghost use Rattle.std.specs.Prelude.{◌≡◌, ◌+◌, ◌<◌, ◌≤◌, ◌^◌, [], ℕ, IfSome, List, OnOk, Option};
-ghost use Rattle.bm_grace.specs.Known.{Known};
+ghost use Rattle.std.specs.Prelude.{◌≡◌, ◌+◌, ◌<◌, ◌≤◌, ◌^◌, [], ℕ, IfSome, IsOk, List, None, OnOk, Option};
 ghost use Rattle.bm_law.specs.State.{State};
 ghost use Rattle.bm_law.specs.Lists.{Log, Leaves};
 ghost use Rattle.bm_deferred.specs.Grown.{GrewBy};
 ghost use Rattle.bm_exec.specs.Lists.{Behind};
-ghost use Rattle.bm_exec.specs.Living.{Lives, Created, Disposed, LivesAs, Undisturbed};
+ghost use Rattle.bm_exec.specs.Living.{Lives, Created, Disposed, LivesAs};
 
 use bm_class::Class;
 use bm_journal::{ObjId, Values};
@@ -27,17 +26,12 @@ pub trait Machine {
     /// The level that the script runs at.
     ghost level: { Self → ℕ };
 
-    /// How many handlers haven't run.
-    ghost pending: { Self → ℕ };
-
     /// The objects that live.
     ghost lives: { Self → Lives };
 
-    /// How many times it was asked for an object, or for the work behind a statement.
+    /// How many times it was asked for an object, or for the work behind a statement. It may count beforehand what handlers that
+    /// are planned may still ask for, so a call may lower it.
     ghost asked: { Self → ℕ };
-
-    /// What its processor's side of all that processors share knows.
-    ghost known: { Self → Known };
 
     /// The classes for which deferred work runs behind each statement, until no flag is up; none where none runs.
     ghost behind: { Self → Option (List ℕ) };
@@ -48,6 +42,9 @@ pub trait Machine {
     /// What the machine needs and leaves.
     ghost sound: { Self → Type 0 };
 
+    /// What a call does to, and leaves of, what the machine works on; so is what several calls do, one after the other.
+    ghost keeps: { Self → Self → Type 0 };
+
     /// Asks for an object of a class, of a type with this name, with these values of its fields. None exactly where the
     /// allocation answers null. It takes no memory but the recorder's.
     fn create(&mut self, class: Class, name: Name, values: Values) -> Option<ObjId>
@@ -56,11 +53,11 @@ pub trait Machine {
         ensures created { Created (level self.old) class name values (log self.old) (log self.new) (lives self.old) (lives self.new) result }
         ensures sound { sound self.new }
         ensures level { level self.new ≡ level self.old }
-        ensures asked { asked self.new ≡ asked self.old + 1 }
+        ensures asked { asked self.new ≤ asked self.old + 1 }
         ensures processor { processor self.new ≡ processor self.old }
         ensures behind { behind self.new ≡ behind self.old }
         ensures through { through self.new ≡ through self.old }
-        ensures alone { Undisturbed level pending log known self.old self.new };
+        ensures keeps { keeps self.old self.new };
 
     /// Gives up the one reference to an object that lives.
     fn dispose(&mut self, object: ObjId)
@@ -69,15 +66,15 @@ pub trait Machine {
         ensures disposed { (c : ℕ) → LivesAs (lives self.old) c object.unit object.life → Disposed (level self.old) c object (log self.old) (log self.new) (lives self.old) (lives self.new) }
         ensures sound { sound self.new }
         ensures level { level self.new ≡ level self.old }
-        ensures asked { asked self.new ≡ asked self.old }
+        ensures asked { asked self.new ≤ asked self.old }
         ensures processor { processor self.new ≡ processor self.old }
         ensures behind { behind self.new ≡ behind self.old }
         ensures through { through self.new ≡ through self.old }
-        ensures alone { Undisturbed level pending log known self.old self.new };
+        ensures keeps { keeps self.old self.new };
 
     /// Runs the deferred work that stands behind a statement, if any runs: the work of the first of its classes whose flag is up,
-    /// and again, until no flag is up. Want of memory is the only refusal. In kernel/bpf/memalloc.c it runs behind the code that
-    /// asked for it, by irq_work_raise.
+    /// and again, until no flag is up. Want of memory is the only refusal, and where no work runs there is none. In
+    /// kernel/bpf/memalloc.c the work runs behind the code that asked for it, by irq_work_raise.
     fn settle(&mut self) -> Result<(), NoMemory>
         requires sound { sound self.old }
         requires room { asked self.old + 1 < 2 ^ 22 }
@@ -90,8 +87,15 @@ pub trait Machine {
         ensures processor { OnOk result (processor self.new ≡ processor self.old) }
         ensures behind { OnOk result (behind self.new ≡ behind self.old) }
         ensures through { through self.new ≡ through self.old }
-        ensures alone { OnOk result (Undisturbed level pending log known self.old self.new) };
+        ensures keeps { OnOk result (keeps self.old self.new) }
+        ensures none { behind self.old ≡ None → IsOk result };
 
     /// A log that is told leaves these lists.
     ghost told: { (m : Self) → sound m → IfSome (log m) (λ es. Leaves (processor m) es (lists m)) };
+
+    /// Where nothing is called all is kept.
+    ghost keeps_same: { (m : Self) → keeps m m };
+
+    /// What each of two calls keeps, both keep.
+    ghost keeps_join: { (a b c : Self) → keeps a b → keeps b c → keeps a c };
 }

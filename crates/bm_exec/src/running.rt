@@ -1,6 +1,6 @@
 //! Running a script.
 
-ghost use Rattle.std.specs.Prelude.{◌≡◌, ◌+◌, ◌*◌, ◌<◌, ◌≤◌, ◌^◌, ◌∷◌, [], OnOk, IfOk, true, false, Some, None, ℕ, List, Option, IfSome, reverse, length, slice_get};
+ghost use Rattle.std.specs.Prelude.{◌≡◌, ◌+◌, ◌*◌, ◌<◌, ◌≤◌, ◌^◌, ◌∷◌, [], OnOk, IsOk, IfOk, true, false, Some, None, ℕ, List, Option, IfSome, reverse, length, slice_get};
 ghost use Rattle.bm_lang.specs.declared.scenario.Action.TheVariants as action;
 ghost use Rattle.bm_lang.specs.declared.scenario.TypeDeclaration.{TypeDeclaration};
 ghost use Rattle.bm_lang.specs.Limits.{block_cost};
@@ -8,13 +8,13 @@ ghost use Rattle.bm_check.specs.Scripts.{Accepted};
 ghost use Rattle.bm_lawful.specs.Held.{Held};
 ghost use Rattle.bm_check.specs.Statements.{Setting};
 ghost use Rattle.bm_check.specs.Values.{SafeAction, is_owning};
-ghost use Rattle.bm_exec.specs.Seen.{names_of};
+ghost use Rattle.bm_exec.specs.Seen.{names_of, has_name};
 ghost use Rattle.bm_exec.specs.Stores.{store_of, value_of};
 ghost use Rattle.bm_exec.specs.Stack.{SafeStack};
 ghost use Rattle.bm_exec.specs.Cost.{stack_cost};
 ghost use Rattle.bm_exec.specs.Runnable.{Classes, can_run_action, can_run_block, can_run_stack};
 ghost use Rattle.bm_exec.specs.Lists.{Behind};
-ghost use Rattle.bm_exec.specs.Living.{Holds, Undisturbed};
+ghost use Rattle.bm_exec.specs.Living.{Holds, Lives};
 ghost use Rattle.bm_exec.specs.declared.frame.Open.{Open};
 ghost use Rattle.bm_exec.specs.Running.{Performed, Ran, RanScript};
 ghost use Rattle.bm_exec.specs.declared.running.Stopped.TheVariants as stopped;
@@ -47,8 +47,8 @@ pub enum Stopped {
 }
 
 // `new x T v..`: asks for an object, which the name then holds, or null. Deferred work runs behind it.
-fn perform_new<'s, M: Machine>(
-    names: &mut NameTable<'s>,
+pub(crate) fn perform_new<'s, M: Machine>(
+    names: &mut NameTable,
     machine: &mut M,
     types: &Types<'s>,
     name: &'s Name,
@@ -58,17 +58,19 @@ fn perform_new<'s, M: Machine>(
     requires sound { M.sound machine.old }
     requires classes { Classes types.now.declared.now types.now.classes.now }
     requires room { M.asked machine.old + 2 < 2 ^ 22 }
-    requires holds { Holds types.now.declared.now (M.lives machine.old) (names_of names.old) }
+    requires holds { (base : Lives) × Holds types.now.declared.now base (M.lives machine.old) (names_of names.old) }
     requires can { can_run_action types.now.declared.now (action.New name.now type_id values.now) ≡ true }
     requires free { is_owning (value_of (names_of names.old name.now)) ≡ false }
-    ensures performed { OnOk result ((os : List Open) → Performed types.now.declared.now (M.level machine.old) (M.behind machine.old) (M.lists machine.old) (M.lists machine.new) (action.New name.now type_id values.now) (names_of names.old) (names_of names.new) os os (M.lives machine.new) (M.asked machine.old) (M.asked machine.new) (M.log machine.old) (M.log machine.new)) }
+    ensures performed { OnOk result ((os : List Open) → Performed types.now.declared.now (M.level machine.old) (M.behind machine.old) (M.lists machine.old) (M.lists machine.new) (action.New name.now type_id values.now) (names_of names.old) (names_of names.new) os os (M.lives machine.old) (M.lives machine.new) (M.asked machine.old) (M.asked machine.new) (M.log machine.old) (M.log machine.new)) }
     ensures sound { OnOk result (M.sound machine.new) }
     ensures level { OnOk result (M.level machine.new ≡ M.level machine.old) }
     ensures processor { OnOk result (M.processor machine.new ≡ M.processor machine.old) }
     ensures behind { OnOk result (M.behind machine.new ≡ M.behind machine.old) }
     ensures through { M.through machine.new ≡ M.through machine.old }
     ensures asked { OnOk result (M.asked machine.new ≤ M.asked machine.old + 2) }
-    ensures alone { OnOk result (Undisturbed M.level M.pending M.log M.known machine.old machine.new) }
+    ensures keeps { OnOk result (M.keeps machine.old machine.new) }
+    ensures ok { M.behind machine.old ≡ None → has_name names.old name.now ≡ true → IsOk result }
+    ensures same { has_name names.old name.now ≡ true → names.new.names.keys ≡ names.old.names.keys }
 {
     let Some(declared) = types.declared.get(type_id.0) else {
         unreachable!();
@@ -85,8 +87,8 @@ fn perform_new<'s, M: Machine>(
 }
 
 // `drop x`: gives up the object that the name holds. Deferred work runs behind it.
-fn perform_drop<'s, M: Machine>(
-    names: &mut NameTable<'s>,
+pub(crate) fn perform_drop<'s, M: Machine>(
+    names: &mut NameTable,
     machine: &mut M,
     types: &Types<'s>,
     name: &'s Name,
@@ -94,16 +96,18 @@ fn perform_drop<'s, M: Machine>(
     requires sound { M.sound machine.old }
     requires classes { Classes types.now.declared.now types.now.classes.now }
     requires room { M.asked machine.old + 2 < 2 ^ 22 }
-    requires holds { Holds types.now.declared.now (M.lives machine.old) (names_of names.old) }
+    requires holds { (base : Lives) × Holds types.now.declared.now base (M.lives machine.old) (names_of names.old) }
     requires owned { is_owning (value_of (names_of names.old name.now)) ≡ true }
-    ensures performed { OnOk result ((os : List Open) → Performed types.now.declared.now (M.level machine.old) (M.behind machine.old) (M.lists machine.old) (M.lists machine.new) (action.Drop name.now) (names_of names.old) (names_of names.new) os os (M.lives machine.new) (M.asked machine.old) (M.asked machine.new) (M.log machine.old) (M.log machine.new)) }
+    ensures performed { OnOk result ((os : List Open) → Performed types.now.declared.now (M.level machine.old) (M.behind machine.old) (M.lists machine.old) (M.lists machine.new) (action.Drop name.now) (names_of names.old) (names_of names.new) os os (M.lives machine.old) (M.lives machine.new) (M.asked machine.old) (M.asked machine.new) (M.log machine.old) (M.log machine.new)) }
     ensures sound { OnOk result (M.sound machine.new) }
     ensures level { OnOk result (M.level machine.new ≡ M.level machine.old) }
     ensures processor { OnOk result (M.processor machine.new ≡ M.processor machine.old) }
     ensures behind { OnOk result (M.behind machine.new ≡ M.behind machine.old) }
     ensures through { M.through machine.new ≡ M.through machine.old }
     ensures asked { OnOk result (M.asked machine.new ≤ M.asked machine.old + 2) }
-    ensures alone { OnOk result (Undisturbed M.level M.pending M.log M.known machine.old machine.new) }
+    ensures keeps { OnOk result (M.keeps machine.old machine.new) }
+    ensures ok { M.behind machine.old ≡ None → has_name names.old name.now ≡ true → IsOk result }
+    ensures same { has_name names.old name.now ≡ true → names.new.names.keys ≡ names.old.names.keys }
 {
     let Holding::Object(_, object) = names.holding(name.as_bytes()) else {
         unreachable!();
@@ -123,19 +127,19 @@ fn perform<'s, M: Machine>(
     requires sound { M.sound machine.old }
     requires classes { Classes types.now.declared.now types.now.classes.now }
     requires room { M.asked machine.old + 2 < 2 ^ 22 }
-    requires holds { Holds types.now.declared.now (M.lives machine.old) (names_of frame.old.names) }
+    requires holds { (base : Lives) × Holds types.now.declared.now base (M.lives machine.old) (names_of frame.old.names) }
     requires can { can_run_action types.now.declared.now statement.now.action ≡ true }
     requires down { Behind (M.behind machine.old) (M.lists machine.old) [] }
     requires open { 0 < length (reverse frame.old.blocks.items) }
     requires needed { (e : Setting) × SafeAction e (store_of (names_of frame.old.names)) statement.now.action (λ r. SafeStack e r (reverse frame.old.blocks.items)) }
-    ensures performed { OnOk result (Performed types.now.declared.now (M.level machine.old) (M.behind machine.old) (M.lists machine.old) (M.lists machine.new) statement.now.action (names_of frame.old.names) (names_of frame.new.names) (reverse frame.old.blocks.items) (reverse frame.new.blocks.items) (M.lives machine.new) (M.asked machine.old) (M.asked machine.new) (M.log machine.old) (M.log machine.new)) }
+    ensures performed { OnOk result (Performed types.now.declared.now (M.level machine.old) (M.behind machine.old) (M.lists machine.old) (M.lists machine.new) statement.now.action (names_of frame.old.names) (names_of frame.new.names) (reverse frame.old.blocks.items) (reverse frame.new.blocks.items) (M.lives machine.old) (M.lives machine.new) (M.asked machine.old) (M.asked machine.new) (M.log machine.old) (M.log machine.new)) }
     ensures sound { OnOk result (M.sound machine.new) }
     ensures level { OnOk result (M.level machine.new ≡ M.level machine.old) }
     ensures processor { OnOk result (M.processor machine.new ≡ M.processor machine.old) }
     ensures behind { OnOk result (M.behind machine.new ≡ M.behind machine.old) }
     ensures through { M.through machine.new ≡ M.through machine.old }
     ensures asked { OnOk result (M.asked machine.new ≤ M.asked machine.old + 2) }
-    ensures alone { OnOk result (Undisturbed M.level M.pending M.log M.known machine.old machine.new) }
+    ensures keeps { OnOk result (M.keeps machine.old machine.new) }
 {
     match &statement.action {
         Action::New {
@@ -163,17 +167,18 @@ fn perform<'s, M: Machine>(
 
 /// Runs a script from where its frame stands to its end: one statement after the other, each with the deferred work behind
 /// it. No work is left to run before it, nor at its end. A script that the checker accepts is never stuck, whatever the machine
-/// replies, and owns nothing at its end. Want of memory is the only other way to stop; the machine is of no further use then.
+/// replies, and owns nothing at its end: those objects live then that lived before the script began. Want of memory is the only
+/// other way to stop; the machine is of no further use then.
 pub fn resume<'s, M: Machine>(frame: &mut Frame<'s>, machine: &mut M, types: &Types<'s>) -> Stopped
     requires sound { M.sound machine.old }
     requires classes { Classes types.now.declared.now types.now.classes.now }
     requires room { M.asked machine.old + 2 * stack_cost (reverse frame.old.blocks.items) < 2 ^ 22 }
-    requires holds { Holds types.now.declared.now (M.lives machine.old) (names_of frame.old.names) }
+    requires holds { (base : Lives) × Holds types.now.declared.now base (M.lives machine.old) (names_of frame.old.names) }
     requires can { can_run_stack types.now.declared.now (reverse frame.old.blocks.items) ≡ true }
     requires down { Behind (M.behind machine.old) (M.lists machine.old) [] }
     requires accepted { (e : Setting) × SafeStack e (store_of (names_of frame.old.names)) (reverse frame.old.blocks.items) }
-    ensures ended { result ≡ stopped.Ended → Ran types.now.declared.now (M.level machine.old) (M.behind machine.old) (M.lists machine.old) (names_of frame.old.names) (names_of frame.new.names) (reverse frame.old.blocks.items) (M.pending machine.old) (M.pending machine.new) (M.log machine.old) (M.log machine.new) }
-    ensures none { result ≡ stopped.Ended → (u : ℕ) → M.lives machine.new u ≡ None }
+    ensures ended { result ≡ stopped.Ended → Ran types.now.declared.now (M.level machine.old) (M.behind machine.old) (M.lists machine.old) (names_of frame.old.names) (names_of frame.new.names) (reverse frame.old.blocks.items) (M.log machine.old) (M.log machine.new) }
+    ensures lives { result ≡ stopped.Ended → (base : Lives) → Holds types.now.declared.now base (M.lives machine.old) (names_of frame.old.names) → M.lives machine.new ≡ base }
     ensures asked { result ≡ stopped.Ended → M.asked machine.new ≤ M.asked machine.old + 2 * stack_cost (reverse frame.old.blocks.items) }
     ensures down { result ≡ stopped.Ended → Behind (M.behind machine.old) (M.lists machine.new) [] }
     ensures sound { result ≡ stopped.Ended → M.sound machine.new }
@@ -181,7 +186,7 @@ pub fn resume<'s, M: Machine>(frame: &mut Frame<'s>, machine: &mut M, types: &Ty
     ensures processor { result ≡ stopped.Ended → M.processor machine.new ≡ M.processor machine.old }
     ensures behind { result ≡ stopped.Ended → M.behind machine.new ≡ M.behind machine.old }
     ensures through { M.through machine.new ≡ M.through machine.old }
-    ensures alone { result ≡ stopped.Ended → Undisturbed M.level M.pending M.log M.known machine.old machine.new }
+    ensures keeps { result ≡ stopped.Ended → M.keeps machine.old machine.new }
 {
     loop {
         let Ok(next) = next_statement(&mut frame.blocks) else {
@@ -198,8 +203,8 @@ pub fn resume<'s, M: Machine>(frame: &mut Frame<'s>, machine: &mut M, types: &Ty
 
 /// Runs a script that the checker accepted, from its beginning to its end. It is never stuck, whatever the machine
 /// replies; what it leaves in the log is a run of its block from names that hold nothing, with the deferred work behind each
-/// statement, and at its end its names own nothing. Want of memory is the only other way to stop; the machine is of no further
-/// use then.
+/// statement, and at its end its names own nothing, and those objects live that lived before it. Want of memory is the only other
+/// way to stop; the machine is of no further use then.
 pub fn run_script<'s, M: Machine>(
     alloc: Global,
     machine: &mut M,
@@ -210,12 +215,11 @@ pub fn run_script<'s, M: Machine>(
     requires sound { M.sound machine.old }
     requires classes { Classes types.now.declared.now types.now.classes.now }
     requires room { M.asked machine.old + 2 * block_cost script.now.body < 2 ^ 22 }
-    requires none { (u : ℕ) → M.lives machine.old u ≡ None }
     requires can { can_run_block types.now.declared.now script.now.body ≡ true }
     requires down { Behind (M.behind machine.old) (M.lists machine.old) [] }
     requires accepted { Accepted scenario.now script.now }
-    ensures ended { result ≡ stopped.Ended → RanScript types.now.declared.now (M.level machine.old) (M.behind machine.old) (M.lists machine.old) script.now (M.pending machine.old) (M.pending machine.new) (M.log machine.old) (M.log machine.new) }
-    ensures none { result ≡ stopped.Ended → (u : ℕ) → M.lives machine.new u ≡ None }
+    ensures ended { result ≡ stopped.Ended → RanScript types.now.declared.now (M.level machine.old) (M.behind machine.old) (M.lists machine.old) script.now (M.log machine.old) (M.log machine.new) }
+    ensures lives { result ≡ stopped.Ended → M.lives machine.new ≡ M.lives machine.old }
     ensures asked { result ≡ stopped.Ended → M.asked machine.new ≤ M.asked machine.old + 2 * block_cost script.now.body }
     ensures down { result ≡ stopped.Ended → Behind (M.behind machine.old) (M.lists machine.new) [] }
     ensures sound { result ≡ stopped.Ended → M.sound machine.new }
@@ -223,7 +227,7 @@ pub fn run_script<'s, M: Machine>(
     ensures processor { result ≡ stopped.Ended → M.processor machine.new ≡ M.processor machine.old }
     ensures behind { result ≡ stopped.Ended → M.behind machine.new ≡ M.behind machine.old }
     ensures through { M.through machine.new ≡ M.through machine.old }
-    ensures alone { result ≡ stopped.Ended → Undisturbed M.level M.pending M.log M.known machine.old machine.new }
+    ensures keeps { result ≡ stopped.Ended → M.keeps machine.old machine.new }
 {
     accepted_scripts_are_safe();
     let mut frame = Frame {

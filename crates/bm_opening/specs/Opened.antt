@@ -6,11 +6,14 @@ use Rattle.bm_grace.specs.Known.{side}
 use Rattle.bm_grace.specs.PlainState.{idle}
 use Rattle.bm_post.specs.PostState.{no_parcels}
 use Rattle.bm_world.specs.SideState.{SideState}
-use Rattle.bm_world.specs.LivingState.{begun_at, known_living, lives_of}
+use Rattle.bm_world.specs.LivingState.{begun_at, lives_of}
 use Rattle.bm_cache.specs.Opening.{fill_log}
 use Rattle.bm_cache.specs.Shown.{shown}
-use Rattle.bm_exec.specs.declared.level0.Machine0.{Machine0}
-use Rattle.bm_exec.specs.Sound.{Sound}
+use Rattle.bm_due.specs.Due.{planned_for}
+use Rattle.bm_levels.specs.Ready.{known_of, left_of}
+use Rattle.bm_levels.specs.Sound.{Sound}
+use Rattle.bm_levels.specs.declared.processor.Processor.{Processor}
+use Rattle.bm_levels.specs.declared.program.Program.{Program}
 use Rattle.bm_opening.specs.Filling.{Filling}
 
 -- some of the eleven classes, ascending
@@ -28,16 +31,20 @@ fresh_side pool = record {
 }
 
 -- The processor's caches were filled so: the log has a `fill` for each class, no flag is up, no object lives, no life began, none was asked for,
--- no parcel waits, no period is in progress, no section was entered, and a page has a class where these fills left it one. (bpf_mem_alloc_init and prefill_mem_cache in
--- kernel/bpf/memalloc.c; objects, parcels, periods and sections are this project's own.)
-pub record IsOpen (f : Filling) (m : Machine0) : Type 0 where
-  pub sound : Sound m
+-- no parcel waits, no period is in progress, no section was entered, and a page has a class where these fills left it one. No handler that the
+-- program plans for it has run, none runs, and it is in no section. (bpf_mem_alloc_init and prefill_mem_cache in kernel/bpf/memalloc.c; objects,
+-- parcels, periods, sections and planned handlers are this project's own.)
+pub record IsOpen (p : Program) (f : Filling) (m : Processor) : Type 0 where
+  pub sound : Sound p m
   pub told : IfSome m.caches.recorder.told (λ es. es ≡ fill_log f.fills)
   pub lowered : (c : ℕ) → ((shown m.caches).rows c).raised ≡ false
   pub none : (u : ℕ) → lives_of m.side.slots u ≡ None
   pub begun : (u : ℕ) → begun_at m.side.begun u ≡ 0
-  pub asked : m.side.asked + m.settled ≡ 0
-  pub parcels : (known_living m.side).parcels ≡ Some (λ c. [])
-  pub numbers : (d : Domain) → (side d (known_living m.side)).number ≡ 0
-  pub words : (d : Domain) → (side d (known_living m.side)).word ≡ 0
-  pub pages : (known_living m.side).pages ≡ f.pool.classes
+  pub asked : (known_of m).objects.asked + m.settled ≡ 0
+  pub parcels : (known_of m).parcels ≡ Some (λ c. [])
+  pub numbers : (d : Domain) → (side d (known_of m)).number ≡ 0
+  pub words : (d : Domain) → (side d (known_of m)).word ≡ 0
+  pub pages : (known_of m).pages ≡ f.pool.classes
+  pub planned : left_of m ≡ planned_for 0 p.scenario.now
+  pub running : m.running.items ≡ []
+  pub inside : m.inside ≡ false

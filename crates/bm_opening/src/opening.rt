@@ -1,18 +1,23 @@
 //! The opening of the one processor.
 
-ghost use Rattle.std.specs.Prelude.{◌≡◌, ◌≤◌, ℕ, IfOk, true};
+ghost use Rattle.std.specs.Prelude.{◌≡◌, ℕ, IfOk, None, true};
+ghost use Rattle.bm_lang.specs.Fine.{HasConditions};
+ghost use Rattle.bm_lang.specs.Limits.{first_limit};
 ghost use Rattle.bm_lawful.specs.Fills.{fresh_stock};
+ghost use Rattle.bm_levels.specs.Ready.{IsProgram};
 ghost use Rattle.bm_opening.specs.Filling.{IsUnborn, filling};
 ghost use Rattle.bm_opening.specs.Opened.{IsOpen, ascends, fresh_side};
 ghost use Rattle.bm_world.specs.LivingState.{begun_at};
 ghost use Rattle.bm_world.specs.Slots.{AllEmpty};
 
 use crate::filling::{fill, give_up_fills};
+use crate::room::make_room;
 use bm_cache::Caches;
 use bm_class::Class;
-use bm_exec::Machine0;
 use bm_grace::PlainGrace;
 use bm_journal::Keep;
+use bm_lang::Scenario;
+use bm_levels::{Processor, Program};
 use bm_page::Pool;
 use bm_post::PlainPost;
 use bm_word::NoMemory;
@@ -43,14 +48,24 @@ fn open_side(alloc: Global, pool: Pool) -> Result<LivingSide, NoMemory>
     }
 }
 
-/// A processor whose caches of these classes, ascending, are filled from a stock of so many pages. Want of memory is
-/// the only refusal. From `bpf_mem_alloc_init` of kernel/bpf/memalloc.c.
-pub fn open(alloc: Global, pages: u16, classes: &[Class]) -> Result<Machine0, NoMemory>
-    requires pages { pages ≤ 256 }
+/// A processor that runs this program, the types of this scenario each with its class: its caches of these classes, ascending,
+/// are filled from the scenario's stock, and it has all memory that the handlers need which are planned for it. Want of memory
+/// is the only refusal. From `bpf_mem_alloc_init` of kernel/bpf/memalloc.c.
+pub fn open(
+    alloc: Global,
+    scenario: &Scenario,
+    program: &Program<'_>,
+    classes: &[Class],
+) -> Result<Processor, NoMemory>
+    requires same { program.now.scenario.now ≡ scenario.now }
+    requires fits { IsProgram program.now }
+    requires fine { HasConditions scenario.now }
+    requires limits { first_limit scenario.now ≡ None }
     requires ascend { ascends classes.now ≡ true }
-    ensures { IfOk result (IsOpen (filling classes.now (fresh_stock pages))) }
+    ensures { IfOk result (IsOpen program.now (filling classes.now (fresh_stock scenario.now.pages))) }
 {
-    let mut pool = Pool::create(alloc, pages)?;
+    let room = make_room(alloc, scenario)?;
+    let mut pool = Pool::create(alloc, program.scenario.pages as u16)?;
     let Ok(fills) = fill(alloc, &mut pool, classes) else {
         pool.give_up();
         return Err(NoMemory);
@@ -60,11 +75,15 @@ pub fn open(alloc: Global, pages: u16, classes: &[Class]) -> Result<Machine0, No
         return Err(NoMemory);
     };
     match Caches::create(alloc, 0, fills, Keep::new(alloc)) {
-        Ok(caches) => Ok(Machine0 {
+        Ok(caches) => Ok(Processor {
             alloc,
             caches,
             side,
             settled: 0,
+            inside: false,
+            handlers: room.handlers,
+            running: room.running,
+            tables: room.tables,
         }),
         Err((fills, _recorder)) => {
             give_up_fills(fills);

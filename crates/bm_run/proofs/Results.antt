@@ -35,3 +35,7 @@ pub get-is : {A : Type 0} (xs : List A) (i : ℕ) (x : A) → i < length xs → 
 get-is [] i x lt e = absurd (omega arith)
 get-is (y ∷ ys) zero x lt e = ap Some (sym e)
 get-is (y ∷ ys) (suc i) x lt e = get-is ys i x (omega arith) e
+
+pub both-on-ok : {X E : Type 0} (r : Result X E) (A B C : Type 0) → OnOk r A → OnOk r B → (A → B → C) → OnOk r C
+both-on-ok (Ok x) A B C a b f = f a b
+both-on-ok (Err e) A B C a b f = tt

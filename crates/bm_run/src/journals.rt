@@ -12,16 +12,18 @@ ghost use Rattle.bm_law.specs.State.{seven_lists};
 ghost use Rattle.bm_law.specs.Stands.{times};
 ghost use Rattle.bm_cache.specs.Shown.{shown};
 ghost use Rattle.bm_exec.specs.Lists.{behind_of};
-ghost use Rattle.bm_exec.specs.Sound.{Sound};
 ghost use Rattle.bm_lawful.specs.Opened.{object_size, opened_classes};
 ghost use Rattle.bm_lawful.specs.Lawful.{LawfulLog};
 ghost use Rattle.bm_lawful.specs.Short.{JournalShort};
 ghost use Rattle.bm_lives.specs.Lives.{WholeLives};
 ghost use Rattle.bm_lives.specs.Returns.{ReturnsLaw};
 ghost use Rattle.bm_lives.specs.Whole.{LawfulWhole};
+ghost use Rattle.bm_levels.specs.Ready.{word_of};
+ghost use Rattle.bm_levels.specs.Sound.{Sound};
+ghost use Rattle.bm_levels.specs.declared.program.Program.{Program as ProgramValue};
 ghost use Rattle.bm_built.specs.Yet.{RunsYet};
 ghost use Rattle.bm_run.specs.Closed.{Closed};
-ghost use Rattle.bm_run.specs.Lines.{asked_of, when_on, word_of};
+ghost use Rattle.bm_run.specs.Lines.{when_on};
 
 use crate::classes::{opened_classes, type_classes, with_marks};
 use crate::scripts::run_lines;
@@ -29,12 +31,13 @@ use crate::stretches::begin_closing;
 use bm_check::Checked;
 use bm_class::Class;
 use bm_closing::{ClosingDesk, close as close_classes};
-use bm_exec::{Deferred, Machine0, Types};
-use bm_front::{counted_law, front_law};
+use bm_exec::Types;
+use bm_front::handled_law;
 use bm_journal::{Histories, Journal, Log, Logs, Names, Opened, Recorder, totals_of};
-use bm_lang::{Parts, Script, TypeDeclaration};
+use bm_lang::{Parts, Scenario, Script, TypeDeclaration};
+use bm_levels::{Deferred, Processor, Program};
 use bm_lived::lives_law;
-use bm_mail::parcels_law;
+use bm_mail::{handled_law as handled_parcels_law, parcels_law};
 use bm_opening::open;
 use bm_returns::returns_law;
 use bm_word::NoMemory;
@@ -107,35 +110,43 @@ fn journal_of(
 }
 
 // Ends a processor after a want of memory, with all that it holds.
-fn give_up(machine: Machine0) {
-    let Machine0 {
+fn give_up(own: Processor) {
+    let Processor {
         alloc: _,
         caches,
         side,
         settled: _,
-    } = machine;
+        inside: _,
+        handlers: _,
+        running: _,
+        tables: _,
+    } = own;
     caches.give_up();
     side.give_up();
 }
 
 // Sweeps the classes of a processor whose scripts have ended, behind the ends of its periods. The answer is what its recorder
 // holds. Want of memory is the only refusal.
-fn close(alloc: Global, machine: Machine0, classes: &[Class]) -> Result<Log, NoMemory>
-    requires sound { Sound machine }
+fn close(alloc: Global, own: Processor, classes: &[Class]) -> Result<Log, NoMemory>
+    requires sound { (p : ProgramValue) × Sound p own }
+    requires settled { own.settled ≤ 40000 }
     requires few { length classes.now ≤ 11 }
-    requires outside { (d : DomainValue) → word_of d machine % 2 ≡ 0 }
-    requires asked { asked_of machine ≤ 40000 }
-    requires unused { IsSome machine.caches.recorder.told → (c : ℕ) → times c classes.now ≡ 0 → seven_lists ((shown machine.caches).rows c) ≡ [] }
-    ensures closed { IfOk result (Closed classes.now machine) }
+    requires outside { (d : DomainValue) → word_of d own % 2 ≡ 0 }
+    requires unused { IsSome own.caches.recorder.told → (c : ℕ) → times c classes.now ≡ 0 → seven_lists ((shown own.caches).rows c) ≡ [] }
+    ensures closed { IfOk result (Closed classes.now own) }
     ensures whole { IfOk result (λ log. IsTrue (is_whole_log log)) }
 {
-    machine.side.one_at_rest();
-    let Machine0 {
+    own.side.one_at_rest();
+    let Processor {
         alloc: _,
         caches,
         side,
         settled: _,
-    } = machine;
+        inside: _,
+        handlers: _,
+        running: _,
+        tables: _,
+    } = own;
     let mut desk = ClosingDesk { caches, side };
     let swept = close_classes(alloc, &mut desk, classes);
     let ClosingDesk { caches, side } = desk;
@@ -157,7 +168,7 @@ fn when_on<'s>(on: bool, classes: &'s [Class]) -> Option<&'s [Class]>
 // The log of a run.
 fn log_of(
     alloc: Global,
-    scenario: &Parts,
+    scenario: &Scenario,
     classes: &[Class],
     opened: &[Class],
 ) -> Result<Log, NoMemory>
@@ -172,25 +183,29 @@ fn log_of(
     ensures returns { IfOk result (λ log. ReturnsLaw (log ∷ [])) }
     ensures whole { IfOk result (λ log. IsTrue (is_whole_log log)) }
 {
-    front_law();
-    counted_law();
+    handled_law();
+    handled_parcels_law();
     parcels_law();
     lives_law();
     returns_law();
-    let mut machine = open(alloc, scenario.pages as u16, opened)?;
-    let types = Types {
-        declared: scenario.types.as_slice(),
-        classes,
+    let parts = scenario.parts();
+    let program = Program {
+        scenario: parts,
+        types: Types {
+            declared: parts.types.as_slice(),
+            classes,
+        },
     };
     let deferred = Deferred {
-        behind: when_on(scenario.deferred, opened),
+        behind: when_on(parts.deferred, opened),
     };
-    if run_lines(alloc, &mut machine, &types, &deferred, scenario).is_err() {
-        give_up(machine);
+    let mut own = open(alloc, scenario, &program, opened)?;
+    if run_lines(alloc, &mut own, &program, &deferred).is_err() {
+        give_up(own);
         return Err(NoMemory);
     }
-    begin_closing(&mut machine);
-    close(alloc, machine, opened)
+    begin_closing(&mut own);
+    close(alloc, own, opened)
 }
 
 /// Runs a checked scenario of the forms that run by now, and gives its journal, which is lawful. Its time grows with the
@@ -199,10 +214,11 @@ pub fn replay(alloc: Global, checked: &Checked) -> Result<Journal, NoMemory>
     requires { RunsYet checked.now }
     ensures { IfOk result (LawfulWhole checked.now) }
 {
-    let scenario = checked.scenario().parts();
-    let types = scenario.types.as_slice();
+    let scenario = checked.scenario();
+    let parts = scenario.parts();
+    let types = parts.types.as_slice();
     let classes = type_classes(alloc, types)?;
     let opened = opened_classes(alloc, types, classes.as_slice())?;
     let log = log_of(alloc, scenario, classes.as_slice(), opened.as_slice())?;
-    journal_of(alloc, scenario, opened.as_slice(), log)
+    journal_of(alloc, parts, opened.as_slice(), log)
 }

@@ -1,137 +1,140 @@
 //! Stretches of a run that stand around what its scripts do.
 
-ghost use Rattle.std.specs.Prelude.{◌≡◌, ◌+◌, ◌<◌, ◌≤◌, ◌%◌, ◌^◌, ◌∷◌, [], IfSome, IsTrue, OnOk, length};
+ghost use Rattle.std.specs.Prelude.{◌≡◌, ◌+◌, ◌*◌, ◌<◌, ◌≤◌, ◌%◌, ◌^◌, ◌∷◌, [], IfSome, IsTrue, OnOk, false, length, true};
 ghost use Rattle.bm_journal.specs.declared.entry.Entry.TheVariants as entry;
-ghost use Rattle.bm_journal.specs.declared.ids.Domain.{Domain as DomainValue};
-ghost use Rattle.bm_journal.specs.declared.ids.Domain.TheVariants.{Plain, Tracing};
+ghost use Rattle.bm_journal.specs.declared.ids.Domain.TheVariants.{Plain};
+ghost use Rattle.bm_journal.specs.Recording.{Appends};
+ghost use Rattle.bm_grace.specs.Calls.{entered, left};
 ghost use Rattle.bm_cache.specs.Shown.{shown};
 ghost use Rattle.bm_cache.specs.Steps.{is_note};
 ghost use Rattle.bm_deferred.specs.Parts.{Stand};
 ghost use Rattle.bm_deferred.proofs.Begun.{IsStill};
+ghost use Rattle.bm_due.specs.Standing.{Stays as StaysKind, kind_of};
 ghost use Rattle.bm_exec.specs.Lists.{Behind, behind_of};
-ghost use Rattle.bm_exec.specs.Sound.{Sound};
 ghost use Rattle.bm_lived.specs.Lifeless.{SaysNoLife};
-ghost use Rattle.bm_world.specs.LivingState.{lives_of};
-ghost use Rattle.bm_run.specs.Lines.{asked_of, lists_of, word_of, BehindScript, Wrote};
+ghost use Rattle.bm_levels.specs.AtProcessor.{FineAt, SameLives, lists_of, log_of};
+ghost use Rattle.bm_levels.specs.Growing.{IsInner};
+ghost use Rattle.bm_levels.specs.Ordinary.{Statements};
+ghost use Rattle.bm_levels.specs.Ready.{asked_of, known_of, left_of, word_of};
+ghost use Rattle.bm_levels.specs.Sound.{Sound};
+ghost use Rattle.bm_levels.specs.declared.program.Program.{Program as ProgramValue};
+ghost use Rattle.bm_run.specs.Lines.{BehindScript, Wrote};
 
-use bm_behind::work_behind;
-use bm_exec::{Deferred, Machine0};
-use bm_grace::Grace;
-use bm_journal::{Domain, Entry, Level};
+use bm_journal::{Entry, Level};
+use bm_levels::{Deferred, Processor, Program, enter_section, leave_section, settle_script};
 use bm_word::{Name, NoMemory};
 
-// Records an entry that moves nothing, and has nothing to do with parcels, periods, lives and the stock.
-fn note(machine: &mut Machine0, entry: Entry)
-    requires sound { Sound machine.old }
+// Records an entry of ordinary code that moves nothing, and has nothing to do with parcels, periods and the stock.
+fn note(own: &mut Processor, entry: Entry)
+    requires fine { FineAt 0 own.old }
     requires note { IsTrue (is_note entry) }
     requires still { IsStill entry }
-    requires silent { SaysNoLife entry }
-    ensures wrote { Wrote (Stand 0 (entry ∷ [])) machine.old machine.new }
-    ensures lists { shown machine.new.caches ≡ shown machine.old.caches }
-    ensures side { machine.new.side ≡ machine.old.side }
-    ensures settled { machine.new.settled ≡ machine.old.settled }
-    ensures sound { Sound machine.new }
+    ensures wrote { Wrote (Stand 0 (entry ∷ [])) own.old own.new }
+    ensures said { Appends (log_of own.old) 0 entry (log_of own.new) }
+    ensures lists { shown own.new.caches ≡ shown own.old.caches }
+    ensures processor { own.new.caches.processor ≡ own.old.caches.processor }
+    ensures same { own.new ≡ record own.old { caches = own.new.caches } }
+    ensures fine { FineAt 0 own.new }
+    ensures sound { (p : ProgramValue) → kind_of entry ≡ StaysKind → IsInner entry → SaysNoLife entry → Sound p own.old → Sound p own.new }
 {
-    machine.caches.note(Level::ordinary(), entry);
+    own.caches.note(Level::ordinary(), entry);
 }
 
 // Begins the plain section that a script runs in, and records it.
-fn go_in(machine: &mut Machine0)
-    requires sound { Sound machine.old }
-    requires outside { word_of Plain machine.old % 2 ≡ 0 }
-    requires room { word_of Plain machine.old < 2 ^ 28 }
-    ensures wrote { Wrote (Stand 0 (entry.In Plain (word_of Plain machine.old + 1) ∷ [])) machine.old machine.new }
-    ensures word { word_of Plain machine.new ≡ word_of Plain machine.old + 1 }
-    ensures tracing { word_of Tracing machine.new ≡ word_of Tracing machine.old }
-    ensures lists { shown machine.new.caches ≡ shown machine.old.caches }
-    ensures slots { machine.new.side.slots ≡ machine.old.side.slots }
-    ensures asked { asked_of machine.new ≡ asked_of machine.old }
-    ensures sound { Sound machine.new }
+fn go_in(own: &mut Processor)
+    requires fine { FineAt 0 own.old }
+    requires outside { word_of Plain own.old % 2 ≡ 0 }
+    requires room { word_of Plain own.old + 2 * length (left_of own.old) + 1 < 2 ^ 28 }
+    ensures wrote { Wrote (Stand 0 (entry.In Plain (word_of Plain own.old + 1) ∷ [])) own.old own.new }
+    ensures lists { shown own.new.caches ≡ shown own.old.caches }
+    ensures processor { own.new.caches.processor ≡ own.old.caches.processor }
+    ensures known { known_of own.new ≡ entered false Plain (known_of own.old) }
+    ensures same { own.new ≡ record own.old { caches = own.new.caches; side = own.new.side; inside = own.new.inside } }
+    ensures fine { FineAt 0 own.new }
+    ensures sound { (p : ProgramValue) → Sound p own.old → Sound p own.new }
 {
-    let word = machine.side.enter(Domain::Plain);
-    note(machine, Entry::In(Domain::Plain, word));
+    enter_section(own, Level::ordinary());
 }
 
 // Ends the plain section that a script ran in, and records it.
-fn go_out(machine: &mut Machine0)
-    requires sound { Sound machine.old }
-    requires inside { word_of Plain machine.old % 2 ≡ 1 }
-    ensures wrote { Wrote (Stand 0 (entry.Out Plain (word_of Plain machine.old + 1) ∷ [])) machine.old machine.new }
-    ensures word { word_of Plain machine.new ≡ word_of Plain machine.old + 1 }
-    ensures tracing { word_of Tracing machine.new ≡ word_of Tracing machine.old }
-    ensures lists { shown machine.new.caches ≡ shown machine.old.caches }
-    ensures slots { machine.new.side.slots ≡ machine.old.side.slots }
-    ensures asked { asked_of machine.new ≡ asked_of machine.old }
-    ensures sound { Sound machine.new }
+fn go_out(own: &mut Processor)
+    requires fine { FineAt 0 own.old }
+    requires inside { word_of Plain own.old % 2 ≡ 1 }
+    requires room { word_of Plain own.old + 2 * length (left_of own.old) + 1 < 2 ^ 28 }
+    ensures wrote { Wrote (Stand 0 (entry.Out Plain (word_of Plain own.old + 1) ∷ [])) own.old own.new }
+    ensures lists { shown own.new.caches ≡ shown own.old.caches }
+    ensures processor { own.new.caches.processor ≡ own.old.caches.processor }
+    ensures known { known_of own.new ≡ left false Plain (known_of own.old) }
+    ensures same { own.new ≡ record own.old { caches = own.new.caches; side = own.new.side; inside = own.new.inside } }
+    ensures fine { FineAt 0 own.new }
+    ensures sound { (p : ProgramValue) → Sound p own.old → Sound p own.new }
 {
-    let word = machine.side.leave(Domain::Plain);
-    note(machine, Entry::Out(Domain::Plain, word));
+    leave_section(own, Level::ordinary());
 }
 
 /// Names a script, and begins its plain section.
-pub(crate) fn begin_script(machine: &mut Machine0, name: &Name)
-    requires sound { Sound machine.old }
-    requires outside { word_of Plain machine.old % 2 ≡ 0 }
-    requires room { word_of Plain machine.old < 2 ^ 28 }
-    ensures wrote { Wrote (Stand 0 (entry.Script name.now ∷ entry.In Plain (word_of Plain machine.old + 1) ∷ [])) machine.old machine.new }
-    ensures word { word_of Plain machine.new ≡ word_of Plain machine.old + 1 }
-    ensures tracing { word_of Tracing machine.new ≡ word_of Tracing machine.old }
-    ensures lists { shown machine.new.caches ≡ shown machine.old.caches }
-    ensures slots { machine.new.side.slots ≡ machine.old.side.slots }
-    ensures asked { asked_of machine.new ≡ asked_of machine.old }
-    ensures sound { Sound machine.new }
+pub(crate) fn begin_script(own: &mut Processor, name: &Name)
+    requires fine { FineAt 0 own.old }
+    requires outside { word_of Plain own.old % 2 ≡ 0 }
+    requires room { word_of Plain own.old + 2 * length (left_of own.old) + 1 < 2 ^ 28 }
+    ensures wrote { Wrote (Stand 0 (entry.Script name.now ∷ entry.In Plain (word_of Plain own.old + 1) ∷ [])) own.old own.new }
+    ensures lists { shown own.new.caches ≡ shown own.old.caches }
+    ensures known { known_of own.new ≡ entered false Plain (known_of own.old) }
+    ensures same { own.new ≡ record own.old { caches = own.new.caches; side = own.new.side; inside = own.new.inside } }
+    ensures sound { (p : ProgramValue) → Sound p own.old → Sound p own.new }
 {
-    note(machine, Entry::Script(name.duplicate()));
-    go_in(machine);
+    note(own, Entry::Script(name.duplicate()));
+    go_in(own);
 }
 
 /// Ends a script's plain section, and the script.
-pub(crate) fn end_script(machine: &mut Machine0, name: &Name)
-    requires sound { Sound machine.old }
-    requires inside { word_of Plain machine.old % 2 ≡ 1 }
-    ensures wrote { Wrote (Stand 0 (entry.Out Plain (word_of Plain machine.old + 1) ∷ entry.Done name.now ∷ [])) machine.old machine.new }
-    ensures word { word_of Plain machine.new ≡ word_of Plain machine.old + 1 }
-    ensures tracing { word_of Tracing machine.new ≡ word_of Tracing machine.old }
-    ensures lists { shown machine.new.caches ≡ shown machine.old.caches }
-    ensures slots { machine.new.side.slots ≡ machine.old.side.slots }
-    ensures asked { asked_of machine.new ≡ asked_of machine.old }
-    ensures sound { Sound machine.new }
+pub(crate) fn end_script(own: &mut Processor, name: &Name)
+    requires fine { FineAt 0 own.old }
+    requires inside { word_of Plain own.old % 2 ≡ 1 }
+    requires room { word_of Plain own.old + 2 * length (left_of own.old) + 1 < 2 ^ 28 }
+    ensures wrote { Wrote (Stand 0 (entry.Out Plain (word_of Plain own.old + 1) ∷ entry.Done name.now ∷ [])) own.old own.new }
+    ensures lists { shown own.new.caches ≡ shown own.old.caches }
+    ensures known { known_of own.new ≡ left false Plain (known_of own.old) }
+    ensures same { own.new ≡ record own.old { caches = own.new.caches; side = own.new.side; inside = own.new.inside } }
+    ensures sound { (p : ProgramValue) → Sound p own.old → Sound p own.new }
 {
-    go_out(machine);
-    note(machine, Entry::Done(name.duplicate()));
+    go_out(own);
+    note(own, Entry::Done(name.duplicate()));
 }
 
 /// Runs the deferred work that stands behind a script, if any runs. Want of memory is the only refusal.
-pub(crate) fn settle_script<'s>(
-    machine: &mut Machine0,
-    deferred: &Deferred<'s>,
+pub(crate) fn settle_behind<'s>(
+    own: &mut Processor,
+    program: &'s Program<'s>,
+    deferred: &'s Deferred<'s>,
 ) -> Result<(), NoMemory>
-    requires sound { Sound machine.old }
-    requires room { asked_of machine.old + 1 < 2 ^ 22 }
+    requires sound { Sound program.now own.old }
+    requires room { asked_of program.now.scenario.now own.old + 1 < 2 ^ 22 }
     requires few { IfSome deferred.now.behind (λ classes. length classes.now ≤ 11) }
-    ensures wrote { OnOk result (Wrote (BehindScript (behind_of deferred.now.behind)) machine.old machine.new) }
-    ensures down { OnOk result (Behind (behind_of deferred.now.behind) (lists_of machine.new) []) }
-    ensures words { OnOk result ((d : DomainValue) → word_of d machine.new ≡ word_of d machine.old) }
-    ensures lives { OnOk result (lives_of machine.new.side.slots ≡ lives_of machine.old.side.slots) }
-    ensures asked { OnOk result (asked_of machine.new ≤ asked_of machine.old + 1) }
-    ensures sound { OnOk result (Sound machine.new) }
+    ensures wrote { OnOk result (Wrote (BehindScript (behind_of deferred.now.behind)) own.old own.new) }
+    ensures down { OnOk result (Behind (behind_of deferred.now.behind) (lists_of own.new) []) }
+    ensures lives { OnOk result (SameLives own.old own.new) }
+    ensures asked { OnOk result (asked_of program.now.scenario.now own.new ≤ asked_of program.now.scenario.now own.old + 1) }
+    ensures statements { OnOk result (Statements own.old own.new) }
+    ensures sound { OnOk result (Sound program.now own.new) }
 {
     let Some(classes) = deferred.behind else {
         return Ok(());
     };
-    machine.settled += 1;
-    work_behind(machine.alloc, machine, classes)
+    settle_script(own, program, classes)
 }
 
-/// Records that the scripts of the one processor have ended, and that the closing begins.
-pub(crate) fn begin_closing(machine: &mut Machine0)
-    requires sound { Sound machine.old }
-    ensures wrote { Wrote (Stand 0 (entry.Ended ∷ entry.Close ∷ [])) machine.old machine.new }
-    ensures lists { shown machine.new.caches ≡ shown machine.old.caches }
-    ensures side { machine.new.side ≡ machine.old.side }
-    ensures settled { machine.new.settled ≡ machine.old.settled }
-    ensures sound { Sound machine.new }
+/// Records that the scripts of the one processor have ended, and that the closing begins. From then on no handler is due.
+pub(crate) fn begin_closing(own: &mut Processor)
+    requires fine { FineAt 0 own.old }
+    ensures wrote { Wrote (Stand 0 (entry.Ended ∷ entry.Close ∷ [])) own.old own.new }
+    ensures lists { shown own.new.caches ≡ shown own.old.caches }
+    ensures side { own.new.side ≡ own.old.side }
+    ensures settled { own.new.settled ≡ own.old.settled }
+    ensures ended { own.new.handlers.planned.ended ≡ true }
+    ensures sound { (p : ProgramValue) → Sound p own.old → Sound p own.new }
 {
-    note(machine, Entry::Ended);
-    note(machine, Entry::Close);
+    note(own, Entry::Ended);
+    own.handlers.end();
+    note(own, Entry::Close);
 }

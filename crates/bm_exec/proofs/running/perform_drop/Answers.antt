@@ -2,7 +2,6 @@ use Rattle.std.proofs.Common.{arith, ◌∙◌, sym}
 use Rattle.bm_exec.specs.Seen.{names_of}
 use Rattle.bm_exec.proofs.Performing.{drop-performed}
 use Rattle.bm_exec.proofs.Results.{on-ok, both-ok}
-use Rattle.bm_exec.proofs.Undisturbed.{undisturbed-join}
 use Rattle.bm_exec.proofs.running.perform_drop.Goals as goal
 
 pub returns-clause-performed : goal.returns-clause-performed
@@ -13,15 +12,15 @@ returns-clause-performed g c =
     let r = c.settle.result in
     let s = c.settle.ensures in
     let held = rw c.as_bytes.ensures.value at (rw c.in-Object.is at c.holding.ensures) in
-    let living = c.requires.holds.living c.args.name.now _ _ _ (sym held) in
+    let living = c.requires.holds.1.living c.args.name.now _ _ _ (sym held) in
     let facts = both-ok r _ _ (both-ok r _ _ s.settled s.down) (both-ok r _ _ (both-ok r _ _ s.sound s.processor) (both-ok r _ _ s.lives s.asked)) in
     on-ok r _ _ facts (λ f os.
     drop-performed c.args.types.now.declared.now c.args.types.now.classes.now (g.M.Machine.level m0) (g.M.Machine.behind c.args.machine.now) (g.M.Machine.processor m0) (g.M.Machine.lists m0) (g.M.Machine.lists m1) (g.M.Machine.lists m2) c.args.name.now _ c.in-Object.object
     (names_of c.args.names.now) (names_of c.put.new.self) (g.M.Machine.lives m0) (g.M.Machine.lives m1) (g.M.Machine.lives m2) (g.M.Machine.asked m0) (g.M.Machine.asked m2)
     (g.M.Machine.log m0) (g.M.Machine.log m1) (g.M.Machine.log m2) living.0 living.1
     (g.met.M.Machine.told m0 c.requires.sound) (rw c.dispose.ensures.processor at (g.met.M.Machine.told m1 c.dispose.ensures.sound))
-    (rw (f.1.0.1 ∙ c.dispose.ensures.processor) at (g.met.M.Machine.told m2 f.1.0.0)) c.requires.classes living.2 (sym held) c.requires.holds (c.dispose.ensures.disposed living.0 living.3) (rw c.as_bytes-2.ensures.value at c.in_ok-put.ensures.ok) (let x = f.1.1.1 in let y = c.dispose.ensures.asked in omega (arith, x, y))
+    (rw (f.1.0.1 ∙ c.dispose.ensures.processor) at (g.met.M.Machine.told m2 f.1.0.0)) c.requires.classes living.2 (sym held) (c.dispose.ensures.disposed living.0 living.3) (rw c.as_bytes-2.ensures.value at c.in_ok-put.ensures.ok) (let x = f.1.1.1 in let y = c.dispose.ensures.asked in omega (arith, x, y))
     f.1.1.0 (rw c.dispose.ensures.behind at f.0.0) (rw c.dispose.ensures.behind at f.0.1) os)
 
-pub returns-clause-alone : goal.returns-clause-alone
-returns-clause-alone g c = on-ok c.settle.result _ _ c.settle.ensures.alone (λ u. undisturbed-join c.dispose.ensures.level c.dispose.ensures.alone u)
+pub returns-clause-keeps : goal.returns-clause-keeps
+returns-clause-keeps g c = on-ok c.settle.result _ _ c.settle.ensures.keeps (λ k. g.met.M.Machine.keeps_join c.args.machine.now c.dispose.new.self c.settle.new.self c.dispose.ensures.keeps k)

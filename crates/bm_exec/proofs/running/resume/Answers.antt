@@ -1,28 +1,27 @@
 use Rattle.std.proofs.Common.{arith, refl, ◌∙◌}
 use Rattle.bm_exec.proofs.Results.{not-err}
 use Rattle.bm_exec.proofs.Going.{went-none, went-step, went-end, some-cost}
-use Rattle.bm_exec.proofs.Objects.{no-lives}
-use Rattle.bm_exec.proofs.Undisturbed.{undisturbed-none, undisturbed-join}
+use Rattle.bm_exec.proofs.Objects.{only-base}
 use Rattle.bm_exec.proofs.running.resume.Goals as goal
 
 pub loop-next-init : goal.loop-next-init
 loop-next-init g c = record {
-  went = went-none _ _ _ _ _ _ _ _ _ c.requires.down c.requires.holds;
+  went = went-none _ _ _ _ _ _ _ _ _ c.requires.down;
   sound = c.requires.sound;
   level = refl;
   processor = refl;
   behind = refl;
   through = refl;
-  alone = undisturbed-none g.M.Machine.level g.M.Machine.pending g.M.Machine.log g.M.Machine.known c.args.machine.now;
+  keeps = g.met.M.Machine.keeps_same c.args.machine.now;
 }
 
 pub returns-in_default-next-clause-ended : goal.returns-in_default-next-clause-ended
-returns-in_default-next-clause-ended g c = λ _. went-end _ _ _ c.requires.accepted.0 _ _ _ _ _ _ _ _ _ _ _ _ _ c.loop-next.invariant.went c.loop-next.invariant.alone.alone (rw c.in_default-next.is at c.in-Ok.ensures.stepped) c.requires.accepted.1
+returns-in_default-next-clause-ended g c = λ _. went-end _ _ _ c.requires.accepted.0 _ _ _ _ _ _ _ _ _ _ _ _ c.loop-next.invariant.went (rw c.in_default-next.is at c.in-Ok.ensures.stepped) c.requires.accepted.1
 
-pub returns-in_default-next-clause-none : goal.returns-in_default-next-clause-none
-returns-in_default-next-clause-none g c = λ _.
-    (let r = went-end _ _ _ c.requires.accepted.0 _ _ _ _ _ _ _ _ _ _ _ _ _ c.loop-next.invariant.went c.loop-next.invariant.alone.alone (rw c.in_default-next.is at c.in-Ok.ensures.stepped) c.requires.accepted.1 in
-    no-lives _ _ _ c.loop-next.invariant.went.holds r.owns_nothing)
+pub returns-in_default-next-clause-lives : goal.returns-in_default-next-clause-lives
+returns-in_default-next-clause-lives g c = λ _ base h.
+    (let r = went-end _ _ _ c.requires.accepted.0 _ _ _ _ _ _ _ _ _ _ _ _ c.loop-next.invariant.went (rw c.in_default-next.is at c.in-Ok.ensures.stepped) c.requires.accepted.1 in
+    only-base _ base _ _ (c.loop-next.invariant.went.holds base h) r.owns_nothing)
 
 pub returns-in_default-next-clause-asked : goal.returns-in_default-next-clause-asked
 returns-in_default-next-clause-asked g c = λ _. omega (arith, c.loop-next.invariant.went.cost)
@@ -34,7 +33,7 @@ pub perform-requires-clause-room : goal.perform-requires-clause-room
 perform-requires-clause-room g c = let t = rw c.in-Some.is at c.in-Ok.ensures.stepped in omega (arith, c.requires.room, c.loop-next.invariant.went.cost, t.cost, some-cost c.in-Some.statement.now.action)
 
 pub perform-requires-clause-holds : goal.perform-requires-clause-holds
-perform-requires-clause-holds g c = c.loop-next.invariant.went.holds
+perform-requires-clause-holds g c = (c.requires.holds.0, c.loop-next.invariant.went.holds c.requires.holds.0 c.requires.holds.1)
 
 pub perform-requires-clause-can : goal.perform-requires-clause-can
 perform-requires-clause-can g c = let t = rw c.in-Some.is at c.in-Ok.ensures.stepped in t.can_action _ (c.loop-next.invariant.went.can c.requires.can)
@@ -61,11 +60,11 @@ loop-next-preserved g c =
     let e = c.if-is_err.ensures.value in
     let p = not-err c.perform.result _ e c.perform.ensures.performed in
     record {
-      went = went-step _ _ _ _ _ _ _ _ _ _ _ _ _ _ _ _ _ _ _ _ _ _ i.went t (rw (i.level, i.behind) at p);
+      went = went-step _ _ _ _ _ _ _ _ _ _ _ _ _ _ _ _ _ _ _ _ _ _ _ i.went t (rw (i.level, i.behind) at p);
       sound = not-err c.perform.result _ e c.perform.ensures.sound;
       level = not-err c.perform.result _ e c.perform.ensures.level ∙ i.level;
       processor = not-err c.perform.result _ e c.perform.ensures.processor ∙ i.processor;
       behind = not-err c.perform.result _ e c.perform.ensures.behind ∙ i.behind;
       through = c.perform.ensures.through ∙ i.through;
-      alone = undisturbed-join i.level i.alone (not-err c.perform.result _ e c.perform.ensures.alone);
+      keeps = g.met.M.Machine.keeps_join c.args.machine.now c.loop-next.machine c.perform.new.machine i.keeps (not-err c.perform.result _ e c.perform.ensures.keeps);
     }

@@ -1,19 +1,18 @@
 use Rattle.std.proofs.Common.{◌≡◌, reverse}
 use Rattle.bm_exec.specs.Seen.{names_of}
-use Rattle.bm_exec.specs.Living.{Undisturbed}
 use Rattle.bm_exec.specs.Running.{Went}
 use Rattle.bm_exec.specs.Steps.{weight}
 use Rattle.bm_exec.proofs.running.resume.Given as goal
 
 abbrev pub invariant-loop-next : goal.invariant-loop-next
 invariant-loop-next g l = record {
-  went : Went l.types.declared.now (g.M.Machine.level l.initial.machine) (g.M.Machine.behind l.initial.machine) (g.M.Machine.lists l.initial.machine) (g.M.Machine.lists l.machine) (names_of l.initial.frame.names) (names_of l.frame.names) (reverse l.initial.frame.blocks.items) (reverse l.frame.blocks.items) (g.M.Machine.lives l.machine) (g.M.Machine.asked l.initial.machine) (g.M.Machine.asked l.machine) (g.M.Machine.log l.initial.machine) (g.M.Machine.log l.machine);
+  went : Went l.types.declared.now (g.M.Machine.level l.initial.machine) (g.M.Machine.behind l.initial.machine) (g.M.Machine.lists l.initial.machine) (g.M.Machine.lists l.machine) (names_of l.initial.frame.names) (names_of l.frame.names) (reverse l.initial.frame.blocks.items) (reverse l.frame.blocks.items) (g.M.Machine.lives l.initial.machine) (g.M.Machine.lives l.machine) (g.M.Machine.asked l.initial.machine) (g.M.Machine.asked l.machine) (g.M.Machine.log l.initial.machine) (g.M.Machine.log l.machine);
   sound : g.M.Machine.sound l.machine;
   level : g.M.Machine.level l.machine ≡ g.M.Machine.level l.initial.machine;
   processor : g.M.Machine.processor l.machine ≡ g.M.Machine.processor l.initial.machine;
   behind : g.M.Machine.behind l.machine ≡ g.M.Machine.behind l.initial.machine;
   through : g.M.Machine.through l.machine ≡ g.M.Machine.through l.initial.machine;
-  alone : Undisturbed g.M.Machine.level g.M.Machine.pending g.M.Machine.log g.M.Machine.known l.initial.machine l.machine;
+  keeps : g.M.Machine.keeps l.initial.machine l.machine;
 }
 
 abbrev pub decreases-loop-next : goal.decreases-loop-next

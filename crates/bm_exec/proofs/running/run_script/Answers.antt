@@ -14,7 +14,7 @@ resume-requires-clause-room g c =
 -- src/running.rt:207:5
 pub resume-requires-clause-holds : goal.resume-requires-clause-holds
 resume-requires-clause-holds g c =
-    start-holds _ _ _ c.new-2.ensures c.requires.none
+    (g.M.Machine.lives c.args.machine.now, start-holds _ _ _ c.new-2.ensures)
 
 -- src/running.rt:207:5
 pub resume-requires-clause-can : goal.resume-requires-clause-can
@@ -36,9 +36,11 @@ returns-clause-ended g c =
     record {
       after = _;
       grew = grew-map _ _ (g.M.Machine.lists c.args.machine.now) (g.M.Machine.log c.args.machine.now) _ (λ part y. start-runs c.args.types.now.declared.now (g.M.Machine.level c.args.machine.now) (g.M.Machine.behind c.args.machine.now) _ _ o _ _ (g.M.Machine.lists c.args.machine.now) part y) (rw c.new-2.ensures at r.grew);
-      alone = r.alone;
       owns_nothing = r.owns_nothing;
     })
+
+pub returns-clause-lives : goal.returns-clause-lives
+returns-clause-lives g c = λ e. c.resume.ensures.lives e (g.M.Machine.lives c.args.machine.now) (start-holds _ _ _ c.new-2.ensures)
 
 -- src/running.rt:181:1
 pub returns-clause-asked : goal.returns-clause-asked

@@ -1,4 +1,4 @@
-use Rattle.std.proofs.Common.{◌≡◌, map, ap, sym, subst, ◌∙◌, refl, lit<, lit≤, arith}
+use Rattle.std.proofs.Common.{◌≡◌, map, ap, sym, subst, ◌∙◌, refl, lit<, lit≤, arith, false}
 use Rattle.bm_page.specs.Stock.{Stock}
 use Rattle.bm_journal.specs.Recording.{Kept as Recorded}
 use Rattle.bm_world.specs.LivingState.{LivingState, rights_living}
@@ -6,11 +6,17 @@ use Rattle.bm_cache.specs.Opening.{Fills}
 use Rattle.bm_cache.specs.Shown.{shown}
 use Rattle.bm_cache.proofs.Opened.{fine-opened}
 use Rattle.bm_desk.specs.DeskTests.{tests_by}
-use Rattle.bm_exec.specs.declared.level0.Machine0.{Machine0}
+use Rattle.bm_due.specs.Due.{planned_for}
+use Rattle.bm_lang.specs.declared.scenario.Parts.{Parts}
+use Rattle.bm_lang.specs.Fine.{HasConditions}
+use Rattle.bm_levels.specs.declared.processor.Processor.{Processor}
+use Rattle.bm_levels.specs.declared.program.Program.{Program}
 use Rattle.bm_lawful.specs.Fills.{fresh_stock}
 use Rattle.bm_opening.specs.Filling.{filling}
 use Rattle.bm_opening.specs.Opened.{IsOpen}
 use Rattle.bm_opening.proofs.OpeningLemmas.{all-begins, ascending, dated, fills-once, fills-suit, living_side, lowered, no-numbers, no-parcels-told, no-words, none-live, opened-pool, side-is, stamped}
+use Rattle.bm_opening.proofs.Bounds.{Within, within}
+use Rattle.bm_opening.proofs.Started.{IsFresh, begins-enough, fresh-at, left-is}
 use Rattle.bm_opening.proofs.opening.open.Goals as goal
 
 pub create-requires-2-clause-ascend : goal.create-requires-2-clause-ascend
@@ -25,6 +31,11 @@ pub returns-in-Ok-create : goal.returns-in-Ok-create
 returns-in-Ok-create c =
     let v = c.in-Ok.ensures in
     let w = c.in-Ok-open_side.ensures in
+    let room = c.in_ok-room.room in
+    let r = c.in_ok-room.ensures in
+    let p : Program = c.args.program.now in
+    let s : Parts = c.args.scenario.now in
+    let same : s ≡ p.scenario.now = sym c.requires.same in
     let fs : Fills = map (λ f. (f.0, f.1.items)) c.in-Ok.fills.items in
     let pool = c.fill.new.pool in
     let slots = c.in-Ok-open_side.side.slots in
@@ -32,17 +43,35 @@ returns-in-Ok-create c =
     let world : LivingState = living_side pool slots begun in
     let caches = c.in-Ok-create.caches in
     let o = c.in-Ok-create.ensures.opened in
-    let first : c.in_ok-pool.pool ≡ fresh_stock c.args.pages = opened-pool c.in_ok-pool.pool c.args.pages c.in_ok-pool.ensures.classes c.in_ok-pool.ensures.units in
-    let named : fs ≡ (filling c.args.classes.now (fresh_stock c.args.pages)).fills = v.fills ∙ ap (λ (s : Stock). (filling c.args.classes.now s).fills) first in
-    let machine : Machine0 = record { alloc = c.args.alloc; caches = caches; side = world; settled = 0 } in
-    let done : IsOpen (filling c.args.classes.now (fresh_stock c.args.pages)) machine = record {
+    let fine : HasConditions s = c.requires.fine in
+    let limits : Within s = within s fine.processors c.requires.limits in
+    let first : c.in_ok-pool.pool ≡ fresh_stock s.pages = opened-pool c.in_ok-pool.pool p.scenario.now.pages c.in_ok-pool.ensures.classes c.in_ok-pool.ensures.units ∙ ap (λ (x : Parts). fresh_stock x.pages) c.requires.same in
+    let named : fs ≡ (filling c.args.classes.now (fresh_stock s.pages)).fills = v.fills ∙ ap (λ (x : Stock). (filling c.args.classes.now x).fills) first in
+    let machine : LivingState → Processor = λ side. record { alloc = c.args.alloc; caches = caches; side = side; settled = 0; inside = false; handlers = room.handlers; running = room.running; tables = room.tables } in
+    let m : Processor = machine world in
+    let fresh : IsFresh s m = record {
+      planned = r.planned;
+      scripts = r.scripts;
+      running = r.running;
+      room_running = r.room_running;
+      bound = r.bound;
+      tables = r.tables;
+      room_tables = r.room_tables;
+      inside = refl;
+      one = refl;
+      first = refl;
+      words = no-words pool slots begun;
+      asked = refl;
+      begun = w.begun;
+      lives = none-live slots w.slots;
+    } in
+    let done : IsOpen p (filling c.args.classes.now (fresh_stock s.pages)) m = record {
       sound = record {
-        one = refl;
-        first = refl;
+        at = fresh-at p m fs c.requires.fits (subst HasConditions same fine) (subst Within same limits) (subst (λ x. IsFresh x m) same fresh) o.told;
         fine = fine-opened (λ (k : Recorded). k.told) (λ k. k.counted) 0 1 (tests_by (rights_living world)) fs caches o (fills-suit pool slots begun fs w.slots w.begun v.unborn v.unlived v.out) (lit< tt) (lit≤ tt);
         dated = dated (tests_by (rights_living world)) fs (shown caches) o.lists;
         stamped = stamped fs (shown caches) o.lists;
-        begins = λ d. let b = all-begins pool slots begun d in omega (arith, b);
+        begins = λ d. let b = begins-enough s m _ limits fresh (all-begins pool slots begun d) in omega (arith, b);
       };
       told = rw (sym named) o.told;
       lowered = lowered fs (shown caches) o.lists;
@@ -52,8 +81,9 @@ returns-in-Ok-create c =
       parcels = no-parcels-told pool slots begun;
       numbers = no-numbers pool slots begun;
       words = no-words pool slots begun;
-      pages = ap (λ (s : Stock). s.classes) (v.pool ∙ ap (λ (s : Stock). (filling c.args.classes.now s).pool) first);
+      pages = ap (λ (x : Stock). x.classes) (v.pool ∙ ap (λ (x : Stock). (filling c.args.classes.now x).pool) first);
+      planned = left-is s m fresh ∙ ap (planned_for 0) same;
+      running = r.running;
+      inside = refl;
     } in
-    subst
-    (λ (s : LivingState). IsOpen (filling c.args.classes.now (fresh_stock c.args.pages)) (record { alloc = c.args.alloc; caches = caches; side = s; settled = 0 }))
-    (sym (side-is c.in-Ok-open_side.side pool w.side w.asked)) done
+    subst (λ x. IsOpen p (filling c.args.classes.now (fresh_stock s.pages)) (machine x)) (sym (side-is c.in-Ok-open_side.side pool w.side w.asked)) done

@@ -1,4 +1,4 @@
-use Rattle.std.proofs.Common.{◌≡◌, ap, sym, ◌∙◌, subst, Some, Option, IfSome, arith}
+use Rattle.std.proofs.Common.{◌≡◌, ap, sym, ◌∙◌, subst, Some, Option, IfSome}
 use Rattle.bm_journal.specs.Recording.{Kept as Recorded}
 use Rattle.bm_law.specs.Alone.{Alone}
 use Rattle.bm_law.specs.Lists.{Leaves, Log}
@@ -10,13 +10,19 @@ use Rattle.bm_deferred.specs.Parts.{Then}
 use Rattle.bm_post.specs.PostState.{told_in}
 use Rattle.bm_mail.specs.SweepsTold.{SweepsTold}
 use Rattle.bm_closing.specs.EndsBegun.{EndsBegun}
-use Rattle.bm_run.specs.Lines.{known_of, lists_of, log_of}
+use Rattle.bm_levels.specs.AtProcessor.{lists_of, log_of}
+use Rattle.bm_levels.specs.Ready.{known_of}
 use Rattle.bm_run.proofs.Results.{not-err, if-told}
+use Rattle.bm_run.proofs.Sections.{ends-even}
+use Rattle.bm_run.proofs.Written.{first-of}
 use Rattle.bm_run.proofs.journals.close.Goals as goal
+
+pub close-swept-requires-clause-rest : goal.close-swept-requires-clause-rest
+close-swept-requires-clause-rest c d = (_, (c.one_at_rest.ensures.rest d, ends-even _ _ (c.one_at_rest.ensures.sole d)))
 
 pub returns-clause-closed : goal.returns-clause-closed
 returns-clause-closed c =
-    let m = c.args.machine in
+    let m = c.args.own in
     let n = c.close-swept.new.host in
     let e = c.if-is_err.ensures.value in
     let done = c.close-swept.ensures in
@@ -24,7 +30,7 @@ returns-clause-closed c =
     let alone = not-err c.close-swept.result _ e done.alone in
     let end = not-err c.close-swept.result _ e done.at_end in
     let processor = not-err c.close-swept.result _ e done.processor in
-    let home : n.caches.processor ≡ 0 = (let few = c.requires.sound.fine.aimed.processor in let one = c.requires.sound.one in omega (arith, few, one, processor)) in
+    let home : n.caches.processor ≡ 0 = processor ∙ first-of c.requires.sound.0 m c.requires.sound.1 in
     rw c.ok_or.ensures.value (if-told c.into_log.result _ _ (λ l q.
     let told : n.caches.recorder.told ≡ Some l = ap (λ (k : Recorded). k.told) (sym c.finish.ensures) ∙ (sym c.into_log.ensures.told ∙ q) in
     record {

@@ -1,79 +1,111 @@
-use Rattle.std.proofs.Common.{[], ◌∷◌, IfOk, ap, sym, subst, ◌∙◌}
+use Rattle.std.proofs.Common.{◌≡◌, ◌≤◌, ◌%◌, ℕ, [], ◌∷◌, IfOk, ap, sym, subst, ◌∙◌, arith}
+use Rattle.bm_grace.specs.Known.{Lives, side}
+use Rattle.bm_law.specs.Lists.{Log}
 use Rattle.bm_lives.specs.Lives.{WholeLives}
 use Rattle.bm_returns.specs.Units.{FreedAsGiven}
+use Rattle.bm_world.specs.LivingState.{LivingState, known_living}
 use Rattle.bm_exec.specs.Lists.{Behind}
+use Rattle.bm_levels.specs.AtProcessor.{lists_of}
+use Rattle.bm_levels.specs.Ready.{known_of, left_of}
+use Rattle.bm_levels.specs.declared.processor.Processor.{Processor}
+use Rattle.bm_levels.specs.declared.program.Program.{Program}
+use Rattle.bm_opening.proofs.Bounds.{few-planned, within}
 use Rattle.bm_run.specs.Closed.{Closed}
-use Rattle.bm_run.specs.Lines.{lists_of, when_on}
-use Rattle.bm_run.proofs.Declared.{all-declared}
+use Rattle.bm_run.specs.Lines.{lines_cost}
+use Rattle.bm_run.proofs.Declared.{all-declared, few-left, room-all, room-for}
 use Rattle.bm_run.proofs.Lines.{down-when, few-when}
-use Rattle.bm_run.proofs.LogLaw.{alone-sends, lawful-run, lived-run, none-planned, short-run, unused-rows}
+use Rattle.bm_run.proofs.LogLaw.{RunLeft, alone-sends, lawful-run, lived-run, short-run, unused-rows}
 use Rattle.bm_run.proofs.OpenedList.{opened-ascend, opened-few}
 use Rattle.bm_run.proofs.Results.{both-if-ok, if-ok, not-err}
 use Rattle.bm_run.proofs.journals.log_of.Goals as goal
 
+some-processors : (n : ℕ) → n ≡ 1 → 1 ≤ n
+some-processors n e = omega (arith, e)
+
 pub open-requires-clause-ascend : goal.open-requires-clause-ascend
 open-requires-clause-ascend c = rw c.requires.opened (opened-ascend c.args.scenario.now.types)
 
-pub run_lines-requires-clause-works : goal.run_lines-requires-clause-works
-run_lines-requires-clause-works c = c.when_on.ensures ∙ ap (when_on c.args.scenario.now.deferred) c.requires.opened
-
 pub run_lines-requires-clause-few : goal.run_lines-requires-clause-few
-run_lines-requires-clause-few c = few-when c.when_on.result c.args.scenario.now.deferred c.args.opened.now c.when_on.ensures (rw c.requires.opened (opened-few c.args.scenario.now.types))
+run_lines-requires-clause-few c = few-when c.when_on.result c.parts-parts.result.now.deferred c.args.opened.now c.when_on.ensures (rw c.requires.opened (opened-few c.args.scenario.now.types))
+
+pub run_lines-requires-clause-cost : goal.run_lines-requires-clause-cost
+run_lines-requires-clause-cost c =
+    let s = c.args.scenario.now in
+    let m : Processor = c.in_ok-own.own in
+    let o = c.in_ok-own.ensures in
+    let w = within s (some-processors s.processors c.requires.yet.one) c.requires.checked.within_limits in
+    rw c.parts-parts.ensures.value (room-for s (known_of m).objects.asked m.settled (lines_cost s.scripts s.runs) (left_of m) _ (rw c.parts-parts.ensures.value at o.planned) o.asked (room-all s w))
+
+pub run_lines-requires-clause-handlers : goal.run_lines-requires-clause-handlers
+run_lines-requires-clause-handlers c =
+    let s = c.args.scenario.now in
+    let w = within s (some-processors s.processors c.requires.yet.one) c.requires.checked.within_limits in
+    few-left 1000 (left_of c.in_ok-own.own) _ (rw c.parts-parts.ensures.value at c.in_ok-own.ensures.planned) (few-planned s w)
 
 pub run_lines-requires-clause-down : goal.run_lines-requires-clause-down
 run_lines-requires-clause-down c =
-    let t = lists_of c.in_ok-machine.machine in
-    subst (λ w. Behind w t []) (sym c.when_on.ensures) (down-when c.args.scenario.now.deferred c.args.opened.now t c.in_ok-machine.ensures.lowered)
+    let t = lists_of c.in_ok-own.own in
+    subst (λ w. Behind w t []) (sym c.when_on.ensures) (down-when c.parts-parts.result.now.deferred c.args.opened.now t c.in_ok-own.ensures.lowered)
 
 pub run_lines-requires-clause-declared : goal.run_lines-requires-clause-declared
-run_lines-requires-clause-declared c = all-declared c.args.scenario.now c.requires.fine
+run_lines-requires-clause-declared c = rw c.parts-parts.ensures.value (all-declared c.args.scenario.now c.requires.fine)
 
 pub close-requires-clause-few : goal.close-requires-clause-few
 close-requires-clause-few c = rw c.requires.opened (opened-few c.args.scenario.now.types)
 
+pub close-requires-clause-sound : goal.close-requires-clause-sound
+close-requires-clause-sound c = (_, c.begin_closing.ensures.sound _ (not-err c.run_lines.result _ c.if-is_err.ensures.value c.run_lines.ensures.sound))
+
+pub close-requires-clause-outside : goal.close-requires-clause-outside
+close-requires-clause-outside c d = ap (λ (x : LivingState). (side d (known_living x)).word % 2) c.begin_closing.ensures.side ∙ not-err c.run_lines.result _ c.if-is_err.ensures.value c.run_lines.ensures.outside d
+
 pub close-requires-clause-unused : goal.close-requires-clause-unused
 close-requires-clause-unused c some k =
     let e = c.if-is_err.ensures.value in
-    let o = rw c.requires.opened at c.in_ok-machine.ensures in
-    let wrote = not-err c.run_lines.result _ e c.run_lines.ensures.wrote in
+    let o = rw c.requires.opened at c.in_ok-own.ensures in
+    let wrote = rw c.parts-parts.ensures.value at (not-err c.run_lines.result _ e c.run_lines.ensures.wrote) in
     let sound = not-err c.run_lines.result _ e c.run_lines.ensures.sound in
-    rw c.requires.opened (unused-rows c.args.scenario.now c.in_ok-machine.machine c.run_lines.new.machine c.begin_closing.new.machine c.front_law.ensures.rows c.counted_law.ensures.scripts o wrote sound c.begin_closing.ensures.wrote c.begin_closing.ensures.lists some k)
+    rw c.requires.opened (unused-rows c.args.scenario.now _ c.in_ok-own.own c.run_lines.new.own c.begin_closing.new.own c.parts-parts.ensures.value c.handled_law.ensures.rows o wrote sound c.begin_closing.ensures.wrote c.begin_closing.ensures.lists some k)
+
+-- what the run left, of the program that it ran
+run-left : (c : goal.After-close) (final : Log) → Closed c.args.opened.now c.begin_closing.new.own final → (p : Program) × RunLeft c.args.scenario.now p c.in_ok-own.own c.run_lines.new.own c.begin_closing.new.own final
+run-left c final x =
+    let m3 = c.begin_closing.new.own in
+    let e = c.if-is_err.ensures.value in
+    let o = rw c.requires.opened at c.in_ok-own.ensures in
+    let wrote = rw c.parts-parts.ensures.value at (not-err c.run_lines.result _ e c.run_lines.ensures.wrote) in
+    let sound = not-err c.run_lines.result _ e c.run_lines.ensures.sound in
+    let lives = not-err c.run_lines.result _ e c.run_lines.ensures.lives in (
+      _,
+      record {
+        program = c.parts-parts.ensures.value;
+        opens = o;
+        scripts = wrote;
+        lives = λ u. ap (λ (f : Lives). f u) lives ∙ o.none u;
+        sound = sound;
+        ends = c.begin_closing.ensures.wrote;
+        ended = c.begin_closing.ensures.ended;
+        same = c.begin_closing.ensures.side;
+        lists = c.begin_closing.ensures.lists;
+        sound_ended = c.begin_closing.ensures.sound _ sound;
+        closed = subst (λ cs. Closed cs m3 final) c.requires.opened x;
+      },
+    )
 
 pub returns-clause-lawful : goal.returns-clause-lawful
-returns-clause-lawful c =
-    let s = c.args.scenario.now in
-    let m3 = c.begin_closing.new.machine in
-    let e = c.if-is_err.ensures.value in
-    let o = rw c.requires.opened at c.in_ok-machine.ensures in
-    let wrote = not-err c.run_lines.result _ e c.run_lines.ensures.wrote in
-    let sound = not-err c.run_lines.result _ e c.run_lines.ensures.sound in
-    let none = not-err c.run_lines.result _ e c.run_lines.ensures.none in
-    if-ok c.close.result _ _ c.close.ensures.closed (λ final x. lawful-run s c.in_ok-machine.machine c.run_lines.new.machine m3 final c.front_law.ensures.rows c.counted_law.ensures.scripts c.counted_law.ensures.alone (none-planned s 0 c.requires.yet.no_handlers) c.front_law.ensures.replies c.parcels_law.ensures.sweeps c.parcels_law.ensures.law none o wrote sound
-    c.begin_closing.ensures.wrote c.begin_closing.ensures.side c.begin_closing.ensures.lists c.begin_closing.ensures.sound (subst (λ cs. Closed cs m3 final) c.requires.opened x))
+returns-clause-lawful c = if-ok c.close.result _ _ c.close.ensures.closed (λ final x.
+    let r = run-left c final x in
+    lawful-run c.args.scenario.now r.0 c.in_ok-own.own c.run_lines.new.own c.begin_closing.new.own final c.handled_law.ensures.periods c.handled_law.ensures.rows c.handled_law.ensures.null c.parcels_law.ensures.sweeps c.handled_law-2.ensures r.1)
 
 pub returns-clause-short : goal.returns-clause-short
-returns-clause-short c =
-    let s = c.args.scenario.now in
-    let m3 = c.begin_closing.new.machine in
-    let e = c.if-is_err.ensures.value in
-    let o = rw c.requires.opened at c.in_ok-machine.ensures in
-    let wrote = not-err c.run_lines.result _ e c.run_lines.ensures.wrote in
-    let sound = not-err c.run_lines.result _ e c.run_lines.ensures.sound in
-    let none = not-err c.run_lines.result _ e c.run_lines.ensures.none in
-    if-ok c.close.result _ _ c.close.ensures.closed (λ final x. short-run s c.in_ok-machine.machine c.run_lines.new.machine m3 final none o wrote
-    c.begin_closing.ensures.wrote c.begin_closing.ensures.side sound c.begin_closing.ensures.sound (subst (λ cs. Closed cs m3 final) c.requires.opened x))
+returns-clause-short c = if-ok c.close.result _ _ c.close.ensures.closed (λ final x.
+    let r = run-left c final x in
+    short-run c.args.scenario.now r.0 c.in_ok-own.own c.run_lines.new.own c.begin_closing.new.own final c.handled_law.ensures.periods r.1)
 
 lived-log : (c : goal.After-close) → IfOk c.close.result (λ final. WholeLives (final ∷ []) × FreedAsGiven final)
-lived-log c =
-    let s = c.args.scenario.now in
-    let m3 = c.begin_closing.new.machine in
-    let e = c.if-is_err.ensures.value in
-    let o = rw c.requires.opened at c.in_ok-machine.ensures in
-    let wrote = not-err c.run_lines.result _ e c.run_lines.ensures.wrote in
-    let sound = not-err c.run_lines.result _ e c.run_lines.ensures.sound in
-    let none = not-err c.run_lines.result _ e c.run_lines.ensures.none in
-    if-ok c.close.result _ _ c.close.ensures.closed (λ final x. lived-run s c.in_ok-machine.machine c.run_lines.new.machine m3 final c.lives_law.ensures.one c.lives_law.ensures.whole c.lives_law.ensures.freed none o wrote sound
-    c.begin_closing.ensures.wrote c.begin_closing.ensures.side c.begin_closing.ensures.sound (subst (λ cs. Closed cs m3 final) c.requires.opened x))
+lived-log c = if-ok c.close.result _ _ c.close.ensures.closed (λ final x.
+    let r = run-left c final x in
+    lived-run c.args.scenario.now r.0 c.in_ok-own.own c.run_lines.new.own c.begin_closing.new.own final c.handled_law.ensures.periods c.lives_law.ensures.one c.lives_law.ensures.whole c.lives_law.ensures.freed r.1)
 
 pub returns-clause-lives : goal.returns-clause-lives
 returns-clause-lives c = if-ok c.close.result _ _ (lived-log c) (λ final h. h.0)

@@ -5,7 +5,4 @@ use Rattle.bm_run.proofs.journals.replay.Goals as goal
 
 pub type_classes-requires : goal.type_classes-requires
 type_classes-requires c =
-    rw (c.as_slice-types.ensures ∙ ap (λ (s : Parts). s.types) c.parts-scenario.ensures.value) (all-sized [] c.scenario.result.now.types c.parts-scenario.ensures.fine.1.conditions.types)
-
-pub log_of-requires-clause-fine : goal.log_of-requires-clause-fine
-log_of-requires-clause-fine c = rw c.parts-scenario.ensures.value c.parts-scenario.ensures.fine.1.conditions
+    rw (c.as_slice-types.ensures ∙ ap (λ (s : Parts). s.types) c.parts-parts.ensures.value) (all-sized [] c.scenario-scenario.result.now.types c.parts-parts.ensures.fine.1.conditions.types)

@@ -1,39 +1,37 @@
 use Rattle.std.proofs.Common.{◌≡◌, ◌∙◌, ◌+◌, [], ◌∷◌, refl, ap, subst, arith}
+use Rattle.std.specs.Prelude.{◌%◌}
 use Rattle.bm_journal.specs.declared.entry.Entry.TheVariants as entry
-use Rattle.bm_journal.specs.declared.ids.Domain.TheVariants.{Plain, Tracing}
+use Rattle.bm_journal.specs.declared.ids.Domain.TheVariants.{Plain}
 use Rattle.bm_deferred.specs.Parts.{Stand}
-use Rattle.bm_grace.specs.Known.{Lives}
-use Rattle.bm_world.specs.LivingState.{lives_of}
+use Rattle.bm_grace.specs.Known.{Known, side}
 use Rattle.bm_exec.specs.Lists.{behind_of}
-use Rattle.bm_run.specs.Lines.{Wrote, word_of}
+use Rattle.bm_levels.specs.Ready.{word_of}
+use Rattle.bm_levels.specs.declared.processor.Processor.{Processor}
+use Rattle.bm_run.specs.Lines.{Wrote}
 use Rattle.bm_run.proofs.Lines.{body-wrote, script-wrote}
 use Rattle.bm_run.proofs.Results.{on-ok}
+use Rattle.bm_run.proofs.Sections.{parity-script}
 use Rattle.bm_run.proofs.scripts.run_line.Goals as goal
-
-pub end_script-requires-clause-inside : goal.end_script-requires-clause-inside
-end_script-requires-clause-inside c = (let w = (c.in-Ended.ensures.alone refl).words refl Plain in let v = c.begin_script.ensures.word in let e = c.requires.outside in omega (arith, w, v, e))
 
 pub returns-in-Ended-clause-wrote : goal.returns-in-Ended-clause-wrote
 returns-in-Ended-clause-wrote c =
-    let m = c.args.machine.now in
-    let m1 = c.begin_script.new.machine in
-    let m2 = c.run_body.new.machine in
-    let m3 = c.end_script.new.machine in
-    let s = c.args.scenario.now in
+    let m : Processor = c.args.own.now in
+    let m1 : Processor = c.begin_script.new.own in
+    let m2 : Processor = c.run_body.new.own in
+    let m3 : Processor = c.end_script.new.own in
+    let p = c.args.program.now in
+    let s = p.scenario.now in
     let script = c.args.script.now in
     let w = behind_of c.args.deferred.now.behind in
-    let alone = c.in-Ended.ensures.alone refl in
-    let word : word_of Plain m2 ≡ word_of Plain m + 1 = alone.words refl Plain ∙ c.begin_script.ensures.word in
+    let ran = c.in-Ended.ensures.statements refl in
+    let begun : word_of Plain m1 ≡ word_of Plain m + 1 = ap (λ (x : Known). (side Plain x).word) c.begin_script.ensures.known in
+    let odd : word_of Plain m1 % 2 ≡ 1 = (let e = c.requires.outside in omega (arith, e, begun)) in
+    let word : word_of Plain m2 ≡ word_of Plain m + 1 = ran.inner odd ∙ begun in
+    let sound1 = c.begin_script.ensures.sound p c.requires.sound in
+    let sound2 = c.in-Ended.ensures.sound refl in
     let ends = subst (λ k. Wrote (Stand 0 (entry.Out Plain (k + 1) ∷ entry.Done script.name ∷ [])) m2 m3) word c.end_script.ensures.wrote in
-    on-ok c.settle_script.result _ _ c.settle_script.ensures.wrote (λ x. script-wrote s script (word_of Plain m + 1) w m m1 m2 m3 c.settle_script.new.machine c.requires.works c.requires.sound c.begin_script.ensures.sound (c.in-Ended.ensures.sound refl) c.end_script.ensures.sound
-    c.begin_script.ensures.wrote (body-wrote s script c.args.types.now.declared.now w m1 m2 c.requires.types c.requires.works c.begin_script.ensures.sound (c.in-Ended.ensures.ended refl) alone) ends x)
+    on-ok c.settle_behind.result _ _ c.settle_behind.ensures.wrote (λ x. script-wrote s script (word_of Plain m + 1) w p m m1 m2 m3 c.settle_behind.new.own c.requires.works c.requires.sound sound1 sound2 (c.end_script.ensures.sound p sound2)
+    c.begin_script.ensures.wrote (body-wrote s script s.types w m1 m2 refl c.requires.works (c.in-Ended.ensures.ended refl) ran.ordinary) ends x)
 
-pub returns-in-Ended-clause-none : goal.returns-in-Ended-clause-none
-returns-in-Ended-clause-none c = on-ok c.settle_script.result _ _ c.settle_script.ensures.lives (λ l u. ap (λ (f : Lives). f u) l ∙ ap (λ slots. lives_of slots u) c.end_script.ensures.slots ∙ c.in-Ended.ensures.none refl u)
-
-pub returns-in-Ended-clause-word : goal.returns-in-Ended-clause-word
-returns-in-Ended-clause-word c = on-ok c.settle_script.result _ _ c.settle_script.ensures.words (λ h.
-    (let one = h Plain in let two = c.end_script.ensures.word in let three = (c.in-Ended.ensures.alone refl).words refl Plain in let four = c.begin_script.ensures.word in omega (arith, one, two, three, four)))
-
-pub returns-in-Ended-clause-tracing : goal.returns-in-Ended-clause-tracing
-returns-in-Ended-clause-tracing c = on-ok c.settle_script.result _ _ c.settle_script.ensures.words (λ h. h Tracing ∙ c.end_script.ensures.tracing ∙ (c.in-Ended.ensures.alone refl).words refl Tracing ∙ c.begin_script.ensures.tracing)
+pub returns-in-Ended-clause-outside : goal.returns-in-Ended-clause-outside
+returns-in-Ended-clause-outside c = on-ok c.settle_behind.result _ _ c.settle_behind.ensures.statements (λ h d. parity-script c.args.own.now c.begin_script.new.own c.run_body.new.own c.end_script.new.own c.settle_behind.new.own c.begin_script.ensures.known (c.in-Ended.ensures.statements refl).parity c.end_script.ensures.known h.parity d)

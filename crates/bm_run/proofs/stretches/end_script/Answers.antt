@@ -1,12 +1,16 @@
-use Rattle.std.proofs.Common.{[], ◌∷◌, ◌+◌}
+use Rattle.std.proofs.Common.{[], ◌∷◌, ◌+◌, refl}
 use Rattle.bm_journal.specs.declared.entry.Entry.TheVariants as entry
 use Rattle.bm_journal.specs.declared.ids.Domain.TheVariants.{Plain}
-use Rattle.bm_run.specs.Lines.{word_of}
+use Rattle.bm_levels.specs.Ready.{word_of}
+use Rattle.bm_levels.specs.declared.processor.Processor.{Processor}
 use Rattle.bm_run.proofs.Written.{wrote-stands}
 use Rattle.bm_run.proofs.stretches.end_script.Goals as goal
 
 pub returns-clause-wrote : goal.returns-clause-wrote
 returns-clause-wrote c =
-    let m = c.args.machine.now in
-    wrote-stands (entry.Out Plain (word_of Plain m + 1) ∷ []) (entry.Done c.args.name.now ∷ []) m c.go_out.new.machine c.note.new.machine c.requires.sound c.go_out.ensures.sound
+    let m : Processor = c.args.own.now in
+    wrote-stands (entry.Out Plain (word_of Plain m + 1) ∷ []) (entry.Done c.args.name.now ∷ []) m c.go_out.new.own c.note.new.own c.requires.fine c.go_out.ensures.fine c.go_out.ensures.processor
     c.go_out.ensures.wrote (rw c.duplicate.ensures at c.note.ensures.wrote)
+
+pub returns-clause-sound : goal.returns-clause-sound
+returns-clause-sound c p s = c.note.ensures.sound p refl tt tt (c.go_out.ensures.sound p s)

@@ -1,16 +1,21 @@
-use Rattle.std.proofs.Common.{ap, refl, ◌∙◌}
-use Rattle.bm_grace.specs.Known.{Known, side}
+use Rattle.std.proofs.Common.{◌+◌, ap}
 use Rattle.bm_grace.specs.declared.step.StepKind.TheVariants.{Enter}
-use Rattle.bm_world.specs.LivingState.{known_living}
-use Rattle.bm_run.proofs.Sections.{number-moved, sound-moved}
-use Rattle.bm_run.proofs.Written.{wrote-turned}
+use Rattle.bm_journal.specs.declared.entry.Entry.TheVariants as entry
+use Rattle.bm_journal.specs.declared.ids.Domain.TheVariants.{Plain}
+use Rattle.bm_levels.specs.Ready.{left_of, word_of}
+use Rattle.bm_levels.specs.declared.processor.Processor.{Processor}
+use Rattle.bm_run.proofs.Sections.{sound-moved, unmoved-by}
+use Rattle.bm_run.proofs.Written.{wrote-still}
 use Rattle.bm_run.proofs.stretches.go_in.Goals as goal
-
-pub note-requires-clause-sound : goal.note-requires-clause-sound
-note-requires-clause-sound c = sound-moved Enter c.args.machine.now c.enter-word.new.self c.enter-word.ensures.post c.enter-word.ensures.slots c.enter-word.ensures.begun c.enter-word.ensures.asked c.enter-word.ensures.known c.requires.sound
 
 pub returns-clause-wrote : goal.returns-clause-wrote
 returns-clause-wrote c =
-    let m = c.args.machine.now in
-    let k = c.enter-word.ensures.known in
-    wrote-turned _ m (record m { side = c.enter-word.new.self }) c.note.new.machine refl (λ d. ap (λ (x : Known). (side d x).number) k ∙ number-moved Enter (known_living m.side) d) (ap (λ (x : Known). x.parcels) k) (ap (λ (x : Known). x.objects) k) (ap (λ (x : Known). x.pages) k) (rw c.enter-word.ensures.word at c.note.ensures.wrote)
+    let m : Processor = c.args.own.now in
+    let e = rw c.ordinary.ensures at c.enter_section.ensures in
+    wrote-still m c.enter_section.new.own (entry.In Plain (word_of Plain m + 1)) e.said tt (unmoved-by Enter m c.enter_section.new.own e.known)
+
+pub returns-clause-sound : goal.returns-clause-sound
+returns-clause-sound c p s =
+    let m : Processor = c.args.own.now in
+    let e = rw c.ordinary.ensures at c.enter_section.ensures in
+    sound-moved Enter p m c.enter_section.new.own e.rights e.lists e.known (ap left_of e.same) (ap (λ (x : Processor). x.settled) e.same) (e.at p s.at c.requires.room) e.fine s

@@ -1,13 +1,20 @@
 use Rattle.std.proofs.Common.{refl}
-use Rattle.bm_exec.proofs.Sounds.{sound-noted}
-use Rattle.bm_run.proofs.Written.{wrote-noted}
+use Rattle.bm_levels.specs.declared.processor.Processor.{Processor}
+use Rattle.bm_levels.proofs.Noted.{fine-noted}
+use Rattle.bm_run.proofs.Sections.{sound-noted}
+use Rattle.bm_run.proofs.Written.{wrote-still}
 use Rattle.bm_run.proofs.stretches.note.Goals as goal
 
+pub returns-clause-fine : goal.returns-clause-fine
+returns-clause-fine c = fine-noted 0 c.args.own.now c.note.new.self c.note.ensures.same c.note.ensures.step.processor c.note.ensures.placed c.requires.fine
+
 pub returns-clause-sound : goal.returns-clause-sound
-returns-clause-sound c = sound-noted c.args.machine.now c.note.new.self c.note.ensures.same c.note.ensures.step.processor c.note.ensures.placed c.requires.sound
+returns-clause-sound c p k i q s =
+    let n = rw c.ordinary.ensures at c.note.ensures.step in
+    sound-noted p c.args.own.now c.note.new.self c.args.entry k i q c.note.ensures.same n.records (fine-noted 0 c.args.own.now c.note.new.self c.note.ensures.same c.note.ensures.step.processor c.note.ensures.placed c.requires.fine) s
 
 pub returns-clause-wrote : goal.returns-clause-wrote
 returns-clause-wrote c =
-    let m = c.args.machine.now in
+    let m : Processor = c.args.own.now in
     let n = rw c.ordinary.ensures at c.note.ensures.step in
-    wrote-noted m (record m { caches = c.note.new.self }) c.args.entry n.records c.requires.still c.requires.silent refl
+    wrote-still m (record m { caches = c.note.new.self }) c.args.entry n.records c.requires.still (record { processors = refl; processor = refl; number = λ d. refl; parcels = refl; pages = refl })

@@ -1,0 +1,17 @@
+use Rattle.std.proofs.Common.{◌∷◌, refl}
+use Rattle.bm_journal.specs.declared.entry.Entry.TheVariants as entry
+use Rattle.bm_exec.proofs.Still.{still-created}
+use Rattle.bm_levels.proofs.Grounds.{sound-still, statements-still}
+use Rattle.bm_levels.proofs.ground.GroundMachine.create.Goals as goal
+
+pub returns-clause-sound : goal.returns-clause-sound
+returns-clause-sound c =
+    let s = c.requires.sound in
+    let e = c.make.ensures in
+    (sound-still 1 c.args.self.now.program.now c.args.self.now.own.now c.make.new.own e.between e.at s.0, s.1)
+
+pub returns-clause-keeps : goal.returns-clause-keeps
+returns-clause-keeps c =
+    let e = c.make.ensures in
+    let d = e.created in
+    (statements-still 1 c.args.self.now.program.now (entry.New c.args.name c.args.values ∷ d.own) c.args.self.now.own.now c.make.new.own e.between d.records (still-created _ _ _ _ _ _ _ _ _ d), refl)

@@ -1,0 +1,115 @@
+-- What a log tells behind one more entry.
+use Rattle.std.specs.Prelude.{◌≡◌, ℕ, true, [], ◌∷◌, ◌++◌, Option, Some, None}
+use Rattle.std.proofs.Common.{refl, ◌∙◌, subst}
+use Rattle.bm_journal.specs.declared.ids.Domain.{Domain}
+use Rattle.bm_journal.specs.declared.entry.Entry.{Entry}
+use Rattle.bm_journal.specs.declared.entry.Entry.TheVariants as entry
+use Rattle.bm_lang.specs.declared.scenario.Parts.{Parts}
+use Rattle.bm_grace.specs.Known.{Known}
+use Rattle.bm_law.specs.Lists.{Log}
+use Rattle.bm_law.specs.Phrases.{given}
+use Rattle.bm_cache.specs.Steps.{is_free, is_reply, is_step}
+use Rattle.bm_lawful.specs.SectionWords.{word_after, word_fits, word_next}
+use Rattle.bm_lawful.proofs.GoneBack.{done-grow}
+use Rattle.bm_lawful.proofs.Words.{word-append, words-grow}
+use Rattle.bm_lived.specs.Lifeless.{SaysNoLife}
+use Rattle.bm_lived.specs.Lived.{BeginsNext, Lived, no_lives, with_given}
+use Rattle.bm_lived.specs.Told.{LivesOn}
+use Rattle.bm_lived.proofs.Stretches as stretch
+use Rattle.bm_exec.specs.Living.{lived_in}
+use Rattle.bm_levels.specs.Logged.{IsGiven, IsLived, Tells}
+
+-- It ends no handler, and begins and ends no section.
+abbrev pub IsInner : Entry → Type 0
+IsInner (entry.Back name) = ⊥
+IsInner (entry.In d w) = ⊥
+IsInner (entry.Out d w) = ⊥
+IsInner _ = Unit {0}
+
+-- ---- such entries
+
+pub inner-step : (e : Entry) → is_step e ≡ true → IsInner e
+inner-step (entry.Back name) h = absurd (cc)
+inner-step (entry.In d w) h = absurd (cc)
+inner-step (entry.Out d w) h = absurd (cc)
+inner-step _ h = tt
+
+pub inner-reply : (e : Entry) → is_reply e ≡ true → IsInner e
+inner-reply (entry.Back name) h = absurd (cc)
+inner-reply (entry.In d w) h = absurd (cc)
+inner-reply (entry.Out d w) h = absurd (cc)
+inner-reply _ h = tt
+
+pub inner-given : (u life : ℕ) (seal : Option (ℕ × ℕ)) → IsInner (given u life seal)
+inner-given u life None = tt
+inner-given u life (Some s) = tt
+
+pub inner-free : (u home : ℕ) (e : Entry) → is_free u home e ≡ true → IsInner e
+inner-free u home (entry.Back name) h = absurd (cc)
+inner-free u home (entry.In d w) h = absurd (cc)
+inner-free u home (entry.Out d w) h = absurd (cc)
+inner-free u home _ h = tt
+
+pub lifeless-step : (e : Entry) → is_step e ≡ true → SaysNoLife e
+lifeless-step (entry.Given u life) h = absurd (cc)
+lifeless-step (entry.GivenAfter u life stamp seen) h = absurd (cc)
+lifeless-step (entry.Drop u life) h = absurd (cc)
+lifeless-step (entry.Free u home) h = absurd (cc)
+lifeless-step (entry.Delay u home) h = absurd (cc)
+lifeless-step _ h = tt
+
+pub lifeless-reply : (e : Entry) → is_reply e ≡ true → SaysNoLife e
+lifeless-reply (entry.Given u life) h = absurd (cc)
+lifeless-reply (entry.GivenAfter u life stamp seen) h = absurd (cc)
+lifeless-reply (entry.Drop u life) h = absurd (cc)
+lifeless-reply (entry.Free u home) h = absurd (cc)
+lifeless-reply (entry.Delay u home) h = absurd (cc)
+lifeless-reply _ h = tt
+
+-- ---- behind one more entry
+
+pub no-back : (e : Entry) → IsInner e → (name : _) → e ≡ entry.Back name → ⊥
+no-back e i name q = subst IsInner q i
+
+pub inner-fits : (d : Domain) (w : ℕ) (e : Entry) → IsInner e → word_fits d w e ≡ true
+inner-fits d w (entry.Back name) i = absurd i
+inner-fits d w (entry.In k n) i = absurd i
+inner-fits d w (entry.Out k n) i = absurd i
+inner-fits d w _ i = refl
+
+inner-next : (d : Domain) (w : ℕ) (e : Entry) → IsInner e → word_next d w e ≡ w
+inner-next d w (entry.Back name) i = absurd i
+inner-next d w (entry.In k n) i = absurd i
+inner-next d w (entry.Out k n) i = absurd i
+inner-next d w _ i = refl
+
+-- no section began or ended
+pub word-inner : (d : Domain) (log : Log) (l : ℕ) (e : Entry) → IsInner e → word_after d (log ++ (l, e) ∷ []) ≡ word_after d log
+word-inner d log l e i = word-append d 0 log ((l, e) ∷ []) ∙ inner-next d (word_after d log) e i
+
+pub tells-inner : (L M : Log → Type 0) (s : Parts) (known : Known) (log : Log) (l : ℕ) (e : Entry) → IsInner e → (L log → M (log ++ (l, e) ∷ [])) → Tells L s known log → Tells M s known (log ++ (l, e) ∷ [])
+tells-inner L M s known log l e i f t = record {
+  done = done-grow s log l e (no-back e i) t.done;
+  words = words-grow log l e t.words (λ d. inner-fits d (word_after d log) e i);
+  last = λ d. word-inner d log l e i ∙ t.last d;
+  lives = f t.lives;
+}
+
+-- the same units live
+pub lived-silent : (known : Known) (log : Log) (l : ℕ) (e : Entry) → SaysNoLife e → IsLived known log → IsLived known (log ++ (l, e) ∷ [])
+lived-silent known log l e q h =
+    let a : Lived = lived_in known.objects in
+    let p : ℕ = known.grace.processor in
+    stretch.lives-join p no_lives a a log ((l, e) ∷ []) h (stretch.lifeless p a a ((l, e) ∷ []) (q, tt) (λ u. refl) (λ u. refl))
+
+given-on : (p l : ℕ) (a b : Lived) (u life : ℕ) (seal : Option (ℕ × ℕ)) → BeginsNext a u life → ((v : ℕ) → b.begun v ≡ (with_given p u a).begun v) → ((v : ℕ) → b.homes v ≡ (with_given p u a).homes v) → LivesOn p a b ((l, given u life seal) ∷ [])
+given-on p l a b u life None n f g = stretch.given p l a b [] u life tt n f g
+given-on p l a b u life (Some s) n f g = stretch.given-sealed p l a b [] u life s.0 s.1 tt n f g
+
+-- a unit is given
+pub lived-given : (known : Known) (log : Log) (l u life : ℕ) (seal : Option (ℕ × ℕ)) → IsLived known log → IsGiven u life known (log ++ (l, given u life seal) ∷ [])
+lived-given known log l u life seal h n =
+    let a : Lived = lived_in known.objects in
+    let p : ℕ = known.grace.processor in
+    let b : Lived = with_given p u a in
+    stretch.lives-join p no_lives a b log ((l, given u life seal) ∷ []) h (given-on p l a b u life seal n (λ v. refl) (λ v. refl))

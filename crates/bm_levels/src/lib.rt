@@ -1,0 +1,21 @@
+//! Machines of four levels, on which planned handlers run between any two steps, each on the machine of its own level, which
+//! borrows what the processor has.
+#![tactic(auto)]
+
+mod calls;
+mod code;
+mod ground;
+mod handlers;
+mod host;
+mod inside;
+mod processor;
+mod program;
+mod ranks;
+mod sections;
+
+pub use ground::{Deferred, Ground, settle_script};
+pub use host::At;
+pub use processor::Processor;
+pub use program::Program;
+pub use ranks::{First, Ordinary, Rank, Second, Third};
+pub use sections::{enter_section, leave_section};
