@@ -1,5 +1,9 @@
 //! The scenarios of examples/ and their journals, as they stand there. The journals are worked out by hand from the rules.
 
+use crate::handler_examples::{
+    BUSY_HANDLER, BUSY_HANDLER_JOURNAL, NESTED_HANDLERS, NESTED_HANDLERS_JOURNAL, REFILL_HANDLERS,
+    REFILL_HANDLERS_JOURNAL,
+};
 use crate::nested_example::{NESTED_BLOCKS, NESTED_BLOCKS_JOURNAL};
 use crate::tests::give_their_journals;
 use std::test::Fail;
@@ -375,6 +379,9 @@ const EXAMPLES: &[(&str, &str)] = &[
     (NESTED_BLOCKS, NESTED_BLOCKS_JOURNAL),
     (TWO_CLASSES, TWO_CLASSES_JOURNAL),
     (TWO_SCRIPTS, TWO_SCRIPTS_JOURNAL),
+    (BUSY_HANDLER, BUSY_HANDLER_JOURNAL),
+    (NESTED_HANDLERS, NESTED_HANDLERS_JOURNAL),
+    (REFILL_HANDLERS, REFILL_HANDLERS_JOURNAL),
 ];
 
 #[test]

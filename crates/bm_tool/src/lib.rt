@@ -6,6 +6,10 @@ mod deferred_tests;
 #[cfg(test)]
 mod example_tests;
 #[cfg(test)]
+mod handler_examples;
+#[cfg(test)]
+mod handler_tests;
+#[cfg(test)]
 mod nested_example;
 mod prepare;
 mod refusal;

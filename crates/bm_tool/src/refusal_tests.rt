@@ -187,6 +187,13 @@ const IN_ORDER: &[(&[&str], &str, u8, &str, &str)] = &[
         "",
         "bpfmem: script n line 2: rule 4\n",
     ),
+    (
+        REPLAY,
+        "type t { a } script m plain { } script h handler {\nnew x t 1 } run 0 m at 0 7 3 h",
+        6,
+        "",
+        "bpfmem: script h line 2: rule 4\n",
+    ),
     (CHECK, "", 0, "accepted\n", ""),
     (
         CHECK,
@@ -308,6 +315,35 @@ const CAUSES: &[(&str, u8, &str, u8, &str)] = &[
         6,
         "script m line 2: rule 1",
     ),
+    // handlers: a level and a processor that there are not, and scripts of the other kind
+    (
+        "scenario { processors 1 pages 1 deferred off\nscript m plain { } at 0 1 4 m }",
+        5,
+        "line 2 column 27: range",
+        5,
+        "line 2 column 27: range",
+    ),
+    (
+        "scenario { processors 1 pages 1 deferred off\nscript h handler { } at 1 1 1 h }",
+        5,
+        "line 2 column 25: range",
+        5,
+        "line 2 column 25: range",
+    ),
+    (
+        "scenario { processors 1 pages 1 deferred off\nscript m plain { } at 0 1 1 m }",
+        5,
+        "line 2 column 29: wrong",
+        5,
+        "line 2 column 29: wrong",
+    ),
+    (
+        "scenario { processors 1 pages 1 deferred off\nscript h handler { } run 0 h }",
+        5,
+        "line 2 column 28: wrong",
+        5,
+        "line 2 column 28: wrong",
+    ),
     // a fault and a limit
     (
         "scenario { processors 1 pages 257 deferred off\nscript m plain { x } }",
@@ -383,6 +419,31 @@ fn a_processor_runs_20_000_statements(rt: HostRuntime) -> Result<(), Fail> {
     let called = call(rt.alloc(), REPLAY, more.as_bytes())?;
     agrees(&rt, &called, 7, "", err, "19990");
     Ok(())
+}
+
+// A text that plans so many handlers, of which none runs.
+fn with_planned(alloc: Global, count: u32) -> Result<String, Fail> {
+    let mut text = format!(in alloc;
+        "scenario {{ processors 1 pages 0 deferred off script h handler {{ }}"
+    )?;
+    for _ in 0..count {
+        text.push_str(" at 0 1 1 h")?;
+    }
+    text.push_str(" }")?;
+    Ok(text)
+}
+
+#[test]
+fn a_text_plans_1_000_handlers(rt: HostRuntime) -> Result<(), Fail> {
+    let most = with_planned(rt.alloc(), 1000)?;
+    let more = with_planned(rt.alloc(), 1001)?;
+    let err = "bpfmem: limit handlers\n";
+    let called = call(rt.alloc(), CHECK, most.as_bytes())?;
+    agrees(&rt, &called, 0, "accepted\n", "", "1000");
+    let called = call(rt.alloc(), REPLAY, most.as_bytes())?;
+    assert!(rt; called.status == 0 || called.status == 4);
+    is_refused(&rt, rt.alloc(), CHECK, more.as_str(), 7, err, "1001")?;
+    is_refused(&rt, rt.alloc(), REPLAY, more.as_str(), 7, err, "1001")
 }
 
 // Each front of a text that ends before its last brace is refused, at its end or at the place of a token that was cut.
