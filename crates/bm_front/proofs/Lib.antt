@@ -5,6 +5,4 @@ pub mod Fronts
 pub mod Replied
 pub mod Spared
 pub mod OfClosing
-pub mod AllBare
-pub mod Counts
 pub mod Handled

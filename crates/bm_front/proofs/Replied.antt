@@ -4,19 +4,16 @@ use Rattle.bm_journal.specs.declared.entry.Entry.{Entry}
 use Rattle.bm_journal.specs.declared.entry.Entry.TheVariants as entry
 use Rattle.bm_lang.specs.declared.scenario.Parts.{Parts}
 use Rattle.bm_lang.specs.declared.scenario.TypeDeclaration.{TypeDeclaration}
-use Rattle.bm_law.specs.Lists.{Log}
 use Rattle.bm_law.specs.Null.{Asked, Nothing, RepliesFit, asked_at_end, all_apart, is_apart}
 use Rattle.bm_law.specs.Phrases.{AllocPhrase}
 use Rattle.bm_law.specs.Spans.{own_entries}
-use Rattle.bm_law.specs.State.{State}
 use Rattle.bm_law.proofs.Null.{replies-append, asked-append, alloc-answers, apart-answers, apart-free}
 use Rattle.bm_deferred.proofs.Each.{AllOf}
 use Rattle.bm_lawful.specs.Calls.{Allocates}
-use Rattle.bm_lawful.specs.Grammar.{Front}
 use Rattle.bm_lawful.proofs.RunsAll.{Closed}
 use Rattle.bm_front.specs.Owed.{AllReplied}
 use Rattle.bm_front.specs.WorkEntries.{IsOfWork}
-use Rattle.bm_front.proofs.Fronts.{Fronted, front-has}
+use Rattle.bm_front.proofs.Fronts.{Fronted}
 use Rattle.bm_front.proofs.OfWork.{work-writes}
 
 join : (v w : List Entry) → AllReplied v → AllReplied w → AllReplied (v ++ w)
@@ -69,6 +66,3 @@ replied s = record {
   ends = λ name w. apart (entry.Out _ w ∷ entry.Done name ∷ []) refl;
   work = λ c m t part h. apart (own_entries 0 part) (all-work-apart c (own_entries 0 part) (work-writes 0 c t part h));
 }
-
-pub all-replied : (s : Parts) (front : Log) (t : State ℕ) → Front s 0 t front → AllReplied (own_entries 0 front)
-all-replied s front t f = front-has s AllReplied (replied s) 0 t front f

@@ -1,5 +1,5 @@
 -- The caches of classes that no type uses.
-use Rattle.std.proofs.Common.{◌≡◌, ◌≢◌, ℕ, suc, zero, Bool, true, false, ◌||◌, List, [], ◌∷◌, refl, sym, ap, subst, ◌∙◌, Option, Some, slice_get, cond, nat_eq, eq-eqb, arith}
+use Rattle.std.proofs.Common.{◌≡◌, ◌≢◌, ℕ, suc, zero, Bool, true, false, ◌||◌, List, [], ◌∷◌, refl, sym, ap, subst, ◌∙◌, Option, Some, slice_get, cond, nat_eq, arith}
 use Rattle.std.specs.List.{filter, list_any}
 use Rattle.std.proofs.lemmas.Bool.Decides.{Decides-eqb, nat_tests}
 use Rattle.bm_class.specs.Sizes.{class_of_size}
@@ -9,20 +9,18 @@ use Rattle.bm_journal.specs.declared.entry.Entry.{Entry}
 use Rattle.bm_journal.specs.declared.entry.Entry.TheVariants as entry
 use Rattle.bm_lang.specs.declared.scenario.Parts.{Parts}
 use Rattle.bm_lang.specs.declared.scenario.TypeDeclaration.{TypeDeclaration}
-use Rattle.bm_law.specs.Alone.{AllAt}
-use Rattle.bm_law.specs.Effect.{effect, sent}
-use Rattle.bm_law.specs.Lists.{Log, after, brought, next}
+use Rattle.bm_law.specs.Effect.{sent}
+use Rattle.bm_law.specs.Lists.{after}
 use Rattle.bm_law.specs.Spans.{own_entries}
 use Rattle.bm_law.specs.State.{State}
 use Rattle.bm_deferred.specs.WorkPhrases.{Work}
 use Rattle.bm_deferred.proofs.Each.{AllOf}
-use Rattle.bm_lawful.specs.Grammar.{Front}
 use Rattle.bm_lawful.specs.Opened.{OfClass, is_class, object_size, opened_classes, uses_class}
 use Rattle.bm_lawful.proofs.RunsAll.{Closed}
 use Rattle.bm_lawful.proofs.Spares.{AllSpare, Spares, other-row, spare-alloc, spare-free, spare-join}
 use Rattle.bm_mail.proofs.Sends.{among}
 use Rattle.bm_front.specs.WorkEntries.{IsOfWork}
-use Rattle.bm_front.proofs.Fronts.{Fronted, front-has}
+use Rattle.bm_front.proofs.Fronts.{Fronted}
 use Rattle.bm_front.proofs.OfWork.{work-writes}
 use Rattle.bm_front.proofs.Parts.{Has}
 
@@ -138,15 +136,3 @@ spared s c e = record {
   ends = λ name w. ends-spare c w name;
   work = λ d m. work-part-spares s.types c d e m;
 }
-
--- ---- over a log of ordinary code
-
-pub rows-spared : (c : ℕ) (log : Log) (s : State ℕ) → AllAt 0 log → AllSpare c (own_entries 0 log) → (after s log).rows c ≡ s.rows c
-rows-spared c [] s a h = refl
-rows-spared c (e ∷ es) s a h =
-    let g : Spares c e.1 × AllSpare c (own_entries 0 es) = rw (eq-eqb e.0 0 a.0) at h in
-    let F : ℕ → Type 0 = λ l. (effect l e.1 (brought e.1 s) s).rows c ≡ s.rows c in
-    rows-spared c es (next s e) a.1 g.1 ∙ subst F (sym a.0) (g.0 0 (brought e.1 s) s)
-
-pub rows-kept : (s : Parts) (front : Log) (t : State ℕ) → AllAt 0 front → Front s 0 t front → (c : ℕ) → list_any (uses_class c) s.types ≡ false → (after t front).rows c ≡ t.rows c
-rows-kept s front t a f c e = rows-spared c front t a (front-has s (AllSpare c) (spared s c e) 0 t front f)

@@ -1,5 +1,5 @@
--- What the closing of a processor writes. (free_mem_alloc and drain_mem_cache in kernel/bpf/memalloc.c empty the lists of a cache
--- after the last grace periods.)
+-- What the closing of a processor writes. (free_mem_alloc and drain_mem_cache in kernel/bpf/memalloc.c empty the lists of a
+-- cache after the last grace periods.)
 use Rattle.bm_journal.specs.declared.entry.Entry.{Entry}
 use Rattle.bm_journal.specs.declared.entry.Entry.TheVariants as entry
 

@@ -1,4 +1,3 @@
 pub mod WorkEntries
 pub mod Owed
 pub mod ClosingEntries
-pub mod Bare

@@ -3,8 +3,8 @@ use Rattle.std.specs.Prelude.{◌≡◌, ℕ}
 use Rattle.bm_journal.specs.declared.entry.Entry.{Entry}
 use Rattle.bm_journal.specs.declared.entry.Entry.TheVariants as entry
 
--- An entry that the work of class c may write: one on the cache of its class, what comes from the stock, or a period that begins
--- or ends. No other entry is one.
+-- An entry that the work of class c may write: one on the cache of its class, what comes from the stock, or a period that
+-- begins or ends. No other entry is one.
 abbrev pub IsOfWork : ℕ → Entry → Type 0
 IsOfWork c (entry.Work d) = d ≡ c
 IsOfWork c (entry.Receive d us) = d ≡ c

@@ -4,4 +4,4 @@
 
 mod laws;
 
-pub use laws::{counted_law, front_law, handled_law};
+pub use laws::handled_law;

@@ -8,7 +8,6 @@ pub mod Parcels
 pub mod SectionWords
 pub mod Closing
 pub mod Grammar
-pub mod Counted
 pub mod OwnRuns
 pub mod CallEntries
 pub mod Handlers

@@ -63,8 +63,8 @@ pub record IsLog (s : Parts) (p : ℕ) (own : List Entry) : Type 0 where
   pub before_is : Leaves p (ordinary (fills ++ scripts)) before
   pub are_sweeps : AreSweeps before (opened_classes s.types) sweeps
 
--- A log of processor p: what it is made of, the words of its sections, the lists that it leaves, in which nothing stands at its end, and when its
--- allocations answer null.
+-- A log of processor p: what it is made of, the words of its sections, the lists that it leaves, in which nothing stands at its
+-- end, and when its allocations answer null.
 pub record LawfulLog (s : Parts) (p : ℕ) (log : Log) : Type 0 where
   pub own : List Entry
   pub log_is : log ≡ ordinary own

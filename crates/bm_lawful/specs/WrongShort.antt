@@ -3,7 +3,8 @@ use Rattle.bm_journal.specs.declared.journal.Journal.{Journal}
 use Rattle.bm_lang.specs.declared.scenario.Parts.{Parts}
 use Rattle.bm_lawful.specs.WorkedDeferred.{one_block, one_block_journal}
 
--- There are three pages, and so a refill that wants three units and gets the second page's alone could have the third page's too.
+-- There are three pages, and so a refill that wants three units and gets the second page's alone could have the third page's
+-- too.
 abbrev pub three_pages : Parts
 three_pages = record one_block { pages = 3 }
 

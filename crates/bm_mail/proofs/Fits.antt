@@ -4,10 +4,7 @@ use Rattle.std.proofs.Common.{ℕ, List, [], ◌∷◌, ◌++◌, sym, subst, ar
 use Rattle.bm_journal.specs.declared.entry.Entry.{Entry}
 use Rattle.bm_journal.specs.declared.entry.Entry.TheVariants as entry
 use Rattle.bm_law.specs.State.{State}
-use Rattle.bm_law.specs.Alone.{AllAt}
 use Rattle.bm_law.specs.Lists.{Log, next, after}
-use Rattle.bm_law.specs.Spans.{own_entries}
-use Rattle.bm_law.proofs.Alone.{at-own}
 use Rattle.bm_deferred.specs.Inboxes.{Inboxes, inboxes_after, inboxes_over, TakesOldest, AllOldest, IsWithin, AllWithin}
 use Rattle.bm_deferred.proofs.Inboxes.{AllQuiet, all-quiet, all-within, over-quiet}
 use Rattle.bm_lawful.specs.OwnGrammar.{ordinary}
@@ -23,13 +20,6 @@ fits-entries : (s : State ℕ) (boxes : Inboxes) (es : List Entry) (rest : Log) 
 fits-entries s boxes [] rest o w k = k
 fits-entries s boxes (e ∷ es) rest o w k = (fits-one e s boxes o.0 w.0, fits-entries (next s (0, e)) (inboxes_after 0 e boxes) es rest o.1 w.1 k)
 
--- they come first, and what follows fits
-pub fits-first : (s : State ℕ) (boxes : Inboxes) (log rest : Log) → AllAt 0 log → AllOldest 0 (own_entries 0 log) boxes → AllWithin 1 (own_entries 0 log) → ParcelsFit 0 (after s log) (inboxes_over 0 (own_entries 0 log) boxes) rest → ParcelsFit 0 s boxes (log ++ rest)
-fits-first s boxes log rest at o w k =
-    let es : List Entry = own_entries 0 log in
-    let F : Log → Type 0 = λ v. ParcelsFit 0 (after s v) (inboxes_over 0 es boxes) rest in
-    subst (λ v. ParcelsFit 0 s boxes (v ++ rest)) (sym (at-own 0 log at)) (fits-entries s boxes es rest o w (subst F (at-own 0 log at) k))
-
--- the same of entries that have nothing to do with parcels
+-- entries that have nothing to do with parcels come first, and what follows fits
 pub fits-quiet : (s : State ℕ) (boxes : Inboxes) (es : List Entry) (rest : Log) → AllQuiet es → ParcelsFit 0 (after s (ordinary es)) boxes rest → ParcelsFit 0 s boxes (ordinary es ++ rest)
 fits-quiet s boxes es rest q k = fits-entries s boxes es rest (all-quiet 0 es boxes q) (all-within 1 es q) (subst (λ m. ParcelsFit 0 (after s (ordinary es)) m rest) (sym (over-quiet 0 es boxes q)) k)

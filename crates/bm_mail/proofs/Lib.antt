@@ -6,5 +6,4 @@ pub mod Stretch
 pub mod Fits
 pub mod Inside
 pub mod Closed
-pub mod Delivered
 pub mod WithHandlers

@@ -2,10 +2,10 @@
 //! runs.
 #![tactic(auto)]
 
-mod handled;
-mod laws;
+mod parcels;
+mod sweeps;
 mod worked;
 
-pub use handled::handled_law;
-pub use laws::parcels_law;
+pub use parcels::parcels_law;
+pub use sweeps::sweeps_law;
 pub use worked::worked_inboxes;

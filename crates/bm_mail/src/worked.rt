@@ -25,12 +25,12 @@ pub fn worked_inboxes()
 #[cfg(test)]
 mod tests {
     use super::*;
-    use crate::{handled_law, parcels_law};
+    use crate::{parcels_law, sweeps_law};
 
     #[test]
     fn laws_take_no_step(_rt: HostRuntime) {
         parcels_law();
-        handled_law();
+        sweeps_law();
         worked_inboxes();
     }
 }

@@ -96,7 +96,7 @@ rest-takes-none known classes boxes s part h = of-map IsCalm TakesNone (λ e k. 
 -- ---- how the log goes on then
 
 -- The log stands at this position; each handler that has gone back left its phrase; and it has the words of sections.
-pub record GoesOn (x : Position) (s : Parts) (log : Log) : Type 0 where
+pub record LawfulSoFar (x : Position) (s : Parts) (log : Log) : Type 0 where
   pub stands : StandsAt x log
   pub done : HandlersDone s log
   pub words : SectionWords log
@@ -131,7 +131,7 @@ late-stands x log e none ended late h =
       | inr k ↦ stays-here x log e k h
     ])
 
-late-one : (x : Position) (s : Parts) (log : Log) (e : Entry) → x.running ≡ [] → x.plan.ended ≡ true → IsLate e → GoesOn x s log → GoesOn x s (log ++ (0, e) ∷ [])
+late-one : (x : Position) (s : Parts) (log : Log) (e : Entry) → x.running ≡ [] → x.plan.ended ≡ true → IsLate e → LawfulSoFar x s log → LawfulSoFar x s (log ++ (0, e) ∷ [])
 late-one x s log e none ended late h =
     let inner : IsInner e = late-inner e late in
     record {
@@ -140,13 +140,13 @@ late-one x s log e none ended late h =
       words = words-grow log 0 e h.words (λ d. inner-fits d (word_after d log) e inner);
     }
 
-late-all : (x : Position) (s : Parts) (log : Log) (es : List Entry) → x.running ≡ [] → x.plan.ended ≡ true → AllOf IsLate es → GoesOn x s log → GoesOn x s (log ++ at_level 0 es)
-late-all x s log [] none ended late h = subst (GoesOn x s) (sym (append-nil log)) h
-late-all x s log (e ∷ es) none ended late h = subst (GoesOn x s) (append_assoc log ((0, e) ∷ []) (at_level 0 es)) (late-all x s (log ++ (0, e) ∷ []) es none ended late.1 (late-one x s log e none ended late.0 h))
+late-all : (x : Position) (s : Parts) (log : Log) (es : List Entry) → x.running ≡ [] → x.plan.ended ≡ true → AllOf IsLate es → LawfulSoFar x s log → LawfulSoFar x s (log ++ at_level 0 es)
+late-all x s log [] none ended late h = subst (LawfulSoFar x s) (sym (append-nil log)) h
+late-all x s log (e ∷ es) none ended late h = subst (LawfulSoFar x s) (append_assoc log ((0, e) ∷ []) (at_level 0 es)) (late-all x s (log ++ (0, e) ∷ []) es none ended late.1 (late-one x s log e none ended late.0 h))
 
 -- entries of ordinary code that has ended
-pub late-goes-on : (x : Position) (s : Parts) (log more : Log) → x.running ≡ [] → x.plan.ended ≡ true → AllAt 0 more → AllOf IsLate (own_entries 0 more) → GoesOn x s log → GoesOn x s (log ++ more)
-late-goes-on x s log more none ended at late h = subst (λ z. GoesOn x s (log ++ z)) (sym (at-own 0 more at)) (late-all x s log (own_entries 0 more) none ended late h)
+pub late-goes-on : (x : Position) (s : Parts) (log more : Log) → x.running ≡ [] → x.plan.ended ≡ true → AllAt 0 more → AllOf IsLate (own_entries 0 more) → LawfulSoFar x s log → LawfulSoFar x s (log ++ more)
+late-goes-on x s log more none ended at late h = subst (λ z. LawfulSoFar x s (log ++ z)) (sym (at-own 0 more at)) (late-all x s log (own_entries 0 more) none ended late h)
 
 -- ---- what is said of the inboxes gives the closing
 

@@ -70,7 +70,7 @@ use Rattle.bm_opening.specs.Filling.{filling}
 use Rattle.bm_opening.specs.Opened.{IsOpen}
 use Rattle.bm_run.specs.Closed.{Closed}
 use Rattle.bm_run.specs.Lines.{Wrote}
-use Rattle.bm_run.proofs.Closes.{GoesOn, closing-is, ends-are, late-goes-on, rest-late, rest-silent, rest-takes-none}
+use Rattle.bm_run.proofs.Closes.{LawfulSoFar, closing-is, ends-are, late-goes-on, rest-late, rest-silent, rest-takes-none}
 use Rattle.bm_run.proofs.OpenedList.{opened-has, opened-none}
 use Rattle.bm_run.proofs.Sections.{runs-none}
 use Rattle.bm_run.proofs.Written.{told-of}
@@ -186,7 +186,7 @@ fills-logged cs pool p m fills o told = subst (λ (x : Option Log). IfSome x (λ
 abbrev here : Program → Processor → Position
 here p m = position_of (known_of m).grace.processor p.scenario.now m.handlers.planned m.running.items
 
-tells-here : (p : Program) (m : Processor) (log : Log) → Sound p m → log_of m ≡ Some log → GoesOn (here p m) p.scenario.now log × LivesOn 0 no_lives (lived_in (known_of m).objects) log
+tells-here : (p : Program) (m : Processor) (log : Log) → Sound p m → log_of m ≡ Some log → LawfulSoFar (here p m) p.scenario.now log × LivesOn 0 no_lives (lived_in (known_of m).objects) log
 tells-here p m log s told =
     let at : StandsAt (here p m) log = subst (λ (x : Option Log). IfSome x (StandsAt (here p m))) told s.at.at.at in
     let t : Tells (IsLived (known_of m)) p.scenario.now (known_of m) log = subst (λ (x : Option Log). IfSome x (Tells (IsLived (known_of m)) p.scenario.now (known_of m))) told s.at.tells in
@@ -252,7 +252,7 @@ told-run s p m0 m2 m3 final periods r =
     let here2 = tells-here p m2 front r.sound told2 in
     let here3 = tells-here p m3 z.log r.sound_ended z.told in
     let late = rest-late (known_of m3) classes (told_in m3.side.side.post) (lists_of m3) rest z.is_part in
-    let goes : GoesOn (here p m3) p.scenario.now (z.log ++ rest) = late-goes-on (here p m3) p.scenario.now z.log rest (runs-none p m3 r.sound_ended) r.ended at_rest late here3.0 in
+    let goes : LawfulSoFar (here p m3) p.scenario.now (z.log ++ rest) = late-goes-on (here p m3) p.scenario.now z.log rest (runs-none p m3 r.sound_ended) r.ended at_rest late here3.0 in
     let front_stands : HandlersStand s 0 front = subst (λ x. HandlersStand x 0 front) r.program (stands-here p m2 front r.sound here2.0.stands) in
     let front_done : HandlersDone s front = subst (λ x. HandlersDone x front) r.program here2.0.done in
     let begun : (d : Domain) → begun_by (side d (known_of m2)).number ≡ in_progress d None front = λ d. begun-told d m0 m2 fills scripts e'.log (o.numbers d) told0 e'.told w'.now_is (fills-begin (filling classes (fresh_stock s.pages)).fills fills logged d) (w.ordinary.periods d) ∙ sym (periods s 0 front front_stands front_done d) in

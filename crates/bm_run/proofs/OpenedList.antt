@@ -157,8 +157,5 @@ opened-none types c h = times-none (λ d. list_any (uses_class d) types) c all h
 pub opened-ascend : (types : List TypeDeclaration) → ascends (opened_classes types) ≡ true
 opened-ascend types = ascends-filter (λ d. list_any (uses_class d) types) all refl
 
-pub opened-once : (types : List TypeDeclaration) (c : ℕ) → times c (opened_classes types) ≤ 1
-opened-once types c = ascending-once (opened_classes types) (opened-ascend types) c
-
 pub opened-few : (types : List TypeDeclaration) → length (opened_classes types) ≤ 11
 opened-few types = kept-length (λ d. list_any (uses_class d) types) all

@@ -53,9 +53,6 @@ pub number-moved : (kind : StepKind) (k : Known) (d : Domain) → (side d (moved
 number-moved kind k Plain = refl
 number-moved kind k Tracing = refl
 
-pub tracing-moved : (kind : StepKind) (k : Known) → (side Tracing (moved kind false Plain k)).word ≡ (side Tracing k).word
-tracing-moved kind k = refl
-
 pub unmoved-by : (kind : StepKind) (a b : Processor) → known_of b ≡ moved kind false Plain (known_of a) → Unmoved a b
 unmoved-by kind a b k = record {
   processors = ap (λ (x : Known). x.grace.processors) k;

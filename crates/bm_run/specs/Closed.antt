@@ -16,8 +16,8 @@ use Rattle.bm_levels.specs.AtProcessor.{lists_of, log_of}
 use Rattle.bm_levels.specs.Ready.{known_of}
 use Rattle.bm_levels.specs.declared.processor.Processor.{Processor}
 
--- The processor was closed, and its log is this one: the periods in progress ended, and each of these classes was swept. At the end
--- nothing stands in their lists; the other classes are as they were, and no call is in a cache or has anything in hand.
+-- The processor was closed, and its log is this one: the periods in progress ended, and each of these classes was swept. At the
+-- end nothing stands in their lists; the other classes are as they were, and no call is in a cache or has anything in hand.
 pub record Closed (classes : List ℕ) (m : Processor) (log : Log) : Type 0 where
   pub closes : GrewBy (Then (EndsBegun (known_of m)) (SweepsTold classes (told_in m.side.side.post))) (lists_of m) (log_of m) (Some log)
   pub alone : Alone 0 (log_of m) (Some log)

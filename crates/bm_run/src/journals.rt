@@ -37,7 +37,7 @@ use bm_journal::{Histories, Journal, Log, Logs, Names, Opened, Recorder, totals_
 use bm_lang::{Parts, Scenario, Script, TypeDeclaration};
 use bm_levels::{Deferred, Processor, Program};
 use bm_lived::lives_law;
-use bm_mail::{handled_law as handled_parcels_law, parcels_law};
+use bm_mail::{parcels_law, sweeps_law};
 use bm_opening::open;
 use bm_returns::returns_law;
 use bm_word::NoMemory;
@@ -184,8 +184,8 @@ fn log_of(
     ensures whole { IfOk result (λ log. IsTrue (is_whole_log log)) }
 {
     handled_law();
-    handled_parcels_law();
     parcels_law();
+    sweeps_law();
     lives_law();
     returns_law();
     let parts = scenario.parts();

@@ -95,7 +95,7 @@ run-left c final x =
 pub returns-clause-lawful : goal.returns-clause-lawful
 returns-clause-lawful c = if-ok c.close.result _ _ c.close.ensures.closed (λ final x.
     let r = run-left c final x in
-    lawful-run c.args.scenario.now r.0 c.in_ok-own.own c.run_lines.new.own c.begin_closing.new.own final c.handled_law.ensures.periods c.handled_law.ensures.rows c.handled_law.ensures.null c.parcels_law.ensures.sweeps c.handled_law-2.ensures r.1)
+    lawful-run c.args.scenario.now r.0 c.in_ok-own.own c.run_lines.new.own c.begin_closing.new.own final c.handled_law.ensures.periods c.handled_law.ensures.rows c.handled_law.ensures.null c.sweeps_law.ensures c.parcels_law.ensures r.1)
 
 pub returns-clause-short : goal.returns-clause-short
 returns-clause-short c = if-ok c.close.result _ _ c.close.ensures.closed (λ final x.

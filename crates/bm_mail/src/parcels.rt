@@ -1,6 +1,6 @@
 //! The law of parcels over a log with handlers.
 
-ghost use Rattle.std.specs.Prelude.{ℕ, ◌++◌, Some};
+ghost use Rattle.std.specs.Prelude.{◌++◌, Some};
 ghost use Rattle.bm_lang.specs.declared.scenario.Parts.{Parts};
 ghost use Rattle.bm_law.specs.State.{opening};
 ghost use Rattle.bm_law.specs.Lists.{Log, after};
@@ -17,7 +17,7 @@ ghost use Rattle.bm_mail.specs.SweepsTold.{ClosingTold};
 /// A log of the one processor that there is, in which each handler stands where it is due and left its phrase, fits the law of
 /// parcels, where each parcel that its scripts receive is the oldest one that they sent, and the closing sweeps what is left of
 /// them: handlers send nothing and receive nothing.
-pub fn handled_law()
+pub fn parcels_law()
     ensures { (s : Parts) (fills scripts closing : Log) (boxes : Inboxes) →
         HandlersStand s 0 ((fills ++ scripts) ++ closing) → HandlersDone s ((fills ++ scripts) ++ closing) →
         Say 0 (AreFills (opened_classes s.types) (fresh_stock s.pages)) (opening 0) fills →
