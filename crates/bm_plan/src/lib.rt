@@ -10,4 +10,4 @@ mod worked;
 
 pub use handlers::Handlers;
 pub use laws::{numbers_law, position_law};
-pub use worked::{worked_positions, wrong_positions};
+pub use worked::{worked_positions, worked_takes, wrong_positions};

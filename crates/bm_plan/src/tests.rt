@@ -56,5 +56,6 @@ fn laws_take_no_step(_rt: HostRuntime) {
     numbers_law();
     position_law();
     worked_positions();
+    worked_takes();
     wrong_positions();
 }
