@@ -9,8 +9,8 @@ use Rattle.bm_cache.specs.Span.{Face}
 use Rattle.bm_cache.specs.declared.caches.Caches.{Caches}
 use Rattle.bm_desk.specs.Works.{Stands}
 
--- The desk stands, at the level of ordinary code, no call is in a cache or has anything in hand, and each plain batch, if there is
--- one, has its stamp.
+-- The desk stands, at the level of ordinary code, no call is in a cache or has anything in hand, and each plain batch, if there
+-- is one, has its stamp.
 pub record Settled {H R : Type 0} (log : R → Option Log) (counts : R → Counts) (is_sound : H → Type 0) (tests : H → Tests) (faces : H → Face) (holds : H → Caches R) (h : H) : Type 0 where
   pub stands : Stands log counts is_sound tests faces holds h
   pub ordinary : (faces h).level ≡ 0

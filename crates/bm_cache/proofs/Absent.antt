@@ -215,13 +215,6 @@ holding-rest p us vs u e h = record {
     front : (P : Token → Type 0) → All P us → All P vs
     front P f = all-front P vs (u ∷ []) (let F : List Token → Type 0 = λ z. All P z in subst F e f)
 
--- and the unit that left
-pub holding-last : (p : ℕ) (us vs : List Token) (u : Token) → us ≡ vs ++ u ∷ [] → Holding p us → Numbered u × (u.home < p)
-holding-last p us vs u e h = (last Numbered h.numbered, last (λ u. u.home < p) h.homes)
-  where
-    last : (P : Token → Type 0) → All P us → P u
-    last P f = All-head P u [] (all-back P vs (u ∷ []) (let F : List Token → Type 0 = λ z. All P z in subst F e f))
-
 -- calls after which the tests of one unit, which stands nowhere, had changed before they began
 pub came-other : {R : Type 0} (log : R → Option Log) (l j : ℕ) (a b d : Tests) (x y : Caches R) → l ≡ j → Lasting j (shown x) a b → Came log l b d x y → Came log j a d x y
 came-other {R} log l j a b d x y q h s =

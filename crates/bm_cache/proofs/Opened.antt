@@ -112,10 +112,6 @@ module _ {R : Type 0} (log : R → Option Log) (c d : Caches R) (f : ℕ × List
           let old : a.log ++ fill_log (f ∷ fs) ≡ T = subst P a.told h in
           rw a.more (append_assoc a.log ((0, entry.Fill f.0 (named f.1)) ∷ []) (fill_log fs) ∙ old)
 
-pub told-start : (o : Option Log) (es rest : Log) → IfSome o (λ told. told ≡ es) → IfSome o (λ told. told ++ rest ≡ es ++ rest)
-told-start None es rest h = tt
-told-start (Some x) es rest h = ap (λ y. y ++ rest) h
-
 pub told-end : (o : Option Log) (T : Log) → IfSome o (λ told. told ++ [] ≡ T) → IfSome o (λ told. told ≡ T)
 told-end None T h = tt
 told-end (Some x) T h = sym (append-nil x) ∙ h

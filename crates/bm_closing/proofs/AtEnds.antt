@@ -11,7 +11,7 @@ use Rattle.bm_law.specs.Kept.{Ready}
 use Rattle.bm_law.specs.Lists.{Log}
 use Rattle.bm_law.specs.Stands.{Once, stands, times}
 use Rattle.bm_law.specs.State.{State, seen}
-use Rattle.bm_post.specs.Rights.{AreSame, Loses}
+use Rattle.bm_post.specs.Rights.{AreSame}
 use Rattle.bm_cache.specs.Tokens.{Token, number_of}
 use Rattle.bm_cache.proofs.Absent.{failing, nowhere}
 use Rattle.bm_cache.specs.Placed.{Placed}
@@ -92,11 +92,6 @@ alike-moved {W} known a v w x p q h =
 pub same-moved : {W : Type 0} (rights : W → Rights) (a v w x : W) → v ≡ a → x ≡ w → AreSame (rights v) (rights w) → AreSame (rights a) (rights x)
 same-moved {W} rights a v w x p q h =
     let F : W → W → Type 0 = λ y z. AreSame (rights y) (rights z) in
-    subst (F a) (sym q) (subst (λ y. F y w) p h)
-
-pub lost-moved : {W : Type 0} (rights : W → Rights) (gone : List ℕ) (a v w x : W) → v ≡ a → x ≡ w → Loses gone (rights v) (rights w) → Loses gone (rights a) (rights x)
-lost-moved {W} rights gone a v w x p q h =
-    let F : W → W → Type 0 = λ y z. Loses gone (rights y) (rights z) in
     subst (F a) (sym q) (subst (λ y. F y w) p h)
 
 -- what is known of grace periods and of objects is as it was

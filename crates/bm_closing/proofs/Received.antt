@@ -67,14 +67,6 @@ arrived-more class r q us vs a t l = record {
     came-mine : (ws : List UnitState) → ((n : ℕ) → 0 < times n (numbers ws) → q.mine n ≡ true) → All (λ (u : UnitState). q.mine u.number ≡ true) ws
     came-mine ws h i d lt = h (get_or ws i d).number (here-times ws i d lt)
 
--- none came
-pub arrived-still : (class : ℕ) (r q : Rights) (us : List UnitState) → Arrived class r us → AreSame r q → Lasting [] r q → Arrived class q us
-arrived-still class r q us a s l = record {
-  holds = record { each = λ i d lt. s (get_or us i d).number ∙ a.holds.each i d lt; once = a.holds.once };
-  of_class = a.of_class;
-  settled = λ i d lt. (let u = get_or us i d in l.settled u.number u.life u.seal (a.holds.each i d lt) (s u.number ∙ a.holds.each i d lt) (a.settled i d lt));
-}
-
 -- ---- how many there may be
 
 abbrev in-hand : List ℕ → State ℕ
@@ -212,12 +204,6 @@ lasting-join r q t stay a b = record {
   ripe = λ n life seal m k e h. (let y = stay n m in b.ripe n life seal y k e (a.ripe n life seal m y e h));
   since = λ d x n m k h. (let y = stay n m in b.since d x n y k (a.since d x n m y h));
 }
-
-lasting-same : (r : Rights) → Lasting [] r r
-lasting-same r = record { settled = λ n life seal m k h. h; due = λ n life seal m k e h. h; ripe = λ n life seal m k e h. h; since = λ d x n m k h. h }
-
-pub so-far-none : (class : ℕ) (us : List UnitState) (r : Rights) (k : Known) → Arrived class r us → So_far class us us r r k k
-so-far-none class us r k a = record { arrived = a; then_came = λ more q m c. c; stay = λ n x. x; lasts = lasting-same r }
 
 pub so-far-more : (class : ℕ) (us vs ws : List UnitState) (r q t : Rights) (k m n : Known) → So_far class us vs r q k m → Receives class ws q t → Lasting [] q t → n.parcels ≡ option_map (parcel_taken class) m.parcels → n.grace ≡ m.grace → n.objects ≡ m.objects → IfSome m.parcels (λ boxes. oldest (boxes class) ≡ numbers ws) → So_far class us (vs ++ ws) r t k n
 so-far-more class us vs ws r q t k m n s g l e same j h = record {

@@ -18,7 +18,7 @@ use Rattle.bm_law.specs.SweepPhrases.{PollPhrase}
 use Rattle.bm_law.proofs.Alone.{Adds-join, Alone-none, Records-adds}
 use Rattle.bm_law.proofs.Seen.{map-seven}
 use Rattle.bm_law.proofs.Stands.{times-append}
-use Rattle.bm_post.specs.Rights.{AreSame, Loses, numbers}
+use Rattle.bm_post.specs.Rights.{Loses, numbers}
 use Rattle.bm_post.proofs.Counts.{zero-or-more}
 use Rattle.bm_cache.specs.Shown.{shown}
 use Rattle.bm_cache.specs.Span.{Face, Goes}
@@ -208,13 +208,6 @@ module _ {H R : Type 0} (log : R → Option Log) (faces : H → Face) (waits : H
 two-lists : (n : ℕ) (us vs : List Token) → times n (map number_of (us ++ vs)) ≡ times n (map number_of us) + times n (map number_of vs)
 two-lists n us vs = ap (times n) (map-append number_of us vs) ∙ times-append n (map number_of us) (map number_of vs)
 
--- they came, became a batch, and went back
-pub swept-gone : (ms ns : List ℕ) (r q t : Rights) → ms ≡ ns → AreSame r q → Loses ms q t → Loses ns r t
-swept-gone ms ns r q t e a l =
-    let F : List ℕ → Type 0 = λ xs. Loses xs q t in
-    let k : Loses ns q t = subst F e l in
-    record { are_gone = k.are_gone; others = λ n z. k.others n z ∙ a n }
-
 pub all-gone : (c : ℕ) (xs us : List Token) (r q t : Rights) (k m : Known) → Came c [] us r q k m → Loses (map number_of (xs ++ us)) q t → Loses (map number_of xs) r t
 all-gone c xs us r q t k m came l =
     let e : ◌≡◌ {A = List Token} came.came us = sym came.units_are in
@@ -229,12 +222,3 @@ all-gone c xs us r q t k m came l =
         | inr some ↦ (let b = two-lists n xs us in l.are_gone n (omega (arith, some, b)) ∙ sym (fresh n some))
       ];
     }
-
--- where none were there, nothing has changed
-pub none-gone : (c : ℕ) (xs us : List Token) (r q : Rights) (k m : Known) → xs ≡ [] → us ≡ [] → Came c [] us r q k m → Loses (map number_of xs) r q
-none-gone c xs us r q k m none lack came =
-    let e : ◌≡◌ {A = List Token} came.came [] = sym came.units_are ∙ lack in
-    let G : List Token → Type 0 = λ vs. (n : ℕ) → times n (map number_of vs) ≡ 0 → q.mine n ≡ r.mine n in
-    let others : (n : ℕ) → times n (map number_of []) ≡ 0 → q.mine n ≡ r.mine n = subst G e came.others in
-    let F : List Token → Type 0 = λ ys. Loses (map number_of ys) r q in
-    subst F (sym none) (record { are_gone = λ n some. absurd (omega (arith, some)); others = λ n z. others n refl })

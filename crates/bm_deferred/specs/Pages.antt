@@ -1,5 +1,5 @@
--- Which pages have given units, as entries of a log tell it. (Pages are this project's own. In kernel/bpf/memalloc.c, alloc_bulk
--- and prefill_mem_cache take memory for units from the kernel's page allocator.)
+-- Which pages have given units, as entries of a log tell it. (Pages are this project's own. In kernel/bpf/memalloc.c,
+-- alloc_bulk and prefill_mem_cache take memory for units from the kernel's page allocator.)
 use Rattle.std.specs.Prelude.{◌≡◌, ◌⊎◌, ◌/◌, ◌<◌, ℕ, List, [], ◌∷◌, ◌++◌, Option, Some, None, IsSome, length, nat_le, slice_index_or, if◌then◌else◌}
 use Rattle.bm_class.specs.Sizes.{size_of_class}
 use Rattle.bm_journal.specs.declared.entry.Entry.{Entry}

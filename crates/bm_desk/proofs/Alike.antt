@@ -8,7 +8,7 @@ use Rattle.bm_grace.specs.declared.answer.Began.{Began}
 use Rattle.bm_grace.specs.declared.answer.Began.TheVariants.{Won, Moved}
 use Rattle.bm_grace.specs.Known.{Known, Side, side}
 use Rattle.bm_grace.specs.Calls.{changed, looked, read, began, finished, told}
-use Rattle.bm_post.specs.Calls.{Mails, Posts, Stocks}
+use Rattle.bm_post.specs.Calls.{Mails, Stocks}
 use Rattle.bm_deferred.specs.Inboxes.{Inboxes}
 use Rattle.bm_desk.specs.Goes.{Alike}
 
@@ -45,9 +45,6 @@ alike-but k steps parcels = record { processors = refl; processor = refl; words 
     w : (d : Domain) → (side d (record k { steps = steps; parcels = parcels })).word ≡ (side d k).word
     w Plain = refl
     w Tracing = refl
-
-pub alike-posts : (t : Bool) (a b : Known) → Posts t a b → Alike a b
-alike-posts t a b h = subst (λ k. Alike a k) (sym h.known) (alike-but a (told t a.steps h.steps) a.parcels)
 
 pub alike-mails : (t : Bool) (f : Inboxes → Inboxes) (a b : Known) → Mails t f a b → Alike a b
 alike-mails t f a b h = subst (λ k. Alike a k) (sym h.known) (alike-but a (told t a.steps h.steps) (option_map f a.parcels))

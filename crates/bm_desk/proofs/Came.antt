@@ -1,5 +1,5 @@
 -- Units that come to a side.
-use Rattle.std.proofs.Common.{◌≡◌, ◌≢◌, ◌<◌, ◌≤◌, ◌+◌, ◌++◌, ◌^◌, ℕ, zero, suc, ◌&&◌, true, false, is_none, List, [], ◌∷◌, map, Option, None, refl, ◌∙◌, ap, arith, Bool, not, nat_eq, length, drop, ◌-◌, ne_eqb}
+use Rattle.std.proofs.Common.{◌≡◌, ◌≢◌, ◌≤◌, ◌+◌, ◌++◌, ℕ, zero, suc, ◌&&◌, true, false, is_none, List, [], ◌∷◌, map, Option, None, refl, ◌∙◌, ap, arith, Bool, not, nat_eq, length, drop, ◌-◌, ne_eqb}
 use Rattle.std.specs.Prelude.{get_or}
 use Rattle.std.specs.List.{All}
 use Rattle.bm_journal.specs.declared.units.Units.TheVariants.{Whole}
@@ -20,7 +20,6 @@ use Rattle.bm_post.specs.Calls.{Takes}
 use Rattle.bm_post.proofs.Posts.{held}
 use Rattle.bm_cache.specs.Tokens.{Token, number_of}
 use Rattle.bm_cache.specs.Tests.{Proper, Reusable}
-use Rattle.bm_cache.specs.Each.{Sits}
 use Rattle.bm_cache.proofs.Absent.{failing, nowhere}
 use Rattle.bm_desk.specs.DeskTests.{Fact, is_ripe, fact_at, tests_by}
 use Rattle.bm_desk.specs.Onward.{Onward}
@@ -84,13 +83,6 @@ gains-fresh r q come s o p g n = pick (times n come) refl
         let f : r.mine n ≡ false = g.were_not n (omega (arith, e)) in
         let z : stands n (seen number_of s) ≡ 0 = nowhere n s (failing n (tests_by r) s (no-test r n f) p) in
         omega (arith, z, g.once n)
-
--- they sit in a list of their class, and may be used again
-pub takes-sit : (class : ℕ) (units : List Token) (r q : Rights) → ((n life : ℕ) (seal : Option Seal) → q.settled n life seal ≡ true → (n < 2 ^ 16) × (life + 1 < 2 ^ 32)) → Takes class units r q → All (Sits class) units
-takes-sit class units r q room t i u n =
-    let v = get_or units i u in
-    let x = room v.number v.life v.seal (t.settled i u n) in
-    record { class = t.of_class i u n; numbered = record { number = x.0; life = x.1 } }
 
 pub takes-reusable : (class : ℕ) (units : List Token) (r q : Rights) → Takes class units r q → All (Reusable (tests_by q)) units
 takes-reusable class units r q t i u n = let v = get_or units i u in and-of (q.mine v.number) (q.settled v.number v.life v.seal) ((held class units r q t).each i u n) (t.settled i u n)

@@ -23,7 +23,6 @@ use Rattle.bm_law.specs.Stands.{Once, Known, stands, times}
 use Rattle.bm_law.specs.State.{State, Deferred, idle_side, seen}
 use Rattle.bm_law.proofs.Seen.{seen-effect}
 use Rattle.bm_law.proofs.Stands.{stands-effect}
-use Rattle.bm_post.specs.Calls.{IsOf}
 use Rattle.bm_post.specs.Rights.{Holds, MayLeave, numbers}
 use Rattle.bm_cache.specs.Each.{Each}
 use Rattle.bm_cache.specs.Shown.{shown}
@@ -105,12 +104,6 @@ module _ (gone : List ℕ) (a b : Tests) (o : Onward gone a b) (s : State Token)
 -- units in hand that may be used again are mine, and may leave
 pub holds-fit : (r : Rights) (c : ℕ) (us : List Token) → ((n : ℕ) → times n (numbers us) ≤ 1) → All (Fit (tests_by r) c) us → Holds r us
 holds-fit r c us o h = record { each = λ i u n. (let v = get_or us i u in (split (r.mine v.number) (r.settled v.number v.life v.seal) (h i u n).reusable).0); once = o }
-
-pub leave-fit : (r : Rights) (c : ℕ) (us : List Token) → All (Fit (tests_by r) c) us → All (MayLeave r) us
-leave-fit r c us h i u n = let v = get_or us i u in inl (split (r.mine v.number) (r.settled v.number v.life v.seal) (h i u n).reusable).1
-
-pub class-fit : (t : Tests) (c : ℕ) (us : List Token) → All (Fit t c) us → All (IsOf c) us
-class-fit t c us h i u n = (h i u n).class
 
 -- what a send takes
 pub sends-hand : (h f : List Token) → 0 < length h → sends (map number_of h) (map number_of f) ≡ map number_of h

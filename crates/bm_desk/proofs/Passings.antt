@@ -32,11 +32,6 @@ le-false a b h =
       | inr y ↦ y.0
     ]
 
--- no batch is in progress
-pub pass-none : (l c : ℕ) (d : Domain) (o : Option ℕ) (passed : Part) (s : State ℕ) → o ≡ None → Passing l c d o passed s []
-pass-none l c d None passed s e = refl
-pass-none l c d (Some x) passed s e = absurd (cc)
-
 module _ (l c : ℕ) (d : Domain) (n stamp : ℕ) (passed : Part) where
   not-yet : (s : State ℕ) (part : Log) → n < stamp → Say l (Sees c d n) s part → Passing l c d (Some stamp) passed s part
   not-yet s part h (own, (poll, e), st) =

@@ -38,6 +38,3 @@ when-false test P s part e h = let F : Bool → Type 0 = λ b. If b P Nothing s 
 
 pub true-when : (test : State ℕ → Bool) (P : Part) (s : State ℕ) (part : Log) → test s ≡ true → When test P s part → P s part
 true-when test P s part e h = let F : Bool → Type 0 = λ b. If b P Nothing s part in subst F e h
-
-pub false-when : (test : State ℕ → Bool) (P : Part) (s : State ℕ) (part : Log) → test s ≡ false → When test P s part → part ≡ []
-false-when test P s part e h = let F : Bool → Type 0 = λ b. If b P Nothing s part in subst F e h

@@ -1,15 +1,14 @@
 -- Periods that begin and end, and the entries that say so.
-use Rattle.std.proofs.Common.{◌≡◌, ◌+◌, ℕ, suc, Bool, true, List, [], ◌∷◌, Option, Some, None, refl, sym, ◌∙◌, ap, subst, arith}
+use Rattle.std.proofs.Common.{◌≡◌, ◌+◌, ℕ, suc, Bool, true, List, [], ◌∷◌, Option, Some, refl, ◌∙◌, ap, subst, arith}
 use Rattle.bm_journal.specs.Recording.{Appends}
 use Rattle.bm_journal.specs.declared.ids.Domain.{Domain}
 use Rattle.bm_journal.specs.declared.ids.Domain.TheVariants.{Plain, Tracing}
 use Rattle.bm_journal.specs.declared.entry.Entry.{Entry}
 use Rattle.bm_journal.specs.declared.entry.Entry.TheVariants as entry
 use Rattle.bm_journal.specs.declared.period.Period.{Period}
-use Rattle.bm_grace.specs.Calls.{began, finished, looked, read}
+use Rattle.bm_grace.specs.Calls.{began, finished}
 use Rattle.bm_grace.specs.Known.{Known, Sides, side}
 use Rattle.bm_grace.specs.Rights.{Rights}
-use Rattle.bm_grace.specs.declared.answer.Began.{Began}
 use Rattle.bm_grace.specs.declared.answer.Began.TheVariants.{Won, Moved}
 use Rattle.bm_law.specs.Lists.{Log}
 use Rattle.bm_law.specs.State.{State, seen}
@@ -59,19 +58,6 @@ ended-by t Plain Plain k p e = rw e refl
 ended-by t Plain Tracing k p e = rw e refl
 ended-by t Tracing Plain k p e = rw e refl
 ended-by t Tracing Tracing k p e = rw e refl
-
--- words were looked at, or a number was read
-pub numbers-looked : (t : Bool) (d b : Domain) (words : List ℕ) (k : Known) → (side d (looked t b words k)).number ≡ (side d k).number
-numbers-looked t Plain Plain words k = refl
-numbers-looked t Plain Tracing words k = refl
-numbers-looked t Tracing Plain words k = refl
-numbers-looked t Tracing Tracing words k = refl
-
-pub numbers-read : (t : Bool) (d b : Domain) (n : ℕ) (k : Known) → (side d (read t b n k)).number ≡ (side d k).number
-numbers-read t Plain Plain n k = refl
-numbers-read t Plain Tracing n k = refl
-numbers-read t Tracing Plain n k = refl
-numbers-read t Tracing Tracing n k = refl
 
 -- ---- a call, and its entry
 

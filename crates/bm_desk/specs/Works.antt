@@ -38,8 +38,8 @@ tracing_of Plain = 0
 tracing_of Tracing = 1
 
 -- The side was called and nothing else: the caches, the face and what waits are as they were, the rights age, the side is the
--- same processor's, with the same parcels, the same classes of pages and the same periods in progress, and of the periods that may still begin at most so many
--- plain and tracing ones are used up.
+-- same processor's, with the same parcels, the same classes of pages and the same periods in progress, and of the periods that
+-- may still begin at most so many plain and tracing ones are used up.
 pub record Called {H R : Type 0} (faces : H → Face) (waits : H → ℕ) (keeps : H → H → Type 0) (holds : H → Caches R) (known : H → Known) (rights : H → Rights) (plain tracing : ℕ) (before now : H) : Type 0 where
   pub held : holds now ≡ holds before
   pub face : faces now ≡ faces before
@@ -77,12 +77,12 @@ pub record Posted {H R : Type 0} (faces : H → Face) (waits : H → ℕ) (keeps
   pub onward : Onward gone (tests before) (tests now)
   pub known_is : (known now).grace ≡ (known before).grace
 
--- A call was made: the log has grown by exactly this part at the desk's level, with whatever handlers between; the desk
--- goes on; where no handler ran there are entries of its own level alone, and no flag was raised; each active number is as it
--- was; at most so many plain and tracing periods have begun, and the side has those in progress that the entries tell; and of the
--- parcels that are told, each that came was the oldest one, each that went goes to one of the processors, nothing was swept, and
--- those that are left are what the entries tell. If each page that has a class gave a unit by entries of the log, and these fetched
--- fewer units than were wanted only where each page gave one, it is so now.
+-- A call was made: the log has grown by exactly this part at the desk's level, with whatever handlers between; the desk goes
+-- on; where no handler ran there are entries of its own level alone, and no flag was raised; each active number is as it was;
+-- at most so many plain and tracing periods have begun, and the side has those in progress that the entries tell; and of the
+-- parcels that are told, each that came was the oldest one, each that went goes to one of the processors, nothing was swept,
+-- and those that are left are what the entries tell. If each page that has a class gave a unit by entries of the log, and these
+-- fetched fewer units than were wanted only where each page gave one, it is so now.
 pub record Works {H R : Type 0} (log : R → Option Log) (faces : H → Face) (waits : H → ℕ) (stays : H → H → Type 0) (holds : H → Caches R) (known : H → Known) (plain tracing : ℕ) (part : ℕ → Part) (before now : H) : Type 0 where
   pub phrase : GrewBy (part (faces before).level) (seen number_of (shown (holds before))) (log (holds before).recorder) (log (holds now).recorder)
   pub goes : Goes faces waits stays before now

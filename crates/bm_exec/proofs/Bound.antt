@@ -3,7 +3,7 @@ use Rattle.std.proofs.Common.{◌≡◌, ℕ, zero, suc, ◌+◌, ◌<◌, ◌�
 use mathlib.Core.Former.{Count}
 use Rattle.std.specs.List.{list_all}
 use Rattle.std.proofs.lemmas.List.{take_all}
-use Rattle.bm_lang.specs.declared.scenario.Action.{Action, If, If', Repeat, Section, Held-Action-If-2, None', Some'}
+use Rattle.bm_lang.specs.declared.scenario.Action.{Action, If', Repeat, Section, Held-Action-If-2, None', Some'}
 use Rattle.bm_lang.specs.declared.scenario.Block.{Block, Block', out-Block, roll-out-Block, rolls-Block', Row_of-Statement, end_of-Statement, more_of-Statement, items-the_row-Statement, items_hidden-the_row-Statement-0}
 use Rattle.bm_lang.specs.declared.scenario.Statement.{Statement}
 use Rattle.bm_exec.specs.Bindings.{bound_by, passes, binds_by, binds_else, binds_among, binds_in}
@@ -57,14 +57,6 @@ mutual
   pub row-more : (p q : List ℕ → Bool) → ((x : List ℕ) → p x ≡ true → q x ≡ true) → {m : _} (row : Row_of-Statement m) → binds_in p row ≡ true → binds_in q row ≡ true
   row-more p q f end_of-Statement e = refl
   row-more p q f (more_of-Statement line action rest) e = both (binds_by q action) (binds_in q rest) (binds-more p q f action (left (binds_by p action) (binds_in p rest) e)) (row-more p q f rest (right (binds_by p action) (binds_in p rest) e))
-
--- a statement without blocks
-pub plain-binds : (p : List ℕ → Bool) (a : Action) → ((x : List ℕ) (b : Block) (o : Option Block) → a ≡ If x b o → ⊥) → ((n : ℕ) (b : Block) → a ≡ Repeat n b → ⊥) → ((b : Block) → a ≡ Section b → ⊥) → binds_by p a ≡ passes p (bound_by a)
-plain-binds p (If' x b None') not_if not_repeat not_section = absurd (not_if x b None refl)
-plain-binds p (If' x b (Some' c)) not_if not_repeat not_section = absurd (not_if x b (Some c) refl)
-plain-binds p (Repeat n b) not_if not_repeat not_section = absurd (not_repeat n b refl)
-plain-binds p (Section b) not_if not_repeat not_section = absurd (not_section b refl)
-plain-binds p a not_if not_repeat not_section = refl
 
 -- A test that all of the first i pass, and a weaker one that the next passes too: all of those pass that.
 one-suc : {X : Type 0} (f g : X → Bool) → ((x : X) → f x ≡ true → g x ≡ true) → (xs : List X) (i : ℕ) (x : X) → i < length xs → x ≡ get_or xs i x → list_all f (take i xs) ≡ true → g x ≡ true → list_all g (take (suc i) xs) ≡ true

@@ -26,7 +26,7 @@ use Rattle.bm_exec.specs.Stack.{RunsOpen, RunsStack, SafeStack}
 use Rattle.bm_exec.specs.Steps.{Pushed}
 use Rattle.bm_exec.proofs.Blocks.{block-runs, block-safe, block-can, block-cost}
 use Rattle.bm_exec.specs.Runnable.{Classes, can_run_action, can_run_else, can_run_block, can_run_list, can_run_stack}
-use Rattle.bm_exec.specs.Living.{Lives, LivesAs, Created, Disposed, Holds, reply_of}
+use Rattle.bm_exec.specs.Living.{Lives, Created, Disposed, reply_of}
 use Rattle.bm_exec.specs.Running.{Performed}
 use Rattle.bm_exec.proofs.Objects.{class-at, store-with, holds-reply, holds-less}
 use Rattle.bm_lang.specs.declared.scenario.Statement.{Statement}
@@ -90,10 +90,6 @@ drop-performed types classes l w p s s1 s' x t o names names' lives lives' lives
   weight = omega arith;
   down = down;
 }
-
--- what a name that owns holds
-pub owned-object : (types : List TypeDeclaration) (base lives : Lives) (names : Names) (x : List ℕ) (t : TypeId) (o : ObjId) → names x ≡ Object t o.unit o.life → Holds types base lives names → (c : ℕ) × LivesAs lives c o.unit o.life
-owned-object types base lives names x t o held h = let l = h.living x t o.unit o.life held in (l.0, l.3)
 
 -- a block that runs once
 pub block-once : (types : List TypeDeclaration) (l : ℕ) (w : Option (List ℕ)) (o : Open) (body : Block) → o.rest.now ≡ block_list body → o.repeats ≡ 0 → (names last : Names) (s : State ℕ) (part : Log) → RunsOpen types l w o names last s part → RunsBlock types l (Behind w) body names last s part

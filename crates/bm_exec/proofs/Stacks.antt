@@ -66,10 +66,6 @@ again-safe e o p os n r m q k b names x =
     let y = (rw m at (rw r at x)).1 in
     rw q (rw k (rw b (rw (block-safe e names o.body.now (λ s. safe.Times n B s (λ t. SafeStack e t os))) at y)))
 
--- the costs
-rest-none : (o : Open) → o.rest.now ≡ [] → o.repeats ≡ 0 → open_cost o ≡ 0
-rest-none o e n = rw e (rw n (omega arith))
-
 again-sum : (n b : ℕ) → 0 + suc n * (1 + b) ≡ suc (b + n * (1 + b))
 again-sum n b = omega (arith, suc-mul n (1 + b))
 

@@ -143,10 +143,6 @@ still-there keys q x e = rw (words-append keys q) (any-append (bytes_eq x) (word
 
 -- ---- holding nothing
 
--- a name that holds something is there
-pub held-there : (met : List (List ℕ)) (ss : List Holding) (x : List ℕ) (h : Holding) → looked_up met ss x ≡ h → (h ≡ Nothing → ⊥) → list_any (bytes_eq x) met ≡ true
-held-there met ss x h e some = elim (is_or_not (list_any (bytes_eq x) met)) [ inl isit ↦ isit | inr isnt ↦ absurd (some (sym e ∙ absent met ss x isnt)) ]
-
 none-looked : (met : List (List ℕ)) (ss : List Holding) → ((k : ℕ) → k < length ss → get_or ss k Nothing ≡ Nothing) → (x : List ℕ) → looked_up met ss x ≡ Nothing
 none-looked [] ss none x = refl
 none-looked (w ∷ met) [] none x = refl

@@ -53,8 +53,8 @@ pub record Created (l c : ℕ) (name values : List ℕ) (log log' : Option Log) 
   pub allocates : Allocates c own (reply_of reply)
   pub begins : Begins c lives lives' reply
 
--- The one reference to an object is given up: its entries, of which the free goes to the object's home, and that the object lives
--- no more.
+-- The one reference to an object is given up: its entries, of which the free goes to the object's home, and that the object
+-- lives no more.
 pub record Disposed (l c : ℕ) (o : ObjId) (log log' : Option Log) (lives lives' : Lives) : Type 0 where
   pub home : ℕ
   pub own : List Entry

@@ -1,5 +1,5 @@
--- A script that runs on a machine: what its frame, its names and the log are after some of its statements. Behind each statement
--- deferred work runs for the classes w until no flag is up, or none does.
+-- A script that runs on a machine: what its frame, its names and the log are after some of its statements. Behind each
+-- statement deferred work runs for the classes w until no flag is up, or none does.
 use Rattle.std.specs.Prelude.{◌≡◌, ◌<◌, ◌≤◌, ℕ, ◌+◌, ◌*◌, true, List, [], Option}
 use Rattle.bm_lang.specs.declared.scenario.Action.{Action}
 use Rattle.bm_lang.specs.declared.scenario.Script.{Script}

@@ -14,9 +14,6 @@ use Rattle.bm_law.specs.Effect.{effect, sent}
 use Rattle.bm_law.specs.Stands.{Known}
 use Rattle.bm_law.specs.Lengths.{lengths_in, Tells, Sized, Countable}
 
-pub more-small : (n m : ℕ) → n + m < 2 ^ 64 → more n m ≡ n + m
-more-small n m h = omega (arith, h)
-
 module _ {A : Type 0} where
   pub length-seven : (r : Row A) → length (seven_lists r) ≡ length r.free + (length r.extra + (length r.delayed + (length r.extra_delayed + (length r.deferred.first + (length r.deferred.ready + length r.deferred.second)))))
   length-seven r =

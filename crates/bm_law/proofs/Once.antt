@@ -1,7 +1,6 @@
 -- What follows where no unit stands twice.
-use Rattle.std.proofs.Common.{map, subst, ◌≡◌, ◌<◌, ◌≤◌, ℕ, ◌+◌, List, [], ◌∷◌, ◌++◌, length, refl, ◌∙◌, ap, arith, eqb, cond, eq-eqb, inl, inr, sym}
+use Rattle.std.proofs.Common.{map, subst, ◌≡◌, ◌<◌, ◌≤◌, ℕ, ◌+◌, List, [], ◌∷◌, ◌++◌, length, refl, ◌∙◌, ap, arith, sym}
 use Rattle.std.proofs.lemmas.List.{length-append, length-map}
-use Rattle.std.proofs.lemmas.Bool.Decides.{eqb_tells}
 use Rattle.bm_journal.specs.declared.entry.Entry.{Entry}
 use Rattle.bm_journal.specs.declared.entry.Entry.TheVariants as entry
 use Rattle.bm_law.specs.State.{seen, State, opening, seven_lists, seen_row}
@@ -20,32 +19,12 @@ less-none x y o p q = omega (arith, p, q)
 pub once-effect : (l : ℕ) (e : Entry) (us : List ℕ) (s : State ℕ) → Known l e → ((n : ℕ) → stands n s + times n (comes_in e us) ≤ 1) → Once (effect l e us s)
 once-effect l e us s k h n = less _ _ _ _ (stands-effect n l e us s k) (h n)
 
--- the same, where nothing comes in
-pub once-still : (l : ℕ) (e : Entry) (us : List ℕ) (s : State ℕ) → Known l e → comes_in e us ≡ [] → Once s → Once (effect l e us s)
-once-still l e us s k q o n = less-none _ _ _ (stands-effect n l e us s k ∙ ap (λ x. stands n s + times n x) q) (o n)
-
-one-of : (s : State ℕ) (u n : ℕ) → Once s → stands u s ≡ 0 → stands n s + (cond (eqb n u) 1 0 + 0) ≤ 1
-one-of s u n o z =
-    elim (eqb_tells n u) [
-      | inl y ↦ rw (y.0, y.1, z) (omega arith)
-      | inr y ↦ rw y.0 (omega (arith, o n))
-    ]
-
--- the same, where one unit comes in that stands nowhere
-pub once-new : (l u : ℕ) (e : Entry) (s : State ℕ) → Known l e → comes_in e (u ∷ []) ≡ u ∷ [] → Once s → stands u s ≡ 0 → Once (effect l e (u ∷ []) s)
-once-new l u e s k q o z = once-effect l e (u ∷ []) s k (λ n. rw q (one-of s u n o z))
-
 fresh : (x y o : ℕ) → x + o ≡ y + 0 → y ≤ 1 → 1 ≤ o → x ≡ 0
 fresh x y o p q h = omega (arith, p, q, h)
 
 -- a unit that goes out stands nowhere any more
 pub gone-fresh : (u l : ℕ) (e : Entry) (us : List ℕ) (s : State ℕ) → Known l e → comes_in e us ≡ [] → Once s → 1 ≤ times u (goes_out l e s) → stands u (effect l e us s) ≡ 0
 gone-fresh u l e us s k q o h = fresh _ _ _ (stands-effect u l e us s k ∙ ap (λ x. stands u s + times u x) q) (o u) h
-
--- the unit that is given
-pub given-fresh : (l u life : ℕ) (rest us : List ℕ) (s : State ℕ) → l < 4 → Once s → (s.sides l).hand ≡ u ∷ rest → stands u (effect l (entry.Given u life) us s) ≡ 0
-given-fresh l u life rest us s k o h =
-    gone-fresh u l (entry.Given u life) us s (record { level = k; class = omega arith }) refl o (rw (h, eq-eqb u u refl) (omega arith))
 
 AllUnder-append : (N : ℕ) (xs ys : List ℕ) → AllUnder N xs → AllUnder N ys → AllUnder N (xs ++ ys)
 AllUnder-append N [] ys h k = k
@@ -70,10 +49,7 @@ stands-opening n p = refl
 pub once-opening : (p : ℕ) → Once (opening p)
 once-opening p n = rw (stands-opening n p) (omega arith)
 
--- one step of caches whose units are seen through f, where nothing comes in, and where one unit does
-pub once-step : {A : Type 0} (f : A → ℕ) (s t : State A) (l : ℕ) (e : Entry) (us : List A) → t ≡ effect l e us s → Known l e → comes_in e (map f us) ≡ [] → Once (seen f s) → Once (seen f t)
-once-step f s t l e us q k c o = subst Once (sym (ap (seen f) q ∙ seen-effect f l e us s)) (once-still l e (map f us) (seen f s) k c o)
-
+-- one step of caches whose units are seen through f, where one unit comes in that stands nowhere
 pub once-come : {A : Type 0} (f : A → ℕ) (s t : State A) (l : ℕ) (e : Entry) (us : List A) → t ≡ effect l e us s → Known l e → ((n : ℕ) → stands n (seen f s) + times n (comes_in e (map f us)) ≤ 1) → Once (seen f t)
 once-come f s t l e us q k h = subst Once (sym (ap (seen f) q ∙ seen-effect f l e us s)) (once-effect l e (map f us) (seen f s) k h)
 

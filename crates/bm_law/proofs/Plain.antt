@@ -60,9 +60,6 @@ and-right : (a b : Bool) → (a && b) ≡ true → b ≡ true
 and-right true b h = h
 and-right false b h = false-true h
 
-pub plain-left : (v w : List Entry) → all_plain (v ++ w) ≡ true → all_plain v ≡ true
-plain-left v w h = and-left (all_plain v) (all_plain w) (rw (← plain-append v w) h)
-
 pub plain-right : (v w : List Entry) → all_plain (v ++ w) ≡ true → all_plain w ≡ true
 plain-right v w h = and-right (all_plain v) (all_plain w) (rw (← plain-append v w) h)
 

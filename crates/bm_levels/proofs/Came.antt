@@ -1,5 +1,5 @@
 -- What calls of several levels do to the caches of a processor.
-use Rattle.std.proofs.Common.{◌≡◌, ◌≤◌, ◌<◌, ℕ, [], ◌∷◌, sym, ◌∙◌, subst, arith, inl, inr}
+use Rattle.std.proofs.Common.{◌≡◌, ◌≤◌, ℕ, [], ◌∷◌, sym, ◌∙◌, subst, arith, inl, inr}
 use Rattle.std.proofs.lemmas.Bool.Decides.{leb_tells}
 use Rattle.bm_journal.specs.declared.entry.Entry.{Entry}
 use Rattle.bm_journal.specs.Recording.{Kept as Recorded}
@@ -7,9 +7,8 @@ use Rattle.bm_law.specs.State.{State}
 use Rattle.bm_law.specs.Kept.{Kept, Ready}
 use Rattle.bm_law.proofs.Between as between
 use Rattle.bm_law.proofs.Spans as spans
-use Rattle.bm_cache.specs.Placed.{Placed}
 use Rattle.bm_cache.specs.Shown.{shown, Took}
-use Rattle.bm_cache.specs.Tests.{Lasting, Proper, Tests}
+use Rattle.bm_cache.specs.Tests.{Lasting, Tests}
 use Rattle.bm_cache.specs.Tokens.{Token}
 use Rattle.bm_cache.specs.declared.caches.Caches.{Caches}
 use Rattle.bm_cache.proofs.Moments as moment
@@ -17,7 +16,6 @@ use Rattle.bm_cache.proofs.Stretch.{lasting-none}
 use Rattle.bm_work.proofs.Spans as work
 use Rattle.bm_levels.specs.AtProcessor.{CameAt, FineAt, log_of, tests_of}
 use Rattle.bm_levels.specs.Hosting.{with_caches}
-use Rattle.bm_levels.specs.Ready.{known_of}
 use Rattle.bm_levels.specs.declared.processor.Processor.{Processor}
 
 lasting-down : (k l : ℕ) (s : State Token) (a b : Tests) → k ≤ l → Lasting l s a b → Lasting k s a b
@@ -76,17 +74,4 @@ came-said l e a z t s =
       above = spans.Above-records l (e ∷ []) (log_of a) z.recorder.told (spans.Records-one l e (log_of a) z.recorder.told t.records);
       lasting = lasting-none l (shown a.caches) (tests_of a);
       processor = t.processor;
-    }
-
-pub fine-said : (l : ℕ) (e : Entry) (a : Processor) (z : Caches Recorded) → Took (λ (r : Recorded). r.told) l e [] a.caches z → shown z ≡ shown a.caches → Placed (λ (r : Recorded). r.told) (λ r. r.counted) z → FineAt l a → FineAt l (with_caches a z)
-fine-said l e a z t s p f =
-    let A : State Token → Type 0 = λ x. Ready l x in
-    let P : State Token → Type 0 = λ x. Proper (tests_of a) x in
-    let T : State Token → Type 0 = λ x. (k : ℕ) → (x.rows k).target < (known_of a).grace.processors in
-    let N : ℕ → Type 0 = λ n. n < (known_of a).grace.processors in
-    record {
-      placed = p;
-      ready = subst A (sym s) f.ready;
-      proper = subst P (sym s) f.proper;
-      aimed = record { few = f.aimed.few; processor = subst N (sym t.processor) f.aimed.processor; targets = subst T (sym s) f.aimed.targets };
     }

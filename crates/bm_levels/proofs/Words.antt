@@ -91,9 +91,6 @@ fits-each w v e n Tracing x h = n.fits_other x
 
 -- ---- the side's plain word moved
 
-words-moved : (kind : StepKind) (k : Known) → (side Plain (moved kind false Plain k)).word ≡ (side Plain k).word + 1
-words-moved kind k = refl
-
 -- what the log tells, where the side's plain word moved and the entry names it
 pub tells-moved : (kind : StepKind) (s : Parts) (k n : Known) (log : Log) (l : ℕ) (e : Entry) → n ≡ moved kind false Plain k → NamesWord (side Plain k).word e → Tells (IsLived k) s k log → Tells (IsLived n) s n (log ++ (l, e) ∷ [])
 tells-moved kind s k n log l e q names t =

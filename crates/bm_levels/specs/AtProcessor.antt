@@ -73,8 +73,9 @@ pub record IsBegun (l : ℕ) (p : Program) (due : Due) (a b : Processor) : Type 
   pub asks : asked_of p.scenario.now b + due_cost p due ≤ asked_of p.scenario.now a
   pub words : word_of Plain b + 2 * length (left_of b) + 2 ≤ word_of Plain a + 2 * length (left_of a)
 
--- What code and its handlers leave as it was: the handlers that run, and that a section is open or none. With those that haven't run
--- they ask for at most so many more objects and works, and name at most so many more words. Inside a section no other one begins.
+-- What code and its handlers leave as it was: the handlers that run, and that a section is open or none. With those that
+-- haven't run they ask for at most so many more objects and works, and name at most so many more words. Inside a section no
+-- other one begins.
 pub record Stays (asks words : ℕ) (p : Program) (a b : Processor) : Type 0 where
   pub settled : b.settled ≡ a.settled
   pub running : b.running.items ≡ a.running.items

@@ -56,9 +56,9 @@ pub record IsProgram (p : Program) : Type 0 where
   pub accepted : AllAccepted p.scenario.now
   pub can : (i : ℕ) (x : Script) → slice_get p.scenario.now.scripts i ≡ Some x → can_run_block p.types.declared.now x.body ≡ true
 
--- A processor, the one that there is by now, on which each handler that is planned can run: its script is one of the program's; there is a table for each level at
--- which none runs, with all names that a script may bind, and room for one handler of each level; few enough objects, works and
--- sections are asked for; and it is known whether it is in a plain section.
+-- A processor, the one that there is by now, on which each handler that is planned can run: its script is one of the program's;
+-- there is a table for each level at which none runs, with all names that a script may bind, and room for one handler of each
+-- level; few enough objects, works and sections are asked for; and it is known whether it is in a plain section.
 pub record IsReady (p : Program) (m : Processor) : Type 0 where
   pub fits : IsProgram p
   pub one : (known_of m).grace.processors ≡ 1

@@ -15,8 +15,8 @@ use Rattle.bm_levels.specs.Ready.{known_of, left_of}
 use Rattle.bm_levels.specs.declared.processor.Processor.{Processor}
 use Rattle.bm_levels.specs.declared.program.Program.{Program}
 
--- Calls of level l and above came on its caches, and what code leaves as it was is so, whatever it asked for; it began and ended no
--- section of its own.
+-- Calls of level l and above came on its caches, and what code leaves as it was is so, whatever it asked for; it began and
+-- ended no section of its own.
 pub record RunsOn (l : ℕ) (p : Program) (a b : Processor) : Type 0 where
   pub came : CameAt l a b
   pub asks : ℕ

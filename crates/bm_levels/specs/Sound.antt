@@ -12,10 +12,11 @@ use Rattle.bm_levels.specs.Ready.{known_of, left_of}
 use Rattle.bm_levels.specs.declared.processor.Processor.{Processor}
 use Rattle.bm_levels.specs.declared.program.Program.{Program}
 
--- Ordinary code runs on it, and is there in its log. A call of level 0 may begin on its caches, each batch that has a stamp is of units
--- that have been the side's since then, and each plain batch has its stamp. For each time that it may still be asked for works, 24
--- periods of either domain may begin, and 12 more for each handler that hasn't run: a work begins at most one, at most eleven classes
--- have one behind a script, and as many again and one more are done, and so many for each handler that runs meanwhile.
+-- Ordinary code runs on it, and is there in its log. A call of level 0 may begin on its caches, each batch that has a stamp is
+-- of units that have been the side's since then, and each plain batch has its stamp. For each time that it may still be asked
+-- for works, 24 periods of either domain may begin, and 12 more for each handler that hasn't run: a work begins at most one, at
+-- most eleven classes have one behind a script, and as many again and one more are done, and so many for each handler that runs
+-- meanwhile.
 pub record Sound (p : Program) (m : Processor) : Type 0 where
   pub at : IsAt StandsAt IsLived 0 p m
   pub fine : FineAt 0 m

@@ -1,5 +1,5 @@
--- The lives of units, step by step: what is known of them before an entry, what the entry may say, and what is known then.
--- (A life begins in unit_alloc of kernel/bpf/memalloc.c, which writes its cache in front of the object, and ends in unit_free or
+-- The lives of units, step by step: what is known of them before an entry, what the entry may say, and what is known then. (A
+-- life begins in unit_alloc of kernel/bpf/memalloc.c, which writes its cache in front of the object, and ends in unit_free or
 -- unit_free_rcu, which take the target from there. That lives are counted is this project's own.)
 use Rattle.std.specs.Prelude.{◌≡◌, ℕ, ◌+◌, true, eqb, if◌then◌else◌, Option, Some, None, List, [], ◌∷◌}
 use Rattle.bm_journal.specs.declared.entry.Entry.{Entry}

@@ -38,8 +38,8 @@ lent = with_given 0 0 no_lives
 abbrev pub dropped_within : Log
 dropped_within = ordinary (entry.Drop 0 1 ∷ entry.Last ∷ []) ++ (at_level 1 interrupts ++ ordinary (entry.Free 0 0 ∷ []))
 
--- It begins a life while it has one; another life is dropped; the log ends behind the reply `last`; a handler begins the free, and
--- not the call; the free goes to another home; and the unit is freed and not dropped.
+-- It begins a life while it has one; another life is dropped; the log ends behind the reply `last`; a handler begins the free,
+-- and not the call; the free goes to another home; and the unit is freed and not dropped.
 abbrev pub given_beside : Log
 given_beside = ordinary (entry.Given 0 2 ∷ [])
 

@@ -1,6 +1,6 @@
 -- Grace periods over all logs. (rcu_seq_start, rcu_seq_end and rcu_seq_done of kernel/rcu/rcu.h; rcu_gp_init and rcu_gp_fqs of
--- kernel/rcu/tree.c for the plain domain, rcu_tasks_wait_gp of kernel/rcu/tasks.h for the tracing one. That a period ends by the
--- processor that began it, and what the words are, is this project's own.)
+-- kernel/rcu/tree.c for the plain domain, rcu_tasks_wait_gp of kernel/rcu/tasks.h for the tracing one. That a period ends by
+-- the processor that began it, and what the words are, is this project's own.)
 use Rattle.std.specs.Prelude.{◌≡◌, ◌<◌, ◌≤◌, ◌⊎◌, ℕ, ◌+◌, ◌-◌, ◌*◌, ◌%◌, List, [], ◌∷◌, length, map, take, drop, Option, None, Some}
 use Rattle.bm_journal.specs.declared.ids.Domain.{Domain}
 use Rattle.bm_journal.specs.declared.ids.Domain.TheVariants.{Plain, Tracing}

@@ -1,6 +1,6 @@
 -- What goes out of the stock and comes back, and what goes from processor to processor, in a whole journal. (In
--- kernel/bpf/memalloc.c __alloc takes from the slab allocator and free_one gives back, which drain_mem_cache does at the end with
--- all that a cache holds. Parcels are this project's own.)
+-- kernel/bpf/memalloc.c __alloc takes from the slab allocator and free_one gives back, which drain_mem_cache does at the end
+-- with all that a cache holds. Parcels are this project's own.)
 use Rattle.std.specs.Prelude.{◌≡◌, ◌<◌, ℕ, ◌==◌, if◌then◌else◌, List, [], ◌∷◌, ◌++◌, length, map}
 use Rattle.bm_journal.specs.declared.entry.Entry.{Entry}
 use Rattle.bm_journal.specs.declared.entry.Entry.TheVariants as entry

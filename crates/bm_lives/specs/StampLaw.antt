@@ -1,7 +1,7 @@
 -- Stamps over all logs: what waits for a grace period waits long enough. (get_state_synchronize_rcu, by rcu_seq_snap, and
--- poll_state_synchronize_rcu, by rcu_seq_done, of kernel/rcu/rcu.h. Where the allocator of the kernel hands a batch to call_rcu or
--- call_rcu_tasks_trace, in check_free_by_rcu and do_call_rcu_ttrace of kernel/bpf/memalloc.c, stamps stand here, which is this
--- project's own.)
+-- poll_state_synchronize_rcu, by rcu_seq_done, of kernel/rcu/rcu.h. Where the allocator of the kernel hands a batch to call_rcu
+-- or call_rcu_tasks_trace, in check_free_by_rcu and do_call_rcu_ttrace of kernel/bpf/memalloc.c, stamps stand here, which is
+-- this project's own.)
 use Rattle.std.specs.Prelude.{◌≡◌, ◌≤◌, ℕ, ◌+◌, ◌-◌, ◌*◌, ◌%◌, ◌==◌, Bool, true, false, not, ◌&&◌, if◌then◌else◌, Option, None, Some, List, [], ◌∷◌, ◌++◌, length}
 use Rattle.bm_journal.specs.declared.ids.Domain.{Domain}
 use Rattle.bm_journal.specs.declared.ids.Domain.TheVariants.{Plain, Tracing}

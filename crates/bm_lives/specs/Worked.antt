@@ -65,8 +65,8 @@ sweeps u stamp = entry.Sweep 10 (Whole (u ∷ [])) ∷ entry.Stamp 10 Tracing st
 abbrev pub one_block : List Log
 one_block = one_block_log ∷ []
 
--- One processor frees unit 0 with delay. It goes through both stages to the stock, is fetched, given a second life with its seal,
--- and swept at the end.
+-- One processor frees unit 0 with delay. It goes through both stages to the stock, is fetched, given a second life with its
+-- seal, and swept at the end.
 abbrev pub first_life : List Entry
 first_life = opens (0 ∷ []) ++ entry.In Plain 1 ∷ gives 0 (entry.Given 0 1) ++ delays 0 1 0 ++ entry.Out Plain 2 ∷ []
 
@@ -129,8 +129,8 @@ sleepable_reader = reader_of (2 ∷ 0 ∷ 1 ∷ 1 ∷ []) (2 ∷ 0 ∷ 2 ∷ 2 �
 abbrev pub waits_for_next : List Log
 waits_for_next = ordinary (entry.Begin Plain 1 ∷ batches 0 4 ++ ends Plain 2 (0 ∷ []) (0 ∷ []) ∷ period Plain 3 (0 ∷ []) (0 ∷ []) ++ sends 0 4 0) ∷ []
 
--- Unit 0 is freed with delay, and waits for a period. Behind the pass a handler takes unit 256 and frees it; then unit 0's batch is
--- sent, and unit 0 is given again with its seal.
+-- Unit 0 is freed with delay, and waits for a period. Behind the pass a handler takes unit 256 and frees it; then unit 0's
+-- batch is sent, and unit 0 is given again with its seal.
 abbrev pub interrupts : List Entry
 interrupts = gives 256 (entry.Given 256 1) ++ frees 256 1 0
 

@@ -1,7 +1,7 @@
 -- The units that caches begin with.
-use Rattle.std.proofs.Common.{◌≡◌, ◌≤◌, ℕ, suc, zero, ◌+◌, ◌-◌, true, List, [], ◌∷◌, ◌++◌, length, get_or, map, refl, sym, ap, subst, ◌∙◌, append_assoc, append-nil, Option, Some, None, arith, length-set, replicate, ◌*◌}
+use Rattle.std.proofs.Common.{◌≡◌, ℕ, suc, zero, ◌+◌, ◌-◌, true, List, [], ◌∷◌, ◌++◌, length, get_or, map, refl, sym, ap, subst, ◌∙◌, append_assoc, append-nil, Option, Some, None, arith, length-set}
 use Rattle.std.proofs.Math.ListN.{set}
-use Rattle.std.proofs.lemmas.List.{length-append, get_or-append_right, length-replicate, map-append}
+use Rattle.std.proofs.lemmas.List.{length-append, get_or-append_right, map-append}
 use Rattle.std.specs.List.{All}
 use Rattle.bm_page.specs.declared.units.Stocked.{Stocked}
 use Rattle.bm_page.specs.UnitState.{UnitState}
@@ -73,17 +73,6 @@ sits-fetched c pool pool' held us each h out h' i d lt =
 
 pub unlived-fetched : (c : ℕ) (pool : Stock) (held us : List UnitState) → All (λ (u : UnitState). u.life ≡ 0) held → All (IsFromStock c pool) us → IsUnborn pool.units → All (λ (u : UnitState). u.life ≡ 0) (held ++ us)
 unlived-fetched c pool held us a each h = All-append (λ (u : UnitState). u.life ≡ 0) held us a (λ i d lt. (each i d lt).life ∙ h.life (get_or us i d).number)
-
-pub unborn-pool : (pages : ℕ) → pages ≤ 256 → IsUnborn (replicate (256 * pages) unborn)
-unborn-pool pages le = record {
-  size = omega (arith, length-replicate (256 * pages) unborn, le);
-  life = none (256 * pages);
-}
-  where
-    none : (k n : ℕ) → (stocked_at (replicate k unborn) n).life ≡ 0
-    none zero n = refl
-    none (suc k) zero = refl
-    none (suc k) (suc n) = none k n
 
 -- a list that grew by one, seen through a function
 pub map-more : {A B : Type 0} (f : A → B) (xs ys : List A) (x : A) (z : B) → ys ≡ xs ++ x ∷ [] → f x ≡ z → map f ys ≡ map f xs ++ z ∷ []

@@ -30,10 +30,11 @@ fresh_side pool = record {
   grace = record { processors = 1; processor = 0; plain = idle; tracing = idle };
 }
 
--- The processor's caches were filled so: the log has a `fill` for each class, no flag is up, no object lives, no life began, none was asked for,
--- no parcel waits, no period is in progress, no section was entered, and a page has a class where these fills left it one. No handler that the
--- program plans for it has run, none runs, and it is in no section. (bpf_mem_alloc_init and prefill_mem_cache in kernel/bpf/memalloc.c; objects,
--- parcels, periods, sections and planned handlers are this project's own.)
+-- The processor's caches were filled so: the log has a `fill` for each class, no flag is up, no object lives, no life began,
+-- none was asked for, no parcel waits, no period is in progress, no section was entered, and a page has a class where these
+-- fills left it one. No handler that the program plans for it has run, none runs, and it is in no section. (bpf_mem_alloc_init
+-- and prefill_mem_cache in kernel/bpf/memalloc.c; objects, parcels, periods, sections and planned handlers are this project's
+-- own.)
 pub record IsOpen (p : Program) (f : Filling) (m : Processor) : Type 0 where
   pub sound : Sound p m
   pub told : IfSome m.caches.recorder.told (λ es. es ≡ fill_log f.fills)

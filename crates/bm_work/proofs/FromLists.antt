@@ -1,22 +1,17 @@
 -- How a refill from the lists goes on, and what it is with a fetch after it.
-use Rattle.std.proofs.Common.{◌≡◌, ◌<◌, ℕ, zero, suc, ◌+◌, ◌-◌, ◌++◌, List, [], ◌∷◌, length, drop, map, Option, refl, sym, ◌∙◌, ap, subst, arith, append_assoc}
+use Rattle.std.proofs.Common.{◌≡◌, ◌<◌, ℕ, zero, suc, ◌+◌, ◌-◌, ◌++◌, List, [], ◌∷◌, length, drop, map, refl, sym, ◌∙◌, ap, subst, arith, append_assoc}
 use Rattle.std.proofs.lemmas.List.{drop-drop, length-drop}
 use Rattle.std.proofs.Math.Seq.{drop-nil}
 use Rattle.std.proofs.lemmas.Grind.{common_steps}
 use Rattle.bm_journal.specs.declared.entry.Entry.TheVariants as entry
-use Rattle.bm_journal.specs.declared.counts.Counts.{Counts}
-use Rattle.bm_law.specs.State.{State, Deferred, seen}
+use Rattle.bm_law.specs.State.{State, Deferred}
 use Rattle.bm_law.specs.Lists.{Log, after}
 use Rattle.bm_law.proofs.Folds.{after-append}
 use Rattle.bm_cache.specs.Tokens.{Token, number_of}
-use Rattle.bm_cache.specs.Shown.{shown}
-use Rattle.bm_cache.specs.Placed.{Placed}
-use Rattle.bm_cache.specs.declared.caches.Caches.{Caches}
 use Rattle.bm_deferred.specs.Parts.{Part, Stand, Then}
 use Rattle.bm_deferred.specs.WorkPhrases.{Brings, Fetches, RefillBy, Refill}
 use Rattle.bm_work.specs.FromLists.{less, FromBy, FromLists, Fetched}
-use Rattle.bm_work.specs.Grown.{GrewBy}
-use Rattle.bm_work.proofs.Grown.{then-after, grew-parts}
+use Rattle.bm_work.proofs.Grown.{then-after}
 
 all-of-it : (part : Log) → part ≡ part ++ []
 all-of-it part = grind (arith, common_steps)
@@ -139,7 +134,3 @@ some-left us vs u rest e = omega (arith, ap (λ (ws : List Token). length ws) e)
 
 pub some-left_second : (us vs : List Token) (u : Token) (rest : List Token) → vs ≡ u ∷ rest → 0 < length us + length vs
 some-left_second us vs u rest e = omega (arith, ap (λ (ws : List Token). length ws) e)
-
--- the same, as a log grew
-pub grew-refill : {R : Type 0} (log : R → Option Log) (counts : R → Counts) (l c n left : ℕ) (x y : Caches R) (now : Option Log) → y.processor ≡ x.processor → Placed log counts x → Placed log counts y → GrewBy (FromLists l c n left) (seen number_of (shown x)) (log x.recorder) (log y.recorder) → GrewBy (Fetched l c left) (seen number_of (shown y)) (log y.recorder) now → GrewBy (Refill l c n) (seen number_of (shown x)) (log x.recorder) now
-grew-refill log counts l c n left x y now e p q g h = grew-parts log counts (FromLists l c n left) (Fetched l c left) (Refill l c n) x y now (from-whole l c n left (seen number_of (shown x))) e p q g h

@@ -1,15 +1,13 @@
 -- Units with numbers in ranges, for tests.
-use Rattle.std.proofs.Common.{◌≡◌, ◌<◌, ◌≤◌, ℕ, ◌+◌, ◌-◌, ◌++◌, true, List, [], ◌∷◌, map, refl, ◌∙◌, ap, arith, inl, inr, ne_eqb}
+use Rattle.std.proofs.Common.{◌≡◌, ◌<◌, ◌≤◌, ℕ, ◌+◌, ◌-◌, ◌++◌, List, [], ◌∷◌, map, refl, ◌∙◌, ap, arith, inl, inr, ne_eqb}
 use Rattle.std.specs.List.{All}
 use Rattle.std.proofs.lemmas.List.Elements.{All-head, All-tail}
 use Rattle.std.proofs.lemmas.List.{map-append}
 use Rattle.std.proofs.lemmas.Bool.Decides.{eqb_tells, leb_tells}
 use Rattle.bm_law.specs.Kept.{Ready}
 use Rattle.bm_law.specs.State.{Row, State, with_row}
-use Rattle.bm_law.specs.Places.{Stack, list_at, Free, Extra, Extra_delayed, Delayed, First, Ready as ready_list, Second}
 use Rattle.bm_law.specs.Stands.{times}
 use Rattle.bm_law.proofs.Stands.{times-append}
-use Rattle.bm_cache.specs.Tests.{Proper, Suits}
 use Rattle.bm_cache.specs.Tokens.{Token, number_of}
 
 -- a number outside a range stands in no list of it
@@ -65,19 +63,6 @@ ready-row c r s e h = record {
   ];
   sides = h.sides;
 }
-
--- where each unit passes each test
-pub suits-always : (k : Stack) (us : List Token) → All (Suits (λ _ _ _ _. true) k) us
-suits-always Free us i u n = refl
-suits-always Extra us i u n = refl
-suits-always Extra_delayed us i u n = refl
-suits-always Delayed us i u n = refl
-suits-always First us i u n = refl
-suits-always ready_list us i u n = refl
-suits-always Second us i u n = inl refl
-
-pub proper-always : (s : State Token) → Proper (λ _ _ _ _. true) s
-proper-always s = record { lists = λ c k. suits-always k (list_at k (s.rows c)); hands = λ l i u n. inl refl }
 
 -- a lower bound
 pub lower : (k : ℕ) (us : List Token) → All (λ (u : Token). k ≤ u.number) us → All (λ (u : Token). k - 1 ≤ u.number) us

@@ -1,5 +1,5 @@
 -- Stretches of deferred work: of plain steps alone, of one that moves a unit, and how they join.
-use Rattle.std.proofs.Common.{◌≡◌, ◌≢◌, ◌<◌, ℕ, ◌+◌, ◌-◌, ◌++◌, true, List, [], ◌∷◌, drop, length, Option, refl, sym, ◌∙◌, ap, subst, arith, inl, inr, eq-eqb}
+use Rattle.std.proofs.Common.{◌≡◌, ◌<◌, ℕ, ◌+◌, ◌-◌, ◌++◌, true, List, [], ◌∷◌, drop, length, Option, refl, sym, ◌∙◌, ap, subst, arith, inl, inr, eq-eqb}
 use Rattle.std.specs.List.{All}
 use Rattle.std.proofs.lemmas.List.Elements.{All-drop}
 use Rattle.std.proofs.lemmas.Bool.Decides.{eqb_tells}
@@ -197,18 +197,6 @@ less-of-second d e u rest h q = record { first = ap (λ x. x.first) q; gone = 0;
 
 pub less-of : (n : ℕ) (d e : Deferred Token) → e ≡ less n d → Less d e
 less-of n d e q = record { first = ap (λ x. x.first) q; gone = n; ready = ap (λ x. x.ready) q; gone_second = n - length d.ready; second = ap (λ x. x.second) q }
-
--- First has at most more on top
-pub more-same : (d e : Deferred Token) → e ≡ d → More d e
-more-same d e q = record { more = []; first = ap (λ x. x.first) q; ready = ap (λ x. x.ready) q; second = ap (λ x. x.second) q }
-
--- while what deferred work writes is as it was, but for one class
-pub more-each : (c : ℕ) (s t : State Token) → More (s.rows c).deferred (t.rows c).deferred → ((k : ℕ) → k ≢ c → (t.rows k).deferred ≡ (s.rows k).deferred) → (k : ℕ) → More (s.rows k).deferred (t.rows k).deferred
-more-each c s t m o k =
-    elim (eqb_tells k c) [
-      | inl y ↦ rw y.1 m
-      | inr y ↦ more-same (s.rows k).deferred (t.rows k).deferred (o k y.1)
-    ]
 
 -- tests of what stood in the lists, by what stands there
 pub lasting-more : (l : ℕ) (s t : State Token) (a b : Tests) → ((k : ℕ) → k < l → t.sides k ≡ s.sides k) → ((k : ℕ) → More (s.rows k).deferred (t.rows k).deferred) → Lasting l t a b → Lasting l s a b

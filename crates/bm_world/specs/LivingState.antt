@@ -44,8 +44,8 @@ known_living world = record (known_of world.side) { objects = record { lives = l
 abbrev pub may_live : (begun : List ℕ) → (n life : ℕ) → Bool
 may_live begun n life = has_room n life && eqb life (begun_at begun n)
 
--- Mine is what is mine of the side and doesn't live. Each unit whose lives are those that it has begun may be used again as soon
--- as it is there, whatever its seal.
+-- Mine is what is mine of the side and doesn't live. Each unit whose lives are those that it has begun may be used again as
+-- soon as it is there, whatever its seal.
 abbrev pub rights_with_living : PostState → List (Option UnitState) → List ℕ → Rights
 rights_with_living post slots begun = record {
   mine = λ n. is_mine post n && not (is_some (unit_at slots n));
@@ -93,8 +93,8 @@ pub record HaveLived (begun : List ℕ) (post : PostState) : Type 0 where
   pub boxes : (i : ℕ) → All (All (LivedAs begun)) (slice_index_or post.inboxes i [])
 
 -- What the parts keep true: there is a slot for each number, and a count of its lives, which isn't above the number of objects
--- that were asked for; the unit in a slot has its number, is out of the pool and stands in no inbox, lives the last life that it
--- has begun, and its home is one of the processors; and so it is of the lives of each unit of the pool and of the inboxes.
+-- that were asked for; the unit in a slot has its number, is out of the pool and stands in no inbox, lives the last life that
+-- it has begun, and its home is one of the processors; and so it is of the lives of each unit of the pool and of the inboxes.
 pub record AreLiving (post : PostState) (slots : List (Option UnitState)) (begun : List ℕ) (asked : ℕ) : Type 0 where
   pub size : length slots ≡ 2 ^ 16
   pub counts : length begun ≡ 2 ^ 16

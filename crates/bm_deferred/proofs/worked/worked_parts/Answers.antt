@@ -168,10 +168,6 @@ returns-clause-late c h =
     no-entry : (e : Entry) → [] ≡ e ∷ [] → ⊥
     no-entry e q = absurd (cc)
 
--- a list of takes that ends so
-last-one : (x y z : Moved) (rest : List Entry) → take_of 10 x ++ rest ≡ take_of 10 y → (x.count ≡ y.count) × (rest ≡ [])
-last-one x y z rest q = (cc, cc)
-
 pub returns-clause-high : goal.returns-clause-high
 returns-clause-high c u = ends u.over u.above u.last u.is_last u.own_is
   where
