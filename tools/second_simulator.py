@@ -1,0 +1,522 @@
+"""A second simulator of one processor, to compare the program's journals with.
+
+It was written from the rules alone (docs/caches.md, docs/deferred-work.md, docs/grace-periods.md, docs/handlers.md and
+docs/journals.md), and shares no code with the program. It knows what runs by now: one processor, types without a count or a
+node, plain scripts and handlers of `new`, `drop`, `if` and `repeat`, with deferred work or without. Nothing of it is proved.
+"""
+
+from collections import Counter
+from dataclasses import dataclass, field
+
+SIZES = [16, 32, 64, 96, 128, 192, 256, 512, 1024, 2048, 4096]
+PAGE_UNITS = 256
+MOST_RECEIVES = 64
+DOMAINS = ("plain", "tracing")
+TOTALS = (
+    "steps given empty busy last still acquired exchanged pushed already taken none raised worked fetched returned "
+    "plain tracing handlers"
+).split()
+
+
+@dataclass
+class New:
+    """`new NAME TYPE VALUES`"""
+
+    name: str
+    type_name: str
+    values: list[int]
+
+
+@dataclass
+class Drop:
+    """`drop NAME`"""
+
+    name: str
+
+
+@dataclass
+class If:
+    """`if NAME { FIRST } else { OTHER }`; without `else` where OTHER is None"""
+
+    name: str
+    first: list
+    other: list | None
+
+
+@dataclass
+class Repeat:
+    """`repeat TIMES { BODY }`"""
+
+    times: int
+    body: list
+
+
+@dataclass
+class ObjectType:
+    name: str
+    fields: list[str]
+    pad: int
+
+    def object_size(self) -> int:
+        """In bytes: 8 for each field, and the pad."""
+        return 8 * len(self.fields) + self.pad
+
+
+@dataclass
+class Script:
+    name: str
+    is_handler: bool
+    body: list
+
+
+@dataclass
+class AtLine:
+    """`at 0 STEP LEVEL SCRIPT`; the script by its place"""
+
+    step: int
+    level: int
+    script: int
+
+
+@dataclass
+class Scenario:
+    pages: int
+    deferred: bool
+    types: list[ObjectType]
+    scripts: list[Script]
+    runs: list[int]
+    ats: list[AtLine]
+
+
+def class_of(size: int) -> int:
+    """The class of the least unit that holds an object of this size and 8 bytes more."""
+    return next(number for number, unit in enumerate(SIZES) if unit >= size + 8)
+
+
+def marks(size: int) -> tuple[int, int, int]:
+    """The low and the high watermark, and the batch."""
+    low, high = (32, 96) if size <= 256 else (max(32 * 256 // size, 1), max(96 * 256 // size, 3))
+    return low, high, max((high - low) // 4 * 3, 1)
+
+
+class Stock:
+    """The units of all pages that no processor has."""
+
+    def __init__(self, pages: int):
+        self.class_of_page: list[int | None] = [None] * pages
+        self.units: list[set[int]] = [set() for _ in range(pages)]
+
+    def fetch(self, number: int, want: int) -> list[int]:
+        """The least unit of the class, one after the other; where there is none the lowest free page takes the class."""
+        came: list[int] = []
+        while len(came) < want:
+            there = [unit for page, units in enumerate(self.units) if self.class_of_page[page] == number for unit in units]
+            if not there:
+                page = next((page for page, of in enumerate(self.class_of_page) if of is None), None)
+                if page is None:
+                    break
+                self.class_of_page[page] = number
+                self.units[page] = {page * PAGE_UNITS + place for place in range(4096 // SIZES[number])}
+                there = list(self.units[page])
+            unit = min(there)
+            self.units[unit // PAGE_UNITS].discard(unit)
+            came.append(unit)
+        return came
+
+    def put_back(self, number: int, units: list[int]) -> None:
+        """A page whose units are all back has no class any more."""
+        for unit in units:
+            page = unit // PAGE_UNITS
+            self.units[page].add(unit)
+            if len(self.units[page]) == 4096 // SIZES[number]:
+                self.class_of_page[page] = None
+                self.units[page] = set()
+
+
+@dataclass
+class Cache:
+    """The lists of a class, each from its top. Delayed frees don't run by now, so their lists are always empty."""
+
+    free: list[int] = field(default_factory=list)
+    extra: list[int] = field(default_factory=list)
+    ready: list[int] = field(default_factory=list)
+    second: list[int] = field(default_factory=list)
+    inbox: list[list[int]] = field(default_factory=list)
+    active: int = 0
+    count: int = 0
+    raised: bool = False
+    target: int = 0
+    # the tracing stamp of the second stage's batch, while one is in progress
+    stamp: int | None = None
+
+
+class Simulator:
+    def __init__(self, scenario: Scenario):
+        self.scenario = scenario
+        self.types = {each.name: each for each in scenario.types}
+        self.stock = Stock(scenario.pages)
+        self.caches = {number: Cache() for number in sorted({class_of(each.object_size()) for each in scenario.types})}
+        self.lives: Counter[int] = Counter()
+        self.words = dict.fromkeys(DOMAINS, 0)
+        self.numbers = dict.fromkeys(DOMAINS, 0)
+        # the words at the begin of each period in progress
+        self.first_words: dict[str, list[int]] = {}
+        self.planned = list(scenario.ats)
+        self.has_ended = False
+        self.lines: list[str] = []
+        self.totals: Counter[str] = Counter()
+
+    # ---- the log
+
+    def note(self, level: int, *words: object) -> None:
+        self.lines.append(" ".join(map(str, (level, *words))))
+
+    def step(self, level: int, *words: object) -> None:
+        self.totals["steps"] += 1
+        self.note(level, *words)
+
+    def point(self, level: int) -> None:
+        """Before each step those handlers run that are due: the highest level first, then in the order of the text."""
+        while not self.has_ended:
+            due = [at for at in self.planned if at.step <= self.totals["steps"] + 1 and at.level > level]
+            if not due:
+                return
+            chosen = max(due, key=lambda at: at.level)
+            self.planned = [at for at in self.planned if at is not chosen]
+            self.handler(chosen)
+
+    # ---- allocations and frees
+
+    def lower(self, level: int, number: int) -> None:
+        cache = self.caches[number]
+        self.point(level)
+        cache.active -= 1
+        self.step(level, "leave", SIZES[number], cache.active)
+
+    def enter(self, level: int, number: int) -> int:
+        cache = self.caches[number]
+        self.point(level)
+        cache.active += 1
+        self.step(level, "enter", SIZES[number], cache.active)
+        return cache.active
+
+    def count(self, level: int, number: int, change: int) -> int:
+        cache = self.caches[number]
+        self.point(level)
+        cache.count += change
+        self.step(level, "count", SIZES[number], cache.count)
+        return cache.count
+
+    def pop(self, level: int, number: int) -> int | None:
+        cache = self.caches[number]
+        self.point(level)
+        unit = cache.free.pop(0) if cache.free else None
+        self.step(level, "pop", SIZES[number], "none" if unit is None else unit)
+        return unit
+
+    def push(self, level: int, number: int, unit: int) -> None:
+        self.point(level)
+        self.caches[number].free.insert(0, unit)
+        self.step(level, "push", SIZES[number], unit)
+
+    def put_extra(self, level: int, number: int, unit: int) -> None:
+        """Looks at the list, then puts if nothing was put since, else looks again."""
+        cache = self.caches[number]
+        while True:
+            self.point(level)
+            seen = len(cache.extra)
+            self.step(level, "look", SIZES[number], seen)
+            self.point(level)
+            if len(cache.extra) == seen:
+                cache.extra.insert(0, unit)
+                self.step(level, "put", SIZES[number], unit)
+                return
+            self.step(level, "lost", SIZES[number])
+
+    def raise_flag(self, level: int, number: int) -> None:
+        self.point(level)
+        self.caches[number].raised = True
+        self.totals["raised"] += 1
+        self.step(level, "raise", SIZES[number])
+
+    def allocate(self, level: int, number: int) -> tuple[int, int | None]:
+        """How deep in the cache it was, and the unit, if there was one."""
+        low, _, _ = marks(SIZES[number])
+        depth = self.enter(level, number)
+        unit, seen = None, 0
+        if depth == 1:
+            unit = self.pop(level, number)
+            if unit is not None:
+                seen = self.count(level, number, -1)
+        self.lower(level, number)
+        if seen < low:
+            self.raise_flag(level, number)
+        return depth, unit
+
+    def release(self, level: int, number: int, unit: int) -> None:
+        _, high, _ = marks(SIZES[number])
+        self.note(level, "free", unit, 0)
+        depth = self.enter(level, number)
+        # (the unit's home is the one processor that there is)
+        self.caches[number].target = 0
+        seen = 0
+        if depth == 1:
+            self.push(level, number, unit)
+            seen = self.count(level, number, 1)
+        else:
+            self.put_extra(level, number, unit)
+        self.lower(level, number)
+        if depth == 1 and seen > high:
+            self.raise_flag(level, number)
+
+    # ---- scripts
+
+    def block(self, level: int, body: list, names: dict) -> None:
+        for statement in body:
+            self.statement(level, statement, names)
+            if level == 0 and self.scenario.deferred:
+                self.work_until_down()
+
+    def statement(self, level: int, statement: object, names: dict) -> None:
+        match statement:
+            case New(name, type_name, values):
+                names[name] = self.make(level, type_name, values)
+            case Drop(name):
+                number, unit, life = names.pop(name)
+                self.note(level, "drop", unit, life)
+                self.note(level, "last")
+                self.totals["last"] += 1
+                self.release(level, number, unit)
+            case If(name, first, other):
+                self.block(level, other or [] if names.get(name) is None else first, names)
+            case Repeat(times, body):
+                for _ in range(times):
+                    self.block(level, body, names)
+
+    def make(self, level: int, type_name: str, values: list[int]) -> tuple[int, int, int] | None:
+        number = class_of(self.types[type_name].object_size())
+        self.note(level, "new", type_name, *values)
+        depth, unit = self.allocate(level, number)
+        if unit is not None:
+            self.lives[unit] += 1
+            self.totals["given"] += 1
+            self.note(level, "given", unit, self.lives[unit])
+            return number, unit, self.lives[unit]
+        if depth > 1:
+            self.totals["busy"] += 1
+            self.note(level, "busy", depth)
+        else:
+            self.totals["empty"] += 1
+            self.note(level, "empty")
+        return None
+
+    def section(self, level: int, line: str) -> None:
+        self.words["plain"] += 1
+        self.note(level, line, "plain", self.words["plain"])
+
+    def handler(self, at: AtLine) -> None:
+        script = self.scenario.scripts[at.script]
+        self.totals["handlers"] += 1
+        self.note(at.level, "handler", script.name)
+        is_outside = self.words["plain"] % 2 == 0
+        if is_outside:
+            self.section(at.level, "in")
+        self.block(at.level, script.body, {})
+        if is_outside:
+            self.section(at.level, "out")
+        self.note(at.level, "back", script.name)
+
+    def script(self, script: Script) -> None:
+        self.note(0, "script", script.name)
+        self.section(0, "in")
+        self.block(0, script.body, {})
+        self.section(0, "out")
+        self.note(0, "done", script.name)
+        if self.scenario.deferred:
+            for number in self.caches:
+                self.work(number)
+            self.work_until_down()
+
+    # ---- grace periods
+
+    def words_of(self, domain: str) -> list[int]:
+        return [self.words[each] for each in (DOMAINS if domain == "tracing" else ("plain",))]
+
+    def look(self, domain: str) -> None:
+        """The period ends where each word was even at its begin, or is greater now."""
+        first, later = self.first_words[domain], self.words_of(domain)
+        if all(was % 2 == 0 or now > was for was, now in zip(first, later)):
+            del self.first_words[domain]
+            self.numbers[domain] += 1
+            self.totals[domain] += 1
+            self.note(0, "finish", domain, self.numbers[domain], "first", *first, "later", *later)
+
+    def poll(self, number: int, domain: str, stamp: int) -> int:
+        if domain in self.first_words:
+            self.look(domain)
+        if domain not in self.first_words and self.numbers[domain] % 2 == 0 and self.numbers[domain] < stamp:
+            self.numbers[domain] += 1
+            self.first_words[domain] = self.words_of(domain)
+            self.note(0, "begin", domain, self.numbers[domain])
+            self.look(domain)
+        self.point(0)
+        self.step(0, "pass", SIZES[number], domain, self.numbers[domain])
+        return self.numbers[domain]
+
+    def take_stamp(self, number: int) -> int:
+        self.point(0)
+        seen = self.numbers["tracing"]
+        stamp = seen + 3 if seen % 2 else seen + 2
+        self.step(0, "stamp", SIZES[number], "tracing", stamp)
+        return stamp
+
+    # ---- deferred work
+
+    def work_until_down(self) -> None:
+        while (raised := next((number for number, cache in self.caches.items() if cache.raised), None)) is not None:
+            self.work(raised)
+
+    def work(self, number: int) -> None:
+        cache, (low, high, _) = self.caches[number], marks(SIZES[number])
+        self.note(0, "work", SIZES[number])
+        self.totals["worked"] += 1
+        cache.raised = False
+        self.receive(number)
+        self.point(0)
+        seen = cache.count
+        self.step(0, "read", SIZES[number], seen)
+        if seen < low:
+            self.refill(number)
+        elif seen > high:
+            self.drain(number)
+        self.first_stage(number)
+        self.second_stage(number)
+
+    def receive(self, number: int) -> None:
+        cache = self.caches[number]
+        for _ in range(MOST_RECEIVES):
+            self.point(0)
+            parcel = cache.inbox.pop(0) if cache.inbox else []
+            cache.ready = parcel + cache.ready
+            self.step(0, "receive", SIZES[number], *parcel)
+            if not parcel:
+                return
+
+    def add(self, number: int, unit: int) -> None:
+        self.enter(0, number)
+        self.push(0, number, unit)
+        self.count(0, number, 1)
+        self.lower(0, number)
+
+    def refill(self, number: int) -> None:
+        cache, (_, _, left) = self.caches[number], marks(SIZES[number])
+        while left and (cache.ready or cache.second):
+            self.point(0)
+            source, line = (cache.ready, "ready") if cache.ready else (cache.second, "second")
+            unit = source.pop(0)
+            self.step(0, line, SIZES[number], unit)
+            self.add(number, unit)
+            left -= 1
+        if left:
+            self.point(0)
+            units = self.stock.fetch(number, left)
+            self.totals["fetched"] += len(units)
+            self.step(0, "fetch", SIZES[number], left, *units)
+            for unit in units:
+                self.add(number, unit)
+
+    def drain(self, number: int) -> None:
+        cache, (low, high, _) = self.caches[number], marks(SIZES[number])
+        hand: list[int] = []
+        while True:
+            self.enter(0, number)
+            unit, seen = self.pop(0, number), 0
+            if unit is not None:
+                hand.append(unit)
+                seen = self.count(0, number, -1)
+            self.lower(0, number)
+            if unit is None or seen <= (low + high) // 2:
+                break
+        self.point(0)
+        extra, cache.extra = cache.extra, []
+        self.step(0, "takex", SIZES[number], *extra)
+        hand += extra
+        if hand:
+            self.point(0)
+            cache.inbox.append(hand)
+            self.step(0, "send", SIZES[number], cache.target, *hand)
+
+    def first_stage(self, number: int) -> None:
+        """Without delayed frees there is never a batch of the first stage."""
+        self.enter(0, number)
+        self.point(0)
+        self.step(0, "taked", SIZES[number])
+        self.lower(0, number)
+
+    def second_stage(self, number: int) -> None:
+        cache = self.caches[number]
+        if cache.stamp is not None and self.poll(number, "tracing", cache.stamp) >= cache.stamp:
+            self.point(0)
+            self.give_back(number)
+            cache.stamp = None
+        if cache.stamp is None and cache.ready:
+            self.point(0)
+            cache.second, cache.ready = cache.ready, []
+            self.step(0, "begin2", SIZES[number], *cache.second)
+            cache.stamp = self.take_stamp(number)
+
+    def give_back(self, number: int) -> None:
+        cache = self.caches[number]
+        units, cache.second = cache.second, []
+        self.stock.put_back(number, units)
+        self.totals["returned"] += len(units)
+        self.step(0, "return", SIZES[number], *units)
+
+    # ---- the whole run
+
+    def fill(self, number: int) -> None:
+        units = self.stock.fetch(number, 4 if SIZES[number] <= 256 else 1)
+        self.totals["fetched"] += len(units)
+        self.caches[number].free = units[::-1]
+        self.caches[number].count = len(units)
+        self.note(0, "fill", SIZES[number], *units)
+
+    def sweep(self, number: int) -> None:
+        cache = self.caches[number]
+        units = [*cache.free, *cache.extra, *cache.ready, *cache.second, *(unit for parcel in cache.inbox for unit in parcel)]
+        if not units:
+            return
+        cache.free, cache.extra, cache.ready, cache.inbox, cache.second = [], [], [], [], units
+        self.step(0, "sweep", SIZES[number], *units)
+        self.poll(number, "tracing", self.take_stamp(number))
+        self.give_back(number)
+
+    def journal(self) -> str:
+        """Runs the scenario, once, and gives its journal's text."""
+        for number in self.caches:
+            self.fill(number)
+        for place in self.scenario.runs:
+            self.script(self.scenario.scripts[place])
+        self.note(0, "ended")
+        self.has_ended = True
+        self.note(0, "close")
+        for domain in DOMAINS:
+            if domain in self.first_words:
+                self.look(domain)
+        for number in self.caches:
+            self.sweep(number)
+        return "".join(f"{line}\n" for line in [*self.heading(), *self.lines, *self.ending()])
+
+    def heading(self) -> list[str]:
+        scenario = self.scenario
+        return [
+            f"processors 1 pages {scenario.pages}",
+            " ".join(["types", *(each.name for each in scenario.types)]),
+            "maps",
+            " ".join(["scripts", *(each.name for each in scenario.scripts)]),
+            *("class {} marks {} {} {}".format(SIZES[number], *marks(SIZES[number])) for number in self.caches),
+            "processor 0",
+        ]
+
+    def ending(self) -> list[str]:
+        return [f"total {name} {self.totals[name]}" for name in TOTALS]
