@@ -1,7 +1,7 @@
 """A second reader and ownership checker of scenarios, to compare the program's answers with.
 
-It was written from the rules alone (docs/scenarios.md and docs/ownership.md), and shares no code with the program. It reads the
-whole language, and nothing of it is proved.
+It was written from the rules alone, which docs/scenarios.md and docs/ownership.md restate, and shares no code with the program.
+It reads the whole language, and nothing of it is proved.
 """
 
 import string
