@@ -1,8 +1,9 @@
 """A second simulator of one processor, to compare the program's journals with.
 
-It was written from the rules alone, which docs/caches.md, docs/deferred-work.md, docs/grace-periods.md, docs/handlers.md and
-docs/journals.md restate, and shares no code with the program. It knows what runs by now: one processor, types without a count or a
-node, plain scripts and handlers of `new`, `drop`, `if` and `repeat`, with deferred work or without. Nothing of it is proved.
+It was written from the rules alone, which docs/caches.md, docs/deferred-work.md, docs/grace-periods.md, docs/handlers.md
+and docs/journals.md restate, and shares no code with the program. It knows what runs by now: one processor, types without a
+count or a node, plain scripts and handlers of `new`, `drop`, `if` and `repeat`, with deferred work or without. Nothing of it
+is proved.
 """
 
 from collections import Counter
