@@ -1,22 +1,18 @@
 #!/usr/bin/env python3
 """Compares the program's `check` with a second reader and checker, over random scenarios.
 
-usage: compare_checks.py PROGRAM FIRST LAST
-
-PROGRAM is a built bpfmem. For each seed from FIRST to LAST a scenario of the whole language is made; in every second one
-some tokens are turned. The status and the line on standard error must be those of the second checker. What differs is told,
-and its text kept in the folder for temporary files. The last lines count how often each status and rule came, and what
-differs. The status is 0 where nothing differs.
+For each seed a scenario of the whole language is made; in every second one some tokens are turned. The status and the line
+on standard error must be those of the second checker. What differs is told, and its text kept in the folder for temporary
+files. The last lines count how often each status and rule came, and what differs. The status is 0 where nothing differs.
 """
 
 import random
 import re
 import subprocess
 import sys
-import tempfile
 from collections import Counter
-from pathlib import Path
 
+from comparing import keep, words
 from second_checker import (
     RESERVED,
     SPENT,
@@ -274,19 +270,15 @@ def compare(program: str, seed: int, came: Counter) -> bool:
     came[f"{wanted[0]} {wanted[1].split(': ')[-1]}".strip()] += 1
     if got == wanted and ran.stdout == (b"accepted\n" if wanted[0] == 0 else b""):
         return True
-    kept = Path(tempfile.gettempdir()) / f"bpfmem-check-{seed}.scenario"
-    kept.write_bytes(data)
+    kept = keep(f"check-{seed}", data)
     print(f"seed {seed}: got {got}, wanted {wanted}; the text is in {kept}")
     return False
 
 
 def main() -> int:
-    if len(sys.argv) != 4:
-        print(__doc__.split("\n\n")[1], file=sys.stderr)
-        return 2
+    program, seeds = words(__doc__)
     came: Counter[str] = Counter()
-    program, first, last = sys.argv[1], int(sys.argv[2]), int(sys.argv[3])
-    told = [compare(program, seed, came) for seed in range(first, last + 1)]
+    told = [compare(program, seed, came) for seed in seeds]
     print(", ".join(f"{name}: {count}" for name, count in sorted(came.items())))
     print(f"{told.count(True)} the same, {told.count(False)} differ")
     return 1 if False in told else 0

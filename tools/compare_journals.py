@@ -1,19 +1,16 @@
 #!/usr/bin/env python3
 """Compares the program's journals with those of a second simulator, over random scenarios.
 
-usage: compare_journals.py PROGRAM FIRST LAST
-
-PROGRAM is a built bpfmem. For each seed from FIRST to LAST a scenario is made, replayed by both, and the journals are compared
-byte by byte; one that differs is told, and its scenario kept in the folder for temporary files. Scenarios that exceed the limit
-of statements are left out. The last line counts. The status is 0 where no journal differs.
+For each seed a scenario is made, replayed by both, and the journals are compared byte by byte; one that differs is told, and
+its scenario kept in the folder for temporary files. Scenarios that exceed the limit of statements are left out. The last line
+counts. The status is 0 where no journal differs.
 """
 
 import random
 import subprocess
 import sys
-import tempfile
-from pathlib import Path
 
+from comparing import keep, words
 from second_simulator import AtLine, Drop, If, New, ObjectType, Repeat, Scenario, Script, Simulator
 
 SMALL = [8, 16, 24, 40, 96, 200, 248]
@@ -159,19 +156,15 @@ def compare(program: str, seed: int) -> bool | None:
     wanted = Simulator(scenario).journal()
     if ran.returncode == 0 and ran.stdout.decode() == wanted:
         return True
-    kept = Path(tempfile.gettempdir()) / f"bpfmem-{seed}.scenario"
-    kept.write_text(text)
+    kept = keep(f"journal-{seed}", text.encode())
     said = first_difference(ran.stdout.decode().splitlines(), wanted.splitlines())
     print(f"seed {seed}: status {ran.returncode}, {said}; the scenario is in {kept}")
     return False
 
 
 def main() -> int:
-    if len(sys.argv) != 4:
-        print(__doc__.split("\n\n")[1], file=sys.stderr)
-        return 2
-    program, first, last = sys.argv[1], int(sys.argv[2]), int(sys.argv[3])
-    told = [compare(program, seed) for seed in range(first, last + 1)]
+    program, seeds = words(__doc__)
+    told = [compare(program, seed) for seed in seeds]
     print(f"{told.count(True)} the same, {told.count(False)} differ, {told.count(None)} left out")
     return 1 if False in told else 0
 
