@@ -13,20 +13,8 @@ import sys
 from collections import Counter
 
 from comparing import keep, words
-from second_checker import (
-    RESERVED,
-    SPENT,
-    Block,
-    Checker,
-    Graph,
-    ObjectType,
-    Rejected,
-    Scenario,
-    Script,
-    State,
-    Statement,
-    answer,
-)
+from language import AtLine, Block, Graph, ObjectType, RunLine, Scenario, Script, Statement, text_of
+from second_checker import RESERVED, SPENT, Checker, Rejected, State, answer
 
 NAMES = ["a", "b", "c", "d", "e", "f"]
 FIELDS = ["k", "v", "w"]
@@ -41,7 +29,11 @@ class Maker:
 
     def __init__(self, seed: int):
         self.draw = random.Random(seed)
-        self.scenario = Scenario(processors=self.draw.choice([1, 1, 2, 4]), pages=self.draw.choice([0, 1, 64]))
+        self.scenario = Scenario(
+            processors=self.draw.choice([1, 1, 2, 4]),
+            pages=self.draw.choice([0, 1, 64]),
+            deferred=self.draw.random() < 0.5,
+        )
         # how often a statement that breaks a rule is taken
         self.carelessness = self.draw.choice([0, 0.02, 0.1])
         for number in range(self.draw.randint(1, 4)):
@@ -68,9 +60,10 @@ class Maker:
         """A statement, with any names and maps; None where there is no map for it."""
         draw, maps = self.draw, [*self.scenario.maps.values()]
         word = draw.choice([*STATEMENTS, *["call"] * 5])
-        made = Statement(0, word, [self.name()])
+        made = Statement(word, [self.name()])
         if word == "new":
             made.type = draw.choice([*self.scenario.types.values()])
+            made.values = [draw.randint(0, 9) for _ in made.type.fields]
         elif word == "acquire":
             made.names.append(self.name())
         elif word == "get":
@@ -88,7 +81,7 @@ class Maker:
         elif word == "repeat":
             made.times = draw.choice([0, 1, 2, 3])
         if word in ("if", "repeat", "section"):
-            made.blocks = [Block([], 0) for _ in range(draw.choice([1, 2]) if word == "if" else 1)]
+            made.blocks = [Block() for _ in range(draw.choice([1, 2]) if word == "if" else 1)]
             if depth > 3:
                 return None
         return made
@@ -147,74 +140,38 @@ class Maker:
         """What gives up a lock that the block took, and what its names own that they didn't own outside."""
         ends = []
         if checker.lock and checker.lock[1] is block and self.draw.random() >= 5 * self.carelessness:
-            ends.append(Statement(0, "unlock", []))
+            ends.append(Statement("unlock"))
         for name, state in names.items():
             if not state.owns() or outside.get(name) == state or self.draw.random() < self.carelessness:
                 continue
-            drop = Statement(0, "drop", [name])
-            ends.append(Statement(0, "if", [name], blocks=[Block([drop], 0)]) if state.may_be_null else drop)
+            drop = Statement("drop", [name])
+            ends.append(Statement("if", [name], blocks=[Block([drop])]) if state.may_be_null else drop)
         return ends
 
-    def text(self) -> str:
+    def made(self) -> Scenario:
+        """The scenario, with its scripts, lines and turns."""
         scenario, draw = self.scenario, self.draw
         for number in range(draw.randint(0, 3)):
             kind = draw.choice(["plain", "plain", "sleepable", "handler"])
-            made = Script(f"s{number}", kind, Block([], 0))
-            self.fill(made.body, Checker(scenario, made), {}, 1, draw.choice([2, 5, 10, 20]))
-            scenario.scripts[made.name] = made
-        return text_of(scenario, draw)
+            script = Script(f"s{number}", kind, Block())
+            self.fill(script.body, Checker(scenario, script), {}, 1, draw.choice([2, 5, 10, 20]))
+            scenario.scripts[script.name] = script
+            self.add_line(script)
+        if draw.random() < 0.3:
+            scenario.turns = [self.processor() for _ in range(3)]
+        return scenario
+
+    def processor(self) -> int:
+        return self.draw.randrange(self.scenario.processors)
+
+    def add_line(self, script: Script) -> None:
+        if script.kind == "handler":
+            self.scenario.ats.append(AtLine(self.processor(), self.draw.randint(0, 50), self.draw.randint(1, 3), script))
+        else:
+            self.scenario.runs.append(RunLine(self.processor(), script))
 
 
 # ---- texts
-
-
-def text_of(scenario: Scenario, draw: random.Random) -> str:
-    head = ["scenario {", f"processors {scenario.processors} pages {scenario.pages} deferred {draw.choice(['on', 'off'])}"]
-    types = [
-        " ".join(
-            ["type", each.name, *["counted"] * each.counted, *filter(None, [each.node]), "{", *each.fields]
-            + ([f"pad {each.pad}"] if each.pad else [])
-            + ["}"]
-        )
-        for each in scenario.types.values()
-    ]
-    maps = [f"{each.kind} {each.name} {each.type.name}" for each in scenario.maps.values()]
-    scripts = [f"script {each.name} {each.kind} {block_text(each.body, draw)}" for each in scenario.scripts.values()]
-    lines = [
-        f"at {draw.randrange(scenario.processors)} {draw.randint(0, 50)} {draw.randint(1, 3)} {each.name}"
-        if each.kind == "handler"
-        else f"run {draw.randrange(scenario.processors)} {each.name}"
-        for each in sorted(scenario.scripts.values(), key=lambda it: it.kind == "handler")
-    ]
-    numbers = " ".join(str(draw.randrange(scenario.processors)) for _ in range(3))
-    turns = [f"turns {{ {numbers} }}"] if draw.random() < 0.3 else []
-    return "\n".join([*head, *types, *maps, *scripts, *lines, *turns, "}"]) + "\n"
-
-
-def block_text(block: Block, draw: random.Random) -> str:
-    return "\n".join(["{", *(statement_text(each, draw) for each in block.statements), "}"])
-
-
-def statement_text(statement: Statement, draw: random.Random) -> str:
-    word, names = statement.word, statement.names
-    parts = {
-        "new": lambda: [names[0], statement.type.name, *(str(draw.randint(0, 9)) for _ in statement.type.fields)],
-        "xchg": lambda: [names[0], statement.map.name, names[1] if len(names) == 2 else "null"],
-        "lock": lambda: [statement.map.name],
-        "unlock": list,
-        "yield": list,
-        "section": list,
-        "repeat": lambda: [str(statement.times)],
-        "remove": lambda: [names[0], statement.map.name, names[1]],
-    }
-    if word in ("push_front", "push_back", "add"):
-        said = [statement.map.name, names[0]]
-    elif word in ("pop_front", "pop_back", "first"):
-        said = [names[0], statement.map.name]
-    else:
-        said = parts.get(word, lambda: names)()
-    blocks = " else ".join(block_text(each, draw) for each in statement.blocks)
-    return " ".join([word, *said, *filter(None, [blocks])])
 
 
 def alike(token: str, draw: random.Random) -> str:
@@ -261,9 +218,9 @@ def turned(text: str, draw: random.Random) -> bytes:
 
 
 def compare(program: str, seed: int, came: Counter) -> bool:
-    made = Maker(seed)
-    text = made.text()
-    data = turned(text, made.draw) if seed % 2 else text.encode()
+    maker = Maker(seed)
+    text = text_of(maker.made())
+    data = turned(text, maker.draw) if seed % 2 else text.encode()
     ran = subprocess.run([program, "check"], input=data, capture_output=True, check=False)
     got = ran.returncode, ran.stderr.decode().removeprefix("bpfmem: ").rstrip("\n")
     wanted = answer(data)

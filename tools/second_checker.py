@@ -5,7 +5,9 @@ It reads the whole language, and nothing of it is proved.
 """
 
 import string
-from dataclasses import dataclass, field
+from dataclasses import dataclass
+
+from language import AtLine, Block, Graph, ObjectType, RunLine, Scenario, Script, Statement
 
 RESERVED = set(
     "scenario processors pages deferred on off type counted list tree pad slot script plain sleepable handler run at turns new "
@@ -44,63 +46,6 @@ class Token:
     line: int
     column: int
     kind: str  # word, number, {, }, end
-
-
-@dataclass
-class ObjectType:
-    name: str
-    counted: bool = False
-    node: str | None = None
-    fields: list[str] = field(default_factory=list)
-    pad: int = 0
-
-    def size(self) -> int:
-        return 8 * len(self.fields) + {"list": 24, "tree": 32, None: 0}[self.node] + 8 * self.counted + self.pad
-
-
-@dataclass
-class Graph:
-    """A slot, a list or a tree."""
-
-    kind: str
-    name: str
-    type: ObjectType
-
-
-@dataclass
-class Statement:
-    line: int
-    word: str
-    names: list[str]
-    type: ObjectType | None = None
-    map: Graph | None = None
-    times: int = 0
-    blocks: list["Block"] = field(default_factory=list)
-
-
-@dataclass
-class Block:
-    statements: list[Statement]
-    end_line: int
-
-
-@dataclass
-class Script:
-    name: str
-    kind: str
-    body: Block
-
-
-@dataclass
-class Scenario:
-    processors: int = 0
-    pages: int = 0
-    types: dict[str, ObjectType] = field(default_factory=dict)
-    maps: dict[str, Graph] = field(default_factory=dict)
-    scripts: dict[str, Script] = field(default_factory=dict)
-    runs: list[tuple[int, Script]] = field(default_factory=list)
-    ats: list[tuple[int, Script]] = field(default_factory=list)
-    turns: list[int] = field(default_factory=list)
 
 
 class Reader:
@@ -207,7 +152,7 @@ class Reader:
         self.word("pages")
         scenario.pages = self.number()
         self.word("deferred")
-        self.word("on", "off")
+        scenario.deferred = self.word("on", "off") == "on"
         self.items()
         if self.token.kind != "end":
             raise self.fault("unexpected")
@@ -263,16 +208,17 @@ class Reader:
         return self.number(lambda number: number < self.scenario.processors)
 
     def run_item(self, _word: str) -> None:
-        self.scenario.runs.append((self.processor(), self.known(self.scenario.scripts, lambda it: it.kind == "handler")))
+        processor = self.processor()
+        self.scenario.runs.append(RunLine(processor, self.known(self.scenario.scripts, lambda it: it.kind == "handler")))
 
     def at_item(self, _word: str) -> None:
-        processor = self.processor()
-        self.number()
-        self.number(lambda number: 1 <= number <= 3)
-        self.scenario.ats.append((processor, self.known(self.scenario.scripts, lambda it: it.kind != "handler")))
+        processor, step, level = self.processor(), self.number(), self.number(lambda number: 1 <= number <= 3)
+        script = self.known(self.scenario.scripts, lambda it: it.kind != "handler")
+        self.scenario.ats.append(AtLine(processor, step, level, script))
 
     def turns_item(self, _word: str) -> None:
         self.brace("{")
+        self.scenario.turns = []
         while self.is_number():
             self.scenario.turns.append(self.processor())
         self.brace("}")
@@ -294,7 +240,7 @@ class Reader:
             raise self.fault("not_yet")
         if self.token.kind != "word":
             raise self.fault("unexpected")
-        made = Statement(self.token.line, self.token.text.decode(), [])
+        made = Statement(self.token.text.decode(), line=self.token.line)
         reading = getattr(self, f"{made.word}_words", None)
         if made.word not in RESERVED or reading is None:
             raise self.fault("unexpected")
@@ -305,8 +251,7 @@ class Reader:
     def new_words(self, made: Statement, _depth: int) -> None:
         made.names.append(self.name())
         made.type = self.known(self.scenario.types)
-        for _ in made.type.fields:
-            self.number()
+        made.values = [self.number() for _ in made.type.fields]
 
     def drop_words(self, made: Statement, _depth: int) -> None:
         made.names.append(self.name())
@@ -390,7 +335,7 @@ def within_limits(scenario: Scenario) -> None:
     """In their order; the first that is exceeded is told."""
     lines = scenario.runs + scenario.ats
     statements = [
-        sum(10 + cost(script.body) for processor, script in lines if processor == number)
+        sum(10 + cost(line.script.body) for line in lines if line.processor == number)
         for number in range(min(scenario.processors, 8))
     ]
     numbers = [
@@ -401,7 +346,7 @@ def within_limits(scenario: Scenario) -> None:
         ("maps", len(scenario.maps), 64),
         ("scripts", len(scenario.scripts), 256),
         ("handlers", len(scenario.ats), 1_000),
-        ("turns", len(scenario.turns), 100_000),
+        ("turns", len(scenario.turns or []), 100_000),
         ("statements", max(statements), 20_000),
     ]
     for name, number, greatest in numbers:

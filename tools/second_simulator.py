@@ -9,6 +9,8 @@ is proved.
 from collections import Counter
 from dataclasses import dataclass, field
 
+from language import AtLine, Block, ObjectType, Scenario, Script, Statement
+
 SIZES = [16, 32, 64, 96, 128, 192, 256, 512, 1024, 2048, 4096]
 PAGE_UNITS = 256
 MOST_RECEIVES = 64
@@ -17,76 +19,6 @@ TOTALS = (
     "steps given empty busy last still acquired exchanged pushed already taken none raised worked fetched returned "
     "plain tracing handlers"
 ).split()
-
-
-@dataclass
-class New:
-    """`new NAME TYPE VALUES`"""
-
-    name: str
-    type_name: str
-    values: list[int]
-
-
-@dataclass
-class Drop:
-    """`drop NAME`"""
-
-    name: str
-
-
-@dataclass
-class If:
-    """`if NAME { FIRST } else { OTHER }`; without `else` where OTHER is None"""
-
-    name: str
-    first: list
-    other: list | None
-
-
-@dataclass
-class Repeat:
-    """`repeat TIMES { BODY }`"""
-
-    times: int
-    body: list
-
-
-@dataclass
-class ObjectType:
-    name: str
-    fields: list[str]
-    pad: int
-
-    def object_size(self) -> int:
-        """In bytes: 8 for each field, and the pad."""
-        return 8 * len(self.fields) + self.pad
-
-
-@dataclass
-class Script:
-    name: str
-    is_handler: bool
-    body: list
-
-
-@dataclass
-class AtLine:
-    """`at 0 STEP LEVEL SCRIPT`; the script by its place"""
-
-    step: int
-    level: int
-    script: int
-
-
-@dataclass
-class Scenario:
-    pages: int
-    deferred: bool
-    types: list[ObjectType]
-    scripts: list[Script]
-    runs: list[int]
-    ats: list[AtLine]
 
 
 def class_of(size: int) -> int:
@@ -154,9 +86,8 @@ class Cache:
 class Simulator:
     def __init__(self, scenario: Scenario):
         self.scenario = scenario
-        self.types = {each.name: each for each in scenario.types}
         self.stock = Stock(scenario.pages)
-        self.caches = {number: Cache() for number in sorted({class_of(each.object_size()) for each in scenario.types})}
+        self.caches = {number: Cache() for number in sorted({class_of(each.size()) for each in scenario.types.values()})}
         self.lives: Counter[int] = Counter()
         self.words = dict.fromkeys(DOMAINS, 0)
         self.numbers = dict.fromkeys(DOMAINS, 0)
@@ -272,31 +203,36 @@ class Simulator:
 
     # ---- scripts
 
-    def block(self, level: int, body: list, names: dict) -> None:
-        for statement in body:
+    def block(self, level: int, block: Block, names: dict) -> None:
+        for statement in block.statements:
             self.statement(level, statement, names)
             if level == 0 and self.scenario.deferred:
                 self.work_until_down()
 
-    def statement(self, level: int, statement: object, names: dict) -> None:
-        match statement:
-            case New(name, type_name, values):
-                names[name] = self.make(level, type_name, values)
-            case Drop(name):
-                number, unit, life = names.pop(name)
-                self.note(level, "drop", unit, life)
-                self.note(level, "last")
-                self.totals["last"] += 1
-                self.release(level, number, unit)
-            case If(name, first, other):
-                self.block(level, other or [] if names.get(name) is None else first, names)
-            case Repeat(times, body):
-                for _ in range(times):
-                    self.block(level, body, names)
+    def statement(self, level: int, statement: Statement, names: dict) -> None:
+        match statement.word:
+            case "new":
+                names[statement.names[0]] = self.make(level, statement.type, statement.values)
+            case "drop":
+                self.give_up(level, *names.pop(statement.names[0]))
+            case "if":
+                # (the second block, if there is one, is run at null)
+                chosen = 1 if names.get(statement.names[0]) is None else 0
+                for block in statement.blocks[chosen : chosen + 1]:
+                    self.block(level, block, names)
+            case "repeat":
+                for _ in range(statement.times):
+                    self.block(level, statement.blocks[0], names)
 
-    def make(self, level: int, type_name: str, values: list[int]) -> tuple[int, int, int] | None:
-        number = class_of(self.types[type_name].object_size())
-        self.note(level, "new", type_name, *values)
+    def give_up(self, level: int, number: int, unit: int, life: int) -> None:
+        self.note(level, "drop", unit, life)
+        self.note(level, "last")
+        self.totals["last"] += 1
+        self.release(level, number, unit)
+
+    def make(self, level: int, made: ObjectType, values: list[int]) -> tuple[int, int, int] | None:
+        number = class_of(made.size())
+        self.note(level, "new", made.name, *values)
         depth, unit = self.allocate(level, number)
         if unit is not None:
             self.lives[unit] += 1
@@ -316,7 +252,7 @@ class Simulator:
         self.note(level, line, "plain", self.words["plain"])
 
     def handler(self, at: AtLine) -> None:
-        script = self.scenario.scripts[at.script]
+        script = at.script
         self.totals["handlers"] += 1
         self.note(at.level, "handler", script.name)
         is_outside = self.words["plain"] % 2 == 0
@@ -496,8 +432,8 @@ class Simulator:
         """Runs the scenario, once, and gives its journal's text."""
         for number in self.caches:
             self.fill(number)
-        for place in self.scenario.runs:
-            self.script(self.scenario.scripts[place])
+        for run in self.scenario.runs:
+            self.script(run.script)
         self.note(0, "ended")
         self.has_ended = True
         self.note(0, "close")
@@ -512,9 +448,9 @@ class Simulator:
         scenario = self.scenario
         return [
             f"processors 1 pages {scenario.pages}",
-            " ".join(["types", *(each.name for each in scenario.types)]),
+            " ".join(["types", *scenario.types]),
             "maps",
-            " ".join(["scripts", *(each.name for each in scenario.scripts)]),
+            " ".join(["scripts", *scenario.scripts]),
             *("class {} marks {} {} {}".format(SIZES[number], *marks(SIZES[number])) for number in self.caches),
             "processor 0",
         ]
