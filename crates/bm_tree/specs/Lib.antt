@@ -1,0 +1,10 @@
+pub mod Links
+pub mod Shape
+pub mod Paths
+pub mod Turning
+pub mod Colours
+pub mod Balancing
+pub mod Steps
+pub mod Row
+pub mod Rows
+pub mod Spending
