@@ -1,5 +1,5 @@
 -- Blocks as lists of statements, and the ends of an `if` and of a `repeat`.
-use Rattle.std.proofs.Common.{◌≡◌, ℕ, List, [], ◌∷◌, ◌++◌, length, refl, sym, ap, ap₂, ◌∙◌, Option, Some, None, Vec, Global, Err, ◌<◌, ◌≤◌, ◌+◌, suc, get_or, drop, arith, length-append, drop-cons, add-one}
+use Rattle.std.proofs.Common.{◌≡◌, ℕ, List, [], ◌∷◌, ◌++◌, length, refl, sym, ap, ap₂, ◌∙◌, Option, Some, None, Vec, Global, Result, Ok, Err, OnOk, ◌<◌, ◌≤◌, ◌+◌, suc, get_or, drop, arith, length-append, drop-cons, add-one}
 use mathlib.Core.Path.{fun_ext}
 use mathlib.Core.Former.{Count}
 use Rattle.bm_lang.specs.declared.scenario.Action.{Action, If', Repeat, Section, If, None', Some', back-Action-If-2}
@@ -14,12 +14,15 @@ use Rattle.bm_check.specs.declared.stop.Stop.{Stop}
 use Rattle.bm_check.specs.declared.stop.Stop.TheVariants as stop
 use Rattle.bm_check.specs.NameStates.{non_null}
 use Rattle.bm_check.specs.Answers.{IsJudged}
-use Rattle.bm_check.proofs.TableLemmas.{grown, named, length-words}
 use Rattle.std.proofs.lemmas.List.{drop_all}
-use Rattle.bm_check.proofs.Growth.{Grows, grows_on, put_grows, block_grows, else_grows}
-use Rattle.bm_check.specs.declared.table.NameTable.{NameTable}
+use Rattle.bm_check.proofs.Growth.{Grows, grows_on, put_grows, back_grows, block_grows, else_grows}
+use Rattle.bm_check.proofs.ChangeLemmas.{leads_as, leads_later}
+use Rattle.bm_check.specs.declared.name_log.Change.{Change}
+use Rattle.bm_check.specs.declared.name_log.NameLog.{NameLog}
+use Rattle.bm_check.specs.declared.meeting.Meeting.TheVariants.{Branches, Body}
 use Rattle.bm_check.specs.Names.{Names, put, back_to}
-use Rattle.bm_check.specs.Tables.{names_of, names_with, looked_up, words_of}
+use Rattle.bm_check.specs.Meetings.{after_meeting}
+use Rattle.bm_check.specs.Changes.{names_in, at_states, Leads, Starts}
 use Rattle.bm_check.specs.Statements.{Setting, row_of, doubtful}
 use Rattle.bm_check.specs.Blocks.{Place, at, Outcome, Reaches, and_then, unless_broken, after_if, after_repeat, after_statement, from_inside, given_back, judged_action, judged_else, judged_block, judged_row, last_line, end_line}
 
@@ -64,15 +67,6 @@ err_statement stop n m e p ss i s lt is h =
     let cut : drop i ss ≡ s ∷ drop (suc i) ss = drop-cons ss i s lt ∙ ap (λ (t : Statement). t ∷ drop (suc i) ss) (sym is) in
     rw cut (err_then stop n m (judged_action e p s.line s.action) (λ q. judged_list e q (drop (suc i) ss)) h)
 
--- states that were saved, behind a later text
-pub saved_states : (t u : NameTable) (S : List NameState) → S ≡ t.states.items → (more : List (List ℕ)) → (names_of u).met ≡ (names_of t).met ++ more → names_with u S ≡ back_to (names_of t) (names_of u)
-saved_states t u S same more met =
-    let fits : length t.states.items ≤ length (words_of t.names.keys) = omega (arith, length-words t.names.keys, t.each_state, t.states.ok.0) in
-    ap (named (words_of u.names.keys)) (ap (looked_up (words_of u.names.keys)) same ∙ (ap (λ ws. looked_up ws t.states.items) met ∙ fun_ext (grown (words_of t.names.keys) more t.states.items fits)))
-
-pub no_longer : (t u : NameTable) (S : List NameState) → S ≡ t.states.items → (more : List (List ℕ)) → (names_of u).met ≡ (names_of t).met ++ more → length S ≤ length u.names.keys
-no_longer t u S same more met = omega (arith, ap length same, t.each_state, t.states.ok.0, length-words t.names.keys, length-words u.names.keys, ap length met, length-append (words_of t.names.keys) more)
-
 -- an `if`, up to its other block
 module _ (e : Setting) (n : Names) (lock : HeldLock) (line : ℕ) (x : List ℕ) (body : Block) (o : Option Block) (first : Place) (may : doubtful (n.state x) ≡ None) (reaches : judged_block e (at (put n x (non_null (n.state x))) lock) body ≡ Reaches first) where
   pub first_grows : Grows n first.names
@@ -90,23 +84,48 @@ plain_is e p line (Section b) not_if not_repeat not_section = absurd (not_sectio
 plain_is e p line a not_if not_repeat not_section = refl
 
 -- a `repeat`
-pub repeat_is : (e : Setting) (t u : NameTable) (lock l : HeldLock) (line count : ℕ) (body : Block) (S : List NameState) (a : Action) → a ≡ Repeat count body → S ≡ t.states.items → judged_block e (at (names_of t) lock) body ≡ Reaches (at (names_of u) l) → judged_action e (at (names_of t) lock) line a ≡ after_repeat (out-Block body).end_line lock (names_with u S) (at (names_of u) lock)
-repeat_is e t u lock l line count body S a is same reaches =
-    let g = block_grows e (at (names_of t) lock) body (at (names_of u) l) reaches in
-    ap (judged_action e (at (names_of t) lock) line) is
-    ∙ (rw reaches (ap₂ (λ end n. after_repeat end lock n (at (names_of u) lock)) (last_is body) (sym (saved_states t u S same g.more g.met))))
+pub repeat_is : (e : Setting) (n u : Names) (lock l : HeldLock) (line count : ℕ) (body : Block) (a : Action) → a ≡ Repeat count body → judged_block e (at n lock) body ≡ Reaches (at u l) → judged_action e (at n lock) line a ≡ after_meeting Body (out-Block body).end_line lock (at_states u n.state) (at u lock)
+repeat_is e n u lock l line count body a is reaches =
+    ap (judged_action e (at n lock) line) is
+    ∙ (rw reaches (ap (λ end. after_repeat end lock n (at u lock)) (last_is body)))
 
--- the end of an `if`, where the states at the first block's end were saved
-pub if_ends : (e : Setting) (t u : NameTable) (n : Names) (x : List ℕ) (lock l k : HeldLock) (line : ℕ) (o : Option Block) (F : List NameState) → F ≡ t.states.items → judged_else e (at (put (back_to n (names_of t)) x Spent) lock) (back-Action-If-2 o) ≡ Reaches (at (names_of u) l) → and_then (judged_else e (at (put (back_to n (names_of t)) x Spent) lock) (back-Action-If-2 o)) (after_if line lock (names_of t)) ≡ after_if line lock (names_with u F) (at (names_of u) k)
-if_ends e t u n x lock l k line o F same reaches =
-    let g = grows_on (back_to n (names_of t)) (put (back_to n (names_of t)) x Spent) (names_of u) (put_grows (back_to n (names_of t)) x Spent) (else_grows e (at (put (back_to n (names_of t)) x Spent) lock) (back-Action-If-2 o) (at (names_of u) l) reaches) in
-    rw reaches (ap (λ f. after_if line lock f (at (names_of u) k)) (sym (saved_states t u F same g.more g.met)))
+-- the end of an `if`
+if_ends : (e : Setting) (n t u : Names) (x : List ℕ) (lock l k : HeldLock) (line : ℕ) (o : Option Block) → judged_else e (at (put (back_to n t) x Spent) lock) (back-Action-If-2 o) ≡ Reaches (at u l) → and_then (judged_else e (at (put (back_to n t) x Spent) lock) (back-Action-If-2 o)) (after_if line lock t) ≡ after_if line lock (at_states u t.state) (at u k)
+if_ends e n t u x lock l k line o reaches = rw reaches refl
 
-pub if_whole : (e : Setting) (t u : NameTable) (n : Names) (lock k l : HeldLock) (line end : ℕ) (x : List ℕ) (body : Block) (o : Option Block) (F : List NameState) (a : Action) → a ≡ If x body o → doubtful (n.state x) ≡ None → judged_block e (at (put n x (non_null (n.state x))) lock) body ≡ Reaches (at (names_of t) k) → F ≡ t.states.items → judged_else e (at (put (back_to n (names_of t)) x Spent) lock) (back-Action-If-2 o) ≡ Reaches (at (names_of u) l) → last_line body (back-Action-If-2 o) ≡ end → judged_action e (at n lock) line a ≡ after_if end lock (names_with u F) (at (names_of u) lock)
-if_whole e t u n lock k l line end x body o F a is may reaches same other last =
-    if_is e n lock line x body o (at (names_of t) k) may reaches a is
-    ∙ (if_ends e t u n x lock l lock (last_line body (back-Action-If-2 o)) o F same other
-    ∙ ap (λ i. after_if i lock (names_with u F) (at (names_of u) lock)) last)
+pub if_whole : (e : Setting) (n t u : Names) (lock k l : HeldLock) (line end : ℕ) (x : List ℕ) (body : Block) (o : Option Block) (a : Action) → a ≡ If x body o → doubtful (n.state x) ≡ None → judged_block e (at (put n x (non_null (n.state x))) lock) body ≡ Reaches (at t k) → judged_else e (at (put (back_to n t) x Spent) lock) (back-Action-If-2 o) ≡ Reaches (at u l) → last_line body (back-Action-If-2 o) ≡ end → judged_action e (at n lock) line a ≡ after_meeting Branches end lock (at_states u t.state) (at u lock)
+if_whole e n t u lock k l line end x body o a is may reaches other last =
+    if_is e n lock line x body o (at t k) may reaches a is
+    ∙ (if_ends e n t u x lock l lock (last_line body (back-Action-If-2 o)) o other
+    ∙ ap (λ i. after_if i lock (at_states u t.state) (at u lock)) last)
+
+-- the names at the end of an `if` are those from before it and more
+pub other_grows : (e : Setting) (n u : Names) (x : List ℕ) (lock l : HeldLock) (o : Option Block) → judged_else e (at (put n x Spent) lock) (back-Action-If-2 o) ≡ Reaches (at u l) → Grows n u
+other_grows e n u x lock l o reaches = grows_on n (put n x Spent) u (put_grows n x Spent) (else_grows e (at (put n x Spent) lock) (back-Action-If-2 o) (at u l) reaches)
+
+-- the log that leads to the first block's end, and the one before the `if`, once the other block has been judged
+pub forth_there : (e : Setting) (n first last : Names) (x : List ℕ) (lock l : HeldLock) (o : Option Block) (cs : List Change) → judged_else e (at (put (back_to n first) x Spent) lock) (back-Action-If-2 o) ≡ Reaches (at last l) → Leads cs (at_states first n.state) first.state → Leads cs (at_states last n.state) first.state
+forth_there e n first last x lock l o cs reaches h =
+    let g = other_grows e (back_to n first) last x lock l o reaches in
+    leads_later cs first.met last.met g.more n.state first.state g.met h
+
+pub outer_there : (e : Setting) (n first last : Names) (x : List ℕ) (lock l : HeldLock) (o : Option Block) (cs ds : List Change) (f : List ℕ → NameState) → Grows n first → judged_else e (at (put (back_to n first) x Spent) lock) (back-Action-If-2 o) ≡ Reaches (at last l) → ds ≡ cs → Leads cs n f → Leads ds (at_states last n.state) f
+outer_there e n first last x lock l o cs ds f grows reaches same h =
+    let g = grows_on n (back_to n first) last (back_grows n first grows) (other_grows e (back_to n first) last x lock l o reaches) in
+    leads_as cs ds (at_states last n.state) (at_states last n.state) f (sym same) refl (leads_later cs n.met last.met g.more n.state f g.met h)
+
+-- the other block of an `if` has been judged, or is absent
+pub record OtherEnds (e : Setting) (n first : Names) (log : NameLog) (x : List ℕ) (lock : HeldLock) (body : Block) (a : Action) (end : ℕ) : Type 0 where
+  pub otherwise : Option Block
+  pub is : a ≡ If x body otherwise
+  pub held : HeldLock
+  pub reaches : judged_else e (at (put (back_to n first) x Spent) lock) (back-Action-If-2 otherwise) ≡ Reaches (at (names_in log) held)
+  pub last : last_line body (back-Action-If-2 otherwise) ≡ end
+  pub start : Starts log n.state
+
+pub kept_on : (r : Result HeldLock Stop) (P Q : Type 0) → (P → Q) → OnOk r P → OnOk r Q
+kept_on (Ok l) P Q h p = h p
+kept_on (Err s) P Q h p = tt
 
 -- a block whose statements were all judged
 pub block_whole : (e : Setting) (n m : Names) (lock held : HeldLock) (b : Block) (ss : List Statement) (i : ℕ) → ss ≡ (out-Block b).statements.items → length ss ≤ i → judged_list e (at n (from_inside lock)) ss ≡ judged_list e (at m held) (drop i ss) → judged_block e (at n lock) b ≡ block_ends lock (out-Block b).end_line (at m held)

@@ -44,7 +44,7 @@ put_met met x = elim (is_or_not (list_any (bytes_eq x) met)) [
   | inr isnt ↦ (x ∷ [], rw isnt refl)
 ]
 
-put_has : (met : List (List ℕ)) (x : List ℕ) → list_any (bytes_eq x) (with_name met x) ≡ true
+pub put_has : (met : List (List ℕ)) (x : List ℕ) → list_any (bytes_eq x) (with_name met x) ≡ true
 put_has met x = elim (is_or_not (list_any (bytes_eq x) met)) [
   | inl isit ↦ rw isit isit
   | inr isnt ↦ rw isnt (rw (list_any-append (bytes_eq x) met (x ∷ []), isnt, word_is_itself x) refl)

@@ -10,10 +10,12 @@ use Rattle.bm_lang.specs.declared.scenario.Parts.{Parts}
 use Rattle.bm_lang.specs.declared.scenario.Script.{Script}
 use Rattle.bm_check.specs.declared.checker.CheckFault.{CheckFault}
 use Rattle.bm_check.specs.declared.checker.CheckFault.TheVariants as fault
-use Rattle.bm_check.specs.declared.table.NameTable.{NameTable}
+use Rattle.bm_check.specs.declared.name_log.Change.{Change}
+use Rattle.bm_check.specs.declared.name_log.NameLog.{NameLog}
+use Rattle.bm_check.specs.declared.name_state.NameState.TheVariants.{Spent}
 use Rattle.bm_check.specs.NameStates.{non_null}
 use Rattle.bm_check.specs.Names.{Names, put}
-use Rattle.bm_check.specs.Tables.{names_of}
+use Rattle.bm_check.specs.Changes.{names_in, at_states, Leads, Starts}
 use Rattle.bm_check.specs.Statements.{Binding, bound_free, with_binding, doubtful}
 use Rattle.bm_check.specs.Blocks.{Outcome, Broken, Reaches, at}
 use Rattle.bm_check.specs.Scripts.{first_broken_rule, Accepted, AllAccepted, IsRejected}
@@ -29,11 +31,18 @@ abbrev pub IsBinding : Option (Bor (List ℕ) × NameState) → Option Binding �
 IsBinding None b = b ≡ None
 IsBinding (Some (name, state)) b = b ≡ Some (record { name = name.now; state = state })
 
--- the start of an `if`: the rule that it breaks, or the states before it, and that the name isn't null from then on
-abbrev pub IsEntered : Result (Vec NameState Global) Stop → ℕ → NameTable → NameTable → List ℕ → Type 0
-IsEntered (Ok start) line old new x = (doubtful ((names_of old).state x) ≡ None) × (start.items ≡ old.states.items) × (names_of new ≡ put (names_of old) x (non_null ((names_of old).state x)))
-IsEntered (Err (stop.Broken l rule)) line old new x = (doubtful ((names_of old).state x) ≡ Some rule) × (l ≡ line)
+-- the start of an `if`: the rule that it breaks, or the log before it. The name isn't null from then on, and the log that is
+-- begun leads back to the states before
+abbrev pub IsEntered : Result (Vec Change Global) Stop → ℕ → NameLog → NameLog → List ℕ → Type 0
+IsEntered (Ok outer) line old new x = (doubtful ((names_in old).state x) ≡ None) × (outer.items ≡ old.changes.items) × (names_in new ≡ put (names_in old) x (non_null ((names_in old).state x))) × Starts new (names_in old).state
+IsEntered (Err (stop.Broken l rule)) line old new x = (doubtful ((names_in old).state x) ≡ Some rule) × (l ≡ line)
 IsEntered (Err stop.NoMemory) line old new x = Unit {0}
+
+-- between the blocks of an `if` that began at the states f: a log that leads from there to the first block's end
+pub record IsOther (first : Vec Change Global) (old new : NameLog) (x : List ℕ) (f : List ℕ → NameState) : Type 0 where
+  pub names : names_in new ≡ put (at_states (names_in old) f) x Spent
+  pub start : Starts new f
+  pub leads : Leads first.items (at_states (names_in old) f) (names_in old).state
 
 -- what a name's binding does to names, or that it isn't free
 abbrev pub IsBound : Result (Unit {0}) Stop → Names → Names → ℕ → Option Binding → Type 0

@@ -4,6 +4,8 @@ pub mod Names
 pub mod Tables
 pub mod Statements
 pub mod Blocks
+pub mod Meetings
+pub mod Changes
 pub mod Scripts
 pub mod Answers
 pub mod Values

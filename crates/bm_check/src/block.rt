@@ -1,24 +1,32 @@
 //! Blocks, and the statements that hold them.
 
-ghost use Rattle.std.specs.Prelude.{◌≡◌, ◌≤◌, OnOk, IfOk, IfErr, length, vec_len, Some, None, if◌then◌else◌};
-ghost use Rattle.bm_check.specs.Tables.{names_of, names_with};
-ghost use Rattle.bm_check.specs.Answers.{IsEntered, IsJudged};
-ghost use Rattle.bm_check.specs.Names.{put};
-ghost use Rattle.bm_check.specs.declared.name_state.NameState.TheVariants.{Spent};
+ghost use Rattle.std.specs.Prelude.{◌≡◌, OnOk, IfOk, IfErr, Some, None, if◌then◌else◌};
+ghost use Rattle.bm_check.specs.Changes.{names_in, at_states, Leads, Starts, KeepsStart};
+ghost use Rattle.bm_check.specs.Meetings.{after_meeting};
+ghost use Rattle.bm_check.specs.Answers.{IsEntered, IsOther, IsJudged};
 ghost use Rattle.bm_check.specs.declared.rule.Rule.TheVariants.{LockInItsBlock};
 ghost use Rattle.bm_check.specs.declared.stop.Stop.TheVariants.{NoMemory};
 ghost use Rattle.bm_check.specs.Statements.{setting_of};
 ghost use Rattle.bm_check.specs.Blocks as spec;
 
+use crate::meeting::Meeting;
+use crate::name_log::{Change, NameLog};
 use crate::name_state::{HeldLock, NameState};
 use crate::rule::Rule;
 use crate::setting::Setting;
 use crate::statement::{doubtful, simple};
 use crate::stop::Stop;
-use crate::table::NameTable;
 use bm_lang::{Action, Block};
 use bm_word::Name;
 use std::alloc::Global;
+
+/// Where a statement with blocks ends: what meets there, the last line, and the lock around it.
+#[derive(Clone, Copy)]
+struct Leaving {
+    meeting: Meeting,
+    line: u32,
+    lock: HeldLock,
+}
 
 fn from_inside(lock: HeldLock) -> HeldLock
     ensures { result ≡ spec.from_inside lock }
@@ -38,77 +46,61 @@ fn is_here(lock: HeldLock) -> bool
     }
 }
 
-// The start of an `if`: the states before it are saved, and the name isn't null in the first block.
+// The start of an `if`: its own log is begun, and the name isn't null in the first block. Gives the log before it.
 fn enter_first<'a>(
     alloc: Global,
-    table: &mut NameTable<'a>,
+    log: &mut NameLog<'a>,
     line: u32,
     name: &'a Name,
-) -> Result<Vec<NameState>, Stop>
-    ensures { IsEntered result line table.old table.new name.now }
+) -> Result<Vec<Change<'a>>, Stop>
+    ensures { IsEntered result line log.old log.new name.now }
 {
-    let state = table.state(name.as_bytes());
+    let state = log.table.state(name.as_bytes());
     if let Some(rule) = doubtful(state) {
         return Err(Stop::Broken { line, rule });
     }
-    let start = table.saved(alloc)?;
-    table.put(name.as_bytes(), state.non_null())?;
-    Ok(start)
+    let outer = log.begin(alloc);
+    log.put(name.as_bytes(), state.non_null())?;
+    Ok(outer)
 }
 
-// Between the blocks of an `if`: back to the states before it, but that the name is spent. Gives those at the first
-// block's end.
+// Between the blocks of an `if`: back to the states before it, but that the name is spent. Gives the log that leads to
+// those at the first block's end.
 fn enter_other<'a>(
-    table: &mut NameTable<'a>,
-    start: Vec<NameState>,
+    alloc: Global,
+    log: &mut NameLog<'a>,
     name: &'a Name,
-) -> Result<Vec<NameState>, Stop>
-    requires { vec_len start ≤ length table.old.names.keys }
-    ensures ok { OnOk result (names_of table.new ≡ put (names_with table.old start.items) name.now Spent) }
-    ensures first { IfOk result (λ first. first.items ≡ table.old.states.items) }
+) -> Result<Vec<Change<'a>>, Stop>
+    ensures ok { IfOk result (λ first. (f : _) → Starts log.old f → IsOther first log.old log.new name.now f) }
     ensures err { IfErr result (λ stop. stop ≡ NoMemory) }
 {
-    let first = table.go_back(start)?;
-    table.put(name.as_bytes(), NameState::Spent)?;
+    let first = log.go_back(alloc)?;
+    log.put(name.as_bytes(), NameState::Spent)?;
     Ok(first)
 }
 
-// The end of an `if`.
-fn leave_if(
-    table: &mut NameTable,
-    lock: HeldLock,
-    line: u32,
-    first: &[NameState],
+// The end of an `if` or a `repeat`: what meets there is compared and joined, and the log before it goes on.
+fn leave<'a>(
+    alloc: Global,
+    log: &mut NameLog<'a>,
+    end: Leaving,
+    first: Vec<Change<'a>>,
+    outer: Vec<Change<'a>>,
 ) -> Result<HeldLock, Stop>
-    ensures { IsJudged result (names_of table.new) (spec.after_if line lock (names_with table.old first.now) (spec.at (names_of table.old) lock)) }
+    ensures judged { (f g : _) → Starts log.old f → Leads first.entry.items (at_states (names_in log.old) f) g → IsJudged result (names_in log.new) (after_meeting end.meeting end.line end.lock (at_states (names_in log.old) g) (spec.at (names_in log.old) end.lock)) }
+    ensures kept { OnOk result ((f g h : _) → Starts log.old f → Leads first.entry.items (at_states (names_in log.old) f) g → Leads outer.entry.items (at_states (names_in log.old) f) h → Starts log.new h) }
 {
-    if table.branches_clash(first) {
-        return Err(Stop::Broken {
-            line,
-            rule: Rule::BranchesAgree,
-        });
+    match log.meet(alloc, first, end.meeting)? {
+        Some(outcomes) => {
+            log.changes = outer;
+            log.apply(outcomes)?;
+            Ok(end.lock)
+        }
+        None => Err(Stop::Broken {
+            line: end.line,
+            rule: end.meeting.rule(),
+        }),
     }
-    table.join(first);
-    Ok(lock)
-}
-
-// The end of a `repeat`.
-fn leave_repeat(
-    table: &mut NameTable,
-    lock: HeldLock,
-    line: u32,
-    start: &[NameState],
-) -> Result<HeldLock, Stop>
-    ensures { IsJudged result (names_of table.new) (spec.after_repeat line lock (names_with table.old start.now) (spec.at (names_of table.old) lock)) }
-{
-    if table.body_changes(start) {
-        return Err(Stop::Broken {
-            line,
-            rule: Rule::RepeatAgrees,
-        });
-    }
-    table.repeat(start);
-    Ok(lock)
 }
 
 /// The statements of a block, begun under a lock, and its end.
@@ -116,22 +108,16 @@ fn leave_repeat(
 pub fn judge_block<'a>(
     alloc: Global,
     setting: &Setting,
-    table: &mut NameTable<'a>,
+    log: &mut NameLog<'a>,
     lock: HeldLock,
     block: &'a Block,
 ) -> Result<HeldLock, Stop>
-    ensures { IsJudged result (names_of table.new) (spec.judged_block (setting_of setting.now.scenario.now setting.now.kind) (spec.at (names_of table.old) lock) block.now) }
+    ensures judged { IsJudged result (names_in log.new) (spec.judged_block (setting_of setting.now.scenario.now setting.now.kind) (spec.at (names_in log.old) lock) block.now) }
+    ensures kept { OnOk result (KeepsStart log.old log.new) }
 {
     let mut held = from_inside(lock);
     for statement in &block.statements {
-        held = judge_action(
-            alloc,
-            setting,
-            table,
-            held,
-            statement.line,
-            &statement.action,
-        )?;
+        held = judge_action(alloc, setting, log, held, statement.line, &statement.action)?;
     }
     if is_here(held) {
         return Err(Stop::Broken {
@@ -146,12 +132,13 @@ pub fn judge_block<'a>(
 fn judge_action<'a>(
     alloc: Global,
     setting: &Setting,
-    table: &mut NameTable<'a>,
+    log: &mut NameLog<'a>,
     lock: HeldLock,
     line: u32,
     action: &'a Action,
 ) -> Result<HeldLock, Stop>
-    ensures { IsJudged result (names_of table.new) (spec.judged_action (setting_of setting.now.scenario.now setting.now.kind) (spec.at (names_of table.old) lock) line action.now) }
+    ensures judged { IsJudged result (names_in log.new) (spec.judged_action (setting_of setting.now.scenario.now setting.now.kind) (spec.at (names_in log.old) lock) line action.now) }
+    ensures kept { OnOk result (KeepsStart log.old log.new) }
 {
     match action {
         Action::If {
@@ -159,24 +146,34 @@ fn judge_action<'a>(
             body,
             otherwise,
         } => {
-            let start = enter_first(alloc, table, line, name)?;
-            judge_block(alloc, setting, table, lock, body)?;
-            let first = enter_other(table, start, name)?;
+            let outer = enter_first(alloc, log, line, name)?;
+            judge_block(alloc, setting, log, lock, body)?;
+            let first = enter_other(alloc, log, name)?;
             let end_line = match otherwise {
                 Some(block) => {
-                    judge_block(alloc, setting, table, lock, block)?;
+                    judge_block(alloc, setting, log, lock, block)?;
                     block.end_line
                 }
                 None => body.end_line,
             };
-            leave_if(table, lock, end_line, first.as_slice())
+            let end = Leaving {
+                meeting: Meeting::Branches,
+                line: end_line,
+                lock,
+            };
+            leave(alloc, log, end, first, outer)
         }
         Action::Repeat { body, .. } => {
-            let start = table.saved(alloc)?;
-            judge_block(alloc, setting, table, lock, body)?;
-            leave_repeat(table, lock, body.end_line, start.as_slice())
+            let outer = log.begin(alloc);
+            judge_block(alloc, setting, log, lock, body)?;
+            let end = Leaving {
+                meeting: Meeting::Body,
+                line: body.end_line,
+                lock,
+            };
+            leave(alloc, log, end, Vec::new(alloc), outer)
         }
-        Action::Section { body } => judge_block(alloc, setting, table, lock, body),
-        _ => simple(setting, table, lock, line, action),
+        Action::Section { body } => judge_block(alloc, setting, log, lock, body),
+        _ => simple(setting, log, lock, line, action),
     }
 }

@@ -8,11 +8,11 @@ ghost use Rattle.bm_check.specs.declared.checker.CheckFault.TheVariants.{NoMemor
 
 use crate::accepted::Checked;
 use crate::block::judge_block;
+use crate::name_log::NameLog;
 use crate::name_state::HeldLock;
 use crate::rule::Rule;
 use crate::setting::Setting;
 use crate::stop::Stop;
-use crate::table::NameTable;
 use bm_lang::{Parts, Scenario, Script, ScriptId};
 use std::alloc::Global;
 use thiserror::Error;
@@ -41,9 +41,9 @@ fn judge_script(alloc: Global, scenario: &Parts, script: &Script) -> Result<(), 
         scenario,
         kind: script.kind,
     };
-    let mut table = NameTable::new(alloc);
-    judge_block(alloc, &setting, &mut table, HeldLock::Nothing, &script.body)?;
-    if table.owns_some() {
+    let mut log = NameLog::new(alloc);
+    judge_block(alloc, &setting, &mut log, HeldLock::Nothing, &script.body)?;
+    if log.table.owns_some() {
         return Err(Stop::Broken {
             line: script.body.end_line,
             rule: Rule::NothingOwned,

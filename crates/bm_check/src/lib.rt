@@ -5,14 +5,14 @@ mod accepted;
 mod block;
 mod checker;
 mod law;
+mod meeting;
+mod name_log;
 mod name_state;
 mod rule;
 mod setting;
 mod statement;
 mod stop;
 mod table;
-#[cfg(test)]
-mod tests;
 
 pub use accepted::Checked;
 pub use checker::{CheckFault, check};

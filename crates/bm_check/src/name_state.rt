@@ -97,13 +97,13 @@ impl NameState {
         }
     }
 
-    /// The state once all non-owning references have ended.
-    pub fn soft_spent(self) -> NameState
-        ensures { result ≡ spec.soft_spent self }
+    /// Whether the name is a non-owning reference.
+    pub fn is_soft(self) -> bool
+        ensures { result ≡ spec.is_soft self }
     {
         match self {
-            NameState::Soft(_, _) | NameState::MaybeSoft(_, _) => NameState::Spent,
-            other => other,
+            NameState::Soft(_, _) | NameState::MaybeSoft(_, _) => true,
+            _ => false,
         }
     }
 

@@ -4,6 +4,7 @@ ghost use Rattle.std.specs.Prelude.{◌≡◌, ◌&&◌, OnOk, IfErr, Option, So
 ghost use Rattle.std.specs.Option.{option_or, option_map};
 ghost use Rattle.bm_check.specs.NameStates.{owns, type_in};
 ghost use Rattle.bm_check.specs.Tables.{names_of};
+ghost use Rattle.bm_check.specs.Changes.{names_in, KeepsStart};
 ghost use Rattle.bm_check.specs.Answers.{IsBinding, IsBound, IsJudged};
 ghost use Rattle.bm_check.specs.Blocks.{after_statement};
 ghost use Rattle.bm_check.specs.declared.name_state.NameState.TheVariants.{Maybe, MaybeSoft, Owned};
@@ -11,6 +12,7 @@ ghost use Rattle.bm_check.specs.Statements as spec;
 ghost use Rattle.bm_lang.specs.declared.scenario.Action.{Exchange};
 ghost use Rattle.bm_check.specs.declared.stop.Stop.TheVariants.{NoMemory};
 
+use crate::name_log::NameLog;
 use crate::name_state::{HeldLock, NameState};
 use crate::rule::Rule;
 use crate::setting::{
@@ -215,40 +217,35 @@ fn pushed(setting: &Setting, graph: MapId, state: NameState) -> NameState
 
 fn push<'a>(
     setting: &Setting,
-    table: &mut NameTable<'a>,
+    log: &mut NameLog<'a>,
     graph: MapId,
     name: &'a Name,
 ) -> Result<(), Stop>
-    ensures ok { OnOk result ((l : _) → names_of table.new ≡ (spec.pushes (spec.setting_of setting.now.scenario.now setting.now.kind) l (names_of table.old) graph name.now).leaves) }
+    ensures ok { OnOk result ((l : _) → names_in log.new ≡ (spec.pushes (spec.setting_of setting.now.scenario.now setting.now.kind) l (names_in log.old) graph name.now).leaves) }
+    ensures kept { OnOk result (KeepsStart log.old log.new) }
     ensures err { IfErr result (λ stop. stop ≡ NoMemory) }
 {
-    let state = pushed(setting, graph, table.state(name.as_bytes()));
-    table.put(name.as_bytes(), state)
+    let state = pushed(setting, graph, log.table.state(name.as_bytes()));
+    log.put(name.as_bytes(), state)
 }
 
 /// Spends what a statement spends.
-pub fn leave<'a>(
-    setting: &Setting,
-    table: &mut NameTable<'a>,
-    action: &'a Action,
-) -> Result<(), Stop>
-    ensures ok { OnOk result ((l : _) → names_of table.new ≡ (spec.row_of (spec.setting_of setting.now.scenario.now setting.now.kind) l (names_of table.old) action.now).leaves) }
+pub fn leave<'a>(setting: &Setting, log: &mut NameLog<'a>, action: &'a Action) -> Result<(), Stop>
+    ensures ok { OnOk result ((l : _) → names_in log.new ≡ (spec.row_of (spec.setting_of setting.now.scenario.now setting.now.kind) l (names_in log.old) action.now).leaves) }
+    ensures kept { OnOk result (KeepsStart log.old log.new) }
     ensures err { IfErr result (λ stop. stop ≡ NoMemory) }
 {
     match action {
-        Action::Drop { name } => table.put(name.as_bytes(), NameState::Spent),
+        Action::Drop { name } => log.put(name.as_bytes(), NameState::Spent),
         Action::Exchange {
             given: Some(name),
             ..
-        } => table.put(name.as_bytes(), NameState::Spent),
-        Action::PushFront { list, name } => push(setting, table, *list, name),
-        Action::PushBack { list, name } => push(setting, table, *list, name),
-        Action::Add { tree, name } => push(setting, table, *tree, name),
+        } => log.put(name.as_bytes(), NameState::Spent),
+        Action::PushFront { list, name } => push(setting, log, *list, name),
+        Action::PushBack { list, name } => push(setting, log, *list, name),
+        Action::Add { tree, name } => push(setting, log, *tree, name),
         Action::PopFront { .. } | Action::PopBack { .. } | Action::Remove { .. } | Action::Unlock =>
-            {
-                table.end_soft();
-                Ok(())
-            }
+            { log.end_soft() }
         _ => Ok(()),
     }
 }
@@ -314,20 +311,21 @@ pub fn binding<'a>(
 
 // Binds a name that is free.
 fn bind<'a>(
-    table: &mut NameTable<'a>,
+    log: &mut NameLog<'a>,
     line: u32,
     bound: Option<(&'a [u8], NameState)>,
 ) -> Result<(), Stop>
-    ensures { (b : Option spec.Binding) → IsBinding bound.entry b → IsBound result (names_of table.old) (names_of table.new) line b }
+    ensures bound { (b : Option spec.Binding) → IsBinding bound.entry b → IsBound result (names_in log.old) (names_in log.new) line b }
+    ensures kept { OnOk result (KeepsStart log.old log.new) }
 {
     if let Some((name, state)) = bound {
-        if !table.state(name).is_free() {
+        if !log.table.state(name).is_free() {
             return Err(Stop::Broken {
                 line,
                 rule: Rule::BoundOnce,
             });
         }
-        table.put(name, state)?;
+        log.put(name, state)?;
     }
     Ok(())
 }
@@ -345,18 +343,19 @@ fn lock_after(lock: HeldLock, action: &Action) -> HeldLock
 /// A statement without blocks: its first broken rule, or the names and the lock after it.
 pub fn simple<'a>(
     setting: &Setting,
-    table: &mut NameTable<'a>,
+    log: &mut NameLog<'a>,
     lock: HeldLock,
     line: u32,
     action: &'a Action,
 ) -> Result<HeldLock, Stop>
-    ensures { IsJudged result (names_of table.new) (after_statement line lock action.now (spec.row_of (spec.setting_of setting.now.scenario.now setting.now.kind) lock (names_of table.old) action.now)) }
+    ensures judged { IsJudged result (names_in log.new) (after_statement line lock action.now (spec.row_of (spec.setting_of setting.now.scenario.now setting.now.kind) lock (names_in log.old) action.now)) }
+    ensures kept { OnOk result (KeepsStart log.old log.new) }
 {
-    if let Some(rule) = needs(setting, lock, table, action) {
+    if let Some(rule) = needs(setting, lock, &log.table, action) {
         return Err(Stop::Broken { line, rule });
     }
-    let bound = binding(setting, table, action);
-    leave(setting, table, action)?;
-    bind(table, line, bound)?;
+    let bound = binding(setting, &log.table, action);
+    leave(setting, log, action)?;
+    bind(log, line, bound)?;
     Ok(lock_after(lock, action))
 }
