@@ -9,7 +9,7 @@ ghost use Rattle.bm_cache.specs.Placed.{Placed};
 
 use crate::Caches;
 use bm_class::Class;
-use bm_journal::{Entry, Level, Recorder};
+use bm_journal::{Entry, Level, Recorder, Stack};
 use bm_law::Mark;
 
 impl<R: Recorder> Caches<R> {
@@ -22,7 +22,7 @@ impl<R: Recorder> Caches<R> {
     {
         let row = class.index() as usize;
         let _level = level.number();
-        let count = self.rows[row].count();
+        let count = self.rows.numbers(row).count;
         self.step = self.step.saturating_add(1);
         self.recorder.put(level, Entry::Read(class, count));
         count
@@ -38,10 +38,10 @@ impl<R: Recorder> Caches<R> {
     {
         let row = class.index() as usize;
         let side = level.number() as usize;
-        if self.rows[row].ready_len() == 0 {
+        if self.rows.len(row, Stack::Ready) == 0 {
             return false;
         }
-        match self.rows[row].take_ready() {
+        match self.rows.pop(row, Stack::Ready) {
             Some(unit) => {
                 let number = unit.number();
                 self.sides[side].take_in(unit, Mark::Quiet);
@@ -63,10 +63,10 @@ impl<R: Recorder> Caches<R> {
     {
         let row = class.index() as usize;
         let side = level.number() as usize;
-        if self.rows[row].second_len() == 0 {
+        if self.rows.len(row, Stack::Second) == 0 {
             return false;
         }
-        match self.rows[row].take_second() {
+        match self.rows.pop(row, Stack::Second) {
             Some(unit) => {
                 let number = unit.number();
                 self.sides[side].take_in(unit, Mark::Quiet);
@@ -88,9 +88,9 @@ impl<R: Recorder> Caches<R> {
     {
         let row = class.index() as usize;
         let side = level.number() as usize;
-        let moved = self.rows[row].extra_len() as usize;
-        let units = self.rows[row].extra_names(self.alloc);
-        self.rows[row].take_extra(&mut self.sides[side]);
+        let moved = self.rows.len(row, Stack::Extra) as usize;
+        let units = self.rows.names(self.alloc, row, Stack::Extra);
+        self.sides[side].take_all(&mut self.rows, row, Stack::Extra);
         self.step = self.step.saturating_add(1);
         self.recorder.put(level, Entry::TakeExtra(class, units));
         moved
@@ -105,9 +105,9 @@ impl<R: Recorder> Caches<R> {
     {
         let row = class.index() as usize;
         let _level = level.number();
-        let moved = self.rows[row].extra_delayed_len() as usize;
-        let units = self.rows[row].extra_delayed_names(self.alloc);
-        self.rows[row].take_extra_delayed();
+        let moved = self.rows.len(row, Stack::ExtraDelayed) as usize;
+        let units = self.rows.names(self.alloc, row, Stack::ExtraDelayed);
+        self.rows.pour(row, Stack::ExtraDelayed, Stack::Delayed);
         self.step = self.step.saturating_add(1);
         self.recorder.put(level, Entry::TakeDelayed(class, units));
         moved
@@ -124,9 +124,9 @@ impl<R: Recorder> Caches<R> {
     {
         let row = class.index() as usize;
         let _level = level.number();
-        let moved = self.rows[row].delayed_len() as usize;
-        let units = self.rows[row].delayed_names(self.alloc);
-        self.rows[row].batch();
+        let moved = self.rows.len(row, Stack::Delayed) as usize;
+        let units = self.rows.names(self.alloc, row, Stack::Delayed);
+        self.rows.batch(row);
         self.step = self.step.saturating_add(1);
         self.recorder.put(level, Entry::Batch(class, units));
         moved
@@ -143,9 +143,9 @@ impl<R: Recorder> Caches<R> {
     {
         let row = class.index() as usize;
         let _level = level.number();
-        let moved = self.rows[row].ready_len() as usize;
-        let units = self.rows[row].ready_names(self.alloc);
-        self.rows[row].begin_second();
+        let moved = self.rows.len(row, Stack::Ready) as usize;
+        let units = self.rows.names(self.alloc, row, Stack::Ready);
+        self.rows.begin_second(row);
         self.step = self.step.saturating_add(1);
         self.recorder.put(level, Entry::BeginSecond(class, units));
         moved

@@ -12,7 +12,7 @@ ghost use Rattle.bm_cache.specs.Tokens.{number_of};
 
 use crate::Caches;
 use bm_class::Class;
-use bm_journal::{Entry, Level, Recorder};
+use bm_journal::{Entry, Level, Recorder, Stack};
 use bm_law::Mark;
 use bm_page::Unit;
 
@@ -29,7 +29,7 @@ impl<R: Recorder> Caches<R> {
     {
         let row = class.index() as usize;
         let side = level.number() as usize;
-        match self.rows[row].pop() {
+        match self.rows.pop(row, Stack::Free) {
             Some(unit) => {
                 let number = unit.number();
                 self.sides[side].take_in(unit, Mark::Took(class));
@@ -55,8 +55,8 @@ impl<R: Recorder> Caches<R> {
     {
         let row = class.index() as usize;
         let side = level.number() as usize;
-        let count = self.rows[row].count() - 1;
-        self.rows[row].set_count(count);
+        let count = self.rows.numbers(row).count - 1;
+        self.rows.set_count(row, count);
         self.sides[side].set_mark(Mark::Quiet);
         self.step = self.step.saturating_add(1);
         self.recorder.put(level, Entry::Count(class, count));
@@ -78,7 +78,7 @@ impl<R: Recorder> Caches<R> {
         match self.sides[side].hand_over(Mark::Gave(class)) {
             Some(unit) => {
                 let number = unit.number();
-                self.rows[row].push(unit);
+                self.rows.push(row, Stack::Free, unit);
                 self.step = self.step.saturating_add(1);
                 self.recorder.put(level, Entry::Push(class, number));
             }
@@ -96,8 +96,8 @@ impl<R: Recorder> Caches<R> {
     {
         let row = class.index() as usize;
         let side = level.number() as usize;
-        let count = self.rows[row].count() + 1;
-        self.rows[row].set_count(count);
+        let count = self.rows.numbers(row).count + 1;
+        self.rows.set_count(row, count);
         self.sides[side].set_mark(Mark::Quiet);
         self.step = self.step.saturating_add(1);
         self.recorder.put(level, Entry::Count(class, count));
@@ -117,7 +117,7 @@ impl<R: Recorder> Caches<R> {
         match self.sides[side].hand_over(Mark::Quiet) {
             Some(unit) => {
                 let number = unit.number();
-                self.rows[row].push_delayed(unit);
+                self.rows.push(row, Stack::Delayed, unit);
                 self.step = self.step.saturating_add(1);
                 self.recorder.put(level, Entry::Delayed(class, number));
             }

@@ -1,16 +1,23 @@
 //! What one level has in hand.
 
-ghost use Rattle.std.specs.Prelude.{◌≡◌, ◌+◌, ◌≤◌, ◌<◌, ◌++◌, ◌∷◌, [], length, drop, IfOk, MatchOption, vec_capacity, vec_len};
+ghost use Rattle.std.specs.Prelude.{◌≡◌, ◌+◌, ◌≤◌, ◌<◌, ◌++◌, ◌∷◌, [], length, drop, set, IfOk, MatchOption, vec_capacity, vec_len};
 ghost use Rattle.bm_law.specs.State.{idle_side};
+ghost use Rattle.bm_law.specs.Places.{list_at};
+ghost use Rattle.bm_cache_lists.specs.Stacks.{with_list};
+ghost use Rattle.bm_cache_lists.specs.Housed.{row_at, on_row_at};
 ghost use Rattle.bm_law.specs.declared.mark.Mark.TheVariants as mark;
 
-use crate::stack::{ROOM, Stack};
+use bm_cache_lists::Rows;
+use bm_journal::Stack;
 use bm_law::Mark;
 use bm_page::Unit;
 use bm_word::NoMemory;
 use std::alloc::Global;
 use std::collections::VecDeque;
 use std::marker::Model;
+
+/// How many units a hand has room for: as many as there are unit numbers.
+const ROOM: usize = 65_536;
 
 /// The units of one level between two of its steps, in the order in which they came, and what its last step waits for.
 /// Contracts see a side of the state. Hands are this project's own.
@@ -88,13 +95,18 @@ impl Hand {
     }
 
     /// All units of a list come behind the others, from its top.
-    pub(crate) fn take_all(&mut self, from: &mut Stack)
-        requires { length self.old.hand + length from.old ≤ 65536 }
-        ensures side { self.new ≡ record { hand = self.old.hand ++ from.old; mark = mark.Quiet } }
-        ensures from { from.new ≡ [] }
+    pub(crate) fn take_all(&mut self, rows: &mut Rows, row: usize, stack: Stack)
+        requires row { row < 11 }
+        requires eleven { length rows.old ≡ 11 }
+        requires room { length self.old.hand + length (list_at stack (row_at rows.old row)) ≤ 65536 }
+        ensures side { self.new ≡ record {
+          hand = self.old.hand ++ list_at stack (row_at rows.old row);
+          mark = mark.Quiet;
+        } }
+        ensures rows { rows.new ≡ on_row_at row (with_list stack []) rows.old }
     {
         self.mark = Mark::Quiet;
-        while let Some(unit) = from.pop() {
+        while let Some(unit) = rows.pop(row, stack) {
             self.take_in(unit, Mark::Quiet);
         }
     }

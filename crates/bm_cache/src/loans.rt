@@ -12,7 +12,7 @@ ghost use Rattle.bm_cache.specs.Tokens.{Token};
 
 use crate::Caches;
 use bm_class::Class;
-use bm_journal::{Entry, Level, Recorder, UnitNumbers, Units};
+use bm_journal::{Domain, Entry, Level, Recorder, Stack, UnitNumbers, Units};
 use bm_law::Mark;
 use bm_page::Unit;
 use bm_word::NoMemory;
@@ -46,8 +46,8 @@ impl<R: Recorder> Caches<R> {
     {
         let row = class.index() as usize;
         let _level = level.number();
-        let mut units = Vec::with_capacity(self.alloc, self.rows[row].first_len() as usize)?;
-        self.rows[row].first_out(&mut units);
+        let mut units = Vec::with_capacity(self.alloc, self.rows.len(row, Stack::First) as usize)?;
+        self.rows.move_out(row, Stack::First, &mut units);
         self.first_lent = true;
         Ok(units)
     }
@@ -72,7 +72,7 @@ impl<R: Recorder> Caches<R> {
     {
         let row = class.index() as usize;
         let _level = level.number();
-        self.rows[row].first_in(units);
+        self.rows.put_on(row, Stack::First, units);
     }
 
     /// Ends the loan of `hand_out` or `first_out`, whose units have these numbers, in order: they went to a processor as
@@ -124,7 +124,7 @@ impl<R: Recorder> Caches<R> {
     {
         let row = class.index() as usize;
         let _level = level.number();
-        self.rows[row].end_first();
+        self.rows.set_stamp(row, Domain::Plain, None);
         self.step = self.step.saturating_add(1);
         self.recorder.put(
             level,

@@ -12,9 +12,9 @@ ghost use Rattle.bm_cache.specs.Shown.{shown, Took};
 ghost use Rattle.bm_cache.specs.Tokens.{number_of};
 
 use crate::Caches;
-use crate::stack::list_names;
+use crate::names::list_names;
 use bm_class::Class;
-use bm_journal::{Domain, Entry, Level, Period, Recorder};
+use bm_journal::{Domain, Entry, Level, Period, Recorder, Stack};
 use bm_law::Mark;
 use bm_page::Unit;
 
@@ -27,7 +27,7 @@ impl<R: Recorder> Caches<R> {
     {
         let row = class.index() as usize;
         let _level = level.number();
-        self.rows[row].flag(false);
+        self.rows.flag(row, false);
         self.recorder.put(level, Entry::Work(class));
     }
 
@@ -62,7 +62,7 @@ impl<R: Recorder> Caches<R> {
         let row = class.index() as usize;
         let _level = level.number();
         let names = list_names(self.alloc, &units);
-        self.rows[row].receive(units);
+        self.rows.put_on(row, Stack::Ready, units);
         self.step = self.step.saturating_add(1);
         self.recorder.put(level, Entry::Receive(class, names));
     }

@@ -13,10 +13,10 @@ ghost use Rattle.bm_cache.specs.Placed.{Placed};
 ghost use Rattle.bm_cache.specs.Shown.{shown, Took};
 
 use crate::Caches;
-use crate::cache::Cache;
-use crate::caches::{give_up_rows, give_up_sides};
+use crate::caches::give_up_sides;
 use crate::hand::Hand;
-use crate::stack::list_numbers;
+use crate::names::list_numbers;
+use bm_cache_lists::Rows;
 use bm_class::Class;
 use bm_journal::{Entry, Level, Recorder, UnitNumbers, Units};
 use bm_page::Unit;
@@ -46,7 +46,7 @@ impl<R: Recorder> Caches<R> {
         let Ok(numbers) = all_numbers(alloc, &units) else {
             return Err((units, recorder));
         };
-        let Ok(rows) = new_rows(alloc, processor) else {
+        let Ok(rows) = Rows::new(alloc, processor) else {
             return Err((units, recorder));
         };
         match new_sides(alloc) {
@@ -64,7 +64,7 @@ impl<R: Recorder> Caches<R> {
                 Ok(caches)
             }
             Err(_refused) => {
-                give_up_rows(rows);
+                rows.give_up();
                 Err((units, recorder))
             }
         }
@@ -100,7 +100,7 @@ impl<R: Recorder> Caches<R> {
         ensures placed { Placed R.log R.counts self.new }
     {
         let row = class.index() as usize;
-        self.rows[row].fill(units);
+        self.rows.fill(row, units);
         self.recorder.put(
             Level::ordinary(),
             Entry::Fill(class, Units::Whole(UnitNumbers::new(numbers))),
@@ -112,32 +112,11 @@ impl<R: Recorder> Caches<R> {
 fn all_numbers(alloc: Global, units: &Vec<(Class, Vec<Unit>)>) -> Result<Vec<Vec<u16>>, NoMemory>
     ensures { IfOk result (λ numbers. map (λ v. v.items) numbers.items ≡ map (λ f. map number_of f.1.items) units.now.items) }
 {
-    let mut numbers = Vec::new(alloc);
+    let mut numbers = Vec::with_capacity(alloc, units.len())?;
     for (_class, list) in units {
         numbers.push(list_numbers(alloc, list)?)?;
     }
     Ok(numbers)
-}
-
-/// Eleven empty caches.
-fn new_rows(alloc: Global, processor: u8) -> Result<Vec<Cache>, NoMemory>
-    ensures { IfOk result (λ rows. rows.items ≡ replicate 11 (empty_row processor)) }
-{
-    let mut rows = Vec::with_capacity(alloc, 11)?;
-    for _class in 0..11u8 {
-        match Cache::new(alloc, processor) {
-            Ok(row) => {
-                if let Err(_refused) = rows.push(row) {
-                    unreachable!();
-                }
-            }
-            Err(refused) => {
-                give_up_rows(rows);
-                return Err(refused);
-            }
-        }
-    }
-    Ok(rows)
 }
 
 /// Four empty hands.

@@ -9,7 +9,7 @@ ghost use Rattle.bm_law.specs.declared.mark.Mark.TheVariants as mark;
 
 use crate::Caches;
 use bm_class::Class;
-use bm_journal::{Entry, Level, Recorder};
+use bm_journal::{Entry, Level, Recorder, Stack};
 use bm_law::Mark;
 
 impl<R: Recorder> Caches<R> {
@@ -23,7 +23,7 @@ impl<R: Recorder> Caches<R> {
     {
         let row = class.index() as usize;
         let side = level.number() as usize;
-        let length = self.rows[row].extra_len();
+        let length = self.rows.len(row, Stack::Extra);
         self.sides[side].set_mark(Mark::Saw(class, length));
         self.step = self.step.saturating_add(1);
         self.recorder.put(level, Entry::Look(class, length));
@@ -43,7 +43,7 @@ impl<R: Recorder> Caches<R> {
     {
         let row = class.index() as usize;
         let side = level.number() as usize;
-        if self.rows[row].extra_len() != seen {
+        if self.rows.len(row, Stack::Extra) != seen {
             self.sides[side].set_mark(Mark::Quiet);
             self.step = self.step.saturating_add(1);
             self.recorder.put(level, Entry::Lost(class));
@@ -52,7 +52,7 @@ impl<R: Recorder> Caches<R> {
         match self.sides[side].hand_over(Mark::Quiet) {
             Some(unit) => {
                 let number = unit.number();
-                self.rows[row].put(unit);
+                self.rows.push(row, Stack::Extra, unit);
                 self.step = self.step.saturating_add(1);
                 self.recorder.put(level, Entry::Put(class, number));
                 true
@@ -71,7 +71,7 @@ impl<R: Recorder> Caches<R> {
     {
         let row = class.index() as usize;
         let side = level.number() as usize;
-        let length = self.rows[row].extra_delayed_len();
+        let length = self.rows.len(row, Stack::ExtraDelayed);
         self.sides[side].set_mark(Mark::SawDelayed(class, length));
         self.step = self.step.saturating_add(1);
         self.recorder.put(level, Entry::LookDelayed(class, length));
@@ -91,7 +91,7 @@ impl<R: Recorder> Caches<R> {
     {
         let row = class.index() as usize;
         let side = level.number() as usize;
-        if self.rows[row].extra_delayed_len() != seen {
+        if self.rows.len(row, Stack::ExtraDelayed) != seen {
             self.sides[side].set_mark(Mark::Quiet);
             self.step = self.step.saturating_add(1);
             self.recorder.put(level, Entry::LostDelayed(class));
@@ -100,7 +100,7 @@ impl<R: Recorder> Caches<R> {
         match self.sides[side].hand_over(Mark::Quiet) {
             Some(unit) => {
                 let number = unit.number();
-                self.rows[row].put_delayed(unit);
+                self.rows.push(row, Stack::ExtraDelayed, unit);
                 self.step = self.step.saturating_add(1);
                 self.recorder.put(level, Entry::PutDelayed(class, number));
                 true

@@ -6,24 +6,36 @@ ghost use Rattle.bm_law.specs.State.{seven_lists};
 ghost use Rattle.bm_cache.specs.Numbers.{numbers_of};
 ghost use Rattle.bm_cache.specs.Shown.{shown};
 
-use crate::caches::{give_up_rows, give_up_sides};
+use crate::caches::give_up_sides;
 use crate::{Caches, Counts};
 use bm_class::Class;
-use bm_journal::{Domain, Level, Recorder};
+use bm_journal::{Domain, Level, Recorder, Stack};
 
 impl<R> Caches<R> {
     /// The numbers of a class's cache.
     pub fn counts(&self, class: Class) -> Counts
         ensures { result ≡ numbers_of ((shown self.now).rows class) }
     {
-        self.rows[class.index() as usize].counts()
+        let row = class.index() as usize;
+        let numbers = self.rows.numbers(row);
+        Counts {
+            active: numbers.active,
+            count: numbers.count,
+            free: self.rows.len(row, Stack::Free),
+            extra: self.rows.len(row, Stack::Extra),
+            extra_delayed: self.rows.len(row, Stack::ExtraDelayed),
+            delayed: self.rows.len(row, Stack::Delayed),
+            first: self.rows.len(row, Stack::First),
+            ready: self.rows.len(row, Stack::Ready),
+            second: self.rows.len(row, Stack::Second),
+        }
     }
 
     /// Whether deferred work is asked for.
     pub fn raised(&self, class: Class) -> bool
         ensures { result ≡ ((shown self.now).rows class).raised }
     {
-        self.rows[class.index() as usize].raised()
+        self.rows.numbers(class.index() as usize).raised
     }
 
     /// The least class for which deferred work is asked for. None exactly where no flag is up.
@@ -42,14 +54,18 @@ impl<R> Caches<R> {
     pub fn target(&self, class: Class) -> u8
         ensures { result ≡ ((shown self.now).rows class).target }
     {
-        self.rows[class.index() as usize].target()
+        self.rows.numbers(class.index() as usize).target
     }
 
     /// The stamp of the batch of a domain, 0 before it has one. None exactly where no such batch is in progress.
     pub fn in_progress(&self, class: Class, domain: Domain) -> Option<u32>
         ensures { result ≡ stamp_of domain ((shown self.now).rows class).deferred }
     {
-        self.rows[class.index() as usize].stamp(domain)
+        let numbers = self.rows.numbers(class.index() as usize);
+        match domain {
+            Domain::Plain => numbers.plain,
+            Domain::Tracing => numbers.tracing,
+        }
     }
 
     /// The number of the step that comes next, from 1. It stays at the greatest number of its type.
@@ -95,7 +111,7 @@ impl<R> Caches<R> {
             first_lent: _,
             recorder,
         } = self;
-        give_up_rows(rows);
+        rows.give_up();
         give_up_sides(sides);
         recorder
     }
@@ -113,7 +129,7 @@ impl<R: Recorder + Drop> Caches<R> {
             first_lent: _,
             recorder: _,
         } = self;
-        give_up_rows(rows);
+        rows.give_up();
         give_up_sides(sides);
     }
 }

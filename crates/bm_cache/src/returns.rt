@@ -15,7 +15,7 @@ ghost use Rattle.bm_journal.specs.declared.units.Units.TheVariants.{Whole};
 
 use crate::Caches;
 use bm_class::Class;
-use bm_journal::{Domain, Entry, Level, Recorder, UnitNumbers, Units};
+use bm_journal::{Domain, Entry, Level, Recorder, Stack, UnitNumbers, Units};
 use bm_page::Unit;
 use bm_word::NoMemory;
 
@@ -29,7 +29,7 @@ impl<R: Recorder> Caches<R> {
     {
         let row = class.index() as usize;
         let _level = level.number();
-        self.rows[row].set_stamp(domain, stamp);
+        self.rows.stamp(row, domain, stamp);
         self.step = self.step.saturating_add(1);
         self.recorder.put(level, Entry::Stamp(class, domain, stamp));
     }
@@ -59,9 +59,8 @@ impl<R: Recorder> Caches<R> {
     {
         let row = class.index() as usize;
         let _level = level.number();
-        let cache = &mut self.rows[row];
-        cache.sweep(parcels);
-        let units = cache.second_names(self.alloc);
+        self.rows.sweep(row, parcels);
+        let units = self.rows.names(self.alloc, row, Stack::Second);
         self.step = self.step.saturating_add(1);
         self.recorder.put(level, Entry::Sweep(class, units));
     }
@@ -76,8 +75,8 @@ impl<R: Recorder> Caches<R> {
     {
         let row = class.index() as usize;
         let _level = level.number();
-        let mut units = Vec::with_capacity(self.alloc, self.rows[row].second_len() as usize)?;
-        self.rows[row].second_out(&mut units);
+        let mut units = Vec::with_capacity(self.alloc, self.rows.len(row, Stack::Second) as usize)?;
+        self.rows.move_out(row, Stack::Second, &mut units);
         Ok(units)
     }
 
@@ -91,7 +90,7 @@ impl<R: Recorder> Caches<R> {
     {
         let row = class.index() as usize;
         let _level = level.number();
-        self.rows[row].end_second();
+        self.rows.set_stamp(row, Domain::Tracing, None);
         self.step = self.step.saturating_add(1);
         self.recorder.put(
             level,

@@ -9,15 +9,22 @@ use crate::entry::Entry;
 use crate::units::Units;
 use bm_class::Class;
 
-/// One of the seven lists of a class's cache.
+/// One of the seven lists of a class's cache. Each is a list of `struct bpf_mem_cache` in kernel/bpf/memalloc.c.
 #[derive(Clone, Copy)]
 pub enum Stack {
+    /// `free_llist`: units that an allocation may have.
     Free,
+    /// `free_llist_extra`: units that were freed while another call was in the cache.
     Extra,
+    /// `free_llist_extra_rcu`: the same, freed with delay.
     ExtraDelayed,
+    /// `free_by_rcu`: units that wait for a batch.
     Delayed,
+    /// `waiting_for_gp`: the batch that waits for a plain grace period.
     First,
+    /// `free_by_rcu_ttrace`: units that may be used again here, or go back.
     Ready,
+    /// `waiting_for_gp_ttrace`: the batch that waits for a tracing grace period.
     Second,
 }
 

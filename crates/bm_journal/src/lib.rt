@@ -14,15 +14,12 @@ mod lists;
 mod past;
 mod period;
 mod recorder;
-#[cfg(test)]
-mod recorder_tests;
 mod text;
-#[cfg(test)]
-mod text_tests;
 mod total;
 mod units;
 
 pub use bm_word::Name;
+pub use change::Stack;
 pub use counting::totals_of;
 pub use counts::{Counts, Lengths};
 pub use entry::Entry;

@@ -5,6 +5,8 @@ use Rattle.bm_journal.specs.declared.ids.Place.{Place}
 use Rattle.bm_journal.specs.declared.ids.Place.TheVariants as place
 use Rattle.bm_journal.specs.declared.entry.Entry.{Entry}
 use Rattle.bm_journal.specs.declared.entry.Entry.TheVariants as entry
+pub use Rattle.bm_journal.specs.declared.change.Stack.{Stack}
+pub use Rattle.bm_journal.specs.declared.change.Stack.TheVariants.{Free, Extra, ExtraDelayed as Extra_delayed, Delayed, First, Ready, Second}
 use Rattle.bm_journal.specs.EntryText.{unit_list}
 use Rattle.bm_law.specs.State.{Row, State}
 use Rattle.bm_law.specs.Lists.{Log, brought, next}
@@ -85,16 +87,7 @@ abbrev pub dropped_life : ℕ → ℕ → Log → ℕ
 dropped_life l life [] = life
 dropped_life l life (e ∷ es) = dropped_life l (if eqb e.0 l then dropped_by e.1 life else life) es
 
--- the lists of a cache
-pub data Stack : Type 0 where
-  Free : Stack
-  Extra : Stack
-  Extra_delayed : Stack
-  Delayed : Stack
-  First : Stack
-  Ready : Stack
-  Second : Stack
-
+-- the list of a cache
 abbrev pub list_at : {A : Type 0} → Stack → Row A → List A
 list_at Free r = r.free
 list_at Extra r = r.extra

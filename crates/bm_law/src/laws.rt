@@ -164,31 +164,3 @@ pub fn null_law()
     ensures delay { (c u home : ℕ) (in_progress : Bool) (own : List Entry) → DelayPhrase c u home in_progress own → all_apart own ≡ true }
     ensures add { (c u : ℕ) (own : List Entry) → AddPhrase c u own → all_apart own ≡ true }
 {}
-
-#[cfg(test)]
-mod tests {
-    use super::*;
-    use crate::{worked_deferred, worked_logs, worked_phrases};
-
-    #[test]
-    fn laws_take_no_step(_rt: HostRuntime) {
-        opening_law::<u16>();
-        fold_law();
-        step_law::<u16>();
-        lists_law();
-        seen_law::<u16, u16>();
-        stretch_law();
-        alone_law();
-        kept_law::<u16>();
-        plain_law::<u16>();
-        units_law();
-        room_law::<u16>();
-        counts_law::<u16>();
-        null_law();
-        places_law();
-        lengths_law::<u16>();
-        worked_logs();
-        worked_deferred();
-        worked_phrases();
-    }
-}

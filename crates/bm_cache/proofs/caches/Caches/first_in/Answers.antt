@@ -1,27 +1,29 @@
-use Rattle.std.proofs.Common.{◌≡◌, ◌++◌, List, [], length, refl, ap, ◌∙◌, arith, append-nil}
+use Rattle.std.proofs.Common.{◌≡◌, ◌++◌, List, [], set, refl, ap, ◌∙◌, append-nil}
 use Rattle.bm_law.specs.State.{Row}
+use Rattle.bm_cache_lists.specs.Housed.{row_at}
 use Rattle.bm_cache.specs.Tokens.{Token}
 use Rattle.bm_cache.specs.Shown.{shown}
 use Rattle.bm_cache.proofs.Shown.{at-row, wrote-row, below_eleven}
-use Rattle.bm_cache.proofs.Outside.{lent-first, first-back, placed-back, first-room}
+use Rattle.bm_cache.proofs.Fresh.{fresh-rows, fresh-lent}
+use Rattle.bm_cache.proofs.Outside.{lent-first, first-back, placed-back}
 use Rattle.bm_cache.proofs.caches.Caches.first_in.Goals as goal
 
-pub first_in-requires : goal.first_in-requires
-first_in-requires g c =
+pub put_on-requires-clause-fresh : goal.put_on-requires-clause-fresh
+put_on-requires-clause-fresh g c =
     let w = c.requires.lent in
-    let r = ap (λ (x : Row Token). length x.deferred.first) (at-row c.args.self.now c.args.class _ _ c.index-row.ensures.same c.index-row.ensures.in_range c.index_mut.ensures.value ∙ lent-first c.args.class [] w.0 (shown c.args.self.now) w.1.lists) in
-    omega (arith, r, ap length w.1.units, first-room g.R.Recorder.log g.R.Recorder.counts c.args.self.now w.0 w.1.placed c.args.class (below_eleven _ _ c.index-row.ensures.same c.index-row.ensures.in_range))
+    fresh-rows c.args.self.now c.args.units.items (fresh-lent c.args.self.now c.args.class c.args.units.items w.0 (below_eleven _ _ c.index-row.ensures.same c.index-row.ensures.in_range) w.1.lists w.1.placed.once w.1.units)
 
 pub returns-clause-back : goal.returns-clause-back
 returns-clause-back g c =
     let w = c.requires.lent in
-    let s = at-row c.args.self.now c.args.class _ _ c.index-row.ensures.same c.index-row.ensures.in_range c.index_mut.ensures.value in
-    let old : Row Token = c.index_mut.result.now in
+    let i = c.index-row.result in
+    let s = at-row c.args.self.now c.args.class _ c.index-row.ensures.same c.index-row.ensures.in_range in
+    let old : Row Token = row_at c.args.self.now.rows i in
     let none : old.deferred.first ≡ [] = ap (λ (x : Row Token). x.deferred.first) (s ∙ lent-first c.args.class [] w.0 (shown c.args.self.now) w.1.lists) in
-    let f = λ (xs : List Token). let r : Row Token = record old { deferred = record old.deferred { first = xs } } in r in
-    let q = c.first_in.ensures ∙ ap (λ (xs : List Token). f (c.args.units.items ++ xs)) none ∙ ap f (append-nil c.args.units.items) in
+    let f = λ (xs : List Token). let r : Row Token = record old { deferred = record old.deferred { first = xs } } in set c.args.self.now.rows i r in
+    let q = c.put_on.ensures ∙ ap (λ (xs : List Token). f (c.args.units.items ++ xs)) none ∙ ap f (append-nil c.args.units.items) in
     record {
-      lists = wrote-row c.args.self.now _ c.args.class _ (λ r. record r { deferred = record r.deferred { first = c.args.units.items } }) _ _ c.index-row.ensures.same c.index-row.ensures.in_range c.index_mut.ensures.value q refl refl refl;
+      lists = wrote-row c.args.self.now _ c.args.class _ (λ r. record r { deferred = record r.deferred { first = c.args.units.items } }) c.index-row.ensures.same c.index-row.ensures.in_range q refl refl;
       recorder = refl;
       number = refl;
       processor = refl;

@@ -2,6 +2,7 @@ use Rattle.std.proofs.Common.{◌≡◌, ◌++◌, ℕ, List, [], ◌∷◌, len
 use Rattle.bm_journal.specs.declared.entry.Entry.TheVariants as entry
 use Rattle.bm_journal.specs.Recording.{Appends}
 use Rattle.bm_law.specs.declared.mark.Mark.TheVariants as mark
+use Rattle.bm_cache_lists.specs.Housed.{row_at}
 use Rattle.bm_law.specs.State.{Row, Side}
 use Rattle.bm_law.specs.Places.{Free as free}
 use Rattle.bm_cache.specs.Tokens.{Token, number_of}
@@ -13,21 +14,21 @@ use Rattle.bm_cache.proofs.caches.Caches.pop.Goals as goal
 
 pub take_in-requires : goal.take_in-requires
 take_in-requires g c =
-    let s = ap (λ (x : Side Token). length x.hand) (at-side c.args.self.now c.args.level _ _ c.number-side.ensures.same c.number-side.ensures.bound c.index_mut-in-Some.ensures.value) in
-    let q = at-row c.args.self.now c.args.class _ _ c.index-row.ensures.same c.index-row.ensures.in_range c.index_mut.ensures.value in
-    let f : length ((shown c.args.self.now).rows c.args.class).free ≡ length (c.in-Some.unit ∷ c.pop.new.self.free) = ap (λ (x : Row Token). length x.free) (sym q) ∙ ap (λ (x : List Token). length x) c.in-Some.ensures.unit in
+    let s = ap (λ (x : Side Token). length x.hand) (at-side c.args.self.now c.args.level _ _ c.number-side.ensures.same c.number-side.ensures.bound c.index_mut.ensures.value) in
+    let q = at-row c.args.self.now c.args.class _ c.index-row.ensures.same c.index-row.ensures.in_range in
+    let f : length ((shown c.args.self.now).rows c.args.class).free ≡ length (c.in-Some.unit ∷ drop 1 (row_at c.args.self.now.rows c.index-row.result).free) = ap (λ (x : Row Token). length x.free) (sym q) ∙ ap (λ (x : List Token). length x) c.in-Some.ensures.unit in
     let m = (rooms g.R.Recorder.log g.R.Recorder.counts c.args.self.now c.requires.placed c.args.class c.args.level (below_eleven _ _ c.index-row.ensures.same c.index-row.ensures.in_range) (below_four _ _ c.number-side.ensures.same c.number-side.ensures.bound)).free in
     omega (arith, s, f, m)
 
 pub returns-in-Some-clause-some : goal.returns-in-Some-clause-some
 returns-in-Some-clause-some g c _ =
-    let q = at-row c.args.self.now c.args.class _ _ c.index-row.ensures.same c.index-row.ensures.in_range c.index_mut.ensures.value in
-    let e : ((shown c.args.self.now).rows c.args.class).free ≡ c.in-Some.unit ∷ c.pop.new.self.free = ap (λ (x : Row Token). x.free) (sym q) ∙ c.in-Some.ensures.unit in
+    let q = at-row c.args.self.now c.args.class _ c.index-row.ensures.same c.index-row.ensures.in_range in
+    let e : ((shown c.args.self.now).rows c.args.class).free ≡ c.in-Some.unit ∷ drop 1 (row_at c.args.self.now.rows c.index-row.result).free = ap (λ (x : Row Token). x.free) (sym q) ∙ c.in-Some.ensures.unit in
     let one : take 1 ((shown c.args.self.now).rows c.args.class).free ≡ c.in-Some.unit ∷ [] = rw e refl in
     let h : Side Token → Side Token = λ h. record { hand = h.hand ++ take 1 ((shown c.args.self.now).rows c.args.class).free; mark = mark.Took c.args.class } in
-    let p : c.take_in.new.self ≡ h c.index_mut-in-Some.result.now = c.take_in.ensures ∙ ap (λ (xs : List Token). let r : Side Token = record { hand = c.index_mut-in-Some.result.now.hand ++ xs; mark = mark.Took c.args.class } in r) (sym one) in
+    let p : c.take_in.new.self ≡ h c.index_mut.result.now = c.take_in.ensures ∙ ap (λ (xs : List Token). let r : Side Token = record { hand = c.index_mut.result.now.hand ++ xs; mark = mark.Took c.args.class } in r) (sym one) in
     let n : take 1 (map number_of ((shown c.args.self.now).rows c.args.class).free) ≡ c.in-Some.unit.number ∷ [] = number-first _ _ _ e in
-    let w = wrote-both c.args.self.now _ c.args.class _ c.args.level _ (λ r. record r { free = drop 1 r.free }) h _ _ _ _ c.index-row.ensures.same c.index-row.ensures.in_range c.number-side.ensures.same c.number-side.ensures.bound c.index_mut.ensures.value c.in-Some.ensures.row c.index_mut-in-Some.ensures.value p refl refl refl in
+    let w = wrote-both c.args.self.now _ c.args.class _ c.args.level _ (λ r. record r { free = drop 1 r.free }) h _ _ c.index-row.ensures.same c.index-row.ensures.in_range c.number-side.ensures.same c.number-side.ensures.bound c.in-Some.ensures.rows c.index_mut.ensures.value p refl refl in
     let t : Took g.R.Recorder.log c.args.level (entry.Pop c.args.class c.in-Some.unit.number) [] c.args.self.now _ = record {
       names = n;
       brings = refl;
@@ -36,7 +37,7 @@ returns-in-Some-clause-some g c _ =
       number = c.saturating_add-self.ensures;
       processor = refl;
     } in
-    (c.in-Some.unit, c.pop.new.self.free, e, t)
+    (c.in-Some.unit, drop 1 (row_at c.args.self.now.rows c.index-row.result).free, e, t)
 
 pub returns-in-Some-clause-placed : goal.returns-in-Some-clause-placed
 unfolding returns-in-Some-clause-some
@@ -48,10 +49,12 @@ returns-in-Some-clause-placed g c =
 
 pub returns-in-None-clause-none : goal.returns-in-None-clause-none
 returns-in-None-clause-none g c _ =
-    let q = at-row c.args.self.now c.args.class _ _ c.index-row.ensures.same c.index-row.ensures.in_range c.index_mut.ensures.value in
+    let q = at-row c.args.self.now c.args.class _ c.index-row.ensures.same c.index-row.ensures.in_range in
     let e : ((shown c.args.self.now).rows c.args.class).free ≡ [] = ap (λ (x : Row Token). x.free) (sym q) ∙ c.in-None.ensures.unit in
-    let r : c.pop.new.self ≡ c.index_mut.result.now = c.in-None.ensures.row ∙ (let d : drop 1 c.index_mut.result.now.free ≡ c.index_mut.result.now.free = rw c.in-None.ensures.unit refl in ap (λ (xs : List Token). let x : Row Token = record c.index_mut.result.now { free = xs } in x) d) in
-    let w = wrote-same c.args.self.now _ c.args.class _ _ _ c.index-row.ensures.same c.index-row.ensures.in_range c.index_mut.ensures.value r refl refl refl in
+    let row = row_at c.args.self.now.rows c.index-row.result in
+    let d : drop 1 row.free ≡ row.free = rw c.in-None.ensures.unit refl in
+    let r : (let x : Row Token = record row { free = drop 1 row.free } in x) ≡ row = ap (λ (xs : List Token). let x : Row Token = record row { free = xs } in x) d in
+    let w = wrote-same c.args.self.now _ c.args.class _ _ c.index-row.ensures.same c.index-row.ensures.in_range r c.in-None.ensures.rows refl refl in
     let t : Took g.R.Recorder.log c.args.level (entry.PopNone c.args.class) [] c.args.self.now _ = record {
       names = rw e refl;
       brings = refl;

@@ -2,19 +2,22 @@ use Rattle.std.proofs.Common.{◌≡◌, ◌++◌, ℕ, List, [], ◌∷◌, len
 use Rattle.bm_journal.specs.declared.entry.Entry.TheVariants as entry
 use Rattle.bm_law.specs.declared.mark.Mark.TheVariants as mark
 use Rattle.bm_journal.specs.Recording.{Appends}
+use Rattle.bm_cache_lists.specs.Housed.{row_at}
+use Rattle.std.specs.Prelude.{set}
+use Rattle.bm_cache.proofs.Fresh.{fresh-hand}
 use Rattle.bm_law.specs.State.{Row, Side}
 use Rattle.bm_cache.specs.Tokens.{Token, number_of}
 use Rattle.bm_cache.specs.Shown.{shown, Took}
-use Rattle.bm_cache.proofs.Shown.{at-row, at-side, wrote-both, below_eleven, below_four}
+use Rattle.bm_cache.proofs.Shown.{at-side, wrote-both, below_eleven, below_four}
 use Rattle.bm_cache.proofs.Placed.{placed-step}
-use Rattle.bm_cache.proofs.Asked.{rooms, sound, number-first, sits-first, some-length}
+use Rattle.bm_cache.proofs.Asked.{sound, number-first, sits-first, some-length}
 use Rattle.bm_cache.proofs.caches.Caches.push_delayed.Goals as goal
 
-pub push_delayed-requires : goal.push_delayed-requires
-push_delayed-requires g c =
-    let r = ap (λ (x : Row Token). length x.delayed) (at-row c.args.self.now c.args.class _ _ c.index-row.ensures.same c.index-row.ensures.in_range c.index_mut-in-Some.ensures.value) in
-    let m = (rooms g.R.Recorder.log g.R.Recorder.counts c.args.self.now c.requires.placed c.args.class c.args.level (below_eleven _ _ c.index-row.ensures.same c.index-row.ensures.in_range) (below_four _ _ c.number-side.ensures.same c.number-side.ensures.bound)).delayed in
-    omega (arith, r, m, some-length _ _ _ c.requires.held.2)
+pub push-requires-clause-fresh : goal.push-requires-clause-fresh
+push-requires-clause-fresh g c =
+    let s = at-side c.args.self.now c.args.level _ _ c.number-side.ensures.same c.number-side.ensures.bound c.index_mut.ensures.value in
+    let e : ((shown c.args.self.now).sides c.args.level).hand ≡ c.in-Some.unit ∷ c.hand_over.new.self.hand = ap (λ (x : Side Token). x.hand) (sym s) ∙ c.in-Some.ensures.unit in
+    fresh-hand c.args.self.now c.args.level c.in-Some.unit c.hand_over.new.self.hand (below_four _ _ c.number-side.ensures.same c.number-side.ensures.bound) c.requires.placed.once e
 
 pub unreachable-requires : goal.unreachable-requires
 unreachable-requires g c =
@@ -28,9 +31,10 @@ returns-clause-pushed g c =
     let e : ((shown c.args.self.now).sides c.args.level).hand ≡ c.in-Some.unit ∷ c.hand_over.new.self.hand = ap (λ (x : Side Token). x.hand) (sym s) ∙ c.in-Some.ensures.unit in
     let one : take 1 ((shown c.args.self.now).sides c.args.level).hand ≡ c.in-Some.unit ∷ [] = rw e refl in
     let f : Row Token → Row Token = λ r. record r { delayed = take 1 ((shown c.args.self.now).sides c.args.level).hand ++ r.delayed } in
-    let q : c.push_delayed.new.self ≡ f c.index_mut-in-Some.result.now = c.push_delayed.ensures ∙ ap (λ (xs : List Token). let r : Row Token = record c.index_mut-in-Some.result.now { delayed = xs ++ c.index_mut-in-Some.result.now.delayed } in r) (sym one) in
+    let row = row_at c.args.self.now.rows c.index-row.result in
+    let q : c.push.new.self ≡ set c.args.self.now.rows c.index-row.result (f row) = c.push.ensures ∙ ap (λ (xs : List Token). let r : Row Token = record row { delayed = xs ++ row.delayed } in set c.args.self.now.rows c.index-row.result r) (sym one) in
     let n : take 1 (map number_of ((shown c.args.self.now).sides c.args.level).hand) ≡ c.in-Some.unit.number ∷ [] = number-first _ _ _ e in
-    let w = wrote-both c.args.self.now _ c.args.class _ c.args.level _ f (λ h. record { hand = drop 1 h.hand; mark = mark.Quiet }) _ _ _ _ c.index-row.ensures.same c.index-row.ensures.in_range c.number-side.ensures.same c.number-side.ensures.bound c.index_mut-in-Some.ensures.value q c.index_mut.ensures.value c.in-Some.ensures.side refl refl refl in
+    let w = wrote-both c.args.self.now _ c.args.class _ c.args.level _ f (λ h. record { hand = drop 1 h.hand; mark = mark.Quiet }) _ _ c.index-row.ensures.same c.index-row.ensures.in_range c.number-side.ensures.same c.number-side.ensures.bound q c.index_mut.ensures.value c.in-Some.ensures.side refl refl in
     let t : Took g.R.Recorder.log c.args.level (entry.Delayed c.args.class c.in-Some.unit.number) [] c.args.self.now _ = record {
       names = n;
       brings = refl;

@@ -3,19 +3,22 @@ use Rattle.std.proofs.lemmas.List.{length-map}
 use Rattle.bm_journal.specs.declared.entry.Entry.TheVariants as entry
 use Rattle.bm_journal.specs.Recording.{Appends}
 use Rattle.bm_law.specs.declared.mark.Mark.TheVariants as mark
+use Rattle.bm_cache_lists.specs.Housed.{row_at}
+use Rattle.std.specs.Prelude.{set}
+use Rattle.bm_cache.proofs.Fresh.{fresh-hand}
 use Rattle.bm_law.specs.State.{Row, Side}
 use Rattle.bm_cache.specs.Tokens.{Token, number_of}
 use Rattle.bm_cache.specs.Shown.{shown, Took}
 use Rattle.bm_cache.proofs.Shown.{at-row, at-side, wrote-both, wrote-side, below_eleven, below_four}
 use Rattle.bm_cache.proofs.Placed.{placed-step}
-use Rattle.bm_cache.proofs.Asked.{rooms, sound, number-first, sits-first, some-length}
+use Rattle.bm_cache.proofs.Asked.{sound, number-first, sits-first, some-length}
 use Rattle.bm_cache.proofs.caches.Caches.put.Goals as goal
 
-pub returns-then-extra_len-seen-clause-lost : goal.returns-then-extra_len-seen-clause-lost
-returns-then-extra_len-seen-clause-lost g c _ =
-    let r = ap (λ (x : Row Token). length x.extra) (at-row c.args.self.now c.args.class _ _ c.index-row.ensures.same c.index-row.ensures.in_range c.index.ensures) in
-    let d : c.extra_len.result ≢ c.args.seen = c.if-extra_len-seen.true in
-    let n : c.args.seen < length ((shown c.args.self.now).rows c.args.class).extra = omega (arith, r, c.extra_len.ensures, c.requires.longer, d) in
+pub returns-then-len-seen-clause-lost : goal.returns-then-len-seen-clause-lost
+returns-then-len-seen-clause-lost g c _ =
+    let r = ap (λ (x : Row Token). length x.extra) (at-row c.args.self.now c.args.class _ c.index-row.ensures.same c.index-row.ensures.in_range) in
+    let d : c.len.result ≢ c.args.seen = c.if-len-seen.true in
+    let n : c.args.seen < length ((shown c.args.self.now).rows c.args.class).extra = omega (arith, r, c.len.ensures, c.requires.longer, d) in
     let n' : c.args.seen < length (map number_of ((shown c.args.self.now).rows c.args.class).extra) = rw (length-map ((shown c.args.self.now).rows c.args.class).extra number_of) n in
     let w = wrote-side c.args.self.now _ c.args.level _ (λ h. record h { mark = mark.Quiet }) _ _ c.number-side.ensures.same c.number-side.ensures.bound c.index_mut.ensures.value c.set_mark.ensures refl refl refl in
     let t : Took g.R.Recorder.log c.args.level (entry.Lost c.args.class) [] c.args.self.now _ = record {
@@ -28,18 +31,18 @@ returns-then-extra_len-seen-clause-lost g c _ =
     } in
     (n, t)
 
-pub returns-then-extra_len-seen-clause-placed : goal.returns-then-extra_len-seen-clause-placed
-unfolding returns-then-extra_len-seen-clause-lost
-returns-then-extra_len-seen-clause-placed g c =
-    let t = returns-then-extra_len-seen-clause-lost g c refl in
+pub returns-then-len-seen-clause-placed : goal.returns-then-len-seen-clause-placed
+unfolding returns-then-len-seen-clause-lost
+returns-then-len-seen-clause-placed g c =
+    let t = returns-then-len-seen-clause-lost g c refl in
     placed-step g.R.Recorder.log g.R.Recorder.counts c.args.self.now _ c.args.level (entry.Lost c.args.class) [] c.requires.placed t.1 c.put.ensures.counted
     (sound g.R.Recorder.log g.R.Recorder.counts c.args.self.now c.requires.placed c.args.level (entry.Lost c.args.class) (below_four _ _ c.number-side.ensures.same c.number-side.ensures.bound) (below_eleven _ _ c.index-row.ensures.same c.index-row.ensures.in_range) (rw c.requires.saw refl) tt tt refl)
 
-pub put-requires-in-Some : goal.put-requires-in-Some
-put-requires-in-Some g c =
-    let r = ap (λ (x : Row Token). length x.extra) (at-row c.args.self.now c.args.class _ _ c.index-row.ensures.same c.index-row.ensures.in_range c.index_mut-in-Some.ensures.value) in
-    let m = (rooms g.R.Recorder.log g.R.Recorder.counts c.args.self.now c.requires.placed c.args.class c.args.level (below_eleven _ _ c.index-row.ensures.same c.index-row.ensures.in_range) (below_four _ _ c.number-side.ensures.same c.number-side.ensures.bound)).extra in
-    omega (arith, r, m, some-length _ _ _ c.requires.held.2)
+pub push-requires-clause-fresh : goal.push-requires-clause-fresh
+push-requires-clause-fresh g c =
+    let s = at-side c.args.self.now c.args.level _ _ c.number-side.ensures.same c.number-side.ensures.bound c.index_mut-2.ensures.value in
+    let e : ((shown c.args.self.now).sides c.args.level).hand ≡ c.in-Some.unit ∷ c.hand_over.new.self.hand = ap (λ (x : Side Token). x.hand) (sym s) ∙ c.in-Some.ensures.unit in
+    fresh-hand c.args.self.now c.args.level c.in-Some.unit c.hand_over.new.self.hand (below_four _ _ c.number-side.ensures.same c.number-side.ensures.bound) c.requires.placed.once e
 
 pub unreachable-requires : goal.unreachable-requires
 unreachable-requires g c =
@@ -53,16 +56,17 @@ returns-clause-put g c _ =
     let e : ((shown c.args.self.now).sides c.args.level).hand ≡ c.in-Some.unit ∷ c.hand_over.new.self.hand = ap (λ (x : Side Token). x.hand) (sym s) ∙ c.in-Some.ensures.unit in
     let one : take 1 ((shown c.args.self.now).sides c.args.level).hand ≡ c.in-Some.unit ∷ [] = rw e refl in
     let f : Row Token → Row Token = λ r. record r { extra = take 1 ((shown c.args.self.now).sides c.args.level).hand ++ r.extra } in
-    let q : c.put-in-Some.new.self ≡ f c.index_mut-in-Some.result.now = c.put-in-Some.ensures ∙ ap (λ (xs : List Token). let r : Row Token = record c.index_mut-in-Some.result.now { extra = xs ++ c.index_mut-in-Some.result.now.extra } in r) (sym one) in
+    let row = row_at c.args.self.now.rows c.index-row.result in
+    let q : c.push.new.self ≡ set c.args.self.now.rows c.index-row.result (f row) = c.push.ensures ∙ ap (λ (xs : List Token). let r : Row Token = record row { extra = xs ++ row.extra } in set c.args.self.now.rows c.index-row.result r) (sym one) in
     let n : take 1 (map number_of ((shown c.args.self.now).sides c.args.level).hand) ≡ c.in-Some.unit.number ∷ [] = number-first _ _ _ e in
-    let r = ap (λ (x : Row Token). length x.extra) (at-row c.args.self.now c.args.class _ _ c.index-row.ensures.same c.index-row.ensures.in_range c.index.ensures) in
-    let k : c.args.seen ≡ length (map number_of ((shown c.args.self.now).rows c.args.class).extra) = rw (length-map ((shown c.args.self.now).rows c.args.class).extra number_of) (omega (arith, r, c.extra_len.ensures, c.if-extra_len-seen.false)) in
-    let w = wrote-both c.args.self.now _ c.args.class _ c.args.level _ f (λ h. record { hand = drop 1 h.hand; mark = mark.Quiet }) _ _ _ _ c.index-row.ensures.same c.index-row.ensures.in_range c.number-side.ensures.same c.number-side.ensures.bound c.index_mut-in-Some.ensures.value q c.index_mut-2.ensures.value c.in-Some.ensures.side refl refl refl in
+    let r = ap (λ (x : Row Token). length x.extra) (at-row c.args.self.now c.args.class _ c.index-row.ensures.same c.index-row.ensures.in_range) in
+    let k : c.args.seen ≡ length (map number_of ((shown c.args.self.now).rows c.args.class).extra) = rw (length-map ((shown c.args.self.now).rows c.args.class).extra number_of) (omega (arith, r, c.len.ensures, c.if-len-seen.false)) in
+    let w = wrote-both c.args.self.now _ c.args.class _ c.args.level _ f (λ h. record { hand = drop 1 h.hand; mark = mark.Quiet }) _ _ c.index-row.ensures.same c.index-row.ensures.in_range c.number-side.ensures.same c.number-side.ensures.bound q c.index_mut-2.ensures.value c.in-Some.ensures.side refl refl in
     let t : Took g.R.Recorder.log c.args.level (entry.Put c.args.class c.in-Some.unit.number) [] c.args.self.now _ = record {
       names = (n, c.requires.saw ∙ ap (mark.Saw c.args.class) k);
       brings = refl;
       after = w;
-      records = let F : ℕ → Type 0 = λ m. Appends (g.R.Recorder.log c.args.self.now.recorder) c.args.level (entry.Put c.args.class m) (g.R.Recorder.log c.put-in-Some-2.new.self) in subst F c.number-number.ensures c.put-in-Some-2.ensures.recorded;
+      records = let F : ℕ → Type 0 = λ m. Appends (g.R.Recorder.log c.args.self.now.recorder) c.args.level (entry.Put c.args.class m) (g.R.Recorder.log c.put-in-Some.new.self) in subst F c.number-number.ensures c.put-in-Some.ensures.recorded;
       number = c.saturating_add-self-in-Some.ensures;
       processor = refl;
     } in
@@ -72,6 +76,6 @@ pub returns-clause-placed : goal.returns-clause-placed
 unfolding returns-clause-put
 returns-clause-placed g c =
     let t = returns-clause-put g c refl in
-    placed-step g.R.Recorder.log g.R.Recorder.counts c.args.self.now _ c.args.level (entry.Put c.args.class t.0.number) [] c.requires.placed t.3 c.put-in-Some-2.ensures.counted
+    placed-step g.R.Recorder.log g.R.Recorder.counts c.args.self.now _ c.args.level (entry.Put c.args.class t.0.number) [] c.requires.placed t.3 c.put-in-Some.ensures.counted
     (sound g.R.Recorder.log g.R.Recorder.counts c.args.self.now c.requires.placed c.args.level (entry.Put c.args.class t.0.number) (below_four _ _ c.number-side.ensures.same c.number-side.ensures.bound) (below_eleven _ _ c.index-row.ensures.same c.index-row.ensures.in_range) (rw c.requires.saw refl) (some-length _ _ _ t.2)
     (sits-first c.args.class _ _ _ c.requires.held.2 c.requires.held.3 (c.requires.placed.classed.hands c.args.level)) refl)

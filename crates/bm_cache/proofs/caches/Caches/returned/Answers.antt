@@ -1,6 +1,8 @@
 use Rattle.std.proofs.Common.{◌≡◌, None, List, [], refl, ap, ◌∙◌}
 use Rattle.bm_journal.specs.declared.entry.Entry.TheVariants as entry
 use Rattle.bm_journal.specs.declared.units.Units.TheVariants.{Whole}
+use Rattle.bm_cache_lists.specs.Housed.{row_at}
+use Rattle.std.specs.Prelude.{set}
 use Rattle.bm_law.specs.State.{Row}
 use Rattle.bm_cache.specs.Tokens.{Token}
 use Rattle.bm_cache.specs.Shown.{shown}
@@ -12,11 +14,11 @@ use Rattle.bm_cache.proofs.caches.Caches.returned.Goals as goal
 pub returns-clause-step : goal.returns-clause-step
 returns-clause-step g c =
     let w = c.requires.lent.1 in
-    let r = at-row c.args.self.now c.args.class _ _ c.index-row.ensures.same c.index-row.ensures.in_range c.index_mut.ensures.value in
-    let none : c.index_mut.result.now.deferred.second ≡ [] = ap (λ (x : Row Token). x.deferred.second) (r ∙ lent-row c.args.class c.args.level c.requires.lent.0 (shown c.args.self.now) w.lists) in
-    let q = c.end_second.ensures ∙ ap (λ (xs : List Token). let x : Row Token = record c.index_mut.result.now { deferred = record c.index_mut.result.now.deferred { second = xs; tracing = None } } in x) none in
+    let r = at-row c.args.self.now c.args.class _ c.index-row.ensures.same c.index-row.ensures.in_range in
+    let none : (row_at c.args.self.now.rows c.index-row.result).deferred.second ≡ [] = ap (λ (x : Row Token). x.deferred.second) (r ∙ lent-row c.args.class c.args.level c.requires.lent.0 (shown c.args.self.now) w.lists) in
+    let q = c.set_stamp.ensures ∙ ap (λ (xs : List Token). let x : Row Token = record (row_at c.args.self.now.rows c.index-row.result) { deferred = record (row_at c.args.self.now.rows c.index-row.result).deferred { second = xs; tracing = None } } in set c.args.self.now.rows c.index-row.result x) none in
     record {
-      after = wrote-row c.args.self.now _ c.args.class _ (λ r. record r { deferred = record r.deferred { second = []; tracing = None } }) _ _ c.index-row.ensures.same c.index-row.ensures.in_range c.index_mut.ensures.value q refl refl refl;
+      after = wrote-row c.args.self.now _ c.args.class _ (λ r. record r { deferred = record r.deferred { second = []; tracing = None } }) c.index-row.ensures.same c.index-row.ensures.in_range q refl refl;
       records = rw (← c.new.ensures) c.put.ensures.recorded;
       number = c.saturating_add-self.ensures;
       processor = refl;

@@ -1,0 +1,5 @@
+pub mod Chain
+pub mod Stacks
+pub mod Housed
+pub mod Numbers
+pub mod Stamps
