@@ -3,8 +3,6 @@
 #![tactic(auto)]
 
 mod law;
-#[cfg(test)]
-mod tests;
 mod unbuilt;
 
 pub use law::built_scenarios_run;

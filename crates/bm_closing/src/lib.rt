@@ -4,13 +4,9 @@
 
 mod closing;
 mod closing_desk;
-#[cfg(test)]
-mod closing_tests;
 mod ended;
 mod gathering;
 mod inbox;
-#[cfg(test)]
-mod machines;
 mod period;
 mod whole;
 

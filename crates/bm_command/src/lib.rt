@@ -4,7 +4,5 @@
 mod command;
 mod parser;
 mod shape;
-#[cfg(test)]
-mod tests;
 
 pub use command::{Command, CommandFault, read_command};

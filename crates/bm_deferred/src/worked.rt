@@ -62,15 +62,3 @@ pub fn worked_pages()
     ensures nothing { ¬ ShortLaw 2 (fetched_by []) }
     ensures few { ¬ ShortLaw 2 (filled_with (0 ∷ 1 ∷ 2 ∷ [])) }
 {}
-
-#[cfg(test)]
-mod tests {
-    use super::*;
-
-    #[test]
-    fn laws_take_no_step(_rt: HostRuntime) {
-        worked_works();
-        worked_parts();
-        worked_pages();
-    }
-}

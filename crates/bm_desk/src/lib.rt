@@ -7,19 +7,13 @@ mod fetches;
 mod leaving;
 mod lists;
 mod loans;
-#[cfg(test)]
-mod machines;
 mod parcels;
 mod period;
-#[cfg(test)]
-mod poll_tests;
 mod polls;
 mod returns;
 mod sends;
 mod stages;
 mod stamps;
-#[cfg(test)]
-mod work_tests;
 
 pub use deferred::{Worked, work};
 pub use desk::Desk;

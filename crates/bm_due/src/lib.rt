@@ -4,8 +4,6 @@
 
 mod laws;
 mod planned;
-#[cfg(test)]
-mod tests;
 mod worked;
 
 pub use laws::{asking_law, due_law, entry_law, kind_law, standing_law};

@@ -7,8 +7,6 @@ mod grace;
 mod law;
 mod plain;
 mod step;
-#[cfg(test)]
-mod tests;
 
 pub use answer::{Began, Done, Look};
 pub use grace::{Grace, Knows};

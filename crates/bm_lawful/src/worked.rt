@@ -24,33 +24,3 @@ pub fn worked_names()
     ensures other { with_name (codes "x") Null no_names (codes "y") ≡ Nothing }
     ensures done { Done no_names [] no_names }
 {}
-
-#[cfg(test)]
-mod tests {
-    use super::*;
-    use crate::{
-        handlers_law, logs_without_work, unplanned_law, words_law, worked_deferred, worked_flags,
-        worked_handlers, worked_journals, worked_parcels, worked_periods, wrong_deferred,
-        wrong_handlers, wrong_journals, wrong_words,
-    };
-
-    #[test]
-    fn laws_take_no_step(_rt: HostRuntime) {
-        worked_classes();
-        worked_names();
-        worked_journals();
-        wrong_journals();
-        logs_without_work();
-        worked_deferred();
-        wrong_deferred();
-        worked_flags();
-        worked_periods();
-        worked_parcels();
-        handlers_law();
-        unplanned_law();
-        words_law();
-        worked_handlers();
-        wrong_handlers();
-        wrong_words();
-    }
-}

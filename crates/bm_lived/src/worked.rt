@@ -35,16 +35,3 @@ pub fn worked_stretches()
     ensures freed_elsewhere { (now : Lived) → ¬ LivesOn 0 lent now freed_elsewhere }
     ensures freed_only { (now : Lived) → ¬ LivesOn 0 lent now freed_only }
 {}
-
-#[cfg(test)]
-mod tests {
-    use super::*;
-    use crate::{lives_law, stretches_law};
-
-    #[test]
-    fn laws_take_no_step(_rt: HostRuntime) {
-        lives_law();
-        stretches_law();
-        worked_stretches();
-    }
-}

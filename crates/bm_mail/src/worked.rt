@@ -21,16 +21,3 @@ pub fn worked_inboxes()
     ensures sweep { (boxes : Inboxes) → ¬ Delivers 0 1 0 (Some no_parcels) boxes (Some []) swept }
     ensures kept { ¬ Delivers 0 1 0 (Some no_parcels) no_parcels (Some []) two_sent }
 {}
-
-#[cfg(test)]
-mod tests {
-    use super::*;
-    use crate::{parcels_law, sweeps_law};
-
-    #[test]
-    fn laws_take_no_step(_rt: HostRuntime) {
-        parcels_law();
-        sweeps_law();
-        worked_inboxes();
-    }
-}

@@ -3,8 +3,6 @@
 
 mod filling;
 mod opening;
-#[cfg(test)]
-mod opening_tests;
 mod room;
 
 pub use opening::open;

@@ -350,6 +350,3 @@ fn position_in_stock(units: &[Stocked], first: usize, low: usize, positions: usi
     }
     positions
 }
-
-#[cfg(test)]
-mod tests;

@@ -4,8 +4,6 @@
 
 mod handlers;
 mod laws;
-#[cfg(test)]
-mod tests;
 mod worked;
 
 pub use handlers::Handlers;

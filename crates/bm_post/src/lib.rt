@@ -6,8 +6,6 @@ mod inbox;
 mod law;
 mod plain;
 mod post;
-#[cfg(test)]
-mod tests;
 
 pub use law::taken_law;
 pub use plain::PlainPost;

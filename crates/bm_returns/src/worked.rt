@@ -30,15 +30,3 @@ pub fn worked_units()
     ensures kept_parcels { ParcelLaw 0 kept }
     ensures kept_returned { ¬ ReturnedAsTaken kept }
 {}
-
-#[cfg(test)]
-mod tests {
-    use super::*;
-    use crate::returns_law;
-
-    #[test]
-    fn laws_take_no_step(_rt: HostRuntime) {
-        returns_law();
-        worked_units();
-    }
-}

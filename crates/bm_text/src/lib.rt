@@ -8,8 +8,6 @@ mod memory;
 mod output;
 mod plan;
 mod sure;
-#[cfg(test)]
-mod tests;
 mod whole;
 
 pub use bm_word::{NoMemory, put_number, read_number};

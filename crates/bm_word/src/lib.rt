@@ -5,8 +5,6 @@
 mod memory;
 mod name;
 mod number;
-#[cfg(test)]
-mod tests;
 
 pub use memory::NoMemory;
 pub use name::{Name, is_word};

@@ -12,8 +12,6 @@ mod law;
 mod refill;
 mod second;
 mod take;
-#[cfg(test)]
-mod tests;
 
 pub use add::add_unit;
 pub use batch::gather_delayed;

@@ -4,17 +4,11 @@
 mod begun;
 mod law;
 mod living;
-#[cfg(test)]
-mod living_tests;
 mod one_side;
 mod slots;
-#[cfg(test)]
-mod tests;
 mod wait;
 mod waiting;
 mod waiting_law;
-#[cfg(test)]
-mod waiting_tests;
 mod world;
 
 pub use law::aged_law;

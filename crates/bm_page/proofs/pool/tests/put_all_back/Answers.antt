@@ -1,7 +1,0 @@
-use Rattle.std.proofs.Common.{[], append-nil}
-use Rattle.bm_page.proofs.pool.tests.put_all_back.Goals as goal
-
-pub loop-unit-preserved : goal.loop-unit-preserved
-loop-unit-preserved c =
-    let before = rw c.in-Some.ensures.items at c.loop-unit.invariant in
-    rw append-nil at (c.put_back.ensures.out c.pop.new.self.items [] before)

@@ -1,9 +1,0 @@
-use Rattle.std.proofs.Common.{◌≡◌, replicate, arith, subst, IfOk}
-use Rattle.bm_page.specs.Stock.{Stock, unborn}
-use Rattle.bm_post.proofs.Room.{new-roomy}
-use Rattle.bm_post.proofs.tests.one_page.Goals as goal
-
-pub returns : goal.returns
-returns g c =
-    let units = subst (λ r. IfOk r (λ (pool : Stock). pool.units ≡ replicate 256 unborn)) c.expect.ensures c.create.ensures.units in
-    new-roomy c.expect.result 1 (omega arith) units

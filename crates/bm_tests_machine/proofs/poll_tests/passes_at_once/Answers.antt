@@ -1,0 +1,6 @@
+use Rattle.bm_tests_machine.proofs.poll_tests.passes_at_once.Goals as goal
+
+pub stamp_and_poll-requires-clause-stands : goal.stamp_and_poll-requires-clause-stands
+stamp_and_poll-requires-clause-stands g c =
+    let e = c.desk_over-desk.ensures in
+    record { sound = tt; fine = e.fine; dated = e.dated }

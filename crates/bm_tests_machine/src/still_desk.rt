@@ -1,0 +1,127 @@
+//! A desk for tests: one that owns its caches and its side, and on which no handler runs.
+
+ghost use Rattle.std.specs.Prelude.{◌≡◌, ℕ, refl};
+ghost use Rattle.std.proofs.Common.{◌∙◌, ap};
+ghost use Rattle.bm_cache.specs.Span.{Face};
+ghost use Rattle.bm_desk.specs.DeskTests.{tests_by};
+ghost use Rattle.bm_desk.specs.Goes.{Alike};
+ghost use Rattle.bm_desk.specs.Still.{alike-joined, alike-still, goes-still};
+
+use bm_cache::{Caches, Host};
+use bm_desk::Desk;
+use bm_journal::{Level, Recorder};
+use bm_world::World;
+
+/// Caches at level 0 and a side, and no handler.
+pub(crate) struct StillDesk<R, S> {
+    pub(crate) caches: Caches<R>,
+    pub(crate) side: S,
+}
+
+/// A host for tests, for which a unit that was given makes no difference.
+pub(crate) trait Gives<R: Recorder>: Host<R> {
+    // What is there once a unit was given is sound.
+    ghost sound_gave: { (u life : ℕ) (h : Self) → Self.Host.gave u life h → Self.Host.sound h };
+}
+
+impl<R: Recorder, S: World> Gives<R> for StillDesk<R, S> {
+    ghost sound_gave = { λ u n h s. s };
+}
+
+impl<R: Recorder, S: World> Host<R> for StillDesk<R, S> {
+    ghost held = { λ m. m.caches };
+
+    ghost with_held = { λ m c. record m { caches = c } };
+
+    ghost face = { λ m. record { level = 0; processors = (S.Knows.known m.side).grace.processors; through = 0 } };
+
+    ghost pending = { λ m. 0 };
+
+    ghost tests = { λ m. tests_by (S.Knows.rights m.side) };
+
+    ghost sound = { λ m. Unit {0} };
+
+    ghost asked = { λ m. Unit {0} };
+
+    ghost gave = { λ _ _ m. Unit {0} };
+
+    ghost frees = { λ _ _ m. Unit {0} };
+
+    ghost keeps = { λ a b. S.Knows.known b.side ≡ S.Knows.known a.side };
+
+    ghost held_back = { λ h c. refl };
+
+    ghost face_back = { λ h c. refl };
+
+    ghost pending_back = { λ h c. refl };
+
+    ghost tests_back = { λ h c. refl };
+
+    ghost sound_back = { λ h c e s. s };
+
+    ghost asked_back = { λ h c e s. s };
+
+    ghost sound_stepped = { λ h c e i a k. k };
+
+    ghost sound_said = { λ h c e i a s. s };
+
+    ghost sound_given = { λ h c u n x a s. s };
+
+    ghost sound_freed = { λ h c e u n i a s. s };
+
+    ghost keeps_back = { λ h c. refl };
+
+    ghost keeps_same = { λ h. refl };
+
+    ghost keeps_join = { λ a b c k m. m ∙ k };
+
+    fn caches(&mut self) -> &mut Caches<R> {
+        &mut self.caches
+    }
+
+    fn level(&self) -> Level {
+        Level::ordinary()
+    }
+
+    fn point(&mut self) {}
+}
+
+impl<R: Recorder, S: World> Desk<R> for StillDesk<R, S> {
+    type W = S;
+
+    ghost shared = { λ m. m.side };
+
+    ghost with_shared = { λ m w. record m { side = w } };
+
+    ghost stays = { λ a b. Alike (S.Knows.known a.side) (S.Knows.known b.side) };
+
+    fn world(&mut self) -> &mut S {
+        &mut self.side
+    }
+
+    ghost shared_back = { λ h w. refl };
+
+    ghost held_apart = { λ h w. refl };
+
+    ghost shared_apart = { λ h c. refl };
+
+    ghost face_apart = { λ h w a. ap (λ n. let f : Face = record { level = 0; processors = n; through = 0 } in f) a.processors };
+
+    ghost pending_apart = { λ h w. refl };
+
+    ghost sound_apart = { λ h w a s. s };
+
+    ghost asked_apart = { λ h w a s. s };
+
+    ghost stays_apart = { λ h w a. a };
+
+    ghost tests_are = { λ h. refl };
+
+    ghost processors_are = { λ h. refl };
+
+    ghost known_goes = { λ a b k. goes-still (S.Knows.known a.side) (S.Knows.known b.side) k };
+
+    ghost keeps_stays = { λ a b k. alike-still (S.Knows.known a.side) (S.Knows.known b.side) k };
+
+    ghost stays_join = { λ a b c k m. alike-joined (S.Knows.known a.side) (S.Knows.known b.side) (S.Knows.known c.side) k m };
+}

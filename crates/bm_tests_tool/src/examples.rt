@@ -1,0 +1,25 @@
+//! The scenarios of examples/ with their journals, as tools/examples_to_tests.py writes them. The journals are worked out
+//! by hand from the rules.
+
+pub(crate) mod busy_handler;
+pub(crate) mod deferred_block;
+pub(crate) mod empty_stock;
+pub(crate) mod nested_blocks;
+pub(crate) mod nested_handlers;
+pub(crate) mod one_object;
+pub(crate) mod refill_handlers;
+pub(crate) mod two_classes;
+pub(crate) mod two_scripts;
+
+/// Each scenario with its journal.
+pub(crate) const EXAMPLES: &[(&str, &str)] = &[
+    (busy_handler::SCENARIO, busy_handler::JOURNAL),
+    (deferred_block::SCENARIO, deferred_block::JOURNAL),
+    (empty_stock::SCENARIO, empty_stock::JOURNAL),
+    (nested_blocks::SCENARIO, nested_blocks::JOURNAL),
+    (nested_handlers::SCENARIO, nested_handlers::JOURNAL),
+    (one_object::SCENARIO, one_object::JOURNAL),
+    (refill_handlers::SCENARIO, refill_handlers::JOURNAL),
+    (two_classes::SCENARIO, two_classes::JOURNAL),
+    (two_scripts::SCENARIO, two_scripts::JOURNAL),
+];

@@ -1,0 +1,23 @@
+//! Tests of the program's whole calls, of the opening and of the forms that can't be run so far, over their public calls.
+#![tactic(auto)]
+
+#[cfg(test)]
+mod calls;
+#[cfg(test)]
+mod deferred_tests;
+#[cfg(test)]
+mod examples;
+#[cfg(test)]
+mod form_tests;
+#[cfg(test)]
+mod handler_tests;
+#[cfg(test)]
+mod journal_tests;
+#[cfg(test)]
+mod opening_tests;
+#[cfg(test)]
+mod page_tests;
+#[cfg(test)]
+mod refusal_tests;
+#[cfg(test)]
+mod worked_tests;

@@ -1,0 +1,537 @@
+//! Texts that are refused, with the status and the line of each. They are worked out by hand from the rules.
+
+use crate::calls::{agrees, call};
+use crate::examples::one_object::SCENARIO;
+use bm_tool::out_of_memory;
+use std::alloc::Global;
+use std::process::Abort;
+use std::test::Fail;
+
+// A few words; the others stand beside the reader of words.
+const NO_COMMANDS: &[&[&str]] = &[
+    &[],
+    &["run"],
+    &["Replay"],
+    &["replay "],
+    &["replay", "replay"],
+    &["check", "--totals"],
+    &["--totals", "replay"],
+    &["--help"],
+];
+
+fn are_no_commands(rt: &impl Abort, alloc: Global, rows: &[&[&str]]) -> Result<(), Fail> {
+    for words in rows {
+        let called = call(alloc, words, SCENARIO.as_bytes())?;
+        agrees(rt, &called, 1, "", "bpfmem: usage\n", "words");
+    }
+    Ok(())
+}
+
+#[test]
+fn words_that_are_no_command(rt: HostRuntime) -> Result<(), Fail> {
+    are_no_commands(&rt, rt.alloc(), NO_COMMANDS)
+}
+
+// A scenario of one script, which has this body.
+fn with_body(alloc: Global, declared: &str, body: &str) -> Result<String, Fail> {
+    Ok(format!(in alloc;
+        "scenario {{
+processors 1
+pages 1
+deferred off
+{declared}
+script main plain {{
+{body}
+}}
+run 0 main
+}}
+"
+    )?)
+}
+
+const REPLAY: &[&str] = &["replay"];
+
+const TOTALS: &[&str] = &["replay", "--totals"];
+
+const CHECK: &[&str] = &["check"];
+
+// A text is refused with this status and this line, and no journal is answered.
+fn is_refused(
+    rt: &impl Abort,
+    alloc: Global,
+    words: &[&str],
+    text: &str,
+    status: u8,
+    line: &str,
+    note: &str,
+) -> Result<(), Fail> {
+    let called = call(alloc, words, text.as_bytes())?;
+    agrees(rt, &called, status, "", line, note);
+    assert!(rt; !called.answered, "{note}");
+    Ok(())
+}
+
+// A body for each rule that the forms which run by now can break. It begins on line 7.
+const RULES_OF_BUILT_FORMS: &[(&str, &str)] = &[
+    ("drop x", "line 7: rule 1"),
+    (
+        "new x item 1 if x { drop x } new y item 2\nif y { new y item 3 }",
+        "line 8: rule 1",
+    ),
+    ("new x item 1\ndrop x", "line 8: rule 2"),
+    ("new x item 1\nif x { drop x\ndrop x }", "line 9: rule 3"),
+    ("new x item 1", "line 8: rule 4"),
+    ("new x item 1\nif x {\n}", "line 9: rule 5"),
+    (
+        "new x item 1\nif x { drop x } else { new x item 2\n}",
+        "line 9: rule 5",
+    ),
+    ("repeat 2 {\nnew x item 1\n}", "line 9: rule 6"),
+    (
+        "new x item 1\nif x { if x { drop x } else { drop x } }",
+        "line 8: rule 12",
+    ),
+];
+
+fn are_rejected(rt: &impl Abort, alloc: Global, rows: &[(&str, &str)]) -> Result<(), Fail> {
+    for (body, line) in rows {
+        let text = with_body(alloc, "type item { a }", body)?;
+        let told = format!(in alloc; "bpfmem: script main {line}\n")?;
+        is_refused(rt, alloc, REPLAY, text.as_str(), 6, told.as_str(), body)?;
+        is_refused(rt, alloc, TOTALS, text.as_str(), 6, told.as_str(), body)?;
+        is_refused(rt, alloc, CHECK, text.as_str(), 6, told.as_str(), body)?;
+    }
+    Ok(())
+}
+
+#[test]
+fn scripts_of_built_forms_that_break_a_rule(rt: HostRuntime) -> Result<(), Fail> {
+    are_rejected(&rt, rt.alloc(), RULES_OF_BUILT_FORMS)
+}
+
+// `check` knows the whole language: a body for each rule that the others can break. It begins on line 7.
+const RULES_OF_ALL_FORMS: &[(&str, &str)] = &[
+    (
+        "new x job 1\nif x { lock q push_back q x unlock\ndrop x }",
+        "line 9: rule 3",
+    ),
+    ("push_back q x", "line 7: rule 7"),
+    ("lock q\nlock q", "line 8: rule 8"),
+    ("lock q\nnew x job 1", "line 8: rule 9"),
+    ("lock q", "line 8: rule 10"),
+    (
+        "xchg x s null\nif x { acquire y x drop y drop x }",
+        "line 8: rule 12",
+    ),
+];
+
+fn are_rejected_by_check(
+    rt: &impl Abort,
+    alloc: Global,
+    rows: &[(&str, &str)],
+) -> Result<(), Fail> {
+    let not_yet = "bpfmem: line 5 column 10: not_yet\n";
+    for (body, line) in rows {
+        let text = with_body(alloc, "type job list { a } slot s job list q job", body)?;
+        let told = format!(in alloc; "bpfmem: script main {line}\n")?;
+        is_refused(rt, alloc, CHECK, text.as_str(), 6, told.as_str(), body)?;
+
+        // `replay` refuses the first form that can't be run yet
+        is_refused(rt, alloc, REPLAY, text.as_str(), 5, not_yet, body)?;
+    }
+    Ok(())
+}
+
+#[test]
+fn scripts_of_all_forms_are_checked(rt: HostRuntime) -> Result<(), Fail> {
+    are_rejected_by_check(&rt, rt.alloc(), RULES_OF_ALL_FORMS)?;
+    let text = "scenario { processors 1 pages 1 deferred off type job list { a } list q job
+script main handler {
+lock q
+}
+at 0 1 1 main }";
+    let told = "bpfmem: script main line 3: rule 11\n";
+    is_refused(&rt, rt.alloc(), CHECK, text, 6, told, text)
+}
+
+const TWO_FAULTS: &str =
+    "type t { }\nscript good plain { new x t if x { drop x } }\nscript low plain {\ndrop y }\nscript last plain {\nnew x t }\nrun 0 good run 0 last";
+
+// The first script in the text's order that isn't accepted, whichever run; and texts that are.
+const IN_ORDER: &[(&[&str], &str, u8, &str, &str)] = &[
+    (
+        CHECK,
+        TWO_FAULTS,
+        5,
+        "",
+        "bpfmem: line 1 column 55: type_size\n",
+    ),
+    (
+        CHECK,
+        "type t { a } script m plain { } script n plain {\ndrop m } run 0 m",
+        6,
+        "",
+        "bpfmem: script n line 2: rule 1\n",
+    ),
+    (
+        REPLAY,
+        "type t { a } script m plain { } script n plain {\ndrop m } run 0 m",
+        6,
+        "",
+        "bpfmem: script n line 2: rule 1\n",
+    ),
+    (
+        CHECK,
+        "type t { a } script n plain {\nnew x t 1 } script m plain {\ndrop x }",
+        6,
+        "",
+        "bpfmem: script n line 2: rule 4\n",
+    ),
+    (
+        REPLAY,
+        "type t { a } script m plain { } script h handler {\nnew x t 1 } run 0 m at 0 7 3 h",
+        6,
+        "",
+        "bpfmem: script h line 2: rule 4\n",
+    ),
+    (CHECK, "", 0, "accepted\n", ""),
+    (
+        CHECK,
+        "type t { a } script m plain { repeat 0 { new x t 1 if x { drop x } } }",
+        0,
+        "accepted\n",
+        "",
+    ),
+    (
+        CHECK,
+        "type t counted tree { k pad 8 } slot s t tree g t script h handler { xchg x s null if x { drop x } } script m plain { lock g first f g remove x g f unlock if x { drop x } } run 0 m at 0 7 3 h turns { 0 }",
+        0,
+        "accepted\n",
+        "",
+    ),
+    (
+        CHECK,
+        "script m sleepable { yield section { } } run 0 m",
+        0,
+        "accepted\n",
+        "",
+    ),
+];
+
+fn are_checked(
+    rt: &impl Abort,
+    alloc: Global,
+    rows: &[(&[&str], &str, u8, &str, &str)],
+) -> Result<(), Fail> {
+    for (words, parts, status, out, err) in rows {
+        let text = format!(in alloc; "scenario {{ processors 1 pages 1 deferred off {parts} }}")?;
+        let called = call(alloc, words, text.as_bytes())?;
+        agrees(rt, &called, *status, out, err, parts);
+        assert!(rt; !called.answered, "{parts}");
+    }
+    Ok(())
+}
+
+#[test]
+fn the_scripts_of_a_text_are_checked_in_order(rt: HostRuntime) -> Result<(), Fail> {
+    are_checked(&rt, rt.alloc(), IN_ORDER)
+}
+
+// Whole texts with what `replay` and `check` answer, where they differ: the faults of a text come before its limits, and
+// its limits before its scripts. A form that can't be run yet is a fault for `replay`, where it comes first.
+const CAUSES: &[(&str, u8, &str, u8, &str)] = &[
+    // no reading
+    ("", 5, "line 1 column 1: end", 5, "line 1 column 1: end"),
+    (
+        "scenario {\nprocessors 1\n",
+        5,
+        "line 3 column 1: end",
+        5,
+        "line 3 column 1: end",
+    ),
+    (
+        "scenario {\npages 1\n",
+        5,
+        "line 2 column 1: unexpected",
+        5,
+        "line 2 column 1: unexpected",
+    ),
+    (
+        "scenario {\n\tprocessors 007",
+        5,
+        "line 2 column 13: number",
+        5,
+        "line 2 column 13: number",
+    ),
+    (
+        "scenario { processors 1 pages 2 deferred off }x",
+        5,
+        "line 1 column 47: unexpected",
+        5,
+        "line 1 column 47: unexpected",
+    ),
+    // a fault and a form that can't be run yet, in both orders
+    (
+        "scenario {\nprocessors 2\npages x",
+        5,
+        "line 2 column 12: not_yet",
+        5,
+        "line 3 column 7: unexpected",
+    ),
+    (
+        "scenario {\nprocessors 1\npages x\ndeferred on",
+        5,
+        "line 3 column 7: unexpected",
+        5,
+        "line 3 column 7: unexpected",
+    ),
+    (
+        "scenario {\nprocessors 1 pages 1 deferred yield",
+        5,
+        "line 2 column 31: unexpected",
+        5,
+        "line 2 column 31: unexpected",
+    ),
+    // such a form and a limit
+    (
+        "scenario { processors 9\npages 257 deferred off }",
+        5,
+        "line 1 column 23: not_yet",
+        7,
+        "limit processors",
+    ),
+    (
+        "scenario { processors 1\npages 257 deferred on type t counted { a } }",
+        5,
+        "line 2 column 30: not_yet",
+        7,
+        "limit pages",
+    ),
+    // such a form and a script that isn't accepted
+    (
+        "scenario { processors 1 pages 1 deferred on type t counted { a }\nscript m plain { drop x } }",
+        5,
+        "line 1 column 52: not_yet",
+        6,
+        "script m line 2: rule 1",
+    ),
+    // handlers: a level and a processor that there are not, and scripts of the other kind
+    (
+        "scenario { processors 1 pages 1 deferred off\nscript m plain { } at 0 1 4 m }",
+        5,
+        "line 2 column 27: range",
+        5,
+        "line 2 column 27: range",
+    ),
+    (
+        "scenario { processors 1 pages 1 deferred off\nscript h handler { } at 1 1 1 h }",
+        5,
+        "line 2 column 25: range",
+        5,
+        "line 2 column 25: range",
+    ),
+    (
+        "scenario { processors 1 pages 1 deferred off\nscript m plain { } at 0 1 1 m }",
+        5,
+        "line 2 column 29: wrong",
+        5,
+        "line 2 column 29: wrong",
+    ),
+    (
+        "scenario { processors 1 pages 1 deferred off\nscript h handler { } run 0 h }",
+        5,
+        "line 2 column 28: wrong",
+        5,
+        "line 2 column 28: wrong",
+    ),
+    // a fault and a limit
+    (
+        "scenario { processors 1 pages 257 deferred off\nscript m plain { x } }",
+        5,
+        "line 2 column 18: unexpected",
+        5,
+        "line 2 column 18: unexpected",
+    ),
+    // a limit and a script that isn't accepted
+    (
+        "scenario { processors 1 pages 257 deferred off\nscript m plain { drop x } }",
+        7,
+        "limit pages",
+        7,
+        "limit pages",
+    ),
+    (
+        "scenario { processors 1 pages 1 deferred off\nscript m plain { repeat 19990 { drop x } } run 0 m }",
+        7,
+        "limit statements",
+        7,
+        "limit statements",
+    ),
+    (
+        "scenario { processors 1 pages 257 deferred on\nscript m plain { drop x } }",
+        7,
+        "limit pages",
+        7,
+        "limit pages",
+    ),
+    // two limits
+    (
+        "scenario { processors 1 pages 257 deferred off script m plain { repeat 20000 { } } run 0 m }",
+        7,
+        "limit pages",
+        7,
+        "limit pages",
+    ),
+];
+
+fn are_told(
+    rt: &impl Abort,
+    alloc: Global,
+    rows: &[(&str, u8, &str, u8, &str)],
+) -> Result<(), Fail> {
+    for (text, replayed, line, checked, other) in rows {
+        let told = format!(in alloc; "bpfmem: {line}\n")?;
+        is_refused(rt, alloc, REPLAY, text, *replayed, told.as_str(), text)?;
+        is_refused(rt, alloc, TOTALS, text, *replayed, told.as_str(), text)?;
+        let told = format!(in alloc; "bpfmem: {other}\n")?;
+        is_refused(rt, alloc, CHECK, text, *checked, told.as_str(), text)?;
+    }
+    Ok(())
+}
+
+#[test]
+fn the_first_cause_is_told(rt: HostRuntime) -> Result<(), Fail> {
+    are_told(&rt, rt.alloc(), CAUSES)
+}
+
+// The four units of the opening go back, in the four steps of the closing.
+const NO_OBJECT: &str = "total steps 4
+total given 0
+total empty 0
+total busy 0
+total last 0
+total still 0
+total acquired 0
+total exchanged 0
+total pushed 0
+total already 0
+total taken 0
+total none 0
+total raised 0
+total worked 0
+total fetched 4
+total returned 4
+total plain 0
+total tracing 1
+total handlers 0
+";
+
+// No type, so no unit.
+const NO_UNIT: &str = "total steps 0
+total given 0
+total empty 0
+total busy 0
+total last 0
+total still 0
+total acquired 0
+total exchanged 0
+total pushed 0
+total already 0
+total taken 0
+total none 0
+total raised 0
+total worked 0
+total fetched 0
+total returned 0
+total plain 0
+total tracing 0
+total handlers 0
+";
+
+// A `run` line costs 10, a `repeat` 1 and for each time 1, so that 19,989 times are the most.
+#[test]
+fn a_processor_runs_20_000_statements(rt: HostRuntime) -> Result<(), Fail> {
+    let most = with_body(rt.alloc(), "type item { a }", "repeat 19989 { }")?;
+    let more = with_body(rt.alloc(), "type item { a }", "repeat 19990 { }")?;
+    let err = "bpfmem: limit statements\n";
+    let called = call(rt.alloc(), CHECK, most.as_bytes())?;
+    agrees(&rt, &called, 0, "accepted\n", "", "19989");
+    let called = call(rt.alloc(), TOTALS, most.as_bytes())?;
+    agrees(&rt, &called, 0, NO_OBJECT, "", "19989");
+    let called = call(rt.alloc(), CHECK, more.as_bytes())?;
+    agrees(&rt, &called, 7, "", err, "19990");
+    let called = call(rt.alloc(), REPLAY, more.as_bytes())?;
+    agrees(&rt, &called, 7, "", err, "19990");
+    Ok(())
+}
+
+// A text that plans so many handlers, of which none runs.
+fn with_planned(alloc: Global, count: u32) -> Result<String, Fail> {
+    let mut text = format!(in alloc;
+        "scenario {{ processors 1 pages 0 deferred off script h handler {{ }}"
+    )?;
+    for _ in 0..count {
+        text.push_str(" at 0 1 1 h")?;
+    }
+    text.push_str(" }")?;
+    Ok(text)
+}
+
+#[test]
+fn a_text_plans_1_000_handlers(rt: HostRuntime) -> Result<(), Fail> {
+    let most = with_planned(rt.alloc(), 1000)?;
+    let more = with_planned(rt.alloc(), 1001)?;
+    let err = "bpfmem: limit handlers\n";
+    let called = call(rt.alloc(), CHECK, most.as_bytes())?;
+    agrees(&rt, &called, 0, "accepted\n", "", "1000");
+    let called = call(rt.alloc(), TOTALS, most.as_bytes())?;
+    agrees(&rt, &called, 0, NO_UNIT, "", "1000");
+    is_refused(&rt, rt.alloc(), CHECK, more.as_str(), 7, err, "1001")?;
+    is_refused(&rt, rt.alloc(), REPLAY, more.as_str(), 7, err, "1001")
+}
+
+// Each front of a text that ends before its last brace is refused, at its end or at the place of a token that was cut.
+const CUTS: &[(usize, &str)] = &[
+    (0, "line 1 column 1: end"),
+    (5, "line 1 column 1: unexpected"),
+    (8, "line 1 column 9: end"),
+    (11, "line 2 column 1: end"),
+    (20, "line 2 column 1: unexpected"),
+    (22, "line 2 column 12: end"),
+    (60, "line 5 column 16: end"),
+    (102, "line 8 column 8: unexpected"),
+];
+
+fn are_cut_off(rt: &impl Abort, alloc: Global, rows: &[(usize, &str)]) -> Result<(), Fail> {
+    for (cut, line) in rows {
+        let told = format!(in alloc; "bpfmem: {line}\n")?;
+        let front = SCENARIO.get(..*cut).unwrap_or(SCENARIO);
+        is_refused(rt, alloc, REPLAY, front, 5, told.as_str(), line)?;
+        is_refused(rt, alloc, CHECK, front, 5, told.as_str(), line)?;
+    }
+    Ok(())
+}
+
+// Each front ends with status 5, but the one without its last line feed, which is whole.
+fn fronts_are_refused(rt: &impl Abort, alloc: Global, text: &[u8]) -> Result<(), Fail> {
+    for cut in 0..text.len() {
+        let called = call(alloc, REPLAY, text.get(..cut).unwrap_or(text))?;
+        let status = if text.len() - cut > 1 { 5 } else { 0 };
+        assert_eq!(rt; called.status, status, "{cut}");
+    }
+    Ok(())
+}
+
+#[test]
+fn texts_that_were_cut_off(rt: HostRuntime) -> Result<(), Fail> {
+    are_cut_off(&rt, rt.alloc(), CUTS)?;
+    fronts_are_refused(&rt, rt.alloc(), SCENARIO.as_bytes())
+}
+
+#[test]
+fn each_refusal_has_its_status_and_line(rt: HostRuntime) -> Result<(), Fail> {
+    let mut err = bm_text::MemSink::new(rt.alloc(), 64, 64, Vec::new(rt.alloc()))?;
+    assert_eq!(rt; out_of_memory(&mut err).status, 4);
+    assert_eq!(rt; err.bytes(), b"bpfmem: out of memory\n".as_slice());
+    Ok(())
+}

@@ -1,0 +1,86 @@
+//! Two lives of one unit, from the pool back to the pool.
+
+ghost use Rattle.std.specs.Prelude.{◌≡◌, ◌∷◌, [], true};
+ghost use Rattle.bm_post.specs.Rights.{IsSettled};
+ghost use Rattle.bm_world.specs.LivingState.{rights_living};
+
+use crate::pools::one_page;
+use bm_class::Class;
+use bm_grace::PlainGrace;
+use bm_journal::ObjId;
+use bm_page::Unit;
+use bm_post::{PlainPost, Post};
+use bm_world::{LivingSide, OneSide};
+use std::process::Abort;
+
+/// The side of the one processor, where nothing lives and no object was asked for.
+fn living_side(rt: &(impl Abort + AllocGlobal)) -> LivingSide
+    ensures asked { result.asked ≡ 0 }
+    ensures processors { result.side.grace.processors ≡ 1 }
+{
+    match PlainPost::create(rt.alloc(), one_page(rt), 1) {
+        Ok(post) => match LivingSide::create(rt.alloc(), OneSide::new(post, PlainGrace::new(1))) {
+            Ok(world) => world,
+            Err(_side) => panic!(rt; "there is memory for what lives"),
+        },
+        Err(_pool) => panic!(rt; "there is memory for the inboxes"),
+    }
+}
+
+/// A unit of a class, which may be used again, and whose home is processor 0.
+fn fetch_one(rt: &(impl Abort + AllocGlobal), world: &mut LivingSide, class: Class) -> Unit
+    ensures mine { (rights_living world.new).mine result.number ≡ true }
+    ensures settled { IsSettled (rights_living world.new) result }
+    ensures home { result.home ≡ 0 }
+    ensures asked { world.new.asked ≡ world.old.asked }
+    ensures processors { world.new.side.grace.processors ≡ world.old.side.grace.processors }
+{
+    let mut units = Vec::new(rt.alloc());
+    let count = world
+        .fetch(class, 1, &mut units)
+        .expect(rt, "there is memory for the unit");
+    assert!(rt; count == 1);
+    let mut unit = units.pop().expect(rt, "a unit");
+    assert!(rt; units.is_empty());
+    units.destroy_empty();
+    unit.set_home(0);
+    unit
+}
+
+/// One unit.
+fn parcel_of(rt: &(impl Abort + AllocGlobal), unit: Unit) -> Vec<Unit>
+    ensures { result.items ≡ unit ∷ [] }
+{
+    let mut units = Vec::with_capacity(rt.alloc(), 1).expect(rt, "memory");
+    if let Err(_refused) = units.push(unit) {
+        panic!(rt; "memory");
+    }
+    units
+}
+
+#[test]
+fn a_unit_lives_twice(rt: HostRuntime) {
+    let class = Class::new(1).expect(&rt, "an index is a class");
+    let mut world = living_side(&rt);
+    let unit = fetch_one(&rt, &mut world, class);
+    assert_eq!(rt; unit.number(), 0);
+    assert_eq!(rt; unit.life(), 0);
+    let object = world.begin_life(unit);
+    assert!(rt; object == ObjId { unit: 0, life: 1 });
+    let ended = world.end_life(object.unit);
+    assert_eq!(rt; ended.life(), 1);
+    world.put_back(parcel_of(&rt, ended));
+    world.ask();
+    let again = fetch_one(&rt, &mut world, class);
+    assert_eq!(rt; again.number(), 0);
+    assert_eq!(rt; again.life(), 1);
+    let second = world.begin_life(again);
+    assert!(rt; second == ObjId { unit: 0, life: 2 });
+    let last = world.end_life(second.unit);
+    world.put_back(parcel_of(&rt, last));
+    let (side, slots, asked) = world.into_parts();
+    assert_eq!(rt; asked, 3);
+    slots.give_up();
+    let (post, _grace) = side.into_parts();
+    post.give_up();
+}

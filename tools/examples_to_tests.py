@@ -1,0 +1,60 @@
+#!/usr/bin/env python3
+"""Writes the scenarios and journals of examples/ as the constants that the tests of the program walk through.
+
+The files of examples/ are the home of these texts. A test can't read files, so it has them as constants, in
+crates/bm_tests_tool/src/examples/, one file an example, and a table of them in crates/bm_tests_tool/src/examples.rt.
+
+    tools/examples_to_tests.py            writes these files
+    tools/examples_to_tests.py --check    writes nothing; ends with 1 where one of them isn't what it would be
+"""
+import pathlib
+import sys
+
+TOP = pathlib.Path(__file__).resolve().parent.parent
+EXAMPLES = TOP / "examples"
+SOURCES = TOP / "crates/bm_tests_tool/src"
+
+
+def constant(name: str, text: str) -> str:
+    if '"' in text or "\\" in text:
+        sys.exit(f"a text with a quote or a backslash can't be written so: {name}")
+    return f'pub(crate) const {name}: &str = "{text}";\n'
+
+
+def files() -> dict[pathlib.Path, str]:
+    names = sorted(file.stem for file in EXAMPLES.glob("*.scenario"))
+    made = {}
+    for name in names:
+        scenario = (EXAMPLES / f"{name}.scenario").read_text()
+        journal = (EXAMPLES / f"{name}.journal").read_text()
+        made[SOURCES / "examples" / f"{name}.rt"] = (
+            f"//! The example {name}, as it stands in examples/.\n\n"
+            + constant("SCENARIO", scenario)
+            + "\n"
+            + constant("JOURNAL", journal)
+        )
+    rows = "".join(f"    ({name}::SCENARIO, {name}::JOURNAL),\n" for name in names)
+    made[SOURCES / "examples.rt"] = (
+        "//! The scenarios of examples/ with their journals, as tools/examples_to_tests.py writes them. The journals are worked out\n"
+        "//! by hand from the rules.\n\n"
+        + "".join(f"pub(crate) mod {name};\n" for name in names)
+        + "\n/// Each scenario with its journal.\npub(crate) const EXAMPLES: &[(&str, &str)] = &[\n"
+        + rows
+        + "];\n"
+    )
+    return made
+
+
+def main() -> None:
+    made = files()
+    if sys.argv[1:] == ["--check"]:
+        other = [str(file) for file, text in made.items() if not file.exists() or file.read_text() != text]
+        sys.exit("not as in examples/: " + ", ".join(other) if other else 0)
+    if sys.argv[1:]:
+        sys.exit(__doc__)
+    for file, text in made.items():
+        file.parent.mkdir(parents=True, exist_ok=True)
+        file.write_text(text)
+
+
+main()
