@@ -1,7 +1,7 @@
 #!/bin/sh
 # Times crates/bm_tree beside the toolchain's BTreeMap, in one run: a million random inserts, and then each item taken out, the
 # least first. The map's key is (key, serial), so that it keeps equal keys apart. The program stands in a workspace of its own, in a
-# temporary folder, and is built as `rt run` builds it. Prints milliseconds. From the top of the repository: tools/tree_bench.sh
+# temporary folder; it is proved and built there by `rt run`, which takes some minutes. Prints milliseconds, and what rt says on standard error.
 set -e
 top=$(cd "$(dirname "$0")/.." && pwd)
 work=$(mktemp -d)
@@ -21,6 +21,7 @@ cat > crates/tree_bench/src/main.rt <<'PROGRAM'
 
 use bm_tree::RedBlack;
 use std::collections::BTreeMap;
+use std::process::Abort;
 use std::time::Instant;
 
 const ITEMS: u32 = 1000000;
@@ -29,42 +30,69 @@ fn next_random(state: u64) -> u64 {
     (state % 4294967296 * 1664525 + 1013904223) % 4294967296
 }
 
-fn main(rt: HostRuntime) {
-    let alloc = rt.alloc();
-    let start = Instant::now(&rt).expect(&rt, "the clock");
-    let mut tree: RedBlack<u32> = RedBlack::new(alloc);
+fn mixed(sum: u64, key: u32, serial: u32) -> u64 {
+    (sum % 4294967296 * 31 + key as u64 + serial as u64) % 4294967296
+}
+
+fn tree_sum(rt: &(impl Abort + AllocGlobal), tree: &mut RedBlack<u32>) -> u64 {
+    let mut sum: u64 = 0;
+    for _ in 0..ITEMS {
+        let (key, serial) = tree.pop_least().expect(rt, "an item");
+        sum = mixed(sum, key, serial);
+    }
+    sum
+}
+
+fn fill_tree(rt: &(impl Abort + AllocGlobal), tree: &mut RedBlack<u32>) {
     let mut state: u64 = 7;
     for serial in 0..ITEMS {
         state = next_random(state);
-        assert!(&rt; tree.len() < 2000000);
         let key = (state / 4096 % 500000) as u32;
-        assert!(&rt; tree.insert(key, serial).is_ok());
+        let room = tree.len() < 2000000;
+        assert!(rt; room);
+        let inserted = tree.insert(key, serial);
+        assert!(rt; inserted.is_ok());
     }
-    let inserted = start.elapsed(&rt).expect(&rt, "the clock").as_millis();
-    let mut sum: u64 = 0;
-    while let Some((key, serial)) = tree.pop_least() {
-        sum = (sum * 31 + key as u64 + serial as u64) % 4294967296;
-    }
-    let taken = start.elapsed(&rt).expect(&rt, "the clock").as_millis();
+}
 
-    let second = Instant::now(&rt).expect(&rt, "the clock");
-    let mut map: BTreeMap<(u32, u32), u32> = BTreeMap::new(alloc);
-    state = 7;
+fn map_sum(rt: &(impl Abort + AllocGlobal), map: &mut BTreeMap<(u32, u32), u32>) -> u64 {
+    let mut sum: u64 = 0;
+    for _ in 0..ITEMS {
+        let ((key, serial), _) = map.pop_first().expect(rt, "an item");
+        sum = mixed(sum, key, serial);
+    }
+    sum
+}
+
+fn fill_map(rt: &(impl Abort + AllocGlobal), map: &mut BTreeMap<(u32, u32), u32>) {
+    let mut state: u64 = 7;
     for serial in 0..ITEMS {
         state = next_random(state);
         let key = (state / 4096 % 500000) as u32;
-        assert!(&rt; map.insert((key, serial), serial).is_ok());
+        let inserted = map.insert((key, serial), serial);
+        assert!(rt; inserted.is_ok());
     }
-    let map_inserted = second.elapsed(&rt).expect(&rt, "the clock").as_millis();
-    let mut map_sum: u64 = 0;
-    while let Some(((key, serial), _)) = map.pop_first() {
-        map_sum = (map_sum * 31 + key as u64 + serial as u64) % 4294967296;
-    }
-    let map_taken = second.elapsed(&rt).expect(&rt, "the clock").as_millis();
-    assert!(&rt; sum == map_sum);
-    let _ = println!(rt; "tree: inserts {inserted} ms, all {taken} ms");
-    let _ = println!(rt; "map: inserts {map_inserted} ms, all {map_taken} ms");
+}
+
+fn main(rt: HostRuntime) {
+    let start = Instant::now(&rt).expect(&rt, "the clock");
+    let mut tree: RedBlack<u32> = RedBlack::new(rt.alloc());
+    fill_tree(&rt, &mut tree);
+    let filled = start.elapsed(&rt).expect(&rt, "the clock").as_millis();
+    let of_tree = tree_sum(&rt, &mut tree);
+    let emptied = start.elapsed(&rt).expect(&rt, "the clock").as_millis();
+
+    let start = Instant::now(&rt).expect(&rt, "the clock");
+    let mut map: BTreeMap<(u32, u32), u32> = BTreeMap::new(rt.alloc());
+    fill_map(&rt, &mut map);
+    let map_filled = start.elapsed(&rt).expect(&rt, "the clock").as_millis();
+    let of_map = map_sum(&rt, &mut map);
+    let map_emptied = start.elapsed(&rt).expect(&rt, "the clock").as_millis();
+
+    assert!(&rt; of_tree == of_map);
+    let _ = println!(rt; "RedBlack: inserts {filled} ms, with takes {emptied} ms");
+    let _ = println!(rt; "BTreeMap: inserts {map_filled} ms, with takes {map_emptied} ms");
 }
 PROGRAM
 cd crates/tree_bench
-rt try
+rt run
