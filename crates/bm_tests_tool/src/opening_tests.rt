@@ -25,7 +25,7 @@ fn two_classes(rt: &impl Abort) -> [Class; 2]
 /// What its log tells is counted here, entry by entry: units 0, 1, 2 and 3 filled the least class. Its page was the only one, so
 /// none was left for the greatest. No handler is planned, and there is a table for each of three.
 #[test]
-#[tactic(auto, using(crate::proofs::Started::idle_program))]
+#[tactic(auto, using(bm_opening::proofs::Started::idle_program))]
 fn the_first_class_takes_the_only_page(rt: HostRuntime) -> Result<(), Fail> {
     let classes = two_classes(&rt);
     let scenario = read_scenario(rt.alloc(), TEXT)?;
