@@ -1,5 +1,5 @@
 -- Chains when a link or a head is written.
-use Rattle.std.proofs.Common.{◌≡◌, ◌≢◌, ◌<◌, ◌≤◌, ℕ, zero, suc, ◌+◌, ◌++◌, List, [], ◌∷◌, length, set, get_or, get_or-set_other, get_or-set_same, ◌-◌, drop, take, replicate, true, eq-eqb, refl, sym, ◌∙◌, ap, arith, add-one, eqb, cond, subst, inl, inr}
+use Rattle.std.proofs.Common.{◌≡◌, ◌≢◌, ◌<◌, ◌≤◌, ℕ, zero, suc, ◌+◌, ◌++◌, List, [], ◌∷◌, length, set, get_or, get_or-set_other, get_or-set_same, ◌-◌, drop, take, replicate, length-append, true, eq-eqb, refl, sym, ◌∙◌, ap, arith, add-one, eqb, cond, subst, inl, inr}
 use Rattle.std.specs.List.{All}
 use Rattle.std.proofs.lemmas.List.{map-set, get_or-map, length-map, length-set}
 use Rattle.std.proofs.lemmas.List.Elements.{All-head, All-tail, All-cons, All-nil, All-set, All-get_or, All-replicate}
@@ -7,7 +7,7 @@ use Rattle.std.proofs.lemmas.Bool.Decides.{eqb_tells}
 use Rattle.bm_law.specs.Stands.{times, AllUnder}
 use Rattle.bm_law.proofs.Stands.{times-append, times-take-drop, length-once}
 use Rattle.bm_cache_lists.specs.declared.links.Head.{Head}
-use Rattle.bm_cache_lists.specs.Chain.{Chain, follow, chain_of, chains, Ends, joined, Linked}
+use Rattle.bm_cache_lists.specs.Chain.{Chain, follow, chain_of, chains, Ends, joined, Linked, IsLonger}
 
 -- a number that stands nowhere in a list isn't its first, and stands nowhere below
 pub not-first : (x y : ℕ) (ys : List ℕ) → times x (y ∷ ys) ≡ 0 → y ≢ x
@@ -25,7 +25,7 @@ pub chain-other : (next : List ℕ) (x v h : ℕ) (xs : List ℕ) → times x xs
 chain-other next x v h [] t c = c
 chain-other next x v h (y ∷ ys) t c =
     let e : get_or (set next x v) y 0 ≡ get_or next y 0 = get_or-set_other next x y v 0 (not-first x y ys t) in
-    (c.0, c.1, rw e (chain-other next x v (get_or next y 0) ys (not-below x y ys t) c.2))
+    (c.0, rw (length-set next x v) c.1, rw e (chain-other next x v (get_or next y 0) ys (not-below x y ys t) c.2))
 
 pub follow-other : (next : List ℕ) (x v n h : ℕ) → times x (follow next n h) ≡ 0 → follow (set next x v) n h ≡ follow next n h
 follow-other next x v zero h t = refl
@@ -70,8 +70,8 @@ times-of n [] k = omega arith
 times-of n (xs ∷ xss) zero = omega (arith, times-append n xs (joined xss))
 times-of n (xs ∷ xss) (suc k) = omega (arith, times-append n xs (joined xss), times-of n xss k)
 
--- the numbers of a chain are below 65,536, so there are at most as many
-pub chain-under : (next : List ℕ) (h : ℕ) (xs : List ℕ) → Chain next h xs → AllUnder 65536 xs
+-- the numbers of a chain have links, so there are at most as many
+pub chain-under : (next : List ℕ) (h : ℕ) (xs : List ℕ) → Chain next h xs → AllUnder (length next) xs
 chain-under next h [] c = tt
 chain-under next h (x ∷ xs) c = (c.1, chain-under next _ xs c.2)
 
@@ -100,7 +100,7 @@ pub ends-at : (next : List ℕ) (hs : List Head) (k : ℕ) → Linked next hs �
 ends-at next hs k l h = All-get_or (Ends next) hs k none (within next hs k l h) l.ends
 
 -- a list with a number: its first number, and what follows it
-pub first-under : (next : List ℕ) (n f : ℕ) → n ≢ 0 → Chain next f (follow next n f) → f < 65536
+pub first-under : (next : List ℕ) (n f : ℕ) → n ≢ 0 → Chain next f (follow next n f) → f < length next
 first-under next zero f z c = absurd (z refl)
 first-under next (suc n) f z c = c.1
 
@@ -122,8 +122,8 @@ length-under next hs k l h =
     let xs = chain_of next (get_or hs k none) in
     let e = at-chain next hs k (within next hs k l h) in
     let o : (n : ℕ) → times n xs ≤ 1 = λ n. let t : times n xs ≤ times n (joined (chains next hs)) = subst (λ (ys : List ℕ). times n ys ≤ times n (joined (chains next hs))) e (times-of n (chains next hs) k) in omega (arith, t, l.once n) in
-    let r : length xs ≤ 65536 = length-once 65536 xs (chain-under next _ xs (ends-at next hs k l h)) o in
-    omega (arith, r, length-follow next (get_or hs k none).length (get_or hs k none).first)
+    let r : length xs ≤ length next = length-once (length next) xs (chain-under next _ xs (ends-at next hs k l h)) o in
+    omega (arith, r, l.room, length-follow next (get_or hs k none).length (get_or hs k none).first)
 
 -- PUSH
 abbrev pub pushed : List Head → ℕ → ℕ → List Head
@@ -135,12 +135,12 @@ push-chain next n v len m =
     let e : get_or (set next n v) n 0 ≡ v = get_or-set_same next n v 0 m in
     rw (add-one, e) refl
 
-push-ends : (next : List ℕ) (n v len : ℕ) → n < length next → n < 65536 → Chain (set next n v) v (follow (set next n v) len v) → Chain (set next n v) n (follow (set next n v) (len + 1) n)
-push-ends next n v len m b c =
+push-ends : (next : List ℕ) (n v len : ℕ) → n < length next → Chain (set next n v) v (follow (set next n v) len v) → Chain (set next n v) n (follow (set next n v) (len + 1) n)
+push-ends next n v len m c =
     let e : get_or (set next n v) n 0 ≡ v = get_or-set_same next n v 0 m in
-    rw (push-chain next n v len m) (refl, b, rw e c)
+    rw (push-chain next n v len m) (refl, rw (length-set next n v) m, rw e c)
 
-pub push-view : (next : List ℕ) (hs : List Head) (k n : ℕ) → Linked next hs → k < 8 → n < 65536 → times n (joined (chains next hs)) ≡ 0 → chains (set next n (get_or hs k none).first) (pushed hs k n) ≡ set (chains next hs) k (n ∷ get_or (chains next hs) k [])
+pub push-view : (next : List ℕ) (hs : List Head) (k n : ℕ) → Linked next hs → k < 8 → n < length next → times n (joined (chains next hs)) ≡ 0 → chains (set next n (get_or hs k none).first) (pushed hs k n) ≡ set (chains next hs) k (n ∷ get_or (chains next hs) k [])
 push-view next hs k n l h m t =
     let o = get_or hs k none in
     let next' : List ℕ = set next n o.first in
@@ -148,9 +148,8 @@ push-view next hs k n l h m t =
     let e = at-chain next hs k (within next hs k l h) in
     let z : times n (get_or (chains next hs) k []) ≡ 0 = omega (arith, t, times-of n (chains next hs) k) in
     let y : times n (chain_of next o) ≡ 0 = subst (λ (ys : List ℕ). times n ys ≡ 0) e z in
-    let b : n < length next = omega (arith, m, l.room) in
     let q : chain_of next' h' ≡ n ∷ get_or (chains next hs) k [] =
-    push-chain next n o.first o.length b ∙ ap (λ (ys : List ℕ). n ∷ ys) (follow-other next n o.first o.length o.first y) ∙ ap (λ (ys : List ℕ). n ∷ ys) (sym e) in
+    push-chain next n o.first o.length m ∙ ap (λ (ys : List ℕ). n ∷ ys) (follow-other next n o.first o.length o.first y) ∙ ap (λ (ys : List ℕ). n ∷ ys) (sym e) in
     map-set (chain_of next') hs k h' ∙ ap (λ (xss : List (List ℕ)). set xss k (chain_of next' h')) (chains-other next n o.first hs t) ∙ ap (λ (ys : List ℕ). set (chains next hs) k ys) q
 
 -- a number that stood nowhere goes on a list
@@ -167,18 +166,17 @@ push-once xss k n h o t x =
     let f : cond (eqb x n) 1 0 + times x (joined xss) ≤ 1 = fresh-once n x 0 (times x (joined xss)) 0 refl (o x) (λ q. subst (λ (y : ℕ). times y (joined xss) ≡ 0) q t) in
     omega (arith, s, f)
 
-pub linked-push : (next : List ℕ) (hs : List Head) (k n : ℕ) → Linked next hs → k < 8 → n < 65536 → times n (joined (chains next hs)) ≡ 0 → Linked (set next n (get_or hs k none).first) (pushed hs k n)
+pub linked-push : (next : List ℕ) (hs : List Head) (k n : ℕ) → Linked next hs → k < 8 → n < length next → times n (joined (chains next hs)) ≡ 0 → Linked (set next n (get_or hs k none).first) (pushed hs k n)
 linked-push next hs k n l h m t =
     let o = get_or hs k none in
     let next' : List ℕ = set next n o.first in
     let h' : Head = record { first = n; length = o.length + 1 } in
-    let b : n < length next = omega (arith, m, l.room) in
     let others = all-other next n o.first hs t l.ends in
     let mine : Ends next' o = All-get_or (Ends next') hs k none (within next hs k l h) others in
     record {
-      room = length-set next n o.first ∙ l.room;
+      room = rw (length-set next n o.first) l.room;
       eight = length-set hs k h' ∙ l.eight;
-      ends = All-set (Ends next') hs k h' (push-ends next n o.first o.length b m mine) others;
+      ends = All-set (Ends next') hs k h' (push-ends next n o.first o.length m mine) others;
       once = λ x. rw (push-view next hs k n l h m t) (push-once (chains next hs) k n (within-chains next hs k l h) l.once t x);
     }
 
@@ -215,7 +213,7 @@ top-is next hs k l h z =
     let o = get_or hs k none in
     rw (at-chain next hs k (within next hs k l h)) (first-on next o.length o.first z)
 
-pub top-under : (next : List ℕ) (hs : List Head) (k : ℕ) → Linked next hs → k < 8 → (get_or hs k none).length ≢ 0 → (get_or hs k none).first < 65536
+pub top-under : (next : List ℕ) (hs : List Head) (k : ℕ) → Linked next hs → k < 8 → (get_or hs k none).length ≢ 0 → (get_or hs k none).first < length next
 top-under next hs k l h z = first-under next (get_or hs k none).length (get_or hs k none).first z (ends-at next hs k l h)
 
 pub empty-is : (next : List ℕ) (hs : List Head) (k : ℕ) → Linked next hs → k < 8 → (get_or hs k none).length ≡ 0 → get_or (chains next hs) k [] ≡ []
@@ -269,10 +267,57 @@ linked-hand next hs from to l h k e =
     }
 
 -- at the beginning
-pub linked-new : (next : List ℕ) → length next ≡ 65536 → Linked next (replicate 8 over)
+pub linked-new : (next : List ℕ) → length next ≡ 0 → Linked next (replicate 8 over)
 linked-new next e = record {
-  room = e;
+  room = omega (arith, e);
   eight = refl;
   ends = All-replicate (Ends next) 8 over refl;
   once = λ n. omega arith;
+}
+
+-- A ROW OF LINKS THAT GREW: what was read of it is read as before
+module _ (was is : List ℕ) (g : IsLonger 0 was is) where
+  follow-longer : (n h : ℕ) → follow is n h ≡ follow was n h
+  follow-longer zero h = refl
+  follow-longer (suc n) h = rw (g.same h) (ap (λ (xs : List ℕ). h ∷ xs) (follow-longer n (get_or was h 0)))
+
+  pub chains-longer : (hs : List Head) → chains is hs ≡ chains was hs
+  chains-longer [] = refl
+  chains-longer (h ∷ hs) = rw (follow-longer h.length h.first, chains-longer hs) refl
+
+  chain-longer : (h : ℕ) (xs : List ℕ) → Chain was h xs → Chain is h xs
+  chain-longer h [] c = c
+  chain-longer h (x ∷ xs) c =
+      let b : x < length is = omega (arith, c.1, g.longer) in
+      (c.0, b, rw (g.same x) (chain-longer (get_or was x 0) xs c.2))
+
+  ends-longer : (h : Head) → Ends was h → Ends is h
+  ends-longer h c = rw (follow-longer h.length h.first) (chain-longer h.first (chain_of was h) c)
+
+  all-longer : (hs : List Head) → All (Ends was) hs → All (Ends is) hs
+  all-longer [] a = All-nil (Ends is)
+  all-longer (h ∷ hs) a = All-cons (Ends is) h hs (ends-longer h (All-head (Ends was) h hs a)) (all-longer hs (All-tail (Ends was) h hs a))
+
+  pub linked-longer : (hs : List Head) → length is ≤ 65536 → Linked was hs → Linked is hs
+  linked-longer hs r l = record {
+    room = r;
+    eight = l.eight;
+    ends = all-longer hs l.ends;
+    once = λ n. rw (chains-longer hs) (l.once n);
+  }
+
+-- what isn't there is read as blank, so a blank may be added
+blank-read : {A : Type 0} (blank : A) (xs : List A) (i : ℕ) → get_or (xs ++ blank ∷ []) i blank ≡ get_or xs i blank
+blank-read blank [] zero = refl
+blank-read blank [] (suc i) = refl
+blank-read blank (x ∷ xs) zero = refl
+blank-read blank (x ∷ xs) (suc i) = blank-read blank xs i
+
+pub longer-none : {A : Type 0} (blank : A) (was : List A) → IsLonger blank was was
+longer-none blank was = record { longer = omega arith; same = λ i. refl }
+
+pub longer-one : {A : Type 0} (blank : A) (was is : List A) → IsLonger blank was is → IsLonger blank was (is ++ blank ∷ [])
+longer-one blank was is g = record {
+  longer = omega (arith, g.longer, length-append is (blank ∷ []));
+  same = λ i. blank-read blank is i ∙ g.same i;
 }

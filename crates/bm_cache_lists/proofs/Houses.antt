@@ -1,8 +1,9 @@
 -- Units in their places, when a list or a place is written.
 use Rattle.std.proofs.Common.{◌≡◌, ◌≢◌, ◌<◌, ◌≤◌, ℕ, zero, suc, ◌+◌, ◌++◌, Option, Some, None, is_some, true, List, [], ◌∷◌, length, drop, map, set, get_or, get_or-set_other, get_or-set_same, refl, sym, ◌∙◌, ap, arith, eqb, cond, subst, inl, inr, eq-eqb, MatchOption}
-use Rattle.std.proofs.lemmas.List.{map-set, get_or-map, get_or_read, get_or_past, length-set, drop-map, map-append}
+use Rattle.std.proofs.lemmas.List.{map-set, get_or-map, get_or_read, get_or_past, length-map, length-set, drop-map, map-append}
 use Rattle.std.proofs.lemmas.Bool.Decides.{eqb_tells}
 use Rattle.std.proofs.lemmas.Bool.{cases_lt}
+use mathlib.Core.Path.{fun_ext}
 use Rattle.bm_page.specs.UnitState.{UnitState}
 use Rattle.bm_law.specs.State.{Row, seen_row, empty_row}
 use Rattle.bm_law.specs.Stands.{times, in_row}
@@ -12,6 +13,7 @@ use Rattle.bm_cache_lists.specs.Stacks.{with_list, head_of}
 use Rattle.bm_cache_lists.specs.Housed.{unit_or, unit_at, rows_of, all_in, taken, Housed, row_at, number_of}
 use Rattle.bm_journal.specs.declared.change.Stack.{Stack}
 use Rattle.bm_journal.specs.declared.change.Stack.TheVariants.{Free, Extra, Delayed, ExtraDelayed, First, Ready, Second}
+use Rattle.bm_cache_lists.specs.Chain.{IsLonger}
 use Rattle.bm_cache_lists.proofs.Chains.{not-first, not-below}
 use Rattle.bm_cache_lists.proofs.Heads.{row_of-set, list_at-row_of, index-two}
 
@@ -94,6 +96,10 @@ with-other j k xs r d =
     let c = get_or-set_other ls (head_of k) (head_of j) xs [] (index-two j k d) in
     let e = list_at-row_of r.active r.count r.raised r.target r.deferred.plain r.deferred.tracing j ls in
     sym a ∙ b ∙ c ∙ sym e
+
+-- there are eleven rows
+pub eleven-rows : (places : List (Option UnitState)) (lines : List (Row ℕ)) (rows : List (Row UnitState)) → Housed places lines → rows_of places lines ≡ rows → length rows ≡ 11
+eleven-rows places lines rows h v = ap (λ (rs : List (Row UnitState)). length rs) (sym v) ∙ length-map lines (seen_row (unit_at places)) ∙ h.eleven
 
 -- WRITES THAT LEAVE THE PLACES
 pub line-is : (places : List (Option UnitState)) (lines : List (Row ℕ)) (c : ℕ) (x : Row ℕ) → Housed places lines → c < 11 → x ≡ get_or lines c x → x ≡ row_at lines c
@@ -195,14 +201,35 @@ own-set places n o h e q m =
       | inr s ↦ ap (λ (u : UnitState). u.number) (unit-other places n o m s.1) ∙ q m
     ]
 
+-- a place that has a unit is there
+taken-in : (places : List (Option UnitState)) (n : ℕ) → taken places n ≡ 1 → n < length places
+taken-in places n t =
+    elim (cases_lt n (length places)) [
+      | inl i ↦ i
+      | inr j ↦ let z : taken places n ≡ 0 = ap (λ (o : Option UnitState). cond (is_some o) 1 0) (get_or_past places n None j) in absurd (omega (arith, z, t))
+    ]
+
+-- places that grew: what they have is what they had
+module _ (was is : List (Option UnitState)) (g : IsLonger None was is) where
+  units-longer : unit_at is ≡ unit_at was
+  units-longer = fun_ext (λ n. ap (unit_or n) (g.same n))
+
+  pub rows-longer : (lines : List (Row ℕ)) → rows_of is lines ≡ rows_of was lines
+  rows-longer lines = ap (λ (f : ℕ → UnitState). map (seen_row f) lines) units-longer
+
+  pub housed-longer : (lines : List (Row ℕ)) → length is ≤ 65536 → Housed was lines → Housed is lines
+  housed-longer lines r h = record {
+    room = r;
+    eleven = h.eleven;
+    housed = λ n. h.housed n ∙ ap (λ (o : Option UnitState). cond (is_some o) 1 0) (sym (g.same n));
+    own = λ n. ap (λ (f : ℕ → UnitState). (f n).number) units-longer ∙ h.own n;
+  }
+
 -- POP: the number n leaves the top of list k of row c, and its unit leaves the place
-module _ (places : List (Option UnitState)) (lines : List (Row ℕ)) (c n : ℕ) (k : Stack) (x y : Row ℕ) (h : Housed places lines) (l : c < 11) (b : n < 65536)
+module _ (places : List (Option UnitState)) (lines : List (Row ℕ)) (c n : ℕ) (k : Stack) (x y : Row ℕ) (h : Housed places lines) (l : c < 11)
     (e : x ≡ get_or lines c x) (q : y ≡ with_list k (drop 1 (list_at k x)) x) (t : list_at k x ≡ n ∷ drop 1 (list_at k x)) (g : in_row n y ≡ 0) where
   inside : c < length lines
   inside = omega (arith, h.eleven, l)
-
-  place : n < length places
-  place = omega (arith, h.room, b)
 
   pop-in : (m : ℕ) → in_row m y + times m (n ∷ drop 1 (list_at k x)) ≡ in_row m (row_at lines c) + times m (drop 1 (list_at k x))
   pop-in m =
@@ -218,12 +245,15 @@ module _ (places : List (Option UnitState)) (lines : List (Row ℕ)) (c n : ℕ)
   pub pop-was : taken places n ≡ 1
   pop-was = omega (arith, pop-all n, self-once n (drop 1 (list_at k x)), h.housed n, taken-one places n)
 
+  pub place : n < length places
+  place = taken-in places n pop-was
+
   pub pop-none : all_in n (set lines c y) ≡ 0
   pop-none = omega (arith, pop-all n, self-once n (drop 1 (list_at k x)), h.housed n, taken-one places n)
 
   pub popped-housed : Housed (set places n None) (set lines c y)
   popped-housed = record {
-    room = length-set places n None ∙ h.room;
+    room = rw (length-set places n None) h.room;
     eleven = length-set lines c y ∙ h.eleven;
     housed = λ m. elim (eqb_tells m n) [
       | inl s ↦ let a : all_in n (set lines c y) ≡ taken (set places n None) n = pop-none ∙ sym (taken-set places n None place) in subst (λ (i : ℕ). all_in i (set lines c y) ≡ taken (set places n None) i) (sym s.1) a
@@ -252,7 +282,7 @@ module _ (places : List (Option UnitState)) (lines : List (Row ℕ)) (c n : ℕ)
   popped-unit (Some u) p = let z : unit_at places n ≡ u = ap (unit_or n) (sym p) in popped-top ∙ ap (λ (v : UnitState). v ∷ drop 1 (list_at k (row_at (rows_of places lines) c))) z
 
 -- PUSH
-module _ (places : List (Option UnitState)) (lines : List (Row ℕ)) (c : ℕ) (k : Stack) (u : UnitState) (x y : Row ℕ) (h : Housed places lines) (l : c < 11) (b : u.number < 65536)
+module _ (places : List (Option UnitState)) (lines : List (Row ℕ)) (c : ℕ) (k : Stack) (u : UnitState) (x y : Row ℕ) (h : Housed places lines) (l : c < 11)
     (f : (i : ℕ) → in_row u.number (seen_row number_of (row_at (rows_of places lines) i)) ≡ 0) (e : x ≡ get_or lines c x) where
   fresh-row : (i : ℕ) → i < 11 → in_row u.number (row_at lines i) ≡ 0
   fresh-row i j = sym (ap (in_row u.number) (ap (seen_row number_of) (row-seen places lines i h j) ∙ row-back (unit_at places) h.own (row_at lines i))) ∙ f i
@@ -273,7 +303,7 @@ module _ (places : List (Option UnitState)) (lines : List (Row ℕ)) (c : ℕ) (
       none None z = refl
       none (Some v) z = absurd (omega (arith, z))
 
-  module _ (q : y ≡ with_list k (u.number ∷ list_at k x) x) where
+  module _ (b : u.number < length places) (q : y ≡ with_list k (u.number ∷ list_at k x) x) where
     push-all : (m : ℕ) → all_in m (set lines c y) + times m (list_at k x) ≡ all_in m lines + times m (u.number ∷ list_at k x)
     push-all m =
         let a = in-with m k (u.number ∷ list_at k x) x in
@@ -283,15 +313,14 @@ module _ (places : List (Option UnitState)) (lines : List (Row ℕ)) (c : ℕ) (
 
     pub pushed-housed : Housed (set places u.number (Some u)) (set lines c y)
     pushed-housed =
-        let place : u.number < length places = omega (arith, h.room, b) in
         record {
-          room = length-set places u.number (Some u) ∙ h.room;
+          room = rw (length-set places u.number (Some u)) h.room;
           eleven = length-set lines c y ∙ h.eleven;
           housed = λ m. elim (eqb_tells m u.number) [
-            | inl s ↦ let a : all_in u.number (set lines c y) ≡ taken (set places u.number (Some u)) u.number = omega (arith, push-all u.number, self-once u.number (list_at k x), fresh-all, taken-set places u.number (Some u) place) in subst (λ (i : ℕ). all_in i (set lines c y) ≡ taken (set places u.number (Some u)) i) (sym s.1) a
+            | inl s ↦ let a : all_in u.number (set lines c y) ≡ taken (set places u.number (Some u)) u.number = omega (arith, push-all u.number, self-once u.number (list_at k x), fresh-all, taken-set places u.number (Some u) b) in subst (λ (i : ℕ). all_in i (set lines c y) ≡ taken (set places u.number (Some u)) i) (sym s.1) a
             | inr s ↦ let o = other-once m u.number (list_at k x) s.1 in omega (arith, o, push-all m, h.housed m, taken-other places u.number m (Some u) s.1)
           ];
-          own = own-set places u.number (Some u) place refl h.own;
+          own = own-set places u.number (Some u) b refl h.own;
         }
 
     pub pushed-view : rows_of (set places u.number (Some u)) (set lines c y) ≡ set (rows_of places lines) c (with_list k (u ∷ list_at k (row_at (rows_of places lines) c)) (row_at (rows_of places lines) c))
@@ -299,8 +328,7 @@ module _ (places : List (Option UnitState)) (lines : List (Row ℕ)) (c : ℕ) (
         let n = u.number in
         let ps : List (Option UnitState) = set places n (Some u) in
         let g = unit_at ps in
-        let place : n < length places = omega (arith, h.room, b) in
-        let gu : g n ≡ u = unit-same places n (Some u) place in
+        let gu : g n ≡ u = unit-same places n (Some u) b in
         let same : rows_of ps lines ≡ rows_of places lines = rows-other (unit_at places) g n (unit-other places n (Some u)) lines fresh-all in
         let d : seen_row g y ≡ with_list k (u ∷ list_at k (seen_row g x)) (seen_row g x) =
         ap (seen_row g) q ∙ seen-with g k (n ∷ list_at k x) x ∙ ap (λ (v : UnitState). with_list k (v ∷ map g (list_at k x)) (seen_row g x)) gu ∙ ap (λ (xs : List UnitState). with_list k (u ∷ xs) (seen_row g x)) (seen-in g k x) in

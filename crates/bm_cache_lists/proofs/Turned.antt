@@ -58,7 +58,7 @@ pub record Read (next : List ℕ) (len i at : ℕ) (done whole : List ℕ) : Typ
   pub chain : Chain next at (follow next (len - i) at)
   pub rest : done ++ follow next (len - i) at ≡ whole
 
-pub read-under : (next : List ℕ) (len i at : ℕ) (done whole : List ℕ) → i < len → Read next len i at done whole → at < 65536
+pub read-under : (next : List ℕ) (len i at : ℕ) (done whole : List ℕ) → i < len → Read next len i at done whole → at < length next
 read-under next len i at done whole h r =
     let e : len - i ≡ suc (len - (i + 1)) = omega arith in
     let c : Chain next at (follow next (suc (len - (i + 1))) at) = subst (λ (n : ℕ). Chain next at (follow next n at)) e r.chain in

@@ -5,10 +5,10 @@ use Rattle.std.specs.List.{All}
 use Rattle.bm_law.specs.Stands.{times}
 use Rattle.bm_cache_lists.specs.declared.links.Head.{Head}
 
--- Following the links from h gives the numbers xs, and then the end.
+-- Following the links from h gives the numbers xs, each of which has a link, and then the end.
 abbrev pub Chain : List ℕ → ℕ → List ℕ → Type 0
 Chain next h [] = h ≡ 65536
-Chain next h (x ∷ xs) = (h ≡ x) × (x < 65536) × Chain next (get_or next x 0) xs
+Chain next h (x ∷ xs) = (h ≡ x) × (x < length next) × Chain next (get_or next x 0) xs
 
 -- the first n numbers of it
 abbrev pub follow : List ℕ → ℕ → ℕ → List ℕ
@@ -31,9 +31,10 @@ abbrev pub joined : List (List ℕ) → List ℕ
 joined [] = []
 joined (xs ∷ xss) = xs ++ joined xss
 
--- There are eight lists. Each ends, and no number stands twice, in one list or in two.
+-- There are eight lists. Each ends, and no number stands twice, in one list or in two. Each number in them has a link; there
+-- are links up to the greatest number so far, and at most one for each number that a unit may have.
 pub record Linked (next : List ℕ) (heads : List Head) : Type 0 where
-  pub room : length next ≡ 65536
+  pub room : length next ≤ 65536
   pub eight : length heads ≡ 8
   pub ends : All (Ends next) heads
   pub once : (n : ℕ) → times n (joined (chains next heads)) ≤ 1
@@ -45,3 +46,8 @@ emptied from to f lists = set (set lists to (f (get_or lists from []))) from []
 -- what is on top of a list, and None exactly where the list is empty
 abbrev pub IsTop : {A : Type 0} → Option A → List A → Type 0
 IsTop o xs = MatchOption o (xs ≡ []) (λ x. xs ≡ x ∷ drop 1 xs)
+
+-- a row that is now as long or longer, where what was added reads as what isn't there
+pub record IsLonger {A : Type 0} (blank : A) (was is : List A) : Type 0 where
+  pub longer : length was ≤ length is
+  pub same : (i : ℕ) → get_or is i blank ≡ get_or was i blank

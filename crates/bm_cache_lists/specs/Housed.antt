@@ -24,9 +24,10 @@ all_in n (r ∷ rs) = in_row n r + all_in n rs
 abbrev pub taken : List (Option UnitState) → ℕ → ℕ
 taken places n = if is_some (get_or places n None) then 1 else 0
 
--- Each number in the lists stands there once, and its unit is in the place of this number; no other place has one.
+-- Each number in the lists stands there once, and its unit is in the place of this number; no other place has one. There are
+-- places up to the greatest number so far.
 pub record Housed (places : List (Option UnitState)) (lines : List (Row ℕ)) : Type 0 where
-  pub room : length places ≡ 65536
+  pub room : length places ≤ 65536
   pub eleven : length lines ≡ 11
   pub housed : (n : ℕ) → all_in n lines ≡ taken places n
   pub own : (n : ℕ) → (unit_at places n).number ≡ n

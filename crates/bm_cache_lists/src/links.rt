@@ -1,8 +1,9 @@
 //! Eight lists of numbers below 65,536 in one row of links. (`struct llist_node` of the kernel, with an index for a
 //! pointer.)
 
-ghost use Rattle.std.specs.Prelude.{◌≡◌, ◌≢◌, ◌<◌, ◌++◌, ◌∷◌, ℕ, List, [], length, drop, reverse, set, get_or, replicate, IfOk, IfSome, MatchOption};
+ghost use Rattle.std.specs.Prelude.{◌≡◌, ◌≢◌, ◌<◌, ◌≤◌, ◌++◌, ◌∷◌, ℕ, List, [], length, drop, reverse, set, get_or, replicate, vec_capacity, IfOk, IfSome, MatchOption};
 ghost use Rattle.bm_law.specs.Stands.{times};
+ghost use Rattle.bm_cache_lists.specs.Chain.{IsLonger};
 
 use bm_word::NoMemory;
 use std::alloc::Global;
@@ -18,6 +19,23 @@ struct Head {
     length: u32,
 }
 
+/// A row of links that has room for all numbers has one for this number from now on. Those that it had stay, and those that
+/// are added are of no list.
+fn reach(next: &mut Vec<u32>, number: u16)
+    requires room { 65536 ≤ vec_capacity next.old }
+    requires short { length next.old.items ≤ 65536 }
+    ensures room { 65536 ≤ vec_capacity next.new }
+    ensures short { length next.new.items ≤ 65536 }
+    ensures number { number < length next.new.items }
+    ensures longer { IsLonger 0 next.old.items next.new.items }
+{
+    while next.len() <= number as usize {
+        if let Err(_refused) = next.push(0) {
+            unreachable!();
+        }
+    }
+}
+
 /// Eight lists of numbers below 65,536, none of which stands twice: a link for each number, to the number below it.
 /// Contracts see the lists, each with its top first.
 #[derive(Drop)]
@@ -27,7 +45,7 @@ pub struct Links {
 }
 
 impl Model for Links {
-    ghost use Rattle.std.specs.Prelude.{ℕ, List};
+    ghost use Rattle.std.specs.Prelude.{◌≤◌, ℕ, List, vec_capacity};
     ghost use Rattle.std.specs.Coded.{coded_list, coded_ℕ};
 
     ghost Value = { List (List ℕ) };
@@ -38,7 +56,7 @@ impl Model for Links {
 
     ghost view = { λ s. chains s.next.items s.heads };
 
-    ghost invariant = { λ s. Linked s.next.items s.heads };
+    ghost invariant = { λ s. Linked s.next.items s.heads × (65536 ≤ vec_capacity s.next) };
 }
 
 impl Links {
@@ -53,7 +71,7 @@ impl Links {
             length: 0,
         };
         Ok(Links {
-            next: vec![in alloc; END; 65_536]?,
+            next: Vec::with_capacity(alloc, 65_536)?,
             heads: [head; 8],
         })
     }
@@ -73,6 +91,7 @@ impl Links {
         ensures { self.new ≡ set self.old list (number ∷ get_or self.old list []) }
     {
         let head = self.heads[list];
+        reach(&mut self.next, number);
         self.next[number as usize] = head.first;
         self.heads[list] = Head {
             first: number as u32,

@@ -1,11 +1,12 @@
 //! The caches of a processor: units in their places, and the lists that name them.
 
-ghost use Rattle.std.specs.Prelude.{◌≡◌, ◌≢◌, ◌+◌, ◌-◌, ◌^◌, ◌≤◌, ◌<◌, ◌++◌, ◌∷◌, ℕ, List, [], set, length, drop, reverse, map, replicate, IfOk, IfSome, MatchOption, flat_map, IsTrue, Some, vec_capacity};
+ghost use Rattle.std.specs.Prelude.{◌≡◌, ◌≢◌, ◌+◌, ◌-◌, ◌^◌, ◌≤◌, ◌<◌, ◌++◌, ◌∷◌, ℕ, List, [], set, length, drop, reverse, map, replicate, IfOk, IfSome, MatchOption, flat_map, IsTrue, Some, None, vec_capacity};
 ghost use Rattle.bm_law.specs.Stands.{in_row, times};
 ghost use Rattle.bm_law.specs.State.{seen_row, empty_row, seven_lists};
 ghost use Rattle.bm_law.specs.Effect.{aimed, stamped};
 ghost use Rattle.bm_journal.specs.UnitCount.{unit_count};
 ghost use Rattle.bm_journal.specs.WellFormed.{is_whole};
+ghost use Rattle.bm_cache_lists.specs.Chain.{IsLonger};
 
 use crate::line::{Line, Numbers};
 use bm_journal::{Domain, Stack, UnitNumbers, Units};
@@ -25,7 +26,7 @@ pub struct Rows {
 }
 
 impl Model for Rows {
-    ghost use Rattle.std.specs.Prelude.{List};
+    ghost use Rattle.std.specs.Prelude.{◌≤◌, List, vec_capacity};
     ghost use Rattle.bm_law.specs.State.{Row};
     ghost use Rattle.bm_page.specs.UnitState.{UnitState};
 
@@ -35,7 +36,7 @@ impl Model for Rows {
 
     ghost view = { λ r. rows_of r.places.items r.lines.items };
 
-    ghost invariant = { λ r. Housed r.places.items r.lines.items };
+    ghost invariant = { λ r. Housed r.places.items r.lines.items × (65536 ≤ vec_capacity r.places) };
 }
 
 impl Rows {
@@ -154,6 +155,7 @@ impl Rows {
     {
         let number = unit.number();
         self.lines[row].push(stack, number);
+        reach(&mut self.places, number);
         if let Some(_other) = mem::replace(&mut self.places[number as usize], Some(unit)) {
             unreachable!();
         }
@@ -207,9 +209,13 @@ impl Rows {
         requires fresh { AreFresh units.items self.old }
         ensures { self.new ≡ on_row_at row (on_list stack (λ us. units.items ++ us)) self.old }
     {
-        let mut units = units;
-        units.reverse();
-        self.push_all(row, stack, units);
+        // For the prover: the value opened, which tells that there are eleven rows.
+        let _places = &self.places;
+        let mut rest = units;
+        while let Some(unit) = rest.pop() {
+            self.push(row, stack, unit);
+        }
+        rest.destroy_empty();
     }
 
     /// Units go on Free one by one, and are counted.
@@ -352,12 +358,7 @@ impl Rows {
     pub fn new(alloc: Global, target: u8) -> Result<Rows, NoMemory>
         ensures { IfOk result (λ rows. rows ≡ replicate 11 (empty_row target)) }
     {
-        let mut places = Vec::with_capacity(alloc, 65_536)?;
-        for _number in 0..65_536u32 {
-            if let Err(_refused) = places.push(None) {
-                unreachable!();
-            }
-        }
+        let places = Vec::with_capacity(alloc, 65_536)?;
         match new_lines(alloc, target) {
             Ok(lines) => Ok(Rows { places, lines }),
             Err(refused) => {
@@ -374,6 +375,23 @@ impl Rows {
             lines: _lines,
         } = self;
         give_up_places(places);
+    }
+}
+
+/// A row of places that has room for all numbers has one for this number from now on. Those that it had stay, and those that
+/// are added have no unit.
+fn reach(places: &mut Vec<Option<Unit>>, number: u16)
+    requires room { 65536 ≤ vec_capacity places.old }
+    requires short { length places.old.items ≤ 65536 }
+    ensures room { 65536 ≤ vec_capacity places.new }
+    ensures short { length places.new.items ≤ 65536 }
+    ensures number { number < length places.new.items }
+    ensures longer { IsLonger None places.old.items places.new.items }
+{
+    while places.len() <= number as usize {
+        if let Err(_refused) = places.push(None) {
+            unreachable!();
+        }
     }
 }
 

@@ -1,4 +1,5 @@
 mod AtEnds
+mod Owed
 mod Batched
 mod Received
 mod Returning

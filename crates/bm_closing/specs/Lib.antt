@@ -1,4 +1,5 @@
 pub mod Waited
+pub mod Told
 pub mod Gathered
 pub mod Arrived
 pub mod AtEnd

@@ -1,10 +1,12 @@
 //! The closing of a processor on a desk: periods that end, and sweeps.
 
-ghost use Rattle.std.specs.Prelude.{◌≡◌, ◌≢◌, ◌+◌, ◌++◌, ◌%◌, ◌<◌, ◌≤◌, ℕ, [], true, false, length, map, IfOk, OnOk, IsTrue, is_some};
+ghost use Rattle.std.specs.Prelude.{◌≡◌, ◌≢◌, ◌+◌, ◌++◌, ◌%◌, ◌<◌, ◌≤◌, ℕ, List, [], true, false, length, map, IfOk, OnOk, IsTrue, is_some};
 ghost use Rattle.std.specs.List.{All, flat_map};
 ghost use Rattle.bm_journal.specs.declared.ids.Domain.TheVariants.{Plain, Tracing};
 ghost use Rattle.bm_law.specs.Stands.{stands, times};
-ghost use Rattle.bm_post.specs.Rights.{AreSame, Loses, MayLeave};
+ghost use Rattle.bm_journal.specs.declared.entry.Entry.{Entry as EntryValue};
+ghost use Rattle.bm_law_order.specs.Act.{Act};
+ghost use Rattle.bm_post.specs.Rights.{AreSame, Loses, MayLeave, numbers};
 ghost use Rattle.bm_journal.specs.declared.ids.Domain.{Domain as DomainValue};
 ghost use Rattle.bm_grace.specs.Known.{side};
 ghost use Rattle.bm_grace.specs.Rest.{MovesNumber, StaysAtRest};
@@ -16,6 +18,7 @@ ghost use Rattle.bm_cache.specs.Tokens.{number_of};
 ghost use Rattle.bm_deferred.specs.Begun.{begun_by};
 ghost use Rattle.bm_deferred.specs.Grown.{GrewBy};
 ghost use Rattle.bm_desk.specs.Goes.{Alike};
+ghost use Rattle.bm_desk.specs.Owed.{Whatever};
 ghost use Rattle.bm_desk.specs.Works.{Handled};
 ghost use Rattle.bm_lawful.specs.Closing.{EndsOne};
 ghost use Rattle.bm_closing.specs.AtEnd.{AtEnd, ended_at};
@@ -25,6 +28,7 @@ ghost use Rattle.bm_closing.specs.Gathered.{Gathered, swept};
 ghost use Rattle.bm_closing.specs.SentBack.{SentBack};
 ghost use Rattle.bm_closing.specs.Sweeps.{Sweeps};
 ghost use Rattle.bm_closing.specs.Swept.{Swept};
+ghost use Rattle.bm_closing.specs.Told.{receives_all};
 ghost use Rattle.bm_closing.specs.Waited.{WaitedAt};
 ghost use Rattle.bm_closing.specs.declared.period.Waited.{Waited as WaitedValue};
 
@@ -79,7 +83,8 @@ fn empty_inbox<R: Recorder, H: Ended<R>>(
     ensures some { IfOk result (λ parcels. length parcels.items ≤ length (flat_map (λ p. p.items) parcels.items)) }
     ensures emptied { IfOk result (λ parcels. Emptied H.Host.face H.Host.pending H.stays H.Host.held (λ h. H.W.Knows.known (H.shared h)) (λ h. H.W.Knows.rights (H.shared h)) class (flat_map (λ p. p.items) parcels.items) host.old host.new) }
     ensures rest { OnOk result (StaysAtRest H.W.Knows.rest (H.shared host.old) (H.shared host.new)) }
-    ensures at_end { OnOk result (AtEnd R.log R.counts H.Host.sound H.Host.tests H.Host.face H.Host.held host.new) }
+    ensures at_end { OnOk result (AtEnd R.log R.counts Whatever H.Host.tests H.Host.face H.Host.held host.new) }
+    ensures owes { IfOk result (λ parcels. H.owes (receives_all class (map (λ p. numbers p.items) parcels.items)) [] host.new) }
 {
     let mut parcels = Vec::new(alloc);
     if receive_all(host.world(), class, &mut parcels).is_err() {
@@ -92,7 +97,8 @@ fn empty_inbox<R: Recorder, H: Ended<R>>(
 /// All units of a class's lists and of these parcels become a tracing batch, which takes its stamp and sees a period pass. Each of
 /// them may leave then.
 fn gather_all<R: Recorder, H: Ended<R>>(host: &mut H, class: Class, parcels: Vec<Vec<Unit>>)
-    requires at_end { AtEnd R.log R.counts H.Host.sound H.Host.tests H.Host.face H.Host.held host.old }
+    requires at_end { AtEnd R.log R.counts Whatever H.Host.tests H.Host.face H.Host.held host.old }
+    requires owes { H.owes (receives_all class (map (λ p. numbers p.items) parcels.items)) [] host.old }
     requires arrived { Arrived class (H.W.Knows.rights (H.shared host.old)) (flat_map (λ p. p.items) parcels.items) }
     requires apart { (n : ℕ) → stands n (seen number_of (shown (H.Host.held host.old))) + times n (map number_of (flat_map (λ p. p.items) parcels.items)) ≤ 1 }
     requires rest { (n : ℕ) × (H.W.Knows.rest (H.shared host.old) Tracing n × (n % 2 ≡ 0)) }
@@ -153,7 +159,7 @@ fn hold_nothing<R: Recorder, H: Ended<R>>(
     ensures something { result ≡ false → 0 < length (seven_lists ((shown (H.Host.held host.old)).rows class) ++ flat_map (λ p. p.items) parcels.now.items) }
     ensures same { H.Host.held host.new ≡ H.Host.held host.old }
     ensures handled { Handled H.Host.face H.Host.pending H.stays H.shared H.Host.tests host.old host.new }
-    ensures sound { H.Host.sound host.old → H.Host.sound host.new }
+    ensures owes { (done : List Act) (es : List EntryValue) → H.owes done es host.old → H.owes done es host.new }
 {
     units_of(host.caches(), class) == 0 && parcels.is_empty()
 }
@@ -166,7 +172,8 @@ fn sweep_all<R: Recorder, H: Ended<R>>(
     class: Class,
     parcels: Vec<Vec<Unit>>,
 ) -> Result<(), NoMemory>
-    requires at_end { AtEnd R.log R.counts H.Host.sound H.Host.tests H.Host.face H.Host.held host.old }
+    requires at_end { AtEnd R.log R.counts Whatever H.Host.tests H.Host.face H.Host.held host.old }
+    requires owes { H.owes (receives_all class (map (λ p. numbers p.items) parcels.items)) [] host.old }
     requires arrived { Arrived class (H.W.Knows.rights (H.shared host.old)) (flat_map (λ p. p.items) parcels.items) }
     requires apart { (n : ℕ) → stands n (seen number_of (shown (H.Host.held host.old))) + times n (map number_of (flat_map (λ p. p.items) parcels.items)) ≤ 1 }
     requires rest { (n : ℕ) × (H.W.Knows.rest (H.shared host.old) Tracing n × (n % 2 ≡ 0)) }

@@ -1,13 +1,28 @@
 //! Desks whose processor has ended.
 
+ghost use Rattle.std.specs.Prelude.{◌≡◌, ◌≤◌, ◌∷◌, ◌++◌, [], ℕ, List};
+ghost use Rattle.bm_journal.specs.declared.entry.Entry.{Entry as EntryValue};
+ghost use Rattle.bm_journal.specs.declared.entry.Entry.TheVariants as entry;
+ghost use Rattle.bm_journal.specs.declared.ids.Domain.{Domain as DomainValue};
+ghost use Rattle.bm_journal.specs.declared.period.Period.{Period as PeriodValue};
+ghost use Rattle.bm_law.specs.Alone.{Adds};
+ghost use Rattle.bm_law_order.specs.Act.{Act};
+ghost use Rattle.bm_law_order.specs.Chunk.{Shows};
 ghost use Rattle.bm_cache.specs.declared.caches.Caches.{Caches};
+ghost use Rattle.bm_closing.specs.Told.{at_once, passed_at_once};
 
 use bm_desk::Desk;
 use bm_journal::Recorder;
 
-/// A desk whose processor has ended, so that no handler runs on it any more: what it needs doesn't depend on its log. This
-/// project's own.
+/// A desk whose processor has ended, so that no handler runs on it any more, and no step is asked for: entries come one after the
+/// other, and may come after all the acts that they stand for. This project's own.
 pub trait Ended<R: Recorder>: Desk<R> {
-    // What is sound stays so whatever is recorded.
-    ghost sound_always: { (h : Self) (c : Caches R) → Self.Host.sound h → Self.Host.sound (Self.Host.with_held h c) };
+    // Entries were recorded.
+    ghost owes_noted: { (h : Self) (c : Caches R) (done : List Act) (es more : List EntryValue) → Adds (Self.Host.face h).level more (R.log (Self.Host.held h).recorder) (R.log c.recorder) → Self.Desk.owes done es h → Self.Desk.owes done (es ++ more) (Self.Host.with_held h c) };
+
+    // The first entries stand for the first acts.
+    ghost owes_told: { (h : Self) (done more : List Act) (es others : List EntryValue) → Shows done es → Self.Desk.owes (done ++ more) (es ++ others) h → Self.Desk.owes more others h };
+
+    // A period began below the stamp and ended at once, and the number was read for a class.
+    ghost owes_passed: { (h : Self) (d : DomainValue) (x n m c : ℕ) (ws : List ℕ) (p : PeriodValue) → p.domain ≡ d → n ≤ x → Self.Desk.owes (at_once d x n m ws p) (passed_at_once d n m c p) h → Self.Host.sound h };
 }

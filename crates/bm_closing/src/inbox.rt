@@ -1,11 +1,12 @@
 //! The parcels of an inbox.
 
-ghost use Rattle.std.specs.Prelude.{◌≡◌, ◌≤◌, [], IfOk, OnOk, length, map};
+ghost use Rattle.std.specs.Prelude.{◌≡◌, ◌≤◌, ◌++◌, [], ℕ, List, IfOk, OnOk, length, map};
 ghost use Rattle.std.specs.List.{flat_map};
 ghost use Rattle.bm_grace.specs.Rest.{StaysAtRest};
-ghost use Rattle.bm_post.specs.Rights.{Lasting};
+ghost use Rattle.bm_post.specs.Rights.{Lasting, numbers};
 ghost use Rattle.bm_cache.specs.Tokens.{number_of};
 ghost use Rattle.bm_closing.specs.Arrived.{Arrived, Came};
+ghost use Rattle.bm_closing.specs.Told.{ReceivesAll};
 
 use bm_class::Class;
 use bm_grace::Knows;
@@ -46,6 +47,7 @@ pub(crate) fn receive_all<P: Post>(
     ensures came { OnOk result (Came class (flat_map (λ p. p.items) parcels.old.items) (flat_map (λ p. p.items) parcels.new.items) (P.Knows.rights post.old) (P.Knows.rights post.new) (P.Knows.known post.old) (P.Knows.known post.new)) }
     ensures lasts { OnOk result (Lasting [] (P.Knows.rights post.old) (P.Knows.rights post.new)) }
     ensures rest { OnOk result (StaysAtRest P.Knows.rest post.old post.new) }
+    ensures does { OnOk result (ReceivesAll P.Knows.does class (map (λ p. numbers p.items) parcels.old.items) (map (λ p. numbers p.items) parcels.new.items) post.old post.new) }
 {
     while let Some(units) = post.receive(class) {
         if let Err(refused) = parcels.push(units) {

@@ -3,7 +3,6 @@
 #![tactic(auto)]
 
 mod closing;
-mod closing_desk;
 mod ended;
 mod gathering;
 mod inbox;
@@ -11,6 +10,5 @@ mod period;
 mod whole;
 
 pub use closing::{end_period, sweep};
-pub use closing_desk::ClosingDesk;
 pub use ended::Ended;
 pub use whole::close;

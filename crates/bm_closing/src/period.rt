@@ -1,12 +1,14 @@
 //! Grace periods while all is at rest.
 
-ghost use Rattle.std.specs.Prelude.{◌≡◌, ◌≢◌, ◌+◌, ◌%◌, ◌<◌, ◌≤◌, ℕ};
+ghost use Rattle.std.specs.Prelude.{◌≡◌, ◌≢◌, ◌+◌, ◌%◌, ◌<◌, ◌≤◌, ◌∷◌, [], ℕ, List};
 ghost use Rattle.bm_journal.specs.declared.ids.Domain.{Domain as DomainValue};
 ghost use Rattle.bm_journal.specs.declared.ids.Domain.TheVariants.{Plain, Tracing};
 ghost use Rattle.bm_grace.specs.Rest.{MovesNumber};
 ghost use Rattle.bm_grace.specs.Known.{side};
 ghost use Rattle.bm_grace.specs.Rights.{Ages};
 ghost use Rattle.bm_desk.specs.Goes.{Alike};
+ghost use Rattle.bm_law_order.specs.Act as act;
+ghost use Rattle.bm_closing.specs.Told.{waiting};
 ghost use Rattle.bm_closing.specs.Waited.{AllRipe, WaitedAt};
 
 use bm_grace::{Began, Done, Grace, Look};
@@ -35,6 +37,7 @@ pub(crate) fn end_driven<W: Grace>(world: &mut W, domain: Domain) -> Period
     ensures parcels { (W.Knows.known world.new).parcels ≡ (W.Knows.known world.old).parcels }
     ensures rest { (n : ℕ) → MovesNumber W.Knows.rest domain n (n + 1) world.old world.new }
     ensures ages { Ages (W.Knows.rights world.old) (W.Knows.rights world.new) }
+    ensures does { (words : List ℕ) × W.Knows.does (act.Looks domain words ∷ act.Finishes result ∷ []) world.old world.new }
 {
     match world.look(domain) {
         Look::All => {}
@@ -55,6 +58,7 @@ fn begin_tracing<W: Grace>(world: &mut W, even: u32)
     ensures parcels { (W.Knows.known world.new).parcels ≡ (W.Knows.known world.old).parcels }
     ensures rest { MovesNumber W.Knows.rest Tracing even (even + 1) world.old world.new }
     ensures ages { Ages (W.Knows.rights world.old) (W.Knows.rights world.new) }
+    ensures does { W.Knows.does (act.Begins Tracing (even + 1) ∷ []) world.old world.new }
 {
     match world.begin(Domain::Tracing, even) {
         Began::Won => {}
@@ -75,6 +79,7 @@ pub(crate) fn wait_period<W: Grace>(world: &mut W) -> Waited
     ensures parcels { (W.Knows.known world.new).parcels ≡ (W.Knows.known world.old).parcels }
     ensures ripe { AllRipe (W.Knows.rights world.old) (W.Knows.rights world.new) }
     ensures ages { Ages (W.Knows.rights world.old) (W.Knows.rights world.new) }
+    ensures does { (words : List ℕ) × W.Knows.does (waiting words result) world.old world.new }
 {
     let stamp = world.stamp(Domain::Tracing);
     let even = stamp - 2;

@@ -15,3 +15,4 @@ pub mod Sealed
 pub mod Passings
 pub mod Thens
 pub mod Sides
+pub mod Owing

@@ -7,3 +7,5 @@ pub mod Rests
 pub mod Stops
 pub mod Still
 pub mod Works
+pub mod Owed
+pub mod Rested

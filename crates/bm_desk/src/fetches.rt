@@ -1,6 +1,8 @@
 //! Units that the stock gives to a refill.
 
-ghost use Rattle.std.specs.Prelude.{◌≡◌, ◌≢◌, ◌≤◌, ◌+◌, ◌-◌, ◌<◌, ℕ, List, [], map, length, drop, IfOk, OnOk, OnErr};
+ghost use Rattle.bm_law_order.specs.Act.{Act};
+ghost use Rattle.bm_law_order.specs.Act as act;
+ghost use Rattle.std.specs.Prelude.{◌≡◌, ◌≢◌, ◌≤◌, ◌+◌, ◌-◌, ◌<◌, ◌∷◌, ◌++◌, ℕ, List, [], map, length, drop, IfOk, OnOk, OnErr};
 ghost use Rattle.std.specs.List.{All};
 ghost use Rattle.bm_journal.specs.declared.entry.Entry.TheVariants as entry;
 ghost use Rattle.bm_law.specs.declared.mark.Mark.TheVariants as mark;
@@ -17,6 +19,7 @@ ghost use Rattle.bm_deferred.specs.Parts.{Say, Stand};
 ghost use Rattle.bm_deferred.specs.WorkPhrases.{AddAll};
 ghost use Rattle.bm_work.specs.Fit.{Fit};
 ghost use Rattle.bm_work.specs.FromLists.{Fetched};
+ghost use Rattle.bm_desk.specs.Owed.{Whatever};
 ghost use Rattle.bm_desk.specs.Periods.{AddsFirst};
 ghost use Rattle.bm_desk.specs.Works.{Handled, Posted, Stands, Works};
 
@@ -38,7 +41,7 @@ fn get_fetched<R: Recorder, H: Desk<R>>(
     class: Class,
     want: u32,
 ) -> Result<Vec<Unit>, NoMemory>
-    requires stands { Stands R.log R.counts H.Host.asked H.Host.tests H.Host.face H.Host.held host.old }
+    requires stands { Stands R.log R.counts Whatever H.Host.tests H.Host.face H.Host.held host.old }
     ensures posted { Posted H.Host.face H.Host.pending H.stays H.Host.held (λ h. H.W.Knows.known (H.shared h)) H.Host.tests [] host.old host.new }
     ensures mail { (H.W.Knows.known (H.shared host.new)).parcels ≡ (H.W.Knows.known (H.shared host.old)).parcels }
     ensures pages { IfOk result (λ us. TakesPages want (map number_of us.items) (H.W.Knows.known (H.shared host.old)).pages (H.W.Knows.known (H.shared host.new)).pages) }
@@ -47,7 +50,8 @@ fn get_fetched<R: Recorder, H: Desk<R>>(
     ensures sit { IfOk result (λ us. All (Sits class) us.items) }
     ensures fresh { IfOk result (λ us. (n : ℕ) → stands n (seen number_of (shown (H.Host.held host.new))) + times n (map number_of us.items) ≤ 1) }
     ensures reusable { IfOk result (λ us. All (Reusable (H.Host.tests host.new)) us.items) }
-    ensures stands { Stands R.log R.counts H.Host.asked H.Host.tests H.Host.face H.Host.held host.new }
+    ensures stands { Stands R.log R.counts Whatever H.Host.tests H.Host.face H.Host.held host.new }
+    ensures owes { IfOk result (λ us. (done : List Act) → H.asked_owes done host.old → H.asked_owes (done ++ act.Fetches class want (map number_of us.items) ∷ []) host.new) }
 {
     let mut units = Vec::new(alloc);
     match host.world().fetch(class, want as usize, &mut units) {
@@ -61,7 +65,7 @@ fn get_fetched<R: Recorder, H: Desk<R>>(
 
 /// The units that the stock gave come into the hand, and that is recorded.
 fn note_fetched<R: Recorder, H: Desk<R>>(host: &mut H, class: Class, want: u32, units: Vec<Unit>)
-    requires stands { Stands R.log R.counts H.Host.asked H.Host.tests H.Host.face H.Host.held host.old }
+    requires stands { Stands R.log R.counts Whatever H.Host.tests H.Host.face H.Host.held host.old }
     requires empty { (shown (H.Host.held host.old)).sides (H.Host.face host.old).level ≡ idle_side }
     requires sit { All (Sits class) units.items }
     requires fresh { (n : ℕ) → stands n (seen number_of (shown (H.Host.held host.old))) + times n (map number_of units.items) ≤ 1 }
@@ -71,7 +75,8 @@ fn note_fetched<R: Recorder, H: Desk<R>>(host: &mut H, class: Class, want: u32, 
     ensures deferred { (k : ℕ) → ((shown (H.Host.held host.new)).rows k).deferred ≡ ((shown (H.Host.held host.old)).rows k).deferred }
     ensures side { (shown (H.Host.held host.new)).sides (H.Host.face host.old).level ≡ record { hand = units.items; mark = mark.Quiet } }
     ensures fit { All (Fit (H.Host.tests host.new) class) units.items }
-    ensures stands { Stands R.log R.counts H.Host.sound H.Host.tests H.Host.face H.Host.held host.new }
+    ensures stands { Stands R.log R.counts Whatever H.Host.tests H.Host.face H.Host.held host.new }
+    ensures sound { H.asked_owes (act.Fetches class want (map number_of units.items) ∷ []) host.old → H.Host.sound host.new }
 {
     let level = host.level();
     host.caches().take_fetched(level, class, want, units);

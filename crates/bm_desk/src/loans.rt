@@ -1,6 +1,9 @@
 //! Loans of units that leave the caches, and how they end.
 
-ghost use Rattle.std.specs.Prelude.{◌≡◌, ◌+◌, ◌≤◌, ◌<◌, ℕ, [], false, true, map, length, vec_capacity, vec_len, IfOk, IfErr, OnOk, OnErr};
+ghost use Rattle.bm_law_order.specs.Act.{Act, Sealed, sealed, units_of};
+ghost use Rattle.bm_law_order.specs.Act as act;
+ghost use Rattle.bm_desk.specs.Owed.{Whatever};
+ghost use Rattle.std.specs.Prelude.{◌≡◌, ◌+◌, ◌≤◌, ◌<◌, ℕ, [], false, true, map, length, vec_capacity, vec_len, IfOk, IfErr, OnOk, OnErr, ◌∷◌, ◌++◌, List};
 ghost use Rattle.std.specs.List.{All};
 ghost use Rattle.bm_journal.specs.declared.entry.Entry.TheVariants as entry;
 ghost use Rattle.bm_journal.specs.declared.units.Units.TheVariants.{Whole};
@@ -80,7 +83,6 @@ pub fn give_parcel<R: Recorder, H: Desk<R>>(
     class: Class,
     units: Vec<Unit>,
 ) -> Result<(), Vec<Unit>>
-    requires asked { H.Host.asked host.old }
     requires to { to < (H.W.Knows.known (H.shared host.old)).grace.processors }
     requires some { 0 < length units.items }
     requires class { All (IsOf class) units.items }
@@ -90,14 +92,13 @@ pub fn give_parcel<R: Recorder, H: Desk<R>>(
     ensures mail { OnOk result (Carries (H.W.Knows.known (H.shared host.old)).grace.processor (entry.Send class to (Whole (numbers units.items))) (H.W.Knows.known (H.shared host.old)).parcels (H.W.Knows.known (H.shared host.new)).parcels) }
     ensures pages { OnOk result ((H.W.Knows.known (H.shared host.new)).pages ≡ (H.W.Knows.known (H.shared host.old)).pages) }
     ensures refused { IfErr result (λ back. back.items ≡ units.items) }
-    ensures asked { H.Host.asked host.new }
+    ensures owes { OnOk result ((done : List Act) → H.asked_owes done host.old → H.asked_owes (done ++ act.Sends class to (sealed units.items) ∷ []) host.new) }
 {
     host.world().send(to, class, units)
 }
 
 /// Ends the loan of units that were sent.
 pub fn end_send<R: Recorder, H: Desk<R>>(host: &mut H, class: Class, to: u8, numbers: Vec<u16>)
-    requires asked { H.Host.asked host.old }
     requires lent { (s : State Token) × SendIsLent R.log R.counts (H.Host.face host.old).level class numbers.items s (H.Host.held host.old) }
     requires quiet { is_waiting ((shown (H.Host.held host.old)).sides (H.Host.face host.old).level).mark ≡ false }
     requires target { to ≡ ((shown (H.Host.held host.old)).rows class).target }
@@ -105,7 +106,8 @@ pub fn end_send<R: Recorder, H: Desk<R>>(host: &mut H, class: Class, to: u8, num
     ensures step { Recorded R.log (H.Host.face host.old).level (entry.Send class to (Whole numbers.items)) (H.Host.held host.old) (H.Host.held host.new) }
     ensures placed { Placed R.log R.counts (H.Host.held host.new) }
     ensures handled { Handled H.Host.face H.Host.pending H.stays H.shared H.Host.tests host.old host.new }
-    ensures sound { H.Host.sound host.new }
+    ensures sound { (us : List Sealed) → units_of us ≡ numbers.items
+        → H.asked_owes (act.Sends class to us ∷ []) host.old → H.Host.sound host.new }
 {
     let level = host.level();
     host.caches().sent(level, class, to, numbers);

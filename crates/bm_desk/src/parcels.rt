@@ -1,6 +1,9 @@
 //! Parcels that come to this processor's inboxes.
 
-ghost use Rattle.std.specs.Prelude.{◌≡◌, ◌≢◌, ◌≤◌, ◌+◌, ◌++◌, ◌<◌, ℕ, List, [], false, map, length, nat_lt};
+ghost use Rattle.bm_law_order.specs.Act.{Act};
+ghost use Rattle.bm_law_order.specs.Act as act;
+ghost use Rattle.bm_desk.specs.Owed.{Whatever};
+ghost use Rattle.std.specs.Prelude.{◌≡◌, ◌≢◌, ◌≤◌, ◌+◌, ◌++◌, ◌<◌, ℕ, List, [], false, map, length, nat_lt, ◌∷◌};
 ghost use Rattle.std.specs.List.{All};
 ghost use Rattle.bm_journal.specs.declared.entry.Entry.TheVariants as entry;
 ghost use Rattle.bm_journal.specs.declared.units.Units.TheVariants.{Whole};
@@ -29,14 +32,15 @@ use std::alloc::Global;
 
 /// Takes the oldest parcel out of the inbox of a class; no units where the inbox is empty.
 fn get_parcel<R: Recorder, H: Desk<R>>(alloc: Global, host: &mut H, class: Class) -> Vec<Unit>
-    requires stands { Stands R.log R.counts H.Host.asked H.Host.tests H.Host.face H.Host.held host.old }
+    requires stands { Stands R.log R.counts Whatever H.Host.tests H.Host.face H.Host.held host.old }
     ensures posted { Posted H.Host.face H.Host.pending H.stays H.Host.held (λ h. H.W.Knows.known (H.shared h)) H.Host.tests [] host.old host.new }
     ensures mail { Carries (H.W.Knows.known (H.shared host.old)).grace.processor (entry.Receive class (Whole (numbers result.items))) (H.W.Knows.known (H.shared host.old)).parcels (H.W.Knows.known (H.shared host.new)).parcels }
     ensures pages { (H.W.Knows.known (H.shared host.new)).pages ≡ (H.W.Knows.known (H.shared host.old)).pages }
     ensures sit { All (Sits class) result.items }
     ensures fresh { (n : ℕ) → stands n (seen number_of (shown (H.Host.held host.new))) + times n (map number_of result.items) ≤ 1 }
     ensures reusable { All (Reusable (H.Host.tests host.new)) result.items }
-    ensures stands { Stands R.log R.counts H.Host.asked H.Host.tests H.Host.face H.Host.held host.new }
+    ensures stands { Stands R.log R.counts Whatever H.Host.tests H.Host.face H.Host.held host.new }
+    ensures owes { (done : List Act) → H.asked_owes done host.old → H.asked_owes (done ++ act.Receives class (map number_of result.items) ∷ []) host.new }
 {
     match host.world().receive(class) {
         Some(units) => units,
@@ -46,7 +50,7 @@ fn get_parcel<R: Recorder, H: Desk<R>>(alloc: Global, host: &mut H, class: Class
 
 /// The units of a parcel come on Ready, or none do, and that is recorded.
 fn note_parcel<R: Recorder, H: Desk<R>>(host: &mut H, class: Class, units: Vec<Unit>)
-    requires stands { Stands R.log R.counts H.Host.asked H.Host.tests H.Host.face H.Host.held host.old }
+    requires stands { Stands R.log R.counts Whatever H.Host.tests H.Host.face H.Host.held host.old }
     requires sit { All (Sits class) units.items }
     requires fresh { (n : ℕ) → stands n (seen number_of (shown (H.Host.held host.old))) + times n (map number_of units.items) ≤ 1 }
     requires reusable { All (Reusable (H.Host.tests host.old)) units.items }
@@ -55,7 +59,8 @@ fn note_parcel<R: Recorder, H: Desk<R>>(host: &mut H, class: Class, units: Vec<U
     ensures deferred { ((shown (H.Host.held host.new)).rows class).deferred ≡ record ((shown (H.Host.held host.old)).rows class).deferred { ready = units.items ++ ((shown (H.Host.held host.old)).rows class).deferred.ready } }
     ensures kept { (k : ℕ) → k ≢ class → ((shown (H.Host.held host.new)).rows k).deferred ≡ ((shown (H.Host.held host.old)).rows k).deferred }
     ensures side { (shown (H.Host.held host.new)).sides (H.Host.face host.old).level ≡ (shown (H.Host.held host.old)).sides (H.Host.face host.old).level }
-    ensures stands { Stands R.log R.counts H.Host.sound H.Host.tests H.Host.face H.Host.held host.new }
+    ensures stands { Stands R.log R.counts Whatever H.Host.tests H.Host.face H.Host.held host.new }
+    ensures sound { H.asked_owes (act.Receives class (map number_of units.items) ∷ []) host.old → H.Host.sound host.new }
 {
     let level = host.level();
     host.caches().take_parcel(level, class, units);

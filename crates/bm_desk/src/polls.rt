@@ -1,10 +1,12 @@
 //! Polls of a domain.
 
-ghost use Rattle.std.specs.Prelude.{◌≡◌, ◌+◌, ◌<◌, ℕ, []};
+ghost use Rattle.std.specs.Prelude.{◌≡◌, ◌+◌, ◌<◌, ◌∷◌, ℕ, []};
+ghost use Rattle.bm_law_order.specs.Act as act;
 ghost use Rattle.std.specs.List.{All};
 ghost use Rattle.bm_journal.specs.declared.entry.Entry.TheVariants as entry;
 ghost use Rattle.bm_grace.specs.Answers.{Answers, number_in};
 ghost use Rattle.bm_grace.specs.Known.{side};
+ghost use Rattle.bm_journal.specs.declared.ids.Domain.{Domain as DomainValue};
 ghost use Rattle.bm_grace.specs.Rights.{Ages};
 ghost use Rattle.bm_cache.specs.Shown.{shown};
 ghost use Rattle.bm_cache.specs.Span.{Came};
@@ -13,6 +15,7 @@ ghost use Rattle.bm_deferred.specs.WorkPhrases.{IsOne};
 ghost use Rattle.bm_desk.specs.DeskTests.{Ripened};
 ghost use Rattle.bm_desk.specs.Goes.{GoesOn};
 ghost use Rattle.bm_desk.specs.Periods.{Sees};
+ghost use Rattle.bm_desk.specs.Owed.{Whatever};
 ghost use Rattle.bm_desk.specs.Works.{Stands, Works, plain_of, tracing_of};
 
 use crate::Desk;
@@ -30,17 +33,19 @@ pub fn pause<R: Recorder, H: Desk<R>>(host: &mut H)
     ensures known { GoesOn (H.W.Knows.known (H.shared host.old)) (H.W.Knows.known (H.shared host.new)) }
     ensures quiet { H.Host.pending host.new ≡ H.Host.pending host.old → host.new ≡ host.old }
     ensures stands { Stands R.log R.counts H.Host.asked H.Host.tests H.Host.face H.Host.held host.new }
+    ensures rested { (d : DomainValue) (x : ℕ) → H.rested d x host.old → H.asked_rested d x [] host.new }
 {
     host.point();
 }
 
 /// Records that the number of a domain was read for a class.
 fn note_passed<R: Recorder, H: Desk<R>>(host: &mut H, class: Class, domain: Domain, number: u32)
-    requires stands { Stands R.log R.counts H.Host.asked H.Host.tests H.Host.face H.Host.held host.old }
+    requires stands { Stands R.log R.counts Whatever H.Host.tests H.Host.face H.Host.held host.old }
     ensures works { Works R.log H.Host.face H.Host.pending H.stays H.Host.held (λ h. H.W.Knows.known (H.shared h)) 0 0 (λ l. Say l (IsOne (entry.Pass class domain number))) host.old host.new }
     ensures lists { shown (H.Host.held host.new) ≡ shown (H.Host.held host.old) }
     ensures ages { Ages (H.W.Knows.rights (H.shared host.old)) (H.W.Knows.rights (H.shared host.new)) }
-    ensures stands { Stands R.log R.counts H.Host.sound H.Host.tests H.Host.face H.Host.held host.new }
+    ensures stands { Stands R.log R.counts Whatever H.Host.tests H.Host.face H.Host.held host.new }
+    ensures sound { (stamp : ℕ) → H.asked_rested domain stamp (act.Reads domain stamp number ∷ []) host.old → H.Host.sound host.new }
 {
     let level = host.level();
     host.caches().passed(level, class, domain, number);
@@ -58,6 +63,7 @@ fn seen_number(seen: Done) -> u32
 /// A point, and the number of a domain is read for a class.
 fn see<R: Recorder, H: Desk<R>>(host: &mut H, class: Class, domain: Domain, stamp: u32) -> Done
     requires stands { Stands R.log R.counts H.Host.sound H.Host.tests H.Host.face H.Host.held host.old }
+    requires rested { H.rested domain stamp host.old }
     ensures works { Works R.log H.Host.face H.Host.pending H.stays H.Host.held (λ h. H.W.Knows.known (H.shared h)) 0 0 (λ l. Say l (IsOne (entry.Pass class domain (number_in result)))) host.old host.new }
     ensures answer { Answers result stamp }
     ensures ripe { (k : ℕ) → All (Ripened (H.Host.tests host.old) (H.Host.tests host.new) domain stamp result) ((shown (H.Host.held host.old)).rows k).deferred.first × All (Ripened (H.Host.tests host.old) (H.Host.tests host.new) domain stamp result) ((shown (H.Host.held host.old)).rows k).deferred.second }

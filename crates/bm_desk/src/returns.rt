@@ -1,6 +1,9 @@
 //! Units that go back to the pages.
 
-ghost use Rattle.std.specs.Prelude.{◌≡◌, ◌≢◌, ◌+◌, ◌≤◌, ◌<◌, ℕ, [], None, Some, IsTrue, is_some, length, map, vec_capacity, vec_len, IfOk, OnOk, OnErr};
+ghost use Rattle.bm_law_order.specs.Act.{Act, Sealed, sealed, units_of};
+ghost use Rattle.bm_law_order.specs.Act as act;
+ghost use Rattle.bm_desk.specs.Owed.{Whatever};
+ghost use Rattle.std.specs.Prelude.{◌≡◌, ◌≢◌, ◌+◌, ◌≤◌, ◌<◌, ℕ, [], None, Some, IsTrue, is_some, length, map, vec_capacity, vec_len, IfOk, OnOk, OnErr, ◌∷◌, ◌++◌, List};
 ghost use Rattle.std.specs.List.{All};
 ghost use Rattle.bm_journal.specs.declared.entry.Entry.TheVariants as entry;
 ghost use Rattle.bm_journal.specs.declared.units.Units.TheVariants.{Whole};
@@ -42,26 +45,25 @@ fn lend_second<R: Recorder, H: Desk<R>>(host: &mut H, class: Class) -> Result<Ve
 
 /// Gives units back to the stock.
 fn give_back<R: Recorder, H: Desk<R>>(host: &mut H, units: Vec<Unit>)
-    requires asked { H.Host.asked host.old }
     requires mine { Holds (H.W.Knows.rights (H.shared host.old)) units.items }
     requires fit { All (MayLeave (H.W.Knows.rights (H.shared host.old))) units.items }
     ensures posted { Posted H.Host.face H.Host.pending H.stays H.Host.held (λ h. H.W.Knows.known (H.shared h)) H.Host.tests (numbers units.items) host.old host.new }
     ensures mail { (H.W.Knows.known (H.shared host.new)).parcels ≡ (H.W.Knows.known (H.shared host.old)).parcels }
     ensures pages { Spares (H.W.Knows.known (H.shared host.old)).pages (H.W.Knows.known (H.shared host.new)).pages }
-    ensures asked { H.Host.asked host.new }
+    ensures owes { (done : List Act) → H.asked_owes done host.old → H.asked_owes (done ++ act.Returns (sealed units.items) ∷ []) host.new }
 {
     host.world().put_back(units);
 }
 
 /// Ends the loan of units that went back.
 fn end_return<R: Recorder, H: Desk<R>>(host: &mut H, class: Class, numbers: Vec<u16>)
-    requires asked { H.Host.asked host.old }
     requires lent { (s : State Token) × SecondIsLent R.log R.counts class numbers.items s (H.Host.held host.old) }
     requires progress { IsTrue (is_some ((shown (H.Host.held host.old)).rows class).deferred.tracing) }
     ensures step { Ended R.log (H.Host.face host.old).level (entry.Return class (Whole numbers.items)) (H.Host.held host.old) (H.Host.held host.new) }
     ensures placed { Placed R.log R.counts (H.Host.held host.new) }
     ensures handled { Handled H.Host.face H.Host.pending H.stays H.shared H.Host.tests host.old host.new }
-    ensures sound { H.Host.sound host.new }
+    ensures sound { (us : List Sealed) → units_of us ≡ numbers.items
+        → H.asked_owes (act.Returns us ∷ []) host.old → H.Host.sound host.new }
 {
     let level = host.level();
     host.caches().returned(level, class, numbers);

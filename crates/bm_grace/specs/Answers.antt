@@ -8,13 +8,9 @@ use Rattle.bm_grace.specs.declared.answer.Began.{Began}
 use Rattle.bm_grace.specs.declared.answer.Began.TheVariants.{Won, Moved}
 use Rattle.bm_grace.specs.declared.answer.Look.{Look}
 use Rattle.bm_grace.specs.declared.answer.Look.TheVariants.{All, Waits}
+pub use Rattle.bm_law_order.specs.Numbers.{next}
 use Rattle.bm_grace.specs.Known.{Known, Side, side}
 use Rattle.bm_grace.specs.Calls.{looks, processor_at, read}
-
--- the number at the end of the first period that begins after a number was seen: where the number is odd, a period is
--- in progress, and may have begun before what the stamp is taken for
-abbrev pub next : ℕ → ℕ
-next number = number + 2 + number % 2
 
 -- a stamp was answered: there was a number, not below the one seen before, and the stamp is that number's
 pub record Stamped (tells : Bool) (domain : Domain) (stamp : ℕ) (before after : Known) : Type 0 where

@@ -9,6 +9,7 @@ use Rattle.bm_grace.specs.declared.step.StepKind.TheVariants.{Enter, Leave, Stam
 use Rattle.bm_grace.specs.declared.step.TableWord.{TableWord}
 use Rattle.bm_grace.specs.declared.step.TableWord.TheVariants.{Section, Number}
 use Rattle.bm_grace.specs.declared.step.TableStep.{TableStep}
+pub use Rattle.bm_law_order.specs.Looks.{first_or}
 use Rattle.bm_grace.specs.Known.{Known, Side, Sides, side}
 
 abbrev pub sides_with : Domain → Side → Sides → Sides
@@ -88,11 +89,6 @@ look_steps domain i [] = []
 look_steps domain i (word ∷ words) =
     one_step (Look domain) (Section (domain_at domain i) (processor_at domain i)) word word
     ++ look_steps domain (i + 1) words
-
--- the words of a period as first looked at, once it found these: they stay what they are, if there are some
-abbrev pub first_or : List ℕ → List ℕ → List ℕ
-first_or words [] = words
-first_or words (word ∷ first) = word ∷ first
 
 -- a period of the domain looked at its words, and found these
 abbrev pub looked : Bool → Domain → List ℕ → Known → Known

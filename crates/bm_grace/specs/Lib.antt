@@ -1,5 +1,6 @@
 pub mod Answers
 pub mod AtRest
+pub mod Begins
 pub mod Calls
 pub mod Kept
 pub mod Known

@@ -1,11 +1,12 @@
 -- The words and numbers of all processors, for one thread, and what each call makes of them.
-use Rattle.std.specs.Prelude.{ℕ, ◌+◌, ◌-◌, ◌==◌, if◌then◌else◌, Bool, false, Option, None, Some, List, [], ◌∷◌, take, replicate, slice_index, slice_set}
+use Rattle.std.specs.Prelude.{ℕ, ◌+◌, ◌-◌, ◌==◌, if◌then◌else◌, Bool, false, Option, None, Some, List, [], take, replicate, slice_index, slice_set}
 use Rattle.bm_journal.specs.declared.ids.Domain.{Domain}
 use Rattle.bm_journal.specs.declared.ids.Domain.TheVariants.{Plain, Tracing}
 use Rattle.bm_grace.specs.declared.answer.Began.{Began}
 use Rattle.bm_grace.specs.declared.answer.Began.TheVariants.{Won, Moved}
 use Rattle.bm_grace.specs.Known.{Known, Side, no_objects}
 use Rattle.bm_grace.specs.Calls.{first_or}
+pub use Rattle.bm_law_order.specs.Looks.{in_turn}
 
 -- One domain: by processor its section word and how many periods it may still begin, 0 and 2^27 for those of the eight
 -- that aren't there; the number; the processor that has a period in progress, if one has; and that period's words.
@@ -59,11 +60,6 @@ period_looked words here = record here { first = first_or words here.first; late
 -- The period in progress has ended.
 abbrev pub period_ended : DomainState → DomainState
 period_ended here = record here { number = here.number + 1; driver = None; first = []; later = [] }
-
--- A word of each, in turn.
-abbrev pub in_turn : List ℕ → List ℕ → List ℕ
-in_turn (x ∷ xs) (y ∷ ys) = x ∷ y ∷ in_turn xs ys
-in_turn _ _ = []
 
 -- The words that a period of a domain looks at: the plain ones, and in the tracing domain both of each processor.
 abbrev pub words_in : Domain → PlainState → List ℕ

@@ -1,6 +1,8 @@
 //! One processor's side of both domains of grace periods.
 
-ghost use Rattle.std.specs.Prelude.{◌≡◌, ◌+◌, ◌%◌, ◌^◌, ◌<◌, ◌≤◌, ℕ, Bool, true, false, length};
+ghost use Rattle.std.specs.Prelude.{◌≡◌, ◌+◌, ◌%◌, ◌^◌, ◌<◌, ◌≤◌, ◌∷◌, ◌++◌, [], ℕ, List, Bool, true, false, length};
+ghost use Rattle.bm_law_order.specs.Act.{Act, Enters, Leaves, Stamps, Reads, Looks, Finishes};
+ghost use Rattle.bm_grace.specs.Begins.{begin_act};
 ghost use Rattle.bm_grace.specs.Known.{Known, side};
 ghost use Rattle.bm_grace.specs.Calls.{began, entered, finished, found_at, left, looked, looks, read};
 ghost use Rattle.bm_grace.specs.Rights.{Ages, AsBefore, MineSince, Rights, Ripens};
@@ -28,6 +30,14 @@ pub trait Knows {
     /// Where all is at rest: no section is open on any processor, and nobody but this side calls. The number of the
     /// domain is then this one.
     ghost rest: { Self → DomainValue → ℕ → Type 0 };
+
+    /// This side came to be that one by these acts of its own, and by nothing else.
+    ghost does: { List Act → Self → Self → Type 0 };
+
+    /// No act changes nothing, and acts follow each other.
+    ghost does_same: { (a : Self) → does [] a a };
+
+    ghost does_join: { (es fs : List Act) (a b c : Self) → does es a b → does fs b c → does (es ++ fs) a c };
 }
 
 /// One processor's side of both domains. A domain stands for a kind of grace period of the kernel: `Plain` for RCU,
@@ -44,7 +54,8 @@ pub trait Grace: Knows {
         ensures word { result ≡ (side domain (Self.known self.old)).word + 1 }
         ensures known { Self.known self.new ≡ entered Self.tells domain (Self.known self.old) }
         ensures rights { Ages (Self.rights self.old) (Self.rights self.new) }
-        ensures same { AsBefore (Self.rights self.old) (Self.rights self.new) };
+        ensures same { AsBefore (Self.rights self.old) (Self.rights self.new) }
+        ensures does { Self.does (Enters domain result ∷ []) self.old self.new };
 
     /// Ends the outermost section of a domain, from inside of it. The answer is the processor's new section word, an
     /// even number. From `rcu_read_unlock` and `rcu_read_unlock_trace`.
@@ -53,7 +64,8 @@ pub trait Grace: Knows {
         ensures word { result ≡ (side domain (Self.known self.old)).word + 1 }
         ensures known { Self.known self.new ≡ left Self.tells domain (Self.known self.old) }
         ensures rights { Ages (Self.rights self.old) (Self.rights self.new) }
-        ensures same { AsBefore (Self.rights self.old) (Self.rights self.new) };
+        ensures same { AsBefore (Self.rights self.old) (Self.rights self.new) }
+        ensures does { Self.does (Leaves domain result ∷ []) self.old self.new };
 
     /// Reads a domain's number, and answers the stamp of it: the number at the end of the first period that begins
     /// afterwards. That is the number and 2 where no period is in progress, and the number and 3 where one is. From
@@ -63,7 +75,8 @@ pub trait Grace: Knows {
         ensures rights { Ages (Self.rights self.old) (Self.rights self.new) }
         ensures since { MineSince domain result (Self.rights self.old) (Self.rights self.new) }
         ensures rest { StaysAtRest Self.rest self.old self.new }
-        ensures at_rest { (n : ℕ) → Self.rest self.old domain n → result ≡ next n };
+        ensures at_rest { (n : ℕ) → Self.rest self.old domain n → result ≡ next n }
+        ensures does { Self.does (Stamps domain result ∷ []) self.old self.new };
 
     /// Reads a domain's number, and answers whether it is at least a stamp. From `poll_state_synchronize_rcu`.
     fn done(&mut self, domain: Domain, stamp: u32) -> Done
@@ -73,7 +86,8 @@ pub trait Grace: Knows {
         ensures rights { Ages (Self.rights self.old) (Self.rights self.new) }
         ensures ripe { Ripens domain stamp result (Self.rights self.old) (Self.rights self.new) }
         ensures rest { StaysAtRest Self.rest self.old self.new }
-        ensures at_rest { (n : ℕ) → Self.rest self.old domain n → number_in result ≡ n };
+        ensures at_rest { (n : ℕ) → Self.rest self.old domain n → number_in result ≡ n }
+        ensures does { Self.does (Reads domain stamp (number_in result) ∷ []) self.old self.new };
 
     /// Begins a period of a domain where its number is the even one that is named, and changes nothing elsewhere. The
     /// number is odd from then on, until this side finishes the period. From `rcu_seq_start`.
@@ -86,7 +100,8 @@ pub trait Grace: Knows {
         ensures known { Self.known self.new ≡ began Self.tells domain result even (Self.known self.old) }
         ensures rights { Ages (Self.rights self.old) (Self.rights self.new) }
         ensures rest { MovesNumber Self.rest domain even (even + 1) self.old self.new }
-        ensures at_rest { Self.rest self.old domain even → result ≡ Won };
+        ensures at_rest { Self.rest self.old domain even → result ≡ Won }
+        ensures does { Self.does (begin_act domain even result ∷ []) self.old self.new };
 
     /// Looks at each word of the period of a domain that this side has in progress: at the plain words in the plain
     /// domain, and at both words of each processor, the plain one first, in the tracing domain, whose periods imply
@@ -102,7 +117,8 @@ pub trait Grace: Knows {
             ≡ looked Self.tells domain (side domain (Self.known self.new)).later (Self.known self.old) }
         ensures rights { Ages (Self.rights self.old) (Self.rights self.new) }
         ensures rest { StaysAtRest Self.rest self.old self.new }
-        ensures at_rest { (n : ℕ) → Self.rest self.old domain n → result ≡ All };
+        ensures at_rest { (n : ℕ) → Self.rest self.old domain n → result ≡ All }
+        ensures does { Self.does (Looks domain (side domain (Self.known self.new)).later ∷ []) self.old self.new };
 
     /// Ends the period of a domain that this side has in progress and all of whose words have passed. The number is
     /// even again. The answer has that number, and the words as they were first and last looked at. From `rcu_seq_end`.
@@ -111,7 +127,8 @@ pub trait Grace: Knows {
         ensures period { result ≡ ended domain (side domain (Self.known self.old)) }
         ensures known { Self.known self.new ≡ finished Self.tells domain (Self.known self.old) }
         ensures rights { Ages (Self.rights self.old) (Self.rights self.new) }
-        ensures rest { (n : ℕ) → MovesNumber Self.rest domain n (n + 1) self.old self.new };
+        ensures rest { (n : ℕ) → MovesNumber Self.rest domain n (n + 1) self.old self.new }
+        ensures does { Self.does (Finishes result ∷ []) self.old self.new };
 
     /// Whether this side has a period of a domain in progress.
     fn driving(&self, domain: Domain) -> bool

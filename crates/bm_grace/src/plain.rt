@@ -124,6 +124,13 @@ impl Knows for PlainGrace {
     ghost rights = { λ _. no_rights };
 
     ghost rest = { IsAtRest };
+
+    // What a world does is told by the whole of it.
+    ghost does = { λ _ _ _. Unit {0} };
+
+    ghost does_same = { λ a. tt };
+
+    ghost does_join = { λ es fs a b c x y. tt };
 }
 
 impl Grace for PlainGrace {

@@ -5,6 +5,8 @@ pub mod Ready
 pub mod AtProcessor
 pub mod Growing
 pub mod Hosting
+pub mod AtTie
+pub mod AtRests
 pub mod RunsOn
 pub mod Sound
 pub mod Ordinary

@@ -3,16 +3,18 @@
 use crate::calls::{give_up, make};
 use crate::host::At;
 use crate::ranks::Rank;
+use crate::since::Since;
 use bm_class::Class;
 use bm_exec::Machine;
 use bm_journal::{ObjId, Values};
 use bm_word::{Name, NoMemory};
 
-impl<'a, 's, L: Rank> Machine for At<'a, 's, L> {
+impl<'a, 's, B: Since, L: Rank> Machine for At<'a, 's, B, L> {
     ghost use Rattle.std.specs.Prelude.{◌≡◌, None, refl};
     ghost use Rattle.std.proofs.Common.{◌∙◌};
     ghost use Rattle.bm_plan.specs.Position.{StandsAt};
     ghost use Rattle.bm_levels.specs.AtProcessor.{FineAt, IsAt, lists_of, log_of};
+    ghost use Rattle.bm_levels.specs.AtTie.{TiedAt};
     ghost use Rattle.bm_levels.specs.Logged.{IsLived};
     ghost use Rattle.bm_levels.specs.Ready.{asked_of, known_of};
     ghost use Rattle.bm_levels.specs.RunsOn.{RunsOn, runs-joined, runs-same};
@@ -33,16 +35,16 @@ impl<'a, 's, L: Rank> Machine for At<'a, 's, L> {
 
     ghost through = { λ m. m.own.ghost_name };
 
-    ghost sound = { λ m. IsAt StandsAt IsLived L.number m.program.now m.own.now × FineAt L.number m.own.now };
+    ghost sound = { λ m. IsAt StandsAt IsLived L.number m.program.now m.own.now × FineAt L.number m.own.now × TiedAt B.since B.start m.own.now };
 
     ghost keeps = { λ a b. RunsOn L.number a.program.now a.own.now b.own.now × (b.program.now ≡ a.program.now) };
 
     fn create(&mut self, class: Class, name: Name, values: Values) -> Option<ObjId> {
-        make::<L>(self.own, self.program, class, name, values)
+        make::<B, L>(self.own, self.program, class, name, values)
     }
 
     fn dispose(&mut self, object: ObjId) {
-        give_up::<L>(self.own, self.program, object);
+        give_up::<B, L>(self.own, self.program, object);
     }
 
     fn settle(&mut self) -> Result<(), NoMemory> {

@@ -5,6 +5,7 @@ ghost use Rattle.bm_deferred.specs.Grown.{GrewBy};
 ghost use Rattle.bm_exec.specs.Lists.{Behind};
 ghost use Rattle.bm_lawful.specs.Works.{UntilDown, WorkBehind};
 ghost use Rattle.bm_levels.specs.AtProcessor.{SameLives, lists_of, log_of};
+ghost use Rattle.bm_levels.specs.AtTie.{TiedAt};
 ghost use Rattle.bm_levels.specs.Ordinary.{Statements};
 ghost use Rattle.bm_levels.specs.Ready.{asked_of};
 ghost use Rattle.bm_levels.specs.Sound.{Sound};
@@ -14,6 +15,7 @@ use crate::host::At;
 use crate::processor::Processor;
 use crate::program::Program;
 use crate::ranks::Ordinary;
+use crate::since::Since;
 use bm_behind::{until_down, work_behind};
 use bm_class::Class;
 use bm_exec::Machine;
@@ -28,20 +30,22 @@ pub struct Deferred<'s> {
 }
 
 /// Ordinary code on a processor, which it borrows.
-pub struct Ground<'a, 's> {
+pub struct Ground<'a, 's, B> {
     pub own: &'a mut Processor,
     pub program: &'s Program<'s>,
     /// The work behind its statements.
     pub deferred: &'s Deferred<'s>,
+    pub since: PhantomData<B>,
 }
 
 // Deferred work behind a statement, until no flag of these classes is up. Want of memory is the only refusal.
-fn settle_statement<'s>(
+fn settle_statement<'s, B: Since>(
     own: &mut Processor,
     program: &'s Program<'s>,
     classes: &'s [Class],
 ) -> Result<(), NoMemory>
     requires sound { Sound program.now own.old }
+    requires tied { TiedAt B.since B.start own.old }
     requires few { length classes.now ≤ 11 }
     requires room { asked_of program.now.scenario.now own.old + 1 < 2 ^ 22 }
     ensures grew { OnOk result (GrewBy (UntilDown classes.now) (lists_of own.old) (log_of own.old) (log_of own.new)) }
@@ -50,31 +54,35 @@ fn settle_statement<'s>(
     ensures asked { OnOk result (asked_of program.now.scenario.now own.new ≤ asked_of program.now.scenario.now own.old + 1) }
     ensures statements { OnOk result (Statements own.old own.new) }
     ensures sound { OnOk result (Sound program.now own.new) }
+    ensures tied { OnOk result (TiedAt B.since B.start own.new) }
 {
     own.settled += 1;
     let alloc = own.alloc;
-    let mut at = At::<Ordinary> {
+    let mut at = At::<B, Ordinary> {
         own,
         program,
         of: PhantomData,
+        since: PhantomData,
     };
     let settled = until_down(alloc, &mut at, classes);
     let At {
         own: _,
         program: _,
         of: _,
+        since: _,
     } = at;
     settled
 }
 
 /// Deferred work behind a script: the work of each of these classes, and then until no flag is up. Want of memory is the only
 /// refusal; the processor is of no further use then.
-pub fn settle_script<'s>(
+pub fn settle_script<'s, B: Since>(
     own: &mut Processor,
     program: &'s Program<'s>,
     classes: &'s [Class],
 ) -> Result<(), NoMemory>
     requires sound { Sound program.now own.old }
+    requires tied { TiedAt B.since B.start own.old }
     requires few { length classes.now ≤ 11 }
     requires room { asked_of program.now.scenario.now own.old + 1 < 2 ^ 22 }
     ensures grew { OnOk result (GrewBy (WorkBehind classes.now) (lists_of own.old) (log_of own.old) (log_of own.new)) }
@@ -83,28 +91,32 @@ pub fn settle_script<'s>(
     ensures asked { OnOk result (asked_of program.now.scenario.now own.new ≤ asked_of program.now.scenario.now own.old + 1) }
     ensures statements { OnOk result (Statements own.old own.new) }
     ensures sound { OnOk result (Sound program.now own.new) }
+    ensures tied { OnOk result (TiedAt B.since B.start own.new) }
 {
     own.settled += 1;
     let alloc = own.alloc;
-    let mut at = At::<Ordinary> {
+    let mut at = At::<B, Ordinary> {
         own,
         program,
         of: PhantomData,
+        since: PhantomData,
     };
     let settled = work_behind(alloc, &mut at, classes);
     let At {
         own: _,
         program: _,
         of: _,
+        since: _,
     } = at;
     settled
 }
 
-impl<'a, 's> Machine for Ground<'a, 's> {
+impl<'a, 's, B: Since> Machine for Ground<'a, 's, B> {
     ghost use Rattle.std.specs.Prelude.{◌≡◌, ◌≤◌, IfSome, length, refl};
     ghost use Rattle.std.proofs.Common.{◌∙◌};
     ghost use Rattle.bm_exec.specs.Lists.{behind_of};
     ghost use Rattle.bm_levels.specs.AtProcessor.{lists_of, log_of};
+    ghost use Rattle.bm_levels.specs.AtTie.{TiedAt};
     ghost use Rattle.bm_levels.specs.Ordinary.{Statements};
     ghost use Rattle.bm_levels.specs.Stated.{statements-joined, statements-same};
     ghost use Rattle.bm_levels.specs.Ready.{asked_of, known_of};
@@ -126,23 +138,23 @@ impl<'a, 's> Machine for Ground<'a, 's> {
 
     ghost through = { λ m. m.own.ghost_name };
 
-    ghost sound = { λ m. Sound m.program.now m.own.now × IfSome m.deferred.now.behind (λ classes. length classes.now ≤ 11) };
+    ghost sound = { λ m. Sound m.program.now m.own.now × IfSome m.deferred.now.behind (λ classes. length classes.now ≤ 11) × TiedAt B.since B.start m.own.now };
 
     ghost keeps = { λ a b. Statements a.own.now b.own.now × (b.program.now ≡ a.program.now) };
 
     fn create(&mut self, class: Class, name: Name, values: Values) -> Option<ObjId> {
-        make::<Ordinary>(self.own, self.program, class, name, values)
+        make::<B, Ordinary>(self.own, self.program, class, name, values)
     }
 
     fn dispose(&mut self, object: ObjId) {
-        give_up::<Ordinary>(self.own, self.program, object);
+        give_up::<B, Ordinary>(self.own, self.program, object);
     }
 
     fn settle(&mut self) -> Result<(), NoMemory> {
         let Some(classes) = self.deferred.behind else {
             return Ok(());
         };
-        settle_statement(self.own, self.program, classes)
+        settle_statement::<B>(self.own, self.program, classes)
     }
 
     ghost told = { λ m s. s.0.fine.placed.told };

@@ -5,6 +5,7 @@ ghost use Rattle.bm_journal.specs.declared.entry.Entry.TheVariants as entry;
 ghost use Rattle.bm_journal.specs.Recording.{Appends};
 ghost use Rattle.bm_due.specs.declared.planned.Due.{Due as DueValue};
 ghost use Rattle.bm_levels.specs.AtProcessor.{Between, CameAt, FineAt, HasPhrase, IsAt, IsBegun, IsDue, SameLives, due_cost, log_of};
+ghost use Rattle.bm_levels.specs.AtTie.{TiedAt};
 ghost use Rattle.bm_levels.specs.Logged.{IsLived};
 ghost use Rattle.bm_levels.specs.Ready.{BindsAll, left_of};
 ghost use Rattle.bm_levels.specs.declared.processor.Processor.{Processor as ProcessorValue};
@@ -14,6 +15,7 @@ use crate::inside::run_inside;
 use crate::processor::Processor;
 use crate::program::Program;
 use crate::ranks::Rank;
+use crate::since::Since;
 use bm_due::Due;
 use bm_exec::NameTable;
 use bm_journal::{Entry, Level};
@@ -28,6 +30,7 @@ fn begin_due<'s>(own: &mut Processor, program: &'s Program<'s>, level: Level) ->
     ensures begun { IfSome result (λ due. IsBegun level program.now due own.old own.new) }
     ensures between { Between 0 0 (level + 1) program.now own.old own.new }
     ensures lives { SameLives own.old own.new }
+    ensures same { own.new ≡ record own.old { handlers = own.new.handlers } }
 {
     let step = own.caches.next_step();
     own.handlers.begin_due(step, level)
@@ -35,16 +38,18 @@ fn begin_due<'s>(own: &mut Processor, program: &'s Program<'s>, level: Level) ->
 
 /// All handlers that are due before the next step of code of a level run, the highest level first, then in the order of the text,
 /// and the step's number is read anew after each. Where none is due nothing changes. It takes no memory but the recorder's.
-pub(crate) fn run_due<'s, L: Rank>(own: &mut Processor, program: &'s Program<'s>)
+pub(crate) fn run_due<'s, B: Since, L: Rank>(own: &mut Processor, program: &'s Program<'s>)
     requires at { IsAt AboutTo IsLived L.number program.now own.old }
+    requires tied { TiedAt B.since B.start own.old }
     requires fine { FineAt (L.number + 1) own.old }
     ensures asked { IsAt AskedAt IsLived L.number program.now own.new }
+    ensures tied { TiedAt B.since B.start own.new }
     ensures between { Between 0 0 (L.number + 1) program.now own.old own.new }
     ensures lives { SameLives own.old own.new }
     ensures quiet { length (left_of own.new) ≡ length (left_of own.old) → own.new ≡ own.old }
 {
     while let Some(due) = begin_due(own, program, L::level()) {
-        L::interrupt(own, program, &due);
+        L::interrupt::<B>(own, program, &due);
     }
 }
 
@@ -102,6 +107,7 @@ fn end_handler<'s>(
     requires runs { (dues : List DueValue) × (own.old.running.items ≡ dues ++ due.now ∷ []) }
     requires bound { BindsAll program.now.scenario.now.scripts table }
     ensures at { (was : ProcessorValue) (k : ℕ) → IsDue k program.now due.now was → own.old.running.items ≡ was.running.items ++ due.now ∷ [] → IsAt AboutTo IsLived k program.now own.new }
+    ensures said { Appends (log_of own.old) due.now.level (entry.Back script.now.name) (log_of own.new) }
     ensures fine { FineAt due.now.level own.new }
     ensures came { CameAt due.now.level own.old own.new }
     ensures same { own.new ≡ record own.old { caches = own.new.caches; running = own.new.running; tables = own.new.tables } }
@@ -118,16 +124,22 @@ fn end_handler<'s>(
 }
 
 /// A handler that is due runs, on the machine of its level. It takes no memory but the recorder's.
-pub(crate) fn run_one<'s, L: Rank>(own: &mut Processor, program: &'s Program<'s>, due: &Due)
+pub(crate) fn run_one<'s, B: Since, L: Rank>(
+    own: &mut Processor,
+    program: &'s Program<'s>,
+    due: &Due,
+)
     requires due { (k : ℕ) × IsDue k program.now due.now own.old }
     requires level { due.now.level ≡ L.number }
+    requires tied { TiedAt B.since B.start own.old }
     requires fine { FineAt due.now.level own.old }
     ensures at { (k : ℕ) → IsDue k program.now due.now own.old → IsAt AboutTo IsLived k program.now own.new }
+    ensures tied { TiedAt B.since B.start own.new }
     ensures between { Between (due_cost program.now due.now) 2 due.now.level program.now own.old own.new }
     ensures lives { SameLives own.old own.new }
 {
     let script = script_of(program, due);
     let mut table = begin_handler(own, program, due, script);
-    run_inside::<L>(own, program, script, &mut table);
+    run_inside::<B, L>(own, program, script, &mut table);
     end_handler(own, program, due, script, table);
 }

@@ -12,6 +12,7 @@ mod processor;
 mod program;
 mod ranks;
 mod sections;
+mod since;
 
 pub use ground::{Deferred, Ground, settle_script};
 pub use host::At;
@@ -19,3 +20,4 @@ pub use processor::Processor;
 pub use program::Program;
 pub use ranks::{First, Ordinary, Rank, Second, Third};
 pub use sections::{enter_section, leave_section};
+pub use since::Since;

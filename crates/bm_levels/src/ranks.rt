@@ -2,12 +2,14 @@
 
 ghost use Rattle.std.specs.Prelude.{◌≡◌, ◌+◌, ◌<◌, ◌≤◌, ℕ};
 ghost use Rattle.bm_levels.specs.AtProcessor.{Between, FineAt, IsAt, IsDue, SameLives, due_cost};
+ghost use Rattle.bm_levels.specs.AtTie.{TiedAt};
 ghost use Rattle.bm_levels.specs.Logged.{IsLived};
 ghost use Rattle.bm_plan.specs.Position.{AboutTo};
 
 use crate::handlers::run_one;
 use crate::processor::Processor;
 use crate::program::Program;
+use crate::since::Since;
 use bm_due::Due;
 use bm_journal::Level;
 
@@ -23,10 +25,12 @@ pub trait Rank {
 
     /// Runs a handler that is due before a step of code of this level, on the machine of its own level, which is above it. Above
     /// level 3 there is none, and nothing is done.
-    fn interrupt<'s>(own: &mut Processor, program: &'s Program<'s>, due: &Due)
+    fn interrupt<'s, B: Since>(own: &mut Processor, program: &'s Program<'s>, due: &Due)
         requires due { number < 3 → IsDue number program.now due.now own.old }
+        requires tied { TiedAt B.since B.start own.old }
         requires fine { FineAt (number + 1) own.old }
         ensures at { number < 3 → IsAt AboutTo IsLived number program.now own.new }
+        ensures tied { TiedAt B.since B.start own.new }
         ensures between { number < 3 → Between (due_cost program.now due.now) 2 (number + 1) program.now own.old own.new }
         ensures lives { SameLives own.old own.new };
 }
@@ -61,7 +65,7 @@ impl Rank for Third {
         level_of(3)
     }
 
-    fn interrupt<'s>(_own: &mut Processor, _program: &'s Program<'s>, _due: &Due) {}
+    fn interrupt<'s, B: Since>(_own: &mut Processor, _program: &'s Program<'s>, _due: &Due) {}
 }
 
 impl Rank for Second {
@@ -71,8 +75,8 @@ impl Rank for Second {
         level_of(2)
     }
 
-    fn interrupt<'s>(own: &mut Processor, program: &'s Program<'s>, due: &Due) {
-        run_one::<Third>(own, program, due);
+    fn interrupt<'s, B: Since>(own: &mut Processor, program: &'s Program<'s>, due: &Due) {
+        run_one::<B, Third>(own, program, due);
     }
 }
 
@@ -83,11 +87,11 @@ impl Rank for First {
         level_of(1)
     }
 
-    fn interrupt<'s>(own: &mut Processor, program: &'s Program<'s>, due: &Due) {
+    fn interrupt<'s, B: Since>(own: &mut Processor, program: &'s Program<'s>, due: &Due) {
         if due.level.number() == 2 {
-            run_one::<Second>(own, program, due);
+            run_one::<B, Second>(own, program, due);
         } else {
-            run_one::<Third>(own, program, due);
+            run_one::<B, Third>(own, program, due);
         }
     }
 }
@@ -99,11 +103,11 @@ impl Rank for Ordinary {
         level_of(0)
     }
 
-    fn interrupt<'s>(own: &mut Processor, program: &'s Program<'s>, due: &Due) {
+    fn interrupt<'s, B: Since>(own: &mut Processor, program: &'s Program<'s>, due: &Due) {
         match due.level.number() {
-            1 => run_one::<First>(own, program, due),
-            2 => run_one::<Second>(own, program, due),
-            _ => run_one::<Third>(own, program, due),
+            1 => run_one::<B, First>(own, program, due),
+            2 => run_one::<B, Second>(own, program, due),
+            _ => run_one::<B, Third>(own, program, due),
         }
     }
 }

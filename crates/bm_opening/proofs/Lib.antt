@@ -4,3 +4,4 @@ pub mod OpeningLemmas
 pub mod Bounds
 pub mod Begun
 pub mod Started
+pub mod FreshTold

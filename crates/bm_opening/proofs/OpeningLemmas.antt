@@ -68,7 +68,7 @@ fills-once fs pool o n = subst (λ (l : List ℕ). times n l ≤ 1) (sym (number
 -- ---- the side
 
 -- no parcel waits in an empty inbox
-none-at : (k i : ℕ) → get_or (replicate k (let x : Parcels = [] in x)) i [] ≡ []
+pub none-at : (k i : ℕ) → get_or (replicate k (let x : Parcels = [] in x)) i [] ≡ []
 none-at zero i = refl
 none-at (suc k) zero = refl
 none-at (suc k) (suc i) = none-at k i

@@ -6,10 +6,12 @@ use Rattle.bm_grace.specs.Known.{side}
 use Rattle.bm_grace.specs.PlainState.{idle}
 use Rattle.bm_post.specs.PostState.{no_parcels}
 use Rattle.bm_world.specs.SideState.{SideState}
-use Rattle.bm_world.specs.LivingState.{begun_at, lives_of}
+use Rattle.bm_world.specs.LivingState.{LivingState, begun_at, lives_of}
+use Rattle.bm_lawful.specs.Fills.{fresh_stock}
 use Rattle.bm_cache.specs.Opening.{fill_log}
 use Rattle.bm_cache.specs.Shown.{shown}
 use Rattle.bm_due.specs.Due.{planned_for}
+use Rattle.bm_levels.specs.AtTie.{TiedAt}
 use Rattle.bm_levels.specs.Ready.{known_of, left_of}
 use Rattle.bm_levels.specs.Sound.{Sound}
 use Rattle.bm_levels.specs.declared.processor.Processor.{Processor}
@@ -30,9 +32,13 @@ fresh_side pool = record {
   grace = record { processors = 1; processor = 0; plain = idle; tracing = idle };
 }
 
+-- the world of one processor before its opening: all units are in stock
+abbrev pub outset : (pages : ℕ) → LivingState
+outset pages = record { side = fresh_side (fresh_stock pages); slots = []; begun = []; asked = 0 }
+
 -- The processor's caches were filled so: the log has a `fill` for each class, no flag is up, no object lives, no life began,
 -- none was asked for, no parcel waits, no period is in progress, no section was entered, and a page has a class where these
--- fills left it one. No handler that the program plans for it has run, none runs, and it is in no section. (bpf_mem_alloc_init
+-- fills left it one; the fills are what was taken from a stock of all units. No handler that the program plans for it has run, none runs, and it is in no section. (bpf_mem_alloc_init
 -- and prefill_mem_cache in kernel/bpf/memalloc.c; objects, parcels, periods, sections and planned handlers are this project's
 -- own.)
 pub record IsOpen (p : Program) (f : Filling) (m : Processor) : Type 0 where
@@ -49,3 +55,4 @@ pub record IsOpen (p : Program) (f : Filling) (m : Processor) : Type 0 where
   pub planned : left_of m ≡ planned_for 0 p.scenario.now
   pub running : m.running.items ≡ []
   pub inside : m.inside ≡ false
+  pub tied : TiedAt [] (outset p.scenario.now.pages) m

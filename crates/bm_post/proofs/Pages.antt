@@ -1,8 +1,6 @@
 -- Pages and their classes, while units are fetched and put back.
-use Rattle.std.proofs.Common.{◌≡◌, ◌≢◌, ◌⊎◌, ◌/◌, ◌<◌, ◌+◌, ◌++◌, ℕ, zero, suc, Bool, true, false, List, [], ◌∷◌, drop, length, length-set, reverse, set, if◌then◌else◌, is_none, is_some, refl, sym, ◌∙◌, ap, subst, inl, inr, arith, eq-eqb, Option, Some, None, Result, Ok, Err, OnOk, OnErr, IfOk}
+use Rattle.std.proofs.Common.{◌≡◌, ◌⊎◌, ◌/◌, ◌<◌, ◌++◌, ℕ, zero, suc, true, false, List, [], ◌∷◌, drop, length, length-set, reverse, set, if◌then◌else◌, is_none, is_some, refl, sym, ◌∙◌, ap, subst, inl, inr, arith, eq-eqb, Option, Some, None, Result, Ok, Err, OnOk, IfOk}
 use Rattle.std.proofs.lemmas.Bool.{cases_eq, false≢true}
-use Rattle.std.proofs.lemmas.Grind.{common_steps}
-use Rattle.bm_law.specs.Stands.{times}
 use Rattle.std.specs.Prelude.{slice_set}
 use Rattle.bm_deferred.specs.Pages.{TakesPages, HasClass, NamesPage, Spares}
 use Rattle.bm_page.specs.UnitState.{UnitState}
@@ -10,11 +8,9 @@ use Rattle.bm_page.specs.Stock.{Stock, any_out, class_at, least_stock, lowest_pa
 use Rattle.bm_page.proofs.Least.{least_below-None}
 use Rattle.bm_page.proofs.StockLemmas.{class_at-inside, class_at-other, class_at-same}
 use Rattle.bm_page.proofs.FetchLemmas.{fetched-zero, fetched-none, fetched-next, number-unit_given}
-use Rattle.bm_grace.specs.Known.{Known}
-use Rattle.bm_grace.specs.Calls.{told}
 use Rattle.bm_post.specs.Calls.{Stocks}
 use Rattle.bm_post.specs.Rights.{numbers}
-use Rattle.bm_post.specs.PostState.{Parcels, PostState, all_returned, known_by}
+use Rattle.bm_post.specs.PostState.{Parcels, all_returned, known_by}
 
 next_cases : (o : Option ℕ) → (o ≡ None) ⊎ ((n : ℕ) × (o ≡ Some n))
 next_cases None = inl refl

@@ -152,6 +152,13 @@ impl Knows for PlainPost {
 
     // It knows nothing of grace periods.
     ghost rest = { λ _ _ _. ⊥ };
+
+    // What a world does is told by the whole of it.
+    ghost does = { λ _ _ _. Unit {0} };
+
+    ghost does_same = { λ a. tt };
+
+    ghost does_join = { λ es fs a b c x y. tt };
 }
 
 impl Post for PlainPost {

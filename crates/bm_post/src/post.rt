@@ -1,12 +1,14 @@
 //! The pool and the inboxes, as one processor sees them.
 
-ghost use Rattle.std.specs.Prelude.{◌≡◌, ◌<◌, ◌≤◌, ◌+◌, ◌^◌, true, ℕ, List, Option, [], drop, length, IfOk, IfErr, IfSome, IfNone, OnOk, OnErr};
+ghost use Rattle.std.specs.Prelude.{◌≡◌, ◌<◌, ◌≤◌, ◌+◌, ◌^◌, ◌∷◌, true, ℕ, List, Option, [], drop, length, IfOk, IfErr, IfSome, IfNone, OnOk, OnErr};
 ghost use Rattle.std.specs.List.{All};
 ghost use Rattle.std.specs.Option.{option_map_or};
 ghost use Rattle.bm_page.specs.declared.units.Seal.{Seal};
 ghost use Rattle.bm_deferred.specs.Pages.{TakesPages, Spares};
 ghost use Rattle.bm_grace.specs.Rest.{StaysAtRest};
 ghost use Rattle.bm_grace.specs.Rights.{Rights};
+ghost use Rattle.bm_law_order.specs.Act as act;
+ghost use Rattle.bm_law_order.specs.Act.{sealed};
 ghost use Rattle.bm_post.specs.Calls.{Fetches, GivesBack, IsOf, KeepsCalls, Mails, PostCall, Posts, Receives, Stocks, TellsCall, fetched, received, returned_call, sent};
 ghost use Rattle.bm_post.specs.Parcels.{oldest, parcel_sent, parcel_taken};
 ghost use Rattle.bm_post.specs.Rights.{AreSame, Holds, Lasting, MayLeave, numbers};
@@ -41,7 +43,9 @@ pub trait Post: Knows {
         ensures same_pages { OnErr result ((Self.known self.new).pages ≡ (Self.known self.old).pages) }
         ensures rest { StaysAtRest Self.rest self.old self.new }
         ensures calls { IfOk result (λ n. TellsCall (fetched class want n out.old.items out.new.items) (calls self.old) (calls self.new)) }
-        ensures no_call { OnErr result (KeepsCalls (calls self.old) (calls self.new)) };
+        ensures no_call { OnErr result (KeepsCalls (calls self.old) (calls self.new)) }
+        ensures does { OnOk result (Self.does (act.Fetches class want (numbers (drop (length out.old.items) out.new.items)) ∷ []) self.old self.new) }
+        ensures idle { OnErr result (Self.does [] self.old self.new) };
 
     /// Gives units back to the pool; none is fine. They are mine, and settled or ripe.
     fn put_back(&mut self, units: Vec<Unit>)
@@ -52,7 +56,8 @@ pub trait Post: Knows {
         ensures known { Stocks Self.tells (Self.known self.old) (Self.known self.new) }
         ensures pages { Spares (Self.known self.old).pages (Self.known self.new).pages }
         ensures rest { StaysAtRest Self.rest self.old self.new }
-        ensures calls { TellsCall (returned_call units.items) (calls self.old) (calls self.new) };
+        ensures calls { TellsCall (returned_call units.items) (calls self.old) (calls self.new) }
+        ensures does { Self.does (act.Returns (sealed units.items) ∷ []) self.old self.new };
 
     /// Sends units of a class to a processor's inbox, as one parcel; this one's own inbox too. They are mine, and settled
     /// or ripe. It refuses for want of memory alone, and then hands the units back, which are mine still.
@@ -72,7 +77,9 @@ pub trait Post: Knows {
         ensures known { OnErr result (Posts Self.tells (Self.known self.old) (Self.known self.new)) }
         ensures rest { StaysAtRest Self.rest self.old self.new }
         ensures calls { OnOk result (TellsCall (sent to class units.items) (calls self.old) (calls self.new)) }
-        ensures no_call { OnErr result (KeepsCalls (calls self.old) (calls self.new)) };
+        ensures no_call { OnErr result (KeepsCalls (calls self.old) (calls self.new)) }
+        ensures does { OnOk result (Self.does (act.Sends class to (sealed units.items) ∷ []) self.old self.new) }
+        ensures idle { OnErr result (Self.does [] self.old self.new) };
 
     /// Takes the oldest parcel out of this processor's inbox of a class, as it was sent; `None` where it found the inbox
     /// empty. The units weren't mine before, and differ from each other.
@@ -86,7 +93,8 @@ pub trait Post: Knows {
         ensures none_told { IfNone result (IfSome (Self.known self.old).parcels (λ boxes. boxes class ≡ [])) }
         ensures rest { StaysAtRest Self.rest self.old self.new }
         ensures calls { IfSome result (λ units. TellsCall (received class units.items) (calls self.old) (calls self.new)) }
-        ensures empty { IfNone result (TellsCall (received class []) (calls self.old) (calls self.new)) };
+        ensures empty { IfNone result (TellsCall (received class []) (calls self.old) (calls self.new)) }
+        ensures does { Self.does (act.Receives class (option_map_or (λ units. numbers units.items) result []) ∷ []) self.old self.new };
 
     // What may be used again can be named, and can begin a life.
     ghost room: { (p : Self) (n life : ℕ) (seal : Option Seal) → (Self.rights p).settled n life seal ≡ true → (n < 2 ^ 16) × (life + 1 < 2 ^ 32) };

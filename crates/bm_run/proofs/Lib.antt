@@ -7,3 +7,4 @@ pub mod OpenedList
 pub mod Results
 pub mod Sections
 pub mod Written
+pub mod Laid

@@ -18,30 +18,38 @@ ghost use Rattle.bm_lawful.specs.Short.{JournalShort};
 ghost use Rattle.bm_lives.specs.Lives.{WholeLives};
 ghost use Rattle.bm_lives.specs.Returns.{ReturnsLaw};
 ghost use Rattle.bm_lives.specs.Whole.{LawfulWhole};
+ghost use Rattle.bm_law_order.specs.Orders.{IsLaid, by};
+ghost use Rattle.bm_levels.specs.AtTie.{TiedAt};
 ghost use Rattle.bm_levels.specs.Ready.{word_of};
 ghost use Rattle.bm_levels.specs.Sound.{Sound};
 ghost use Rattle.bm_levels.specs.declared.program.Program.{Program as ProgramValue};
 ghost use Rattle.bm_built.specs.Yet.{RunsYet};
+ghost use Rattle.bm_opening.specs.Opened.{outset};
 ghost use Rattle.bm_run.specs.Closed.{Closed};
+ghost use Rattle.bm_run.specs.ClosingTie.{IsTiedLog};
+ghost use Rattle.bm_run.specs.JournalLaid.{LaidWhole};
 ghost use Rattle.bm_run.specs.Lines.{when_on};
 
 use crate::classes::{opened_classes, type_classes, with_marks};
+use crate::closing_desk::ClosingDesk;
 use crate::scripts::run_lines;
 use crate::stretches::begin_closing;
 use bm_check::Checked;
 use bm_class::Class;
-use bm_closing::{ClosingDesk, close as close_classes};
+use bm_closing::close as close_classes;
 use bm_exec::Types;
 use bm_front::handled_law;
 use bm_journal::{Histories, Journal, Log, Logs, Names, Opened, Recorder, totals_of};
 use bm_lang::{Parts, Scenario, Script, TypeDeclaration};
-use bm_levels::{Deferred, Processor, Program};
+use bm_law_laid::{journal_law, whole_law};
+use bm_levels::{Deferred, Processor, Program, Since};
 use bm_lived::lives_law;
 use bm_mail::{parcels_law, sweeps_law};
 use bm_opening::open;
 use bm_returns::returns_law;
 use bm_word::NoMemory;
 use std::alloc::Global;
+use std::marker::{Brand, PhantomData};
 
 // The names of types.
 fn type_names(alloc: Global, types: &[TypeDeclaration]) -> Result<Names, NoMemory>
@@ -89,8 +97,12 @@ fn journal_of(
     requires short { JournalShort scenario.now.pages (log ∷ []) }
     requires lives { WholeLives (log ∷ []) }
     requires returns { ReturnsLaw (log ∷ []) }
-    ensures { IfOk result (LawfulWhole scenario.now) }
+    requires laid { IsLaid 1 scenario.now.pages (by 0 log) }
+    ensures lawful { IfOk result (LawfulWhole scenario.now) }
+    ensures laid { IfOk result (LaidWhole scenario.now) }
 {
+    whole_law();
+    journal_law();
     let types = type_names(alloc, scenario.types.as_slice())?;
     let scripts = script_names(alloc, scenario.scripts.as_slice())?;
     let classes = Opened::new(with_marks(alloc, classes)?);
@@ -127,13 +139,15 @@ fn give_up(own: Processor) {
 
 // Sweeps the classes of a processor whose scripts have ended, behind the ends of its periods. The answer is what its recorder
 // holds. Want of memory is the only refusal.
-fn close(alloc: Global, own: Processor, classes: &[Class]) -> Result<Log, NoMemory>
+fn close<B: Since>(alloc: Global, own: Processor, classes: &[Class]) -> Result<Log, NoMemory>
     requires sound { (p : ProgramValue) × Sound p own }
+    requires tied { TiedAt B.since B.start own }
     requires settled { own.settled ≤ 40000 }
     requires few { length classes.now ≤ 11 }
     requires outside { (d : DomainValue) → word_of d own % 2 ≡ 0 }
     requires unused { IsSome own.caches.recorder.told → (c : ℕ) → times c classes.now ≡ 0 → seven_lists ((shown own.caches).rows c) ≡ [] }
     ensures closed { IfOk result (Closed classes.now own) }
+    ensures tied { IfOk result (IsTiedLog B.since B.start) }
     ensures whole { IfOk result (λ log. IsTrue (is_whole_log log)) }
 {
     own.side.one_at_rest();
@@ -147,9 +161,17 @@ fn close(alloc: Global, own: Processor, classes: &[Class]) -> Result<Log, NoMemo
         running: _,
         tables: _,
     } = own;
-    let mut desk = ClosingDesk { caches, side };
+    let mut desk = ClosingDesk::<B> {
+        caches,
+        side,
+        since: PhantomData,
+    };
     let swept = close_classes(alloc, &mut desk, classes);
-    let ClosingDesk { caches, side } = desk;
+    let ClosingDesk {
+        caches,
+        side,
+        since: _,
+    } = desk;
     side.give_up();
     if swept.is_err() || caches.recorder().failed() {
         caches.give_up();
@@ -165,8 +187,8 @@ fn when_on<'s>(on: bool, classes: &'s [Class]) -> Option<&'s [Class]>
     if on { Some(classes) } else { None }
 }
 
-// The log of a run.
-fn log_of(
+// The log of a run, tied since the outset.
+fn log_of<B: Since>(
     alloc: Global,
     scenario: &Scenario,
     classes: &[Class],
@@ -177,7 +199,10 @@ fn log_of(
     requires checked { IsChecked scenario.now }
     requires classes { map Some classes.now ≡ map (λ t. class_of_size (object_size t)) scenario.now.types }
     requires opened { opened.now ≡ opened_classes scenario.now.types }
+    requires since { B.since ≡ [] }
+    requires start { B.start ≡ outset scenario.now.pages }
     ensures lawful { IfOk result (LawfulLog scenario.now 0) }
+    ensures laid { IfOk result (λ log. IsLaid 1 scenario.now.pages (by 0 log)) }
     ensures short { IfOk result (λ log. JournalShort scenario.now.pages (log ∷ [])) }
     ensures lives { IfOk result (λ log. WholeLives (log ∷ [])) }
     ensures returns { IfOk result (λ log. ReturnsLaw (log ∷ [])) }
@@ -200,25 +225,26 @@ fn log_of(
         behind: when_on(parts.deferred, opened),
     };
     let mut own = open(alloc, scenario, &program, opened)?;
-    if run_lines(alloc, &mut own, &program, &deferred).is_err() {
+    if run_lines::<B>(alloc, &mut own, &program, &deferred).is_err() {
         give_up(own);
         return Err(NoMemory);
     }
     begin_closing(&mut own);
-    close(alloc, own, opened)
+    close::<B>(alloc, own, opened)
 }
 
-/// Runs a checked scenario of the forms that run by now, and gives its journal, which is lawful. Its time grows with the
-/// statements run. Want of memory is the only refusal.
+/// Runs a checked scenario of the forms that run by now, and gives its journal, which is lawful and laid. Its time grows with
+/// the statements run. Want of memory is the only refusal.
 pub fn replay(alloc: Global, checked: &Checked) -> Result<Journal, NoMemory>
     requires { RunsYet checked.now }
-    ensures { IfOk result (LawfulWhole checked.now) }
+    ensures lawful { IfOk result (LawfulWhole checked.now) }
+    ensures laid { IfOk result (LaidWhole checked.now) }
 {
     let scenario = checked.scenario();
     let parts = scenario.parts();
     let types = parts.types.as_slice();
     let classes = type_classes(alloc, types)?;
     let opened = opened_classes(alloc, types, classes.as_slice())?;
-    let log = log_of(alloc, scenario, classes.as_slice(), opened.as_slice())?;
+    let log = log_of::<Brand>(alloc, scenario, classes.as_slice(), opened.as_slice())?;
     journal_of(alloc, parts, opened.as_slice(), log)
 }

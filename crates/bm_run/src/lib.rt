@@ -2,6 +2,7 @@
 #![tactic(auto)]
 
 mod classes;
+mod closing_desk;
 mod journals;
 mod scripts;
 mod stretches;

@@ -9,6 +9,7 @@ ghost use Rattle.bm_exec.specs.Running.{RanScript};
 ghost use Rattle.bm_exec.specs.declared.running.Stopped.TheVariants as stopped;
 ghost use Rattle.bm_lawful.specs.Grammar.{AreScripts, IsScript, lines_of};
 ghost use Rattle.bm_levels.specs.AtProcessor.{SameLives, lists_of, log_of};
+ghost use Rattle.bm_levels.specs.AtTie.{TiedAt};
 ghost use Rattle.bm_levels.specs.Ordinary.{Statements};
 ghost use Rattle.bm_levels.specs.Ready.{asked_of, left_of, word_of};
 ghost use Rattle.bm_levels.specs.Sound.{Sound};
@@ -17,12 +18,13 @@ ghost use Rattle.bm_run.specs.Lines.{lines_cost, works_for, AllDeclared, Wrote};
 use crate::stretches::{begin_script, end_script, settle_behind};
 use bm_exec::{Stopped, run_script};
 use bm_lang::Script;
-use bm_levels::{Deferred, Ground, Processor, Program};
+use bm_levels::{Deferred, Ground, Processor, Program, Since};
 use bm_word::NoMemory;
 use std::alloc::Global;
+use std::marker::PhantomData;
 
 // Runs the statements of a script, as ordinary code.
-fn run_body<'s>(
+fn run_body<'s, B: Since>(
     alloc: Global,
     own: &mut Processor,
     program: &'s Program<'s>,
@@ -30,6 +32,7 @@ fn run_body<'s>(
     script: &'s Script,
 ) -> Stopped
     requires sound { Sound program.now own.old }
+    requires tied { TiedAt B.since B.start own.old }
     requires few { IfSome deferred.now.behind (λ classes. length classes.now ≤ 11) }
     requires room { asked_of program.now.scenario.now own.old + 2 * block_cost script.now.body < 2 ^ 22 }
     requires found { (i : ℕ) × (slice_get program.now.scenario.now.scripts i ≡ Some script.now) }
@@ -40,23 +43,26 @@ fn run_body<'s>(
     ensures down { result ≡ stopped.Ended → Behind (behind_of deferred.now.behind) (lists_of own.new) [] }
     ensures statements { result ≡ stopped.Ended → Statements own.old own.new }
     ensures sound { result ≡ stopped.Ended → Sound program.now own.new }
+    ensures tied { result ≡ stopped.Ended → TiedAt B.since B.start own.new }
 {
-    let mut code = Ground {
+    let mut code = Ground::<B> {
         own,
         program,
         deferred,
+        since: PhantomData,
     };
     let stopped = run_script(alloc, &mut code, &program.types, program.scenario, script);
     let Ground {
         own: _,
         program: _,
         deferred: _,
+        since: _,
     } = code;
     stopped
 }
 
 // Runs a script in its plain section, and the deferred work behind it.
-fn run_line<'s>(
+fn run_line<'s, B: Since>(
     alloc: Global,
     own: &mut Processor,
     program: &'s Program<'s>,
@@ -64,6 +70,7 @@ fn run_line<'s>(
     script: &'s Script,
 ) -> Result<(), NoMemory>
     requires sound { Sound program.now own.old }
+    requires tied { TiedAt B.since B.start own.old }
     requires works { behind_of deferred.now.behind ≡ works_for program.now.scenario.now }
     requires few { IfSome deferred.now.behind (λ classes. length classes.now ≤ 11) }
     requires room { asked_of program.now.scenario.now own.old + (2 * block_cost script.now.body + 1) < 2 ^ 22 }
@@ -78,26 +85,28 @@ fn run_line<'s>(
     ensures outside { OnOk result ((d : DomainValue) → word_of d own.new % 2 ≡ word_of d own.old % 2) }
     ensures words { OnOk result (word_of Plain own.new + 2 * length (left_of own.new) ≤ word_of Plain own.old + 2 * length (left_of own.old) + 2) }
     ensures sound { OnOk result (Sound program.now own.new) }
+    ensures tied { OnOk result (TiedAt B.since B.start own.new) }
 {
     begin_script(own, &script.name);
-    match run_body(alloc, own, program, deferred, script) {
+    match run_body::<B>(alloc, own, program, deferred, script) {
         Stopped::NoMemory => Err(NoMemory),
         Stopped::Ended => {
             end_script(own, &script.name);
-            settle_behind(own, program, deferred)
+            settle_behind::<B>(own, program, deferred)
         }
     }
 }
 
 /// Runs the scripts of the `run` lines of processor 0, in order, each in a plain section and with the deferred work behind it; and
 /// the handlers that are due meanwhile. Want of memory is the only refusal.
-pub(crate) fn run_lines<'s>(
+pub fn run_lines<'s, B: Since>(
     alloc: Global,
     own: &mut Processor,
     program: &'s Program<'s>,
     deferred: &'s Deferred<'s>,
 ) -> Result<(), NoMemory>
     requires sound { Sound program.now own.old }
+    requires tied { TiedAt B.since B.start own.old }
     requires works { behind_of deferred.now.behind ≡ works_for program.now.scenario.now }
     requires few { IfSome deferred.now.behind (λ classes. length classes.now ≤ 11) }
     requires cost { asked_of program.now.scenario.now own.old + 2 * lines_cost program.now.scenario.now.scripts program.now.scenario.now.runs ≤ 40000 }
@@ -110,6 +119,7 @@ pub(crate) fn run_lines<'s>(
     ensures outside { OnOk result ((d : DomainValue) → word_of d own.new % 2 ≡ 0) }
     ensures asked { OnOk result (asked_of program.now.scenario.now own.new ≤ 40000) }
     ensures sound { OnOk result (Sound program.now own.new) }
+    ensures tied { OnOk result (TiedAt B.since B.start own.new) }
 {
     let scenario = program.scenario;
     for run in scenario.runs.as_slice() {
@@ -117,7 +127,7 @@ pub(crate) fn run_lines<'s>(
             let Some(script) = scenario.scripts.as_slice().get(run.script.0) else {
                 unreachable!();
             };
-            run_line(alloc, own, program, deferred, script)?;
+            run_line::<B>(alloc, own, program, deferred, script)?;
         }
     }
     Ok(())

@@ -13,6 +13,10 @@ ghost use Rattle.bm_due.specs.Standing.{Stays as StaysKind, kind_of};
 ghost use Rattle.bm_exec.specs.Lists.{Behind, behind_of};
 ghost use Rattle.bm_lived.specs.Lifeless.{SaysNoLife};
 ghost use Rattle.bm_levels.specs.AtProcessor.{FineAt, SameLives, lists_of, log_of};
+ghost use Rattle.bm_law.specs.Lists.{Log};
+ghost use Rattle.bm_law_order.specs.Quiet.{is_quiet};
+ghost use Rattle.bm_world.specs.LivingState.{LivingState};
+ghost use Rattle.bm_levels.specs.AtTie.{TiedAt};
 ghost use Rattle.bm_levels.specs.Growing.{IsInner};
 ghost use Rattle.bm_levels.specs.Ordinary.{Statements};
 ghost use Rattle.bm_levels.specs.Ready.{asked_of, known_of, left_of, word_of};
@@ -21,7 +25,7 @@ ghost use Rattle.bm_levels.specs.declared.program.Program.{Program as ProgramVal
 ghost use Rattle.bm_run.specs.Lines.{BehindScript, Wrote};
 
 use bm_journal::{Entry, Level};
-use bm_levels::{Deferred, Processor, Program, enter_section, leave_section, settle_script};
+use bm_levels::{Deferred, Processor, Program, Since, enter_section, leave_section, settle_script};
 use bm_word::{Name, NoMemory};
 
 // Records an entry of ordinary code that moves nothing, and has nothing to do with parcels, periods and the stock.
@@ -35,6 +39,7 @@ fn note(own: &mut Processor, entry: Entry)
     ensures processor { own.new.caches.processor ≡ own.old.caches.processor }
     ensures same { own.new ≡ record own.old { caches = own.new.caches } }
     ensures fine { FineAt 0 own.new }
+    ensures tied { IsTrue (is_quiet entry) → (since : Log) (start : LivingState) → TiedAt since start own.old → TiedAt since start own.new }
     ensures sound { (p : ProgramValue) → kind_of entry ≡ StaysKind → IsInner entry → SaysNoLife entry → Sound p own.old → Sound p own.new }
 {
     own.caches.note(Level::ordinary(), entry);
@@ -51,6 +56,7 @@ fn go_in(own: &mut Processor)
     ensures known { known_of own.new ≡ entered false Plain (known_of own.old) }
     ensures same { own.new ≡ record own.old { caches = own.new.caches; side = own.new.side; inside = own.new.inside } }
     ensures fine { FineAt 0 own.new }
+    ensures tied { (since : Log) (start : LivingState) → TiedAt since start own.old → TiedAt since start own.new }
     ensures sound { (p : ProgramValue) → Sound p own.old → Sound p own.new }
 {
     enter_section(own, Level::ordinary());
@@ -67,6 +73,7 @@ fn go_out(own: &mut Processor)
     ensures known { known_of own.new ≡ left false Plain (known_of own.old) }
     ensures same { own.new ≡ record own.old { caches = own.new.caches; side = own.new.side; inside = own.new.inside } }
     ensures fine { FineAt 0 own.new }
+    ensures tied { (since : Log) (start : LivingState) → TiedAt since start own.old → TiedAt since start own.new }
     ensures sound { (p : ProgramValue) → Sound p own.old → Sound p own.new }
 {
     leave_section(own, Level::ordinary());
@@ -81,6 +88,7 @@ pub(crate) fn begin_script(own: &mut Processor, name: &Name)
     ensures lists { shown own.new.caches ≡ shown own.old.caches }
     ensures known { known_of own.new ≡ entered false Plain (known_of own.old) }
     ensures same { own.new ≡ record own.old { caches = own.new.caches; side = own.new.side; inside = own.new.inside } }
+    ensures tied { (since : Log) (start : LivingState) → TiedAt since start own.old → TiedAt since start own.new }
     ensures sound { (p : ProgramValue) → Sound p own.old → Sound p own.new }
 {
     note(own, Entry::Script(name.duplicate()));
@@ -96,6 +104,7 @@ pub(crate) fn end_script(own: &mut Processor, name: &Name)
     ensures lists { shown own.new.caches ≡ shown own.old.caches }
     ensures known { known_of own.new ≡ left false Plain (known_of own.old) }
     ensures same { own.new ≡ record own.old { caches = own.new.caches; side = own.new.side; inside = own.new.inside } }
+    ensures tied { (since : Log) (start : LivingState) → TiedAt since start own.old → TiedAt since start own.new }
     ensures sound { (p : ProgramValue) → Sound p own.old → Sound p own.new }
 {
     go_out(own);
@@ -103,12 +112,13 @@ pub(crate) fn end_script(own: &mut Processor, name: &Name)
 }
 
 /// Runs the deferred work that stands behind a script, if any runs. Want of memory is the only refusal.
-pub(crate) fn settle_behind<'s>(
+pub(crate) fn settle_behind<'s, B: Since>(
     own: &mut Processor,
     program: &'s Program<'s>,
     deferred: &'s Deferred<'s>,
 ) -> Result<(), NoMemory>
     requires sound { Sound program.now own.old }
+    requires tied { TiedAt B.since B.start own.old }
     requires room { asked_of program.now.scenario.now own.old + 1 < 2 ^ 22 }
     requires few { IfSome deferred.now.behind (λ classes. length classes.now ≤ 11) }
     ensures wrote { OnOk result (Wrote (BehindScript (behind_of deferred.now.behind)) own.old own.new) }
@@ -117,21 +127,23 @@ pub(crate) fn settle_behind<'s>(
     ensures asked { OnOk result (asked_of program.now.scenario.now own.new ≤ asked_of program.now.scenario.now own.old + 1) }
     ensures statements { OnOk result (Statements own.old own.new) }
     ensures sound { OnOk result (Sound program.now own.new) }
+    ensures tied { OnOk result (TiedAt B.since B.start own.new) }
 {
     let Some(classes) = deferred.behind else {
         return Ok(());
     };
-    settle_script(own, program, classes)
+    settle_script::<B>(own, program, classes)
 }
 
 /// Records that the scripts of the one processor have ended, and that the closing begins. From then on no handler is due.
-pub(crate) fn begin_closing(own: &mut Processor)
+pub fn begin_closing(own: &mut Processor)
     requires fine { FineAt 0 own.old }
     ensures wrote { Wrote (Stand 0 (entry.Ended ∷ entry.Close ∷ [])) own.old own.new }
     ensures lists { shown own.new.caches ≡ shown own.old.caches }
     ensures side { own.new.side ≡ own.old.side }
     ensures settled { own.new.settled ≡ own.old.settled }
     ensures ended { own.new.handlers.planned.ended ≡ true }
+    ensures tied { (since : Log) (start : LivingState) → TiedAt since start own.old → TiedAt since start own.new }
     ensures sound { (p : ProgramValue) → Sound p own.old → Sound p own.new }
 {
     note(own, Entry::Ended);

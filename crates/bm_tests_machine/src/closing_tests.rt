@@ -25,9 +25,10 @@ ghost use Rattle.bm_closing.specs.AtEnd.{AtEnd, ended_at};
 use crate::lent::Lent;
 use crate::logs::has_log;
 use crate::openings::{give_up, opened, pool_of};
+use crate::still_desk::StillDesk;
 use bm_cache::{Given, alloc, free_delayed};
 use bm_class::Class;
-use bm_closing::{ClosingDesk, Ended, close, end_period, sweep};
+use bm_closing::{Ended, close, end_period, sweep};
 use bm_desk::Desk;
 use bm_grace::{Began, Grace, PlainGrace};
 use bm_journal::{Domain, Keep, Recorder};
@@ -129,7 +130,7 @@ fn desk_over<R: Recorder, S: World>(
     class: Class,
     free: Vec<Unit>,
     lent: S,
-) -> ClosingDesk<R, S>
+) -> StillDesk<R, S>
     requires counts { R.counts recorder ≡ no_counts }
     requires log { IfSome (R.log recorder) (λ es. es ≡ []) }
     requires processors { (S.Knows.known lent).grace.processors ≡ 1 }
@@ -140,7 +141,7 @@ fn desk_over<R: Recorder, S: World>(
     ensures side { result.side ≡ lent }
 {
     let caches = opened(rt, recorder, class, free);
-    ClosingDesk { caches, side: lent }
+    StillDesk { caches, side: lent }
 }
 
 /// The unit that an allocation gives.
@@ -190,7 +191,7 @@ fn ends_periods<S: World>(rt: &(impl Abort + AllocGlobal), lent: S) -> S
     let mut desk = desk_over(rt, Lent { keep: &mut keep }, class, none, lent);
     end_period(&mut desk, Domain::Plain);
     end_period(&mut desk, Domain::Tracing);
-    let ClosingDesk { caches, side } = desk;
+    let StillDesk { caches, side } = desk;
     caches.give_up();
     has_log(rt, keep, 1, 4, ENDED);
     side
@@ -229,7 +230,7 @@ fn all_units_of_a_class_are_swept(rt: HostRuntime) {
     free_with_delay(&mut desk, unit);
     sweep(rt.alloc(), &mut desk, class).expect(&rt, "memory");
     sweep(rt.alloc(), &mut desk, class).expect(&rt, "memory");
-    let ClosingDesk { caches, side } = desk;
+    let StillDesk { caches, side } = desk;
     caches.give_up();
     has_log(&rt, keep, 1, 4, SWEPT);
     give_up(side);
@@ -259,7 +260,7 @@ fn a_processor_is_closed(rt: HostRuntime) {
     let mut keep = Keep::new(rt.alloc());
     let mut desk = desk_over(&rt, Lent { keep: &mut keep }, class, free, lent);
     close(rt.alloc(), &mut desk, &[empty, class]).expect(&rt, "memory");
-    let ClosingDesk { caches, side } = desk;
+    let StillDesk { caches, side } = desk;
     caches.give_up();
     has_log(&rt, keep, 1, 4, CLOSED);
     give_up(side);

@@ -117,6 +117,14 @@ impl<R: Recorder, S: World> Desk<R> for Ground<R, S> {
 
     ghost stays = { λ a b. Alike (S.Knows.known a.kept.side) (S.Knows.known b.kept.side) };
 
+    ghost owes = { λ _ _ m. Unit {0} };
+
+    ghost asked_owes = { λ _ m. Unit {0} };
+
+    ghost rested = { λ _ _ m. Unit {0} };
+
+    ghost asked_rested = { λ _ _ _ m. Unit {0} };
+
     fn world(&mut self) -> &mut S {
         let kept = &mut self.kept;
         &mut kept.side
@@ -132,10 +140,6 @@ impl<R: Recorder, S: World> Desk<R> for Ground<R, S> {
 
     ghost pending_apart = { λ h w. refl };
 
-    ghost sound_apart = { λ h w a s. s };
-
-    ghost asked_apart = { λ h w a s. s };
-
     ghost stays_apart = { λ h w a. a };
 
     ghost tests_are = { λ h. refl };
@@ -147,6 +151,42 @@ impl<R: Recorder, S: World> Desk<R> for Ground<R, S> {
     ghost keeps_stays = { λ a b k. alike-still (S.Knows.known a.kept.side) (S.Knows.known b.kept.side) (ap S.Knows.known k) };
 
     ghost stays_join = { λ a b c k m. alike-joined (S.Knows.known a.kept.side) (S.Knows.known b.kept.side) (S.Knows.known c.kept.side) k m };
+
+    ghost owes_open = { λ h s. s };
+
+    ghost owes_shut = { λ h o. o };
+
+    ghost owes_done = { λ h w A B es a d o. o };
+
+    ghost owes_said = { λ h c A es e i a o. o };
+
+    ghost owes_closed = { λ h A es x o. o };
+
+    ghost asked_open = { λ h s. s };
+
+    ghost asked_done = { λ h w A B a d o. o };
+
+    ghost asked_closed = { λ h A x o. o };
+
+    ghost asked_stepped = { λ h c A e i x a o. o };
+
+    ghost rested_looked = { λ h d x f o. o };
+
+    ghost rested_begun = { λ h d x n f g o. o };
+
+    ghost rested_read = { λ h d x n i z o. o };
+
+    ghost rested_missed = { λ h d x e n o. o };
+
+    ghost rested_whole = { λ h d x n ws p e f o. o };
+
+    ghost rested_lent = { λ h w d x e o. o };
+
+    ghost rested_kept = { λ a b d x k m s o. o };
+
+    ghost rested_done = { λ h w d x A B a m o. o };
+
+    ghost rested_passed = { λ h c i d x n a o. o };
 }
 
 impl<'a, R: Recorder, S: World> Host<R> for Upper<'a, R, S> {

@@ -51,9 +51,11 @@ fn class(rt: &impl Abort) -> Class {
     Class::new(0).expect(rt, "the class of 16 bytes")
 }
 
-/// Reads the number of a domain, and answers the stamp of it, which is no step of the log by itself.
+/// Reads the number of a domain, and answers the stamp of it, which is no step of the log by itself. So it is for desks
+/// that aren't tied to their logs.
 fn read_stamp<R: Recorder, H: Desk<R>>(host: &mut H, domain: Domain) -> u32
     requires stands { Stands R.log R.counts H.Host.sound H.Host.tests H.Host.face H.Host.held host.old }
+    requires apart { (h : H) (w : H.W) → H.Host.sound h → H.Host.sound (H.with_shared h w) }
     ensures positive { 0 < result }
     ensures since { (u : Token) → Either (H.Host.tests host.old) u → Passes (H.Host.tests host.new) (since_test domain result) u }
     ensures called { Called H.Host.face H.Host.pending H.stays H.Host.held (λ h. H.W.Knows.known (H.shared h)) (λ h. H.W.Knows.rights (H.shared h)) 0 0 host.old host.new }
@@ -65,6 +67,7 @@ fn read_stamp<R: Recorder, H: Desk<R>>(host: &mut H, domain: Domain) -> u32
 /// A stamp of the plain domain, and what a poll for it answers.
 fn stamp_and_poll<R: Recorder, H: Desk<R>>(host: &mut H, class: Class) -> (u32, Done)
     requires stands { Stands R.log R.counts H.Host.sound H.Host.tests H.Host.face H.Host.held host.old }
+    requires apart { (h : H) (w : H.W) → H.Host.sound h → H.Host.sound (H.with_shared h w) }
     requires room { 0 < (side Plain (H.W.Knows.known (H.shared host.old))).begins }
     ensures stays { H.stays host.old host.new }
     ensures begins { (side Plain (H.W.Knows.known (H.shared host.old))).begins ≤ (side Plain (H.W.Knows.known (H.shared host.new))).begins + 1 }

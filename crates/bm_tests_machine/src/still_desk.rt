@@ -8,6 +8,7 @@ ghost use Rattle.bm_desk.specs.Goes.{Alike};
 ghost use Rattle.bm_desk.specs.Still.{alike-joined, alike-still, goes-still};
 
 use bm_cache::{Caches, Host};
+use bm_closing::Ended;
 use bm_desk::Desk;
 use bm_journal::{Level, Recorder};
 use bm_world::World;
@@ -47,7 +48,7 @@ impl<R: Recorder, S: World> Host<R> for StillDesk<R, S> {
 
     ghost frees = { λ _ _ m. Unit {0} };
 
-    ghost keeps = { λ a b. S.Knows.known b.side ≡ S.Knows.known a.side };
+    ghost keeps = { λ a b. b.side ≡ a.side };
 
     ghost held_back = { λ h c. refl };
 
@@ -95,6 +96,14 @@ impl<R: Recorder, S: World> Desk<R> for StillDesk<R, S> {
 
     ghost stays = { λ a b. Alike (S.Knows.known a.side) (S.Knows.known b.side) };
 
+    ghost owes = { λ _ _ m. Unit {0} };
+
+    ghost asked_owes = { λ _ m. Unit {0} };
+
+    ghost rested = { λ _ _ m. Unit {0} };
+
+    ghost asked_rested = { λ _ _ _ m. Unit {0} };
+
     fn world(&mut self) -> &mut S {
         &mut self.side
     }
@@ -109,19 +118,59 @@ impl<R: Recorder, S: World> Desk<R> for StillDesk<R, S> {
 
     ghost pending_apart = { λ h w. refl };
 
-    ghost sound_apart = { λ h w a s. s };
-
-    ghost asked_apart = { λ h w a s. s };
-
     ghost stays_apart = { λ h w a. a };
 
     ghost tests_are = { λ h. refl };
 
     ghost processors_are = { λ h. refl };
 
-    ghost known_goes = { λ a b k. goes-still (S.Knows.known a.side) (S.Knows.known b.side) k };
+    ghost known_goes = { λ a b k. goes-still (S.Knows.known a.side) (S.Knows.known b.side) (ap S.Knows.known k) };
 
-    ghost keeps_stays = { λ a b k. alike-still (S.Knows.known a.side) (S.Knows.known b.side) k };
+    ghost keeps_stays = { λ a b k. alike-still (S.Knows.known a.side) (S.Knows.known b.side) (ap S.Knows.known k) };
 
     ghost stays_join = { λ a b c k m. alike-joined (S.Knows.known a.side) (S.Knows.known b.side) (S.Knows.known c.side) k m };
+
+    ghost owes_open = { λ h s. s };
+
+    ghost owes_shut = { λ h o. o };
+
+    ghost owes_done = { λ h w A B es a d o. o };
+
+    ghost owes_said = { λ h c A es e i a o. o };
+
+    ghost owes_closed = { λ h A es x o. o };
+
+    ghost asked_open = { λ h s. s };
+
+    ghost asked_done = { λ h w A B a d o. o };
+
+    ghost asked_closed = { λ h A x o. o };
+
+    ghost asked_stepped = { λ h c A e i x a o. o };
+
+    ghost rested_looked = { λ h d x f o. o };
+
+    ghost rested_begun = { λ h d x n f g o. o };
+
+    ghost rested_read = { λ h d x n i z o. o };
+
+    ghost rested_missed = { λ h d x e n o. o };
+
+    ghost rested_whole = { λ h d x n ws p e f o. o };
+
+    ghost rested_lent = { λ h w d x e o. o };
+
+    ghost rested_kept = { λ a b d x k m s o. o };
+
+    ghost rested_done = { λ h w d x A B a m o. o };
+
+    ghost rested_passed = { λ h c i d x n a o. o };
+}
+
+impl<R: Recorder, S: World> Ended<R> for StillDesk<R, S> {
+    ghost owes_noted = { λ h c A es more a o. o };
+
+    ghost owes_told = { λ h A B es others s o. o };
+
+    ghost owes_passed = { λ h d x n m c ws p e f o. o };
 }

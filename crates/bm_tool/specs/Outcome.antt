@@ -10,6 +10,7 @@ use Rattle.bm_lang.specs.Limits.{first_limit}
 use Rattle.bm_lang.specs.Scenarios.{Reads}
 use Rattle.bm_check.specs.Scripts.{AllAccepted}
 use Rattle.bm_lives.specs.Whole.{LawfulWhole}
+use Rattle.bm_run.specs.JournalLaid.{LaidWhole}
 use Rattle.bm_command.specs.declared.command.Command.{Command}
 use Rattle.bm_command.specs.declared.command.Command.TheVariants.{Replay, Check}
 use Rattle.bm_tool.specs.declared.refusal.Refusal.{Refusal}
@@ -33,11 +34,11 @@ pub record IsServable (c : Command) (bytes : List ℕ) : Type 0 where
   pub limits : (s : Parts) → Reads bytes s → first_limit s ≡ None
   pub accepted : (s : Parts) → Reads bytes s → AllAccepted s
 
--- What a command answers of the bytes that were left in the source: `replay` a lawful journal, `check` none.
+-- What a command answers of the bytes that were left in the source: `replay` a lawful journal that is laid, `check` none.
 abbrev pub Serves : Command → Option (List ℕ) → Option Journal → Type 0
 Serves Check left journal = (journal ≡ None) × IfSome left (λ bytes. (s : Parts) × IsPrepared Check bytes s)
 Serves (Replay totals) left None = ⊥
-Serves (Replay totals) left (Some journal) = IfSome left (λ bytes. (s : Parts) × IsPrepared (Replay totals) bytes s × LawfulWhole s journal)
+Serves (Replay totals) left (Some journal) = IfSome left (λ bytes. (s : Parts) × IsPrepared (Replay totals) bytes s × LawfulWhole s journal × LaidWhole s journal)
 
 -- what a command writes: the text of the journal, or its lines of totals alone, or that the scripts are accepted
 abbrev pub out_text : Command → Option Journal → List ℕ

@@ -3,3 +3,5 @@ pub mod Alive
 pub mod Cleared
 pub mod Lived
 pub mod SlotLemmas
+pub mod Did
+pub mod LivingDid

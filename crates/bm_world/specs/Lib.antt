@@ -1,4 +1,6 @@
 pub mod LivingState
 pub mod SideState
 pub mod Slots
+pub mod Told
+pub mod ToldLiving
 pub mod WaitingState

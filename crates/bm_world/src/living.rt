@@ -20,6 +20,10 @@ ghost use Rattle.bm_post.specs.Calls.{Fetches, GivesBack, IsOf, Mails, Posts, Re
 ghost use Rattle.bm_post.specs.Parcels.{oldest, parcel_sent, parcel_taken};
 ghost use Rattle.bm_post.specs.Rights.{AreSame, Gains, Holds, IsSettled, Lasting, Loses, MayLeave, numbers};
 ghost use Rattle.bm_world.specs.Slots.{AllEmpty, unit_at};
+ghost use Rattle.bm_world.specs.ToldLiving.{LivingDoes, living-join, living-same};
+ghost use Rattle.bm_law_order.specs.Act as act;
+ghost use Rattle.bm_law_order.specs.Act.{sealed};
+ghost use Rattle.bm_grace.specs.Begins.{begin_act};
 ghost use Rattle.bm_world.specs.LivingState.{HaveLived, LivingAtRest, begun_at, idle-living, known_living, next_life, rights_living, room-living, with_asked, with_begun, with_ended};
 
 use crate::begun::Begun;
@@ -149,6 +153,7 @@ impl LivingSide {
         ensures same { AreSame (rights_living self.old) (rights_living self.new) }
         ensures lasts { Lasting [] (rights_living self.old) (rights_living self.new) }
         ensures rest { StaysAtRest LivingAtRest self.old self.new }
+        ensures does { LivingDoes [] self.old self.new }
     {
         self.asked += 1;
     }
@@ -168,6 +173,8 @@ impl LivingSide {
         ensures gone { Loses (unit.number ∷ []) (rights_living self.old) (rights_living self.new) }
         ensures lasts { Lasting [] (rights_living self.old) (rights_living self.new) }
         ensures rest { StaysAtRest LivingAtRest self.old self.new }
+        ensures does { unit.home ≡ self.old.side.grace.processor
+            → LivingDoes (act.Makes unit.number (unit.life + 1) unit.seal ∷ []) self.old self.new }
     {
         self.side.processors_agree();
         let mut unit = unit;
@@ -194,6 +201,7 @@ impl LivingSide {
         ensures home { result.home < self.old.side.grace.processors }
         ensures lasts { Lasting [] (rights_living self.old) (rights_living self.new) }
         ensures rest { StaysAtRest LivingAtRest self.old self.new }
+        ensures does { LivingDoes (act.Ends number result.life result.home ∷ []) self.old self.new }
     {
         self.side.processors_agree();
         self.slots.take(number)
@@ -208,6 +216,12 @@ impl Knows for LivingSide {
     ghost rights = { rights_living };
 
     ghost rest = { LivingAtRest };
+
+    ghost does = { LivingDoes };
+
+    ghost does_same = { living-same };
+
+    ghost does_join = { living-join };
 }
 
 impl Grace for LivingSide {
@@ -224,6 +238,7 @@ impl Grace for LivingSide {
         ensures known { known_living self.new ≡ entered false domain (known_living self.old) }
         ensures rights { Ages (rights_living self.old) (rights_living self.new) }
         ensures same { AsBefore (rights_living self.old) (rights_living self.new) }
+        ensures does { LivingDoes (act.Enters domain result ∷ []) self.old self.new }
     {
         self.side.enter(domain)
     }
@@ -240,6 +255,7 @@ impl Grace for LivingSide {
         ensures known { known_living self.new ≡ left false domain (known_living self.old) }
         ensures rights { Ages (rights_living self.old) (rights_living self.new) }
         ensures same { AsBefore (rights_living self.old) (rights_living self.new) }
+        ensures does { LivingDoes (act.Leaves domain result ∷ []) self.old self.new }
     {
         self.side.leave(domain)
     }
@@ -252,6 +268,7 @@ impl Grace for LivingSide {
         ensures since { MineSince domain result (rights_living self.old) (rights_living self.new) }
         ensures rest { StaysAtRest LivingAtRest self.old self.new }
         ensures at_rest { (n : ℕ) → LivingAtRest self.old domain n → result ≡ next n }
+        ensures does { LivingDoes (act.Stamps domain result ∷ []) self.old self.new }
     {
         self.side.stamp(domain)
     }
@@ -266,6 +283,7 @@ impl Grace for LivingSide {
         ensures ripe { Ripens domain stamp result (rights_living self.old) (rights_living self.new) }
         ensures rest { StaysAtRest LivingAtRest self.old self.new }
         ensures at_rest { (n : ℕ) → LivingAtRest self.old domain n → number_in result ≡ n }
+        ensures does { LivingDoes (act.Reads domain stamp (number_in result) ∷ []) self.old self.new }
     {
         self.side.done(domain, stamp)
     }
@@ -287,6 +305,7 @@ impl Grace for LivingSide {
         ensures rights { Ages (rights_living self.old) (rights_living self.new) }
         ensures rest { MovesNumber LivingAtRest domain even (even + 1) self.old self.new }
         ensures at_rest { LivingAtRest self.old domain even → result ≡ Won }
+        ensures does { LivingDoes (begin_act domain even result ∷ []) self.old self.new }
     {
         self.side.begin(domain, even)
     }
@@ -306,6 +325,7 @@ impl Grace for LivingSide {
         ensures rights { Ages (rights_living self.old) (rights_living self.new) }
         ensures rest { StaysAtRest LivingAtRest self.old self.new }
         ensures at_rest { (n : ℕ) → LivingAtRest self.old domain n → result ≡ AllPass }
+        ensures does { LivingDoes (act.Looks domain (side domain (known_living self.new)).later ∷ []) self.old self.new }
     {
         self.side.look(domain)
     }
@@ -321,6 +341,7 @@ impl Grace for LivingSide {
         ensures known { known_living self.new ≡ finished false domain (known_living self.old) }
         ensures rights { Ages (rights_living self.old) (rights_living self.new) }
         ensures rest { (n : ℕ) → MovesNumber LivingAtRest domain n (n + 1) self.old self.new }
+        ensures does { LivingDoes (act.Finishes result ∷ []) self.old self.new }
     {
         self.side.finish(domain)
     }
@@ -356,6 +377,8 @@ impl Post for LivingSide {
         ensures pages { OnOk result (TakesPages want (numbers (drop (length out.old.items) out.new.items)) self.old.side.post.pool.classes self.new.side.post.pool.classes) }
         ensures same_pages { OnErr result (self.new.side.post.pool.classes ≡ self.old.side.post.pool.classes) }
         ensures rest { StaysAtRest LivingAtRest self.old self.new }
+        ensures does { OnOk result (LivingDoes (act.Fetches class want (numbers (drop (length out.old.items) out.new.items)) ∷ []) self.old self.new) }
+        ensures idle { OnErr result (LivingDoes [] self.old self.new) }
     {
         self.side.fetch(class, want, out)
     }
@@ -373,6 +396,7 @@ impl Post for LivingSide {
         ensures known { Stocks false (known_living self.old) (known_living self.new) }
         ensures pages { Spares self.old.side.post.pool.classes self.new.side.post.pool.classes }
         ensures rest { StaysAtRest LivingAtRest self.old self.new }
+        ensures does { LivingDoes (act.Returns (sealed units.items) ∷ []) self.old self.new }
     {
         self.side.put_back(units);
     }
@@ -398,6 +422,8 @@ impl Post for LivingSide {
             (Mails false (parcel_sent to self.old.side.grace.processor class (numbers units.items)) (known_living self.old) (known_living self.new)) }
         ensures known { OnErr result (Posts false (known_living self.old) (known_living self.new)) }
         ensures rest { StaysAtRest LivingAtRest self.old self.new }
+        ensures does { OnOk result (LivingDoes (act.Sends class to (sealed units.items) ∷ []) self.old self.new) }
+        ensures idle { OnErr result (LivingDoes [] self.old self.new) }
     {
         self.side.send(to, class, units)
     }
@@ -419,6 +445,7 @@ impl Post for LivingSide {
         ensures oldest_told { oldest (told_in self.old.side.post class) ≡ option_map_or (λ units. numbers units.items) result [] }
         ensures none_told { IfNone result (told_in self.old.side.post class ≡ []) }
         ensures rest { StaysAtRest LivingAtRest self.old self.new }
+        ensures does { LivingDoes (act.Receives class (option_map_or (λ units. numbers units.items) result []) ∷ []) self.old self.new }
     {
         self.side.receive(class)
     }

@@ -21,6 +21,10 @@ ghost use Rattle.bm_post.specs.HasRoom.{room-of};
 ghost use Rattle.bm_post.specs.Calls.{Fetches, GivesBack, IsOf, Mails, Posts, Receives, Stocks};
 ghost use Rattle.bm_post.specs.Parcels.{oldest, parcel_sent, parcel_taken};
 ghost use Rattle.bm_world.specs.SideState.{SideAtRest, idle-of, known_of};
+ghost use Rattle.bm_world.specs.Told.{SideDoes, does-join, does-same};
+ghost use Rattle.bm_law_order.specs.Act as act;
+ghost use Rattle.bm_law_order.specs.Act.{sealed};
+ghost use Rattle.bm_grace.specs.Begins.{begin_act};
 ghost use Rattle.bm_post.specs.Rights.{AreSame, Holds, Lasting, MayLeave, numbers};
 
 use crate::World;
@@ -107,6 +111,12 @@ impl Knows for OneSide {
     ghost rights = { λ world. rights_in world.post };
 
     ghost rest = { SideAtRest };
+
+    ghost does = { SideDoes };
+
+    ghost does_same = { does-same };
+
+    ghost does_join = { does-join };
 }
 
 impl Grace for OneSide {
@@ -120,6 +130,7 @@ impl Grace for OneSide {
         ensures known { known_of self.new ≡ entered false domain (known_of self.old) }
         ensures rights { Ages (rights_in self.old.post) (rights_in self.new.post) }
         ensures same { AsBefore (rights_in self.old.post) (rights_in self.new.post) }
+        ensures does { SideDoes (act.Enters domain result ∷ []) self.old self.new }
     {
         self.grace.enter(domain)
     }
@@ -133,6 +144,7 @@ impl Grace for OneSide {
         ensures known { known_of self.new ≡ left false domain (known_of self.old) }
         ensures rights { Ages (rights_in self.old.post) (rights_in self.new.post) }
         ensures same { AsBefore (rights_in self.old.post) (rights_in self.new.post) }
+        ensures does { SideDoes (act.Leaves domain result ∷ []) self.old self.new }
     {
         self.grace.leave(domain)
     }
@@ -145,6 +157,7 @@ impl Grace for OneSide {
         ensures since { MineSince domain result (rights_in self.old.post) (rights_in self.new.post) }
         ensures rest { StaysAtRest SideAtRest self.old self.new }
         ensures at_rest { (n : ℕ) → SideAtRest self.old domain n → result ≡ next n }
+        ensures does { SideDoes (act.Stamps domain result ∷ []) self.old self.new }
     {
         self.grace.stamp(domain)
     }
@@ -159,6 +172,7 @@ impl Grace for OneSide {
         ensures ripe { Ripens domain stamp result (rights_in self.old.post) (rights_in self.new.post) }
         ensures rest { StaysAtRest SideAtRest self.old self.new }
         ensures at_rest { (n : ℕ) → SideAtRest self.old domain n → number_in result ≡ n }
+        ensures does { SideDoes (act.Reads domain stamp (number_in result) ∷ []) self.old self.new }
     {
         self.grace.done(domain, stamp)
     }
@@ -177,6 +191,7 @@ impl Grace for OneSide {
         ensures rights { Ages (rights_in self.old.post) (rights_in self.new.post) }
         ensures rest { MovesNumber SideAtRest domain even (even + 1) self.old self.new }
         ensures at_rest { SideAtRest self.old domain even → result ≡ Won }
+        ensures does { SideDoes (begin_act domain even result ∷ []) self.old self.new }
     {
         self.grace.begin(domain, even)
     }
@@ -193,6 +208,7 @@ impl Grace for OneSide {
         ensures rights { Ages (rights_in self.old.post) (rights_in self.new.post) }
         ensures rest { StaysAtRest SideAtRest self.old self.new }
         ensures at_rest { (n : ℕ) → SideAtRest self.old domain n → result ≡ AllPass }
+        ensures does { SideDoes (act.Looks domain (side domain (known_of self.new)).later ∷ []) self.old self.new }
     {
         self.grace.look(domain)
     }
@@ -205,6 +221,7 @@ impl Grace for OneSide {
         ensures known { known_of self.new ≡ finished false domain (known_of self.old) }
         ensures rights { Ages (rights_in self.old.post) (rights_in self.new.post) }
         ensures rest { (n : ℕ) → MovesNumber SideAtRest domain n (n + 1) self.old self.new }
+        ensures does { SideDoes (act.Finishes result ∷ []) self.old self.new }
     {
         self.grace.finish(domain)
     }
@@ -238,6 +255,8 @@ impl Post for OneSide {
         ensures pages { OnOk result (TakesPages want (numbers (drop (length out.old.items) out.new.items)) self.old.post.pool.classes self.new.post.pool.classes) }
         ensures same_pages { OnErr result (self.new.post.pool.classes ≡ self.old.post.pool.classes) }
         ensures rest { StaysAtRest SideAtRest self.old self.new }
+        ensures does { OnOk result (SideDoes (act.Fetches class want (numbers (drop (length out.old.items) out.new.items)) ∷ []) self.old self.new) }
+        ensures idle { OnErr result (SideDoes [] self.old self.new) }
     {
         self.post.fetch(class, want, out)
     }
@@ -252,6 +271,7 @@ impl Post for OneSide {
         ensures known { Stocks false (known_of self.old) (known_of self.new) }
         ensures pages { Spares self.old.post.pool.classes self.new.post.pool.classes }
         ensures rest { StaysAtRest SideAtRest self.old self.new }
+        ensures does { SideDoes (act.Returns (sealed units.items) ∷ []) self.old self.new }
     {
         self.post.put_back(units);
     }
@@ -274,7 +294,10 @@ impl Post for OneSide {
             (Mails false (parcel_sent to self.old.grace.processor class (numbers units.items)) (known_of self.old) (known_of self.new)) }
         ensures known { OnErr result (Posts false (known_of self.old) (known_of self.new)) }
         ensures rest { StaysAtRest SideAtRest self.old self.new }
+        ensures does { OnOk result (SideDoes (act.Sends class to (sealed units.items) ∷ []) self.old self.new) }
+        ensures idle { OnErr result (SideDoes [] self.old self.new) }
     {
+        let _ = class.index();
         self.post.send(to, class, units)
     }
 
@@ -292,6 +315,7 @@ impl Post for OneSide {
         ensures oldest_told { oldest (told_in self.old.post class) ≡ option_map_or (λ units. numbers units.items) result [] }
         ensures none_told { IfNone result (told_in self.old.post class ≡ []) }
         ensures rest { StaysAtRest SideAtRest self.old self.new }
+        ensures does { SideDoes (act.Receives class (option_map_or (λ units. numbers units.items) result []) ∷ []) self.old self.new }
     {
         self.post.receive(class)
     }

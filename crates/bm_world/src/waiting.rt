@@ -143,6 +143,12 @@ impl Knows for WaitingSide {
     ghost rights = { rights_now };
 
     ghost rest = { WaitingAtRest };
+
+    ghost does = { λ _ _ _. Unit {0} };
+
+    ghost does_same = { λ a. tt };
+
+    ghost does_join = { λ es fs a b c x y. tt };
 }
 
 impl Grace for WaitingSide {

@@ -1,4 +1,4 @@
-use Rattle.std.proofs.Common.{◌≡◌, ◌∙◌, ◌≤◌, ◌+◌, ◌<◌, ℕ, List, [], ap, sym, subst, false, arith}
+use Rattle.std.proofs.Common.{◌≡◌, ◌∙◌, ◌≤◌, ◌+◌, ◌<◌, ◌++◌, ℕ, List, [], map, refl, ap, sym, subst, false, arith}
 use Rattle.std.specs.List.{flat_map}
 use Rattle.bm_page.specs.UnitState.{UnitState}
 use Rattle.bm_law.specs.State.{seen}
@@ -10,6 +10,11 @@ use Rattle.bm_cache.specs.Tokens.{number_of}
 use Rattle.bm_desk.specs.DeskTests.{tests_by}
 use Rattle.bm_desk.specs.Goes.{Alike}
 use Rattle.bm_desk.specs.Onward.{Onward}
+use Rattle.bm_desk.specs.Owed.{Whatever}
+use Rattle.bm_desk.proofs.Owing.{owes-called}
+use Rattle.bm_law_order.specs.Act.{Act}
+use Rattle.bm_closing.specs.Told.{ReceivesAll, receives_all}
+use Rattle.bm_closing.proofs.Owed.{at-end-with}
 use Rattle.bm_desk.proofs.Came.{lasting-onward}
 use Rattle.bm_closing.specs.Arrived.{Came}
 use Rattle.bm_closing.proofs.AtEnds.{alike-graces, at-end-on, came-apart, when-ok}
@@ -59,4 +64,21 @@ returns-clause-at_end g c =
     let are : g.H.Host.tests h ≡ tests_by (R v) = g.met.H.Desk.tests_are h ∙ ap (λ x. tests_by (R x)) (sym c.world.ensures.held) in
     let now : g.H.Host.tests k ≡ tests_by (R w) = g.met.H.Desk.tests_are k ∙ ap (λ x. tests_by (R x)) (g.met.H.Desk.shared_back h w) in
     let p : Onward [] (g.H.Host.tests h) (g.H.Host.tests k) = subst (λ t. Onward [] t (g.H.Host.tests k)) (sym are) (subst (λ t. Onward [] (tests_by (R v)) t) (sym now) o) in
-    at-end-on g.R.Recorder.log g.R.Recorder.counts g.H.Host.sound g.H.Host.tests g.H.Host.face g.H.Host.held h k (g.met.H.Desk.held_apart h w) (g.met.H.Desk.face_apart h w a) (g.met.H.Desk.sound_apart h w a c.requires.at_end.sound) p c.requires.at_end
+    at-end-on g.R.Recorder.log g.R.Recorder.counts Whatever g.H.Host.tests g.H.Host.face g.H.Host.held h k (g.met.H.Desk.held_apart h w) (g.met.H.Desk.face_apart h w a) tt p (at-end-with g.R.Recorder.log g.R.Recorder.counts g.H.Host.sound Whatever g.H.Host.tests g.H.Host.face g.H.Host.held h tt c.requires.at_end)
+
+pub returns-clause-owes : goal.returns-clause-owes
+returns-clause-owes g c =
+    let h = c.args.host.now in
+    let v = c.world.result.now in
+    let w = c.receive_all.new.post in
+    let N = g.H.W.Knows.known in
+    let i = c.args.class in
+    let now : List (List ℕ) = map (λ p. numbers p.items) c.receive_all.new.parcels.items in
+    let e = c.if-is_err.ensures.value in
+    let came = when-ok c.receive_all.result _ e c.receive_all.ensures.came in
+    let told : Came i (flat_map (λ p. p.items) c.new-parcels.result.items) (flat_map (λ p. p.items) c.receive_all.new.parcels.items) (g.H.W.Knows.rights v) (g.H.W.Knows.rights w) (N v) (N w) = came in
+    let did = when-ok c.receive_all.result _ e c.receive_all.ensures.does in
+    let none : map (λ p. numbers p.items) c.new-parcels.result.items ≡ [] = ap (map (λ p. numbers p.items)) c.new-parcels.ensures.items in
+    let all : now ≡ did.0 = did.1 ∙ ap (λ z. z ++ did.0) none in
+    let does : g.H.W.Knows.does (receives_all i now) v w = subst (λ (z : List (List ℕ)). g.H.W.Knows.does (receives_all i z) v w) (sym all) did.2 in
+    owes-called g.H.Desk.shared g.H.Desk.with_shared N g.H.W.Knows.does (λ (done : List Act). g.H.Desk.owes done []) (λ x y done more. g.met.H.Desk.owes_done x y done more []) h v w (N w) (receives_all i now) c.world.ensures.held refl (alike-graces (N v) (N w) told.grace told.objects) does [] (g.met.H.Desk.owes_open h c.requires.at_end.sound)

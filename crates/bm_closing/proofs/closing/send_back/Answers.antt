@@ -1,22 +1,32 @@
-use Rattle.std.proofs.Common.{rules, ◌≡◌, ◌∙◌, ℕ, List, [], map, refl, sym, ap, subst, arith}
+use Rattle.std.proofs.Common.{rules, ◌≡◌, ◌∙◌, ◌∷◌, ℕ, List, [], map, refl, sym, ap, subst, arith}
 use Rattle.bm_journal.specs.declared.units.Units.TheVariants.{Whole}
 use Rattle.bm_journal.specs.declared.entry.Entry.TheVariants as entry
+use Rattle.bm_law.specs.Alone.{Adds}
 use Rattle.bm_law.specs.Stands.{Known}
+use Rattle.bm_law.proofs.Alone.{Adds-one}
+use Rattle.bm_law_order.specs.Act.{Act, Sealed, sealed, units_of}
+use Rattle.bm_law_order.specs.Act as act
+use Rattle.bm_law_order.specs.Chunk.{Shows}
+use Rattle.bm_law_order.specs.Chunk as chunk
 use Rattle.bm_post.specs.Rights.{Holds, numbers}
 use Rattle.bm_cache.specs.Lent.{Ended, Lends, with_second}
 use Rattle.bm_cache.specs.Placed.{Placed}
 use Rattle.bm_cache.specs.Shown.{shown}
+use Rattle.bm_cache.specs.Span.{Face}
 use Rattle.bm_cache.specs.Tests.{Tests, Proper}
 use Rattle.bm_cache.specs.Tokens.{Token, number_of}
 use Rattle.bm_cache.specs.declared.caches.Caches.{Caches}
 use Rattle.bm_desk.specs.DeskTests.{tests_by}
 use Rattle.bm_desk.specs.Goes.{Alike}
 use Rattle.bm_desk.specs.Onward.{Onward}
+use Rattle.bm_desk.specs.Owed.{Whatever}
 use Rattle.bm_desk.proofs.Alike.{alike-stocks}
 use Rattle.bm_desk.proofs.Came.{lasting-onward}
 use Rattle.bm_desk.proofs.Gone.{returned-apart, returned-once}
+use Rattle.bm_desk.proofs.Owing.{owes-called, shows, units-sealed}
 use Rattle.bm_desk.proofs.Sides.{tests-shared}
 use Rattle.bm_closing.specs.SentBack.{SentBack}
+use Rattle.bm_closing.proofs.Owed.{at-end-with}
 use Rattle.bm_closing.proofs.Returning.{at-end-returned, second-held, sent-back}
 use Rattle.bm_closing.proofs.closing.send_back.Goals as goal
 
@@ -70,12 +80,26 @@ returns-clause-at_end g c =
     let P : Caches g.row.R.Denot → Type 0 = λ x. Placed L C x in
     let gone : List ℕ = numbers c.in_ok-units.units.items in
     let on : Onward gone (tests_by (R v)) (tests_by (R w)) = lasting-onward (R v) (R w) gone (λ n none m. c.put_back.ensures.back.others n none ∙ m) c.put_back.ensures.lasts in
-    let on2 : Onward gone (T h1) (T h2) = tests-shared L C g.H.Host.sound T g.H.Host.face g.H.Host.held g.H.Desk.shared g.H.Desk.with_shared N R g.met.H.Desk.shared_back g.met.H.Desk.held_apart g.met.H.Desk.face_apart g.met.H.Desk.sound_apart g.met.H.Desk.tests_are gone h1 v w c.world.ensures.held on in
+    let on2 : Onward gone (T h1) (T h2) = tests-shared L C Whatever T g.H.Host.face g.H.Host.held g.H.Desk.shared g.H.Desk.with_shared N R g.met.H.Desk.shared_back g.met.H.Desk.held_apart g.met.H.Desk.face_apart (λ x q a s. s) g.met.H.Desk.tests_are gone h1 v w c.world.ensures.held on in
     let O : List ℕ → Tests → Tests → Type 0 = λ xs t q. Onward xs t q in
     let on3 : Onward ms (T h) (T h3) = subst (λ xs. O xs (T h) (T h3)) (ap (λ (x : List Token). numbers x) units) (subst (O gone (T h)) (sym (g.met.H.Host.tests_back h2 y)) (subst (λ t. O gone t (T h2)) (g.met.H.Host.tests_back h z) on2)) in
+    let r0 : g.R.Recorder.log z.recorder ≡ g.R.Recorder.log (g.H.Host.held h).recorder = ap g.R.Recorder.log lent.recorder in
+    let o1 = g.met.H.Desk.owes_open h1 (g.met.H.Host.sound_back h z r0 c.requires.at_end.sound) in
+    let given : List Sealed = sealed c.in_ok-units.units.items in
+    let o2 = owes-called g.H.Desk.shared g.H.Desk.with_shared N g.H.W.Knows.does (λ (done : List Act). g.H.Desk.owes done []) (λ x q done more. g.met.H.Desk.owes_done x q done more []) h1 v w (N w) (act.Returns given ∷ []) c.world.ensures.held refl (alike-stocks _ (N v) (N w) c.put_back.ensures.known) c.put_back.ensures.does [] o1 in
+    let ns = c.in-Ok.numbers.items in
+    let x = entry.Return i (Whole ns) in
+    let G : ℕ → Caches g.row.R.Denot → Type 0 = λ n q. Adds n (x ∷ []) (L q.recorder) (L y.recorder) in
+    let a0 : G c.level-level.result c.caches-2.result.now = Adds-one c.level-level.result x (L c.caches-2.result.now.recorder) (L y.recorder) c.returned.ensures.step.records in
+    let fx : c.level-level.result ≡ (g.H.Host.face h2).level = c.level-level.ensures.same ∙ sym (ap (λ (f : Face). f.level) (g.met.H.Desk.face_apart h1 w alike ∙ g.met.H.Host.face_back h z)) in
+    let a1 : G (g.H.Host.face h2).level (g.H.Host.held h2) = subst (λ n. G n (g.H.Host.held h2)) fx (subst (G c.level-level.result) c.caches-2.ensures.held a0) in
+    let o3 = g.met.H.Ended.owes_noted h2 y (act.Returns given ∷ []) [] (x ∷ []) a1 o2 in
+    let names : units_of given ≡ ns = units-sealed c.in_ok-units.units.items ∙ sym c.in-Ok.ensures in
+    let told : Shows (act.Returns given ∷ []) (x ∷ []) = subst (λ (q : List ℕ). Shows (act.Returns given ∷ []) (entry.Return i (Whole q) ∷ [])) names (shows (chunk.Returning i given) refl) in
+    let sound = g.met.H.Desk.owes_closed h3 (act.Returns given ∷ []) (x ∷ []) told o3 in
     at-end-returned L C g.H.Host.sound T g.H.Host.face g.H.Host.held h h3 i ms
     (g.met.H.Host.face_back h2 y ∙ g.met.H.Desk.face_apart h1 w alike ∙ g.met.H.Host.face_back h z)
-    (g.met.H.Ended.sound_always h2 y (g.met.H.Desk.sound_apart h1 w alike (g.met.H.Ended.sound_always h z c.requires.at_end.sound)))
+    sound
     (subst P (sym there) c.returned.ensures.placed)
     (ap (λ (x : Caches g.row.R.Denot). shown x) there ∙ back.lists)
     (ap (λ (x : Caches g.row.R.Denot). x.processor) there ∙ back.processor)

@@ -1,14 +1,20 @@
-use Rattle.std.proofs.Common.{◌≡◌, ◌∙◌, ◌<◌, ◌+◌, ◌++◌, List, length, map, sym, ap, subst, arith}
+use Rattle.std.proofs.Common.{◌≡◌, ◌∙◌, ◌<◌, ◌+◌, ◌++◌, ◌∷◌, [], ℕ, List, length, map, refl, sym, ap, subst, arith}
 use Rattle.std.specs.List.{flat_map}
 use Rattle.bm_journal.specs.declared.ids.Domain.TheVariants.{Tracing}
 use Rattle.bm_grace.specs.Rest.{MovesNumber}
 use Rattle.bm_law.specs.State.{seven_lists}
-use Rattle.bm_post.specs.Rights.{Loses}
+use Rattle.bm_post.specs.Rights.{Loses, numbers}
+use Rattle.bm_law_order.specs.Act as act
+use Rattle.bm_law_order.specs.Chunk as chunk
+use Rattle.bm_desk.specs.Owed.{Whatever}
+use Rattle.bm_desk.proofs.Owing.{shows}
+use Rattle.bm_closing.specs.Told.{receives_all}
+use Rattle.bm_closing.proofs.Owed.{at-end-with}
 use Rattle.bm_cache.specs.Shown.{shown}
 use Rattle.bm_cache.specs.Tokens.{Token, number_of}
 use Rattle.bm_cache.specs.declared.caches.Caches.{Caches}
 use Rattle.bm_cache.specs.Span.{Goes}
-use Rattle.bm_closing.proofs.AtEnds.{when-ok, with-ok}
+use Rattle.bm_closing.proofs.AtEnds.{at-end-still, when-ok, with-ok}
 use Rattle.bm_closing.proofs.Swept.{all-gone, emptied-still, sweeps-none, sweeps-some}
 use Rattle.bm_closing.proofs.closing.sweep.Goals as goal
 
@@ -76,3 +82,16 @@ returns-clause-rest g c =
     let F : g.row.H-W.Denot → Type 0 = λ x. MovesNumber g.H.W.Knows.rest Tracing n (n + 2) x (side f) in
     let m : MovesNumber g.H.W.Knows.rest Tracing n (n + 2) (side b) (side f) = subst F q.handled.shared_is (when-ok r _ o c.sweep_all.ensures.rest n two) in
     (n + 2, (omega (arith, two), record { moves = λ h. m.moves (still Tracing n h); other = λ d k ne h. m.other d k ne (still d k h) })))
+
+pub returns-then-hold_nothing-clause-at_end : goal.returns-then-hold_nothing-clause-at_end
+returns-then-hold_nothing-clause-at_end g c =
+    let b = c.empty_inbox.new.host in
+    let d = c.hold_nothing.new.host in
+    let i = c.args.class in
+    let q = c.hold_nothing.ensures in
+    let ps = c.in_ok-parcels.parcels.items in
+    let none : map (λ p. numbers p.items) ps ≡ [] = ap (map (λ p. numbers p.items)) (q.nothing c.if-hold_nothing.true).1 in
+    let o = q.owes (receives_all i (map (λ p. numbers p.items) ps)) [] c.in_ok-parcels.ensures.owes in
+    let F : List (List ℕ) → Type 0 = λ z. g.H.Desk.owes (receives_all i z) [] d in
+    let sound = g.met.H.Desk.owes_closed d (act.Receives i [] ∷ []) [] (shows (chunk.FindingNone i) refl) (subst F none o) in
+    at-end-with g.R.Recorder.log g.R.Recorder.counts Whatever g.H.Host.sound g.H.Host.tests g.H.Host.face g.H.Host.held d sound (at-end-still g.R.Recorder.log g.R.Recorder.counts Whatever g.H.Host.tests g.H.Host.face g.H.Host.held b d q.same q.handled.face q.handled.tests_are tt c.in_ok-parcels.ensures.at_end)

@@ -1,4 +1,5 @@
-use Rattle.std.proofs.Common.{◌∙◌, ap}
+use Rattle.std.proofs.Common.{◌∙◌, [], ◌∷◌, ap}
+use Rattle.bm_law_order.specs.Act as act
 use Rattle.bm_grace.specs.Known.{Known, side}
 use Rattle.bm_desk.specs.Still.{alike-joined}
 use Rattle.bm_desk.proofs.Alike.{alike-finished, alike-looked}
@@ -25,3 +26,10 @@ returns-clause-other g c d ne =
     let K = g.W.Knows.known in
     let F = λ (k : Known). side d k in
     ap F c.finish.ensures.known ∙ (other-changed _ c.args.domain d _ _ (K c.look.new.self) ne ∙ (ap F c.look.ensures.known ∙ other-changed _ c.args.domain d _ _ (K c.args.world.now) ne))
+
+pub returns-clause-does : goal.returns-clause-does
+returns-clause-does g c =
+    let d = c.args.domain in
+    let b = c.look.new.self in
+    let words = (side d (g.W.Knows.known b)).later in
+    (words, g.W.Knows.does_join (act.Looks d words ∷ []) (act.Finishes c.finish.result ∷ []) c.args.world.now b c.finish.new.self c.look.ensures.does c.finish.ensures.does)

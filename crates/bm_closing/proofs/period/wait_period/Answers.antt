@@ -1,7 +1,8 @@
-use Rattle.std.proofs.Common.{◌≡◌, ◌+◌, ◌-◌, ◌∙◌, ℕ, ap, sym, subst, arith}
+use Rattle.std.proofs.Common.{◌≡◌, ◌+◌, ◌-◌, ◌∙◌, ◌∷◌, ◌++◌, [], ℕ, ap, sym, subst, arith}
 use Rattle.bm_journal.specs.declared.ids.Domain.TheVariants.{Plain, Tracing}
 use Rattle.bm_grace.specs.Answers.{number_in}
 use Rattle.bm_grace.specs.Known.{Known, side}
+use Rattle.bm_law_order.specs.Act as act
 use Rattle.bm_desk.specs.Still.{alike-joined}
 use Rattle.bm_desk.proofs.Alike.{alike-read}
 use Rattle.bm_closing.proofs.AtEnds.{alike-told}
@@ -79,3 +80,21 @@ returns-clause-alike g c =
     let one = alike-told a b _ c.stamp-stamp.ensures.known.known (alike-read _ _ _ a) in
     let four = alike-told e f _ c.done.ensures.known (alike-read _ _ _ e) in
     alike-joined a b f one (alike-joined b d f c.begin_tracing.ensures.alike (alike-joined d e f c.end_driven-period.ensures.alike four))
+
+pub returns-clause-does : goal.returns-clause-does
+returns-clause-does g c =
+    let x = c.stamp-stamp.result in
+    let a = c.args.world.now in
+    let b = c.stamp-stamp.new.self in
+    let d = c.begin_tracing.new.world in
+    let e = c.end_driven-period.new.world in
+    let f = c.done.new.self in
+    let two = c.end_driven-period.ensures.does in
+    let seen : number_in c.done.result ≡ c.in-Passed.number = ap number_in c.in-Passed.is in
+    let last = subst (λ n. g.W.Knows.does (act.Reads Tracing x n ∷ []) e f) seen c.done.ensures.does in
+    let begins = act.Begins Tracing (x - 2 + 1) in
+    let ends = act.Looks Tracing two.0 ∷ act.Finishes c.end_driven-period.result ∷ [] in
+    let reads = act.Reads Tracing x c.in-Passed.number ∷ [] in
+    let three = g.W.Knows.does_join ends reads d e f two.1 last in
+    let four = g.W.Knows.does_join (begins ∷ []) (ends ++ reads) b d f c.begin_tracing.ensures.does three in
+    (two.0, g.W.Knows.does_join (act.Stamps Tracing x ∷ []) (begins ∷ ends ++ reads) a b f c.stamp-stamp.ensures.does four)

@@ -14,6 +14,7 @@ use Rattle.bm_work.proofs.Grown.{then-after}
 use Rattle.bm_desk.specs.Works.{Works}
 use Rattle.bm_desk.proofs.Mail.{works-fetched}
 use Rattle.bm_desk.proofs.Sides.{on-err-any, works-posted, works-join, works-then}
+use Rattle.bm_desk.proofs.Owing.{stands-with}
 use Rattle.bm_desk.proofs.fetches.fetch_rest.Goals as goal
 
 pub returns-clause-ok : goal.returns-clause-ok
@@ -44,3 +45,9 @@ returns-clause-ok g c =
 
 pub returns-in_err-units-clause-err : goal.returns-in_err-units-clause-err
 returns-in_err-units-clause-err g c = on-err-any c.from_residual.result (works-posted g.R.Recorder.log g.R.Recorder.counts g.H.Host.face g.H.Host.pending g.H.Desk.stays g.H.Host.held (λ h. g.H.W.Knows.known (g.H.Desk.shared h)) g.H.Host.tests g.met.H.Desk.stays_join [] 0 0 (λ l. Stand l []) c.args.host.now c.pause.new.host c.get_fetched.new.host c.pause.ensures.works (c.get_fetched.ensures.mail, spares-same _ _ c.in_err-units.ensures.same_pages) c.get_fetched.ensures.posted)
+
+pub add_all-requires-clause-stands : goal.add_all-requires-clause-stands
+add_all-requires-clause-stands g c =
+    let y = c.note_fetched.new.host in
+    let o = c.in_ok-units.ensures.owes [] (g.met.H.Desk.asked_open c.pause.new.host c.pause.ensures.stands.sound) in
+    stands-with g.R.Recorder.log g.R.Recorder.counts (λ _. Unit {0}) g.H.Host.sound g.H.Host.tests g.H.Host.face g.H.Host.held y (c.note_fetched.ensures.sound o) c.note_fetched.ensures.stands

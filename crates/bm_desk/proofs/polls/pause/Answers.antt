@@ -6,3 +6,6 @@ returns-clause-works g c = works-point g.R.Recorder.log g.H.Host.tests g.H.Host.
 
 pub returns-clause-stands : goal.returns-clause-stands
 returns-clause-stands g c = stands-point g.R.Recorder.log g.R.Recorder.counts g.H.Host.asked g.H.Host.tests g.H.Host.face g.H.Host.held _ c.args.host.now c.point.new.self c.point.ensures.came c.point.ensures.asked c.point.ensures.fine c.requires.stands
+
+pub returns-clause-rested : goal.returns-clause-rested
+returns-clause-rested g c d x r = g.met.H.Desk.rested_kept c.args.host.now c.point.new.self d x c.point.ensures.goes.keeps c.point.ensures.came.above c.point.ensures.asked r

@@ -1,4 +1,6 @@
-use Rattle.std.proofs.Common.{[], ℕ, subst}
+use Rattle.std.proofs.Common.{[], ◌∷◌, ℕ, subst, sym}
+use Rattle.bm_law_order.specs.Act as act
+use Rattle.bm_desk.proofs.Owing.{stands-with}
 use Rattle.bm_journal.specs.declared.entry.Entry.TheVariants as entry
 use Rattle.bm_law.specs.Lists.{after}
 use Rattle.bm_cache.specs.Shown.{shown}
@@ -28,3 +30,13 @@ returns-clause-ripe g c k =
       ripened-all (T c.args.host.now) (T c.pause.new.host) (T c.ask_now-seen.new.host) (T c.note_passed.new.host) c.args.domain c.args.stamp c.ask_now-seen.result ((shown (g.H.Host.held c.args.host.now)).rows k).deferred.first (c.pause.ensures.came.lasting.first k) c.ask_now-seen.ensures.ripe o,
       ripened-all (T c.args.host.now) (T c.pause.new.host) (T c.ask_now-seen.new.host) (T c.note_passed.new.host) c.args.domain c.args.stamp c.ask_now-seen.result ((shown (g.H.Host.held c.args.host.now)).rows k).deferred.second (c.pause.ensures.came.lasting.second k) c.ask_now-seen.ensures.ripe o,
     )
+
+pub returns-clause-stands : goal.returns-clause-stands
+returns-clause-stands g c =
+    let y = c.note_passed.new.host in
+    let z = c.ask_now-seen.new.host in
+    let d = c.args.domain in
+    let x = c.args.stamp in
+    let o = c.ask_now-seen.ensures.rested [] (c.pause.ensures.rested d x c.requires.rested) in
+    let F : ℕ → Type 0 = λ n. g.H.Desk.asked_rested d x (act.Reads d x n ∷ []) z in
+    stands-with g.R.Recorder.log g.R.Recorder.counts (λ _. Unit {0}) g.H.Host.sound g.H.Host.tests g.H.Host.face g.H.Host.held y (c.note_passed.ensures.sound x (subst F (sym c.seen_number.ensures) o)) c.note_passed.ensures.stands

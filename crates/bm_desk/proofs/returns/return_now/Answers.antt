@@ -24,6 +24,9 @@ use Rattle.bm_desk.specs.Onward.{Onward}
 use Rattle.bm_desk.proofs.Gone.{holds-reusable, leave-reusable, returned-apart, returned-once, stands-returned}
 use Rattle.bm_desk.proofs.Sides.{works-map}
 use Rattle.bm_desk.proofs.Steps.{returned-active, works-entry}
+use Rattle.bm_law_order.specs.Act as act
+use Rattle.bm_law_order.specs.Act.{sealed}
+use Rattle.bm_desk.proofs.Owing.{units-sealed}
 use Rattle.bm_desk.proofs.returns.return_now.Goals as goal
 
 pub give_back-requires-clause-mine : goal.give_back-requires-clause-mine
@@ -74,7 +77,7 @@ returns-clause-back g c =
     let O : List ℕ → Type 0 = λ m. Onward m (T a) (T y) in
     let o1 : Onward (numbers c.in_ok-units.units.items) (T a) (T x) = subst (λ t. Onward (numbers c.in_ok-units.units.items) t (T x)) c.lend_second.ensures.handled.tests_are p.onward in
     let o2 : Onward (numbers c.in_ok-units.units.items) (T a) (T y) = subst (λ t. Onward (numbers c.in_ok-units.units.items) (T a) t) (sym c.end_return.ensures.handled.tests_are) o1 in
-    stands-returned g.R.Recorder.log g.R.Recorder.counts g.H.Host.sound T g.H.Host.face g.H.Host.held a y i ns (c.end_return.ensures.handled.face ∙ fx) c.end_return.ensures.sound c.end_return.ensures.placed lists (c.end_return.ensures.step.processor ∙ ap (λ (z : Caches g.row.R.Denot). z.processor) d ∙ c.in_ok-units.ensures.lent.processor) (returned-apart l i ns s k c.requires.stands.fine.placed.once named) (subst O (sym c.write_numbers.ensures.items) o2) c.requires.stands
+    stands-returned g.R.Recorder.log g.R.Recorder.counts g.H.Host.sound T g.H.Host.face g.H.Host.held a y i ns (c.end_return.ensures.handled.face ∙ fx) (c.end_return.ensures.sound (sealed c.in_ok-units.units.items) (units-sealed c.in_ok-units.units.items ∙ sym c.write_numbers.ensures.items) ((c.give_back.ensures.owes [] (g.met.H.Desk.asked_open b c.lend_second.ensures.asked)))) c.end_return.ensures.placed lists (c.end_return.ensures.step.processor ∙ ap (λ (z : Caches g.row.R.Denot). z.processor) d ∙ c.in_ok-units.ensures.lent.processor) (returned-apart l i ns s k c.requires.stands.fine.placed.once named) (subst O (sym c.write_numbers.ensures.items) o2) c.requires.stands
 
 pub returns-clause-ok : goal.returns-clause-ok
 returns-clause-ok g c =

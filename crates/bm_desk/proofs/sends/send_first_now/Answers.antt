@@ -1,4 +1,4 @@
-use Rattle.std.proofs.Common.{◌≡◌, ◌≤◌, ◌∙◌, [], ℕ, List, map, length, refl, sym, subst, ap, arith, eq-eqb}
+use Rattle.std.proofs.Common.{◌≡◌, ◌≤◌, ◌∙◌, [], ℕ, List, map, length, refl, sym, subst, ap, arith, eq-eqb, ◌∷◌}
 use Rattle.std.specs.List.{All}
 use Rattle.bm_grace.specs.Known.{Sides}
 use Rattle.bm_journal.specs.Recording.{Appends}
@@ -36,6 +36,8 @@ use Rattle.bm_desk.proofs.Sealed.{placed-sealed, sealed-leave, sealed-length, se
 use Rattle.bm_desk.proofs.Sides.{works-map}
 use Rattle.bm_desk.proofs.Mail.{batch-target, mail-sent, supplied-sent}
 use Rattle.bm_desk.proofs.Steps.{works-entry}
+use Rattle.bm_law_order.specs.Act as act
+use Rattle.bm_desk.proofs.Owing.{units-sealed}
 use Rattle.bm_desk.proofs.sends.send_first_now.Goals as goal
 
 pub give_parcel-requires-clause-class : goal.give_parcel-requires-clause-class
@@ -186,4 +188,4 @@ returns-in-Ok-clause-back g c =
     let o2 : Onward (numbers c.seal_all.new.units.items) (T a) (T y) = subst (λ t. Onward (numbers c.seal_all.new.units.items) (T a) t) (sym c.end_send.ensures.handled.tests_are) o1 in
     let n : numbers c.seal_all.new.units.items ≡ ns = ap (map number_of) c.seal_all.ensures.items ∙ sealed-named c.args.seal c.in_ok-units.units.items ∙ sym c.write_numbers.ensures.items in
     let D : Dated (T a) (effect l (entry.Send i to (Whole ns)) [] s) = first-dated (T a) l i to ns s hand c.requires.stands.dated in
-    stands-sent g.R.Recorder.log g.R.Recorder.counts g.H.Host.sound T g.H.Host.face g.H.Host.held a y i to ns f c.end_send.ensures.sound c.end_send.ensures.placed (lists-sent g c) (c.end_send.ensures.step.processor ∙ ap (λ (z : Caches g.row.R.Denot). z.processor) d ∙ c.in_ok-units.ensures.lent.processor) (sent-apart l i to ns s k c.requires.stands.fine.placed.once e) (subst O n o2) D c.requires.stands
+    stands-sent g.R.Recorder.log g.R.Recorder.counts g.H.Host.sound T g.H.Host.face g.H.Host.held a y i to ns f (c.end_send.ensures.sound (act.sealed c.seal_all.new.units.items) (units-sealed c.seal_all.new.units.items ∙ n) ((c.in-Ok.ensures.owes [] (g.met.H.Desk.asked_open c.target_of-to.new.host c.target_of-to.ensures.asked)))) c.end_send.ensures.placed (lists-sent g c) (c.end_send.ensures.step.processor ∙ ap (λ (z : Caches g.row.R.Denot). z.processor) d ∙ c.in_ok-units.ensures.lent.processor) (sent-apart l i to ns s k c.requires.stands.fine.placed.once e) (subst O n o2) D c.requires.stands

@@ -1,4 +1,4 @@
-use Rattle.std.proofs.Common.{◌≡◌, ◌≤◌, ◌∙◌, [], ℕ, List, map, refl, sym, subst, ap, arith}
+use Rattle.std.proofs.Common.{◌≡◌, ◌≤◌, ◌∙◌, [], ℕ, List, map, refl, sym, subst, ap, arith, ◌∷◌}
 use Rattle.std.specs.List.{All}
 use Rattle.bm_grace.specs.Known.{Sides}
 use Rattle.bm_journal.specs.Recording.{Appends}
@@ -26,6 +26,9 @@ use Rattle.bm_desk.proofs.Gone.{hand-deferred, hand-side, holds-fit, sends-hand,
 use Rattle.bm_desk.proofs.Sides.{works-map}
 use Rattle.bm_desk.proofs.Mail.{hand-target, mail-sent, supplied-sent}
 use Rattle.bm_desk.proofs.Steps.{works-entry}
+use Rattle.bm_law_order.specs.Act as act
+use Rattle.bm_law_order.specs.Act.{sealed}
+use Rattle.bm_desk.proofs.Owing.{units-sealed}
 use Rattle.bm_desk.proofs.sends.send_hand_now.Goals as goal
 
 pub give_parcel-requires-clause-mine : goal.give_parcel-requires-clause-mine
@@ -130,7 +133,7 @@ returns-in-Ok-clause-back g c =
     let n : numbers c.in_ok-units.units.items ≡ ns = sym c.write_numbers.ensures.items in
     let q = hand-deferred l i to ns s c.requires.some in
     let D : Dated (T a) (effect l (entry.Send i to (Whole ns)) [] s) = (λ m. subst (DatedRow (T a)) (sym (q m)) (c.requires.stands.dated m)) in
-    stands-sent g.R.Recorder.log g.R.Recorder.counts g.H.Host.sound T g.H.Host.face g.H.Host.held a y i to ns f c.end_send.ensures.sound c.end_send.ensures.placed (lists-sent g c) (c.end_send.ensures.step.processor ∙ ap (λ (z : Caches g.row.R.Denot). z.processor) d ∙ c.in_ok-units.ensures.lent.processor) (sent-apart l i to ns s k c.requires.stands.fine.placed.once e) (subst O n o2) D c.requires.stands
+    stands-sent g.R.Recorder.log g.R.Recorder.counts g.H.Host.sound T g.H.Host.face g.H.Host.held a y i to ns f (c.end_send.ensures.sound (sealed c.in_ok-units.units.items) (units-sealed c.in_ok-units.units.items ∙ n) ((c.in-Ok.ensures.owes [] (g.met.H.Desk.asked_open c.target_of-to.new.host c.target_of-to.ensures.asked)))) c.end_send.ensures.placed (lists-sent g c) (c.end_send.ensures.step.processor ∙ ap (λ (z : Caches g.row.R.Denot). z.processor) d ∙ c.in_ok-units.ensures.lent.processor) (sent-apart l i to ns s k c.requires.stands.fine.placed.once e) (subst O n o2) D c.requires.stands
 
 pub returns-in-Ok-clause-deferred : goal.returns-in-Ok-clause-deferred
 returns-in-Ok-clause-deferred g c k =

@@ -12,6 +12,7 @@ use Rattle.bm_desk.specs.Dated.{batch_of}
 use Rattle.bm_desk.specs.DeskTests.{since_test}
 use Rattle.bm_desk.proofs.Batches.{batch-since}
 use Rattle.bm_desk.proofs.Sides.{called-works, works-join}
+use Rattle.bm_desk.proofs.Owing.{stands-with}
 use Rattle.bm_desk.proofs.stamps.stamp_batch.Goals as goal
 
 pub note_stamp-requires-clause-since : goal.note_stamp-requires-clause-since
@@ -32,3 +33,9 @@ returns-clause-works g c =
     let Q : ℕ → Part = λ l. Say l (IsStamp i d) in
     let t = called-works g.R.Recorder.log g.R.Recorder.counts g.H.Host.face g.H.Host.pending g.H.Desk.stays g.H.Host.held (λ h. g.H.W.Knows.known (g.H.Desk.shared h)) (λ h. g.H.W.Knows.rights (g.H.Desk.shared h)) j 0 0 0 0 P c.pause.new.host c.take_stamp-stamp.new.host c.note_stamp.new.host c.pause.ensures.stands.fine.placed c.take_stamp-stamp.ensures.stands.fine.placed c.take_stamp-stamp.ensures.called c.note_stamp.ensures.works in
     works-join g.R.Recorder.log g.R.Recorder.counts g.H.Host.face g.H.Host.pending g.H.Desk.stays g.H.Host.held (λ h. g.H.W.Knows.known (g.H.Desk.shared h)) j 0 0 0 0 (λ l. Stand l []) P Q c.args.host.now c.pause.new.host c.note_stamp.new.host (λ l s one two h k. say-after l (IsStamp i d) s (after s one) one two h (k.0, (x, k.1), k.2)) c.requires.stands.fine.placed c.pause.ensures.stands.fine.placed c.pause.ensures.works t
+
+pub returns-clause-stands : goal.returns-clause-stands
+returns-clause-stands g c =
+    let y = c.note_stamp.new.host in
+    let o = c.take_stamp-stamp.ensures.owes [] (g.met.H.Desk.asked_open c.pause.new.host c.pause.ensures.stands.sound) in
+    stands-with g.R.Recorder.log g.R.Recorder.counts (λ _. Unit {0}) g.H.Host.sound g.H.Host.tests g.H.Host.face g.H.Host.held y (c.note_stamp.ensures.sound o) c.note_stamp.ensures.stands

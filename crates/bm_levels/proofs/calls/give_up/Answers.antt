@@ -1,8 +1,10 @@
-use Rattle.std.proofs.Common.{◌≡◌, ◌≢◌, ◌∙◌, ◌+◌, ℕ, Option, None, Some, sym, ap, subst, arith}
+use Rattle.std.proofs.Common.{◌≡◌, ◌≢◌, ◌∙◌, ◌+◌, ℕ, Option, None, Some, [], ◌∷◌, sym, ap, subst, arith}
 use Rattle.bm_journal.specs.declared.entry.Entry.TheVariants as entry
 use Rattle.bm_journal.specs.declared.ids.ObjId.{ObjId}
 use Rattle.bm_page.specs.UnitState.{UnitState}
 use Rattle.bm_page.specs.declared.units.Seal.{Seal}
+use Rattle.bm_law_order.specs.Act as act
+use Rattle.bm_world.specs.ToldLiving.{LivingDoes}
 use Rattle.bm_grace.specs.Known.{Living}
 use Rattle.bm_law.specs.Stands.{stands}
 use Rattle.bm_desk.specs.DeskTests.{tests_by}
@@ -14,6 +16,7 @@ use Rattle.bm_exec.specs.Living.{home_of, with_life}
 use Rattle.bm_exec.proofs.Lives.{lives-set, living-now}
 use Rattle.bm_exec.proofs.Sounds.{times-self}
 use Rattle.bm_levels.specs.AtProcessor.{IsAt, lists_of, tests_of}
+use Rattle.bm_levels.specs.AtTie.{FreesAt, tied-freeing}
 use Rattle.bm_levels.specs.Hosting.{with_caches, with_side}
 use Rattle.bm_levels.specs.Logged.{IsFreeing}
 use Rattle.bm_levels.specs.declared.processor.Processor.{Processor}
@@ -128,3 +131,18 @@ returns-clause-between g c =
     let asked : w.asked ≡ k.side.asked + 0 = (let a = ap (λ (v : LivingState). v.asked) e.state in omega (arith, a)) in
     let three = between-sided 0 l p k w (ap (λ (v : LivingState). v.side) e.state) asked (fine-sided l o.unit k w tests none graced two.fine) (came-sided l o.unit k w tests none graced) in
     between-join 0 0 0 0 l p m (with_side k w) c.release.new.own (between-join 0 0 0 0 l p m k (with_side k w) (between-join 0 0 0 0 l p m (with_caches m y) k one two) three) c.release.ensures.between
+
+pub release-requires-clause-tied : goal.release-requires-clause-tied
+release-requires-clause-tied g c =
+    let l = g.L.Rank.number in
+    let n = rw c.level-level.ensures.number at c.note.ensures.step in
+    let n' = rw c.level-level.ensures.number at c.note-2.ensures.step in
+    let m : Processor = c.args.own.now in
+    let o : ObjId = c.args.object in
+    let u : UnitState = c.end_life-unit.result in
+    let e = c.end_life-unit.ensures in
+    let alive = c.requires.living in
+    let now : u.life ≡ o.life = living-now o.unit o.life alive.0 u m.side.slots e.unit alive.1 in
+    let k : Processor = record m { caches = c.note-2.new.self; side = c.end_life-unit.new.self } in
+    let F : ℕ → Type 0 = λ x. FreesAt g.B.Since.since g.B.Since.start l x u.home k in
+    subst F (sym e.number) (tied-freeing g.B.Since.since g.B.Since.start l o.unit o.life u.home m k c.note.new.self.recorder.told n.records n'.records (subst (λ x. LivingDoes (act.Ends o.unit x u.home ∷ []) m.side k.side) now e.does) c.requires.tied)

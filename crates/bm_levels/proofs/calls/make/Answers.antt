@@ -1,18 +1,23 @@
-use Rattle.std.proofs.Common.{◌≡◌, ◌≢◌, ◌∙◌, ◌+◌, ◌<◌, ℕ, Option, None, Some, refl, sym, ap, subst, arith, inl, inr}
+use Rattle.std.proofs.Common.{◌≡◌, [], ◌∷◌, ◌++◌, ◌≢◌, ◌∙◌, ◌+◌, ◌<◌, ℕ, List, Option, None, Some, refl, sym, ap, subst, arith, inl, inr}
 use Rattle.std.specs.Prelude.{◌^◌}
+use Rattle.bm_journal.specs.declared.entry.Entry.{Entry}
 use Rattle.bm_journal.specs.declared.entry.Entry.TheVariants as entry
+use Rattle.bm_law.specs.Phrases.{given, raise_below}
+use Rattle.bm_law.specs.Spans.{Records}
+use Rattle.bm_law_order.specs.Chunk.{seal_told}
 use Rattle.bm_page.specs.UnitState.{UnitState}
 use Rattle.bm_page.specs.declared.units.Seal.{Seal}
 use Rattle.bm_grace.specs.Known.{Lives}
-use Rattle.bm_cache.specs.Tokens.{Token}
+use Rattle.bm_cache.specs.Tokens.{Token, seal_numbers}
 use Rattle.bm_desk.specs.DeskTests.{tests_by}
 use Rattle.bm_world.specs.LivingState.{LivingState, lives_of, living_of, rights_living}
 use Rattle.bm_exec.specs.Living.{with_life}
 use Rattle.bm_exec.proofs.Lives.{begun-lives}
-use Rattle.bm_levels.specs.AtProcessor.{CameAt, FineAt, tests_of}
+use Rattle.bm_levels.specs.AtProcessor.{CameAt, FineAt, log_of, tests_of}
 use Rattle.bm_levels.specs.Hosting.{at-say, with_caches, with_side}
 use Rattle.bm_levels.specs.Growing.{lived-silent}
 use Rattle.bm_levels.specs.Logged.{IsLived}
+use Rattle.bm_levels.specs.AtTie.{tied-begun, tied-did, tied-quiet}
 use Rattle.bm_levels.specs.Ready.{asked_of, known_of}
 use Rattle.bm_levels.specs.declared.processor.Processor.{Processor}
 use Rattle.bm_levels.proofs.Begun.{at-asked, at-begun, caches-home}
@@ -51,7 +56,7 @@ returns-in-Unit-clause-at g c =
     let b = c.begin_life.ensures in
     let x = c.allocate.ensures.between in
     let a = c.in-Unit.ensures.answer in
-    let s = c.in-Unit.ensures.sound in
+    let s = c.in-Unit.ensures.sound.0 in
     let most = x.stays.asks_most in
     let room = c.requires.room in
     let asks : asked_of c.args.program.now.scenario.now k + 1 < 2 ^ 22 = omega (arith, most, room) in
@@ -90,7 +95,7 @@ pub returns-in-Empty-clause-at : goal.returns-in-Empty-clause-at
 returns-in-Empty-clause-at g c =
     let most = c.allocate.ensures.between.stays.asks_most in
     let room = c.requires.room in
-    at-asked g.L.Rank.number c.args.program.now c.allocate.new.own c.ask.new.self c.ask.ensures.state (omega (arith, most, room)) c.in-Empty.ensures.sound
+    at-asked g.L.Rank.number c.args.program.now c.allocate.new.own c.ask.new.self c.ask.ensures.state (omega (arith, most, room)) c.in-Empty.ensures.sound.0
 
 pub returns-in-Empty-clause-between : goal.returns-in-Empty-clause-between
 returns-in-Empty-clause-between g c =
@@ -120,7 +125,7 @@ pub returns-in-Busy-clause-at : goal.returns-in-Busy-clause-at
 returns-in-Busy-clause-at g c =
     let most = c.allocate.ensures.between.stays.asks_most in
     let room = c.requires.room in
-    at-asked g.L.Rank.number c.args.program.now c.allocate.new.own c.ask-in-Busy.new.self c.ask-in-Busy.ensures.state (omega (arith, most, room)) c.in-Busy.ensures.sound
+    at-asked g.L.Rank.number c.args.program.now c.allocate.new.own c.ask-in-Busy.new.self c.ask-in-Busy.ensures.state (omega (arith, most, room)) c.in-Busy.ensures.sound.0
 
 pub returns-in-Busy-clause-between : goal.returns-in-Busy-clause-between
 returns-in-Busy-clause-between g c =
@@ -139,3 +144,37 @@ returns-in-Busy-clause-between g c =
     let two = between-join 0 0 0 0 l p m (with_caches m z) k one x in
     let three = between-sided 1 l p k w (ap (λ (v : LivingState). v.side) e) (ap (λ (v : LivingState). v.asked) e) (subst F (sym e) x.fine) (subst C (sym e) (came-still l k)) in
     between-join 0 0 1 0 l p m k (with_side k w) two three
+
+pub allocate-requires-clause-tied : goal.allocate-requires-clause-tied
+allocate-requires-clause-tied g c =
+    let n = rw c.level.ensures.number at c.note.ensures.step in
+    tied-quiet g.B.Since.since g.B.Since.start g.L.Rank.number c.args.own.now c.note.new.self (entry.New c.args.name c.args.values) refl n.records c.requires.tied
+
+-- a seal as the caches tell it, and as the table of chunks does
+seals-same : (s : Option Seal) → seal_numbers s ≡ seal_told s
+seals-same None = refl
+seals-same (Some seal) = refl
+
+pub returns-in-Unit-clause-tied : goal.returns-in-Unit-clause-tied
+returns-in-Unit-clause-tied g c =
+    let k : Processor = c.allocate.new.own in
+    let u : UnitState = c.in-Unit.unit in
+    let b = c.begin_life.ensures in
+    let x = c.allocate.ensures.between in
+    let a = c.in-Unit.ensures.answer in
+    let s = c.in-Unit.ensures.sound in
+    let home : u.home ≡ (known_of k).grace.processor = ap (λ (t : Token). t.home) a.7 ∙ (sym x.came.processor ∙ caches-home g.L.Rank.number c.args.program.now k x.fine s.0.ready) in
+    let i = c.args.class in
+    let before : List Entry = entry.Enter i 1 ∷ entry.Pop i u.number ∷ entry.Count i a.0 ∷ entry.Leave i a.1 ∷ raise_below i a.0 in
+    let F : Option (ℕ × ℕ) → Type 0 = λ z. Records g.L.Rank.number (before ++ given u.number (u.life + 1) z ∷ []) c.note.new.self.recorder.told (log_of k) in
+    tied-begun g.B.Since.since g.B.Since.start g.L.Rank.number u.number (u.life + 1) u.seal before c.note.new.self.recorder.told k (with_side k c.begin_life.new.self) (subst F (seals-same u.seal) a.4) refl (b.does home) s.1
+
+pub returns-in-Empty-clause-tied : goal.returns-in-Empty-clause-tied
+returns-in-Empty-clause-tied g c =
+    let k : Processor = c.allocate.new.own in
+    tied-did g.B.Since.since g.B.Since.start k (with_side k c.ask.new.self) refl c.ask.ensures.does c.in-Empty.ensures.sound.1
+
+pub returns-in-Busy-clause-tied : goal.returns-in-Busy-clause-tied
+returns-in-Busy-clause-tied g c =
+    let k : Processor = c.allocate.new.own in
+    tied-did g.B.Since.since g.B.Since.start k (with_side k c.ask-in-Busy.new.self) refl c.ask-in-Busy.ensures.does c.in-Busy.ensures.sound.1

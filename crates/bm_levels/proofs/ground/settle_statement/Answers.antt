@@ -1,11 +1,11 @@
-use Rattle.std.proofs.Common.{◌≡◌, ◌+◌, ◌*◌, ap, rules, sym, subst, arith}
+use Rattle.std.proofs.Common.{◌≤◌, ◌≡◌, ◌+◌, ◌*◌, ap, rules, sym, subst, arith}
 use Rattle.std.specs.Prelude.{◌-◌, length}
 use Rattle.bm_cache.specs.Span.{Face}
 use Rattle.bm_plan.specs.Position.{StandsAt}
 use Rattle.bm_levels.specs.AtProcessor.{IsAt}
 use Rattle.bm_levels.specs.Logged.{IsLived}
 use Rattle.bm_levels.specs.Ordinary.{Statements}
-use Rattle.bm_levels.specs.Ready.{left_of}
+use Rattle.bm_levels.specs.Ready.{asked_of, left_of}
 use Rattle.bm_levels.specs.Sound.{Sound}
 use Rattle.bm_levels.specs.declared.processor.Processor.{Processor}
 use Rattle.bm_levels.specs.declared.program.Program.{Program}
@@ -13,7 +13,7 @@ use Rattle.bm_levels.proofs.Grounds.{begun-few, both-ok, on-ok, sound-worked, st
 use Rattle.bm_levels.proofs.ground.settle_statement.Goals as goal
 
 pub returns-clause-statements : goal.returns-clause-statements
-returns-clause-statements c =
+returns-clause-statements g c =
     let m : Processor = c.args.own.now in
     let k : Processor = c.until_down-settled.new.host.own.now in
     on-ok c.until_down-settled.result _ _ c.until_down-settled.ensures.works (λ w.
@@ -28,7 +28,7 @@ returns-clause-statements c =
     }))
 
 pub returns-clause-sound : goal.returns-clause-sound
-returns-clause-sound c =
+returns-clause-sound g c =
     let p = c.args.program.now in
     let m : Processor = c.args.own.now in
     let k : Processor = c.until_down-settled.new.host.own.now in
@@ -43,6 +43,18 @@ returns-clause-sound c =
     let lent : c.own-2-1.given.0 ≡ k = search (rules, through) in
     let fewer = w.goes.pending in
     let most = begun-few classes (length (left_of m) - length (left_of k) + 1) c.requires.few in
-    let at : IsAt StandsAt IsLived 0 p k = subst (λ (q : Program). IsAt StandsAt IsLived 0 q k) w.goes.keeps.2 t.stands.sound in
+    let at : IsAt StandsAt IsLived 0 p k = subst (λ (q : Program). IsAt StandsAt IsLived 0 q k) w.goes.keeps.2 t.stands.sound.0 in
     subst (Sound p) (sym lent) (sound-worked p m k n (omega (arith, fewer, most)) w.goes.keeps.0.settled
     at t.stands.fine t.quiet t.stands.dated t.stamped w.plain_begins w.tracing_begins c.requires.sound))
+
+pub returns-clause-asked : goal.returns-clause-asked
+returns-clause-asked g c =
+    let m : Processor = c.args.own.now in
+    let s = c.args.program.now.scenario.now in
+    let k : Processor = c.until_down-settled.new.host.own.now in
+    on-ok c.until_down-settled.result _ _ c.until_down-settled.ensures.works (λ w.
+    let through = ap (λ (f : Face). f.through) w.goes.face in
+    let lent : c.own-2-1.given.0 ≡ k = search (rules, through) in
+    let most = w.goes.keeps.0.asks_most in
+    let F : Processor → Type 0 = λ x. asked_of s x ≤ asked_of s m + 1 in
+    subst F (sym lent) (omega (arith, most)))

@@ -10,7 +10,7 @@ is-below : (l due : ℕ) → l + 1 ≤ due → due ≤ 3 → l < 3
 is-below l due a h = omega (arith, a, h)
 
 pub loop-due-init : goal.loop-due-init
-loop-due-init g c = record { going = going-none g.L.Rank.number c.args.program.now c.args.own.now c.requires.at c.requires.fine }
+loop-due-init g c = record { going = going-none g.L.Rank.number c.args.program.now c.args.own.now c.requires.at c.requires.fine; tied = c.requires.tied }
 
 pub begin_due-requires-clause-at : goal.begin_due-requires-clause-at
 begin_due-requires-clause-at g c =
@@ -35,6 +35,7 @@ loop-due-preserved g c =
     record {
       going = going-more l p c.in-Some.due c.args.own.now b c.begin_due.new.own c.interrupt.new.own c.loop-due.invariant.going
           (between-at c.level.result l p b c.begin_due.new.own q e.between) e.lives begun (i.at below) (i.between below) i.lives;
+      tied = i.tied;
     }
 
 pub interrupt-requires-clause-due : goal.interrupt-requires-clause-due

@@ -1,9 +1,12 @@
-use Rattle.std.proofs.Common.{◌≡◌, ◌+◌, refl, ap, arith}
+use Rattle.std.proofs.Common.{◌≡◌, ◌+◌, refl, ap, arith, [], ◌∷◌}
 use Rattle.std.specs.Prelude.{◌%◌, true}
 use Rattle.bm_grace.specs.Known.{Known, side}
 use Rattle.bm_grace.specs.declared.step.StepKind.TheVariants.{Enter}
 use Rattle.bm_journal.specs.declared.entry.Entry.TheVariants as entry
 use Rattle.bm_journal.specs.declared.ids.Domain.TheVariants.{Plain}
+use Rattle.bm_law_order.specs.Act as act
+use Rattle.bm_law_order.specs.Chunk as chunk
+use Rattle.bm_levels.specs.AtTie.{tied-told}
 use Rattle.bm_levels.specs.Ready.{word_of}
 use Rattle.bm_levels.specs.declared.processor.Processor.{Processor}
 use Rattle.bm_levels.proofs.Words.{at-moved, came-moved, names-in, same-rights}
@@ -28,3 +31,10 @@ returns-clause-came c =
 
 pub returns-clause-rights : goal.returns-clause-rights
 returns-clause-rights c = same-rights c.args.own.now.side c.enter-word.new.self c.enter-word.ensures.post c.enter-word.ensures.slots c.enter-word.ensures.begun
+
+pub returns-clause-tied : goal.returns-clause-tied
+returns-clause-tied c since start t =
+    let m : Processor = c.args.own.now in
+    let k : Processor = record m { caches = c.note.new.self; side = c.enter-word.new.self; inside = true } in
+    let word = c.enter-word.result in
+    tied-told since start c.args.level m k (act.Enters Plain word ∷ []) (entry.In Plain word) (record { chunk = chunk.Entering Plain word; free = refl; acts_are = refl; entries_are = refl }) c.enter-word.ensures.does c.note.ensures.step.records t

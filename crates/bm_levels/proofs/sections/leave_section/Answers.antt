@@ -1,9 +1,12 @@
-use Rattle.std.proofs.Common.{◌≡◌, ◌+◌, refl, ap, arith}
+use Rattle.std.proofs.Common.{◌≡◌, ◌+◌, refl, ap, arith, [], ◌∷◌}
 use Rattle.std.specs.Prelude.{◌%◌, false}
 use Rattle.bm_grace.specs.Known.{Known, side}
 use Rattle.bm_grace.specs.declared.step.StepKind.TheVariants.{Leave}
 use Rattle.bm_journal.specs.declared.entry.Entry.TheVariants as entry
 use Rattle.bm_journal.specs.declared.ids.Domain.TheVariants.{Plain}
+use Rattle.bm_law_order.specs.Act as act
+use Rattle.bm_law_order.specs.Chunk as chunk
+use Rattle.bm_levels.specs.AtTie.{tied-told}
 use Rattle.bm_levels.specs.Ready.{word_of}
 use Rattle.bm_levels.specs.declared.processor.Processor.{Processor}
 use Rattle.bm_levels.proofs.Words.{at-moved, came-moved, names-out, same-rights}
@@ -28,3 +31,10 @@ returns-clause-came c =
 
 pub returns-clause-rights : goal.returns-clause-rights
 returns-clause-rights c = same-rights c.args.own.now.side c.leave-word.new.self c.leave-word.ensures.post c.leave-word.ensures.slots c.leave-word.ensures.begun
+
+pub returns-clause-tied : goal.returns-clause-tied
+returns-clause-tied c since start t =
+    let m : Processor = c.args.own.now in
+    let k : Processor = record m { caches = c.note.new.self; side = c.leave-word.new.self; inside = false } in
+    let word = c.leave-word.result in
+    tied-told since start c.args.level m k (act.Leaves Plain word ∷ []) (entry.Out Plain word) (record { chunk = chunk.Leaving Plain word; free = refl; acts_are = refl; entries_are = refl }) c.leave-word.ensures.does c.note.ensures.step.records t

@@ -1,4 +1,4 @@
-use Rattle.std.proofs.Common.{◌≡◌, map, ap, sym, subst, ◌∙◌, refl, lit<, lit≤, arith, false}
+use Rattle.std.proofs.Common.{◌≡◌, [], map, ap, sym, subst, ◌∙◌, refl, lit<, lit≤, arith, false}
 use Rattle.bm_page.specs.Stock.{Stock}
 use Rattle.bm_journal.specs.Recording.{Kept as Recorded}
 use Rattle.bm_world.specs.LivingState.{LivingState, rights_living}
@@ -13,8 +13,10 @@ use Rattle.bm_levels.specs.declared.processor.Processor.{Processor}
 use Rattle.bm_levels.specs.declared.program.Program.{Program}
 use Rattle.bm_lawful.specs.Fills.{fresh_stock}
 use Rattle.bm_opening.specs.Filling.{filling}
-use Rattle.bm_opening.specs.Opened.{IsOpen}
+use Rattle.bm_opening.specs.Opened.{IsOpen, outset}
 use Rattle.bm_opening.proofs.OpeningLemmas.{all-begins, ascending, dated, fills-once, fills-suit, living_side, lowered, no-numbers, no-parcels-told, no-words, none-live, opened-pool, side-is, stamped}
+use Rattle.bm_levels.specs.AtTie.{TiedAt}
+use Rattle.bm_opening.proofs.FreshTold.{opened-tied}
 use Rattle.bm_opening.proofs.Bounds.{Within, within}
 use Rattle.bm_opening.proofs.Started.{IsFresh, begins-enough, fresh-at, left-is}
 use Rattle.bm_opening.proofs.opening.open.Goals as goal
@@ -85,5 +87,7 @@ returns-in-Ok-create c =
       planned = left-is s m fresh ∙ ap (planned_for 0) same;
       running = r.running;
       inside = refl;
+      tied = subst (λ (x : Parts). TiedAt [] (outset x.pages) m) same
+          (opened-tied c.args.classes.now s.pages pool slots begun caches.recorder.told (v.pool ∙ ap (λ (x : Stock). (filling c.args.classes.now x).pool) first) w.slots w.begun (rw (sym named) o.told));
     } in
     subst (λ x. IsOpen p (filling c.args.classes.now (fresh_stock s.pages)) (machine x)) (sym (side-is c.in-Ok-open_side.side pool w.side w.asked)) done

@@ -1,4 +1,4 @@
-use Rattle.std.proofs.Common.{◌≡◌, ap, sym, ◌∙◌, subst, Some, Option, IfSome}
+use Rattle.std.proofs.Common.{◌≡◌, [], ap, sym, ◌∙◌, subst, Some, Option, IfSome}
 use Rattle.bm_journal.specs.Recording.{Kept as Recorded}
 use Rattle.bm_law.specs.Alone.{Alone}
 use Rattle.bm_law.specs.Lists.{Leaves, Log}
@@ -12,16 +12,17 @@ use Rattle.bm_mail.specs.SweepsTold.{SweepsTold}
 use Rattle.bm_closing.specs.EndsBegun.{EndsBegun}
 use Rattle.bm_levels.specs.AtProcessor.{lists_of, log_of}
 use Rattle.bm_levels.specs.Ready.{known_of}
+use Rattle.bm_run.specs.ClosingTie.{Ends}
 use Rattle.bm_run.proofs.Results.{not-err, if-told}
 use Rattle.bm_run.proofs.Sections.{ends-even}
 use Rattle.bm_run.proofs.Written.{first-of}
 use Rattle.bm_run.proofs.journals.close.Goals as goal
 
 pub close-swept-requires-clause-rest : goal.close-swept-requires-clause-rest
-close-swept-requires-clause-rest c d = (_, (c.one_at_rest.ensures.rest d, ends-even _ _ (c.one_at_rest.ensures.sole d)))
+close-swept-requires-clause-rest g c d = (_, (c.one_at_rest.ensures.rest d, ends-even _ _ (c.one_at_rest.ensures.sole d)))
 
 pub returns-clause-closed : goal.returns-clause-closed
-returns-clause-closed c =
+returns-clause-closed g c =
     let m = c.args.own in
     let n = c.close-swept.new.host in
     let e = c.if-is_err.ensures.value in
@@ -42,3 +43,11 @@ returns-clause-closed c =
       empty = not-err c.close-swept.result _ e done.empty;
       others = not-err c.close-swept.result _ e done.others;
     }))
+
+pub returns-clause-tied : goal.returns-clause-tied
+returns-clause-tied g c =
+    let n = c.close-swept.new.host in
+    let end = not-err c.close-swept.result _ c.if-is_err.ensures.value c.close-swept.ensures.at_end in
+    rw c.ok_or.ensures.value (if-told c.into_log.result _ _ (λ l q.
+    let told : n.caches.recorder.told ≡ Some l = ap (λ (k : Recorded). k.told) (sym c.finish.ensures) ∙ (sym c.into_log.ensures.told ∙ q) in
+    (n.side, subst (λ (o : Option Log). Ends g.B.Since.since g.B.Since.start [] [] o n.side) told end.sound)))

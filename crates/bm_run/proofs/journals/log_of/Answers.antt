@@ -5,7 +5,11 @@ use Rattle.bm_lives.specs.Lives.{WholeLives}
 use Rattle.bm_returns.specs.Units.{FreedAsGiven}
 use Rattle.bm_world.specs.LivingState.{LivingState, known_living}
 use Rattle.bm_exec.specs.Lists.{Behind}
+use Rattle.bm_law_order.specs.Tie.{Tied, whatever}
+use Rattle.bm_world.specs.ToldLiving.{LivingDoes}
+use Rattle.bm_opening.specs.Opened.{outset}
 use Rattle.bm_levels.specs.AtProcessor.{lists_of}
+use Rattle.bm_levels.specs.AtTie.{TiedAt}
 use Rattle.bm_levels.specs.Ready.{known_of, left_of}
 use Rattle.bm_levels.specs.declared.processor.Processor.{Processor}
 use Rattle.bm_levels.specs.declared.program.Program.{Program}
@@ -14,22 +18,24 @@ use Rattle.bm_run.specs.Closed.{Closed}
 use Rattle.bm_run.specs.Lines.{lines_cost}
 use Rattle.bm_run.proofs.Declared.{all-declared, few-left, room-all, room-for}
 use Rattle.bm_run.proofs.Lines.{down-when, few-when}
+use Rattle.bm_run.proofs.Laid.{tied-laid}
 use Rattle.bm_run.proofs.LogLaw.{RunLeft, alone-sends, lawful-run, lived-run, short-run, unused-rows}
 use Rattle.bm_run.proofs.OpenedList.{opened-ascend, opened-few}
 use Rattle.bm_run.proofs.Results.{both-if-ok, if-ok, not-err}
+use Rattle.bm_run.proofs.journals.log_of.Given.{Over}
 use Rattle.bm_run.proofs.journals.log_of.Goals as goal
 
 some-processors : (n : ℕ) → n ≡ 1 → 1 ≤ n
 some-processors n e = omega (arith, e)
 
 pub open-requires-clause-ascend : goal.open-requires-clause-ascend
-open-requires-clause-ascend c = rw c.requires.opened (opened-ascend c.args.scenario.now.types)
+open-requires-clause-ascend g c = rw c.requires.opened (opened-ascend c.args.scenario.now.types)
 
 pub run_lines-requires-clause-few : goal.run_lines-requires-clause-few
-run_lines-requires-clause-few c = few-when c.when_on.result c.parts-parts.result.now.deferred c.args.opened.now c.when_on.ensures (rw c.requires.opened (opened-few c.args.scenario.now.types))
+run_lines-requires-clause-few g c = few-when c.when_on.result c.parts-parts.result.now.deferred c.args.opened.now c.when_on.ensures (rw c.requires.opened (opened-few c.args.scenario.now.types))
 
 pub run_lines-requires-clause-cost : goal.run_lines-requires-clause-cost
-run_lines-requires-clause-cost c =
+run_lines-requires-clause-cost g c =
     let s = c.args.scenario.now in
     let m : Processor = c.in_ok-own.own in
     let o = c.in_ok-own.ensures in
@@ -37,30 +43,30 @@ run_lines-requires-clause-cost c =
     rw c.parts-parts.ensures.value (room-for s (known_of m).objects.asked m.settled (lines_cost s.scripts s.runs) (left_of m) _ (rw c.parts-parts.ensures.value at o.planned) o.asked (room-all s w))
 
 pub run_lines-requires-clause-handlers : goal.run_lines-requires-clause-handlers
-run_lines-requires-clause-handlers c =
+run_lines-requires-clause-handlers g c =
     let s = c.args.scenario.now in
     let w = within s (some-processors s.processors c.requires.yet.one) c.requires.checked.within_limits in
     few-left 1000 (left_of c.in_ok-own.own) _ (rw c.parts-parts.ensures.value at c.in_ok-own.ensures.planned) (few-planned s w)
 
 pub run_lines-requires-clause-down : goal.run_lines-requires-clause-down
-run_lines-requires-clause-down c =
+run_lines-requires-clause-down g c =
     let t = lists_of c.in_ok-own.own in
     subst (λ w. Behind w t []) (sym c.when_on.ensures) (down-when c.parts-parts.result.now.deferred c.args.opened.now t c.in_ok-own.ensures.lowered)
 
 pub run_lines-requires-clause-declared : goal.run_lines-requires-clause-declared
-run_lines-requires-clause-declared c = rw c.parts-parts.ensures.value (all-declared c.args.scenario.now c.requires.fine)
+run_lines-requires-clause-declared g c = rw c.parts-parts.ensures.value (all-declared c.args.scenario.now c.requires.fine)
 
 pub close-requires-clause-few : goal.close-requires-clause-few
-close-requires-clause-few c = rw c.requires.opened (opened-few c.args.scenario.now.types)
+close-requires-clause-few g c = rw c.requires.opened (opened-few c.args.scenario.now.types)
 
 pub close-requires-clause-sound : goal.close-requires-clause-sound
-close-requires-clause-sound c = (_, c.begin_closing.ensures.sound _ (not-err c.run_lines.result _ c.if-is_err.ensures.value c.run_lines.ensures.sound))
+close-requires-clause-sound g c = (_, c.begin_closing.ensures.sound _ (not-err c.run_lines.result _ c.if-is_err.ensures.value c.run_lines.ensures.sound))
 
 pub close-requires-clause-outside : goal.close-requires-clause-outside
-close-requires-clause-outside c d = ap (λ (x : LivingState). (side d (known_living x)).word % 2) c.begin_closing.ensures.side ∙ not-err c.run_lines.result _ c.if-is_err.ensures.value c.run_lines.ensures.outside d
+close-requires-clause-outside g c d = ap (λ (x : LivingState). (side d (known_living x)).word % 2) c.begin_closing.ensures.side ∙ not-err c.run_lines.result _ c.if-is_err.ensures.value c.run_lines.ensures.outside d
 
 pub close-requires-clause-unused : goal.close-requires-clause-unused
-close-requires-clause-unused c some k =
+close-requires-clause-unused g c some k =
     let e = c.if-is_err.ensures.value in
     let o = rw c.requires.opened at c.in_ok-own.ensures in
     let wrote = rw c.parts-parts.ensures.value at (not-err c.run_lines.result _ e c.run_lines.ensures.wrote) in
@@ -68,8 +74,8 @@ close-requires-clause-unused c some k =
     rw c.requires.opened (unused-rows c.args.scenario.now _ c.in_ok-own.own c.run_lines.new.own c.begin_closing.new.own c.parts-parts.ensures.value c.handled_law.ensures.rows o wrote sound c.begin_closing.ensures.wrote c.begin_closing.ensures.lists some k)
 
 -- what the run left, of the program that it ran
-run-left : (c : goal.After-close) (final : Log) → Closed c.args.opened.now c.begin_closing.new.own final → (p : Program) × RunLeft c.args.scenario.now p c.in_ok-own.own c.run_lines.new.own c.begin_closing.new.own final
-run-left c final x =
+run-left : (g : Over) (c : goal.After-close g) (final : Log) → Closed c.args.opened.now c.begin_closing.new.own final → (p : Program) × RunLeft c.args.scenario.now p c.in_ok-own.own c.run_lines.new.own c.begin_closing.new.own final
+run-left g c final x =
     let m3 = c.begin_closing.new.own in
     let e = c.if-is_err.ensures.value in
     let o = rw c.requires.opened at c.in_ok-own.ensures in
@@ -93,22 +99,36 @@ run-left c final x =
     )
 
 pub returns-clause-lawful : goal.returns-clause-lawful
-returns-clause-lawful c = if-ok c.close.result _ _ c.close.ensures.closed (λ final x.
-    let r = run-left c final x in
+returns-clause-lawful g c = if-ok c.close.result _ _ c.close.ensures.closed (λ final x.
+    let r = run-left g c final x in
     lawful-run c.args.scenario.now r.0 c.in_ok-own.own c.run_lines.new.own c.begin_closing.new.own final c.handled_law.ensures.periods c.handled_law.ensures.rows c.handled_law.ensures.null c.sweeps_law.ensures c.parcels_law.ensures r.1)
 
 pub returns-clause-short : goal.returns-clause-short
-returns-clause-short c = if-ok c.close.result _ _ c.close.ensures.closed (λ final x.
-    let r = run-left c final x in
+returns-clause-short g c = if-ok c.close.result _ _ c.close.ensures.closed (λ final x.
+    let r = run-left g c final x in
     short-run c.args.scenario.now r.0 c.in_ok-own.own c.run_lines.new.own c.begin_closing.new.own final c.handled_law.ensures.periods r.1)
 
-lived-log : (c : goal.After-close) → IfOk c.close.result (λ final. WholeLives (final ∷ []) × FreedAsGiven final)
-lived-log c = if-ok c.close.result _ _ c.close.ensures.closed (λ final x.
-    let r = run-left c final x in
+lived-log : (g : Over) (c : goal.After-close g) → IfOk c.close.result (λ final. WholeLives (final ∷ []) × FreedAsGiven final)
+lived-log g c = if-ok c.close.result _ _ c.close.ensures.closed (λ final x.
+    let r = run-left g c final x in
     lived-run c.args.scenario.now r.0 c.in_ok-own.own c.run_lines.new.own c.begin_closing.new.own final c.handled_law.ensures.periods c.lives_law.ensures.one c.lives_law.ensures.whole c.lives_law.ensures.freed r.1)
 
 pub returns-clause-lives : goal.returns-clause-lives
-returns-clause-lives c = if-ok c.close.result _ _ (lived-log c) (λ final h. h.0)
+returns-clause-lives g c = if-ok c.close.result _ _ (lived-log g c) (λ final h. h.0)
 
 pub returns-clause-returns : goal.returns-clause-returns
-returns-clause-returns c = both-if-ok c.close.result _ _ _ (returns-clause-lawful c) (lived-log c) (λ final l h. c.returns_law.ensures.law c.args.scenario.now final l (alone-sends c.args.scenario.now c.requires.yet.one) h.1)
+returns-clause-returns g c = both-if-ok c.close.result _ _ _ (returns-clause-lawful g c) (lived-log g c) (λ final l h. c.returns_law.ensures.law c.args.scenario.now final l (alone-sends c.args.scenario.now c.requires.yet.one) h.1)
+
+pub run_lines-requires-clause-tied : goal.run_lines-requires-clause-tied
+run_lines-requires-clause-tied g c =
+    let m : Processor = c.in_ok-own.own in
+    let o : TiedAt [] (outset c.args.scenario.now.pages) m = rw c.parts-parts.ensures.value at c.in_ok-own.ensures.tied in
+    subst (λ l. TiedAt l g.B.Since.start m) (sym c.requires.since) (subst (λ w. TiedAt [] w m) (sym c.requires.start) o)
+
+pub close-requires-clause-tied : goal.close-requires-clause-tied
+close-requires-clause-tied g c =
+    c.begin_closing.ensures.tied g.B.Since.since g.B.Since.start (not-err c.run_lines.result _ c.if-is_err.ensures.value c.run_lines.ensures.tied)
+
+pub returns-clause-laid : goal.returns-clause-laid
+returns-clause-laid g c = if-ok c.close.result _ _ c.close.ensures.tied (λ final t.
+    tied-laid c.args.scenario.now.pages final t.0 (subst (λ l. Tied whatever LivingDoes l (outset c.args.scenario.now.pages) 0 [] [] final t.0) c.requires.since (subst (λ w. Tied whatever LivingDoes g.B.Since.since w 0 [] [] final t.0) c.requires.start t.1)))

@@ -14,7 +14,7 @@ use Rattle.bm_run.proofs.Sections.{parity-script}
 use Rattle.bm_run.proofs.scripts.run_line.Goals as goal
 
 pub returns-in-Ended-clause-wrote : goal.returns-in-Ended-clause-wrote
-returns-in-Ended-clause-wrote c =
+returns-in-Ended-clause-wrote g c =
     let m : Processor = c.args.own.now in
     let m1 : Processor = c.begin_script.new.own in
     let m2 : Processor = c.run_body.new.own in
@@ -34,4 +34,4 @@ returns-in-Ended-clause-wrote c =
     c.begin_script.ensures.wrote (body-wrote s script s.types w m1 m2 refl c.requires.works (c.in-Ended.ensures.ended refl) ran.ordinary) ends x)
 
 pub returns-in-Ended-clause-outside : goal.returns-in-Ended-clause-outside
-returns-in-Ended-clause-outside c = on-ok c.settle_behind.result _ _ c.settle_behind.ensures.statements (λ h d. parity-script c.args.own.now c.begin_script.new.own c.run_body.new.own c.end_script.new.own c.settle_behind.new.own c.begin_script.ensures.known (c.in-Ended.ensures.statements refl).parity c.end_script.ensures.known h.parity d)
+returns-in-Ended-clause-outside g c = on-ok c.settle_behind.result _ _ c.settle_behind.ensures.statements (λ h d. parity-script c.args.own.now c.begin_script.new.own c.run_body.new.own c.end_script.new.own c.settle_behind.new.own c.begin_script.ensures.known (c.in-Ended.ensures.statements refl).parity c.end_script.ensures.known h.parity d)

@@ -8,8 +8,9 @@ use Rattle.bm_run.proofs.scripts.run_lines.Goals.{then-run-eq0+in-Some+in_ok-run
 use Rattle.bm_run.proofs.scripts.run_lines.Goals as goal
 
 pub loop-run-init : goal.loop-run-init
-loop-run-init c = record {
+loop-run-init g c = record {
   sound = c.requires.sound;
+  tied = c.requires.tied;
   lives = refl;
   down = c.requires.down;
   even = λ d. (let w = c.requires.words d in omega (arith, w));
@@ -19,13 +20,13 @@ loop-run-init c = record {
 }
 
 pub unreachable-requires : goal.unreachable-requires
-unreachable-requires c =
+unreachable-requires g c =
     let lt = rw c.as_slice-run-items.ensures at c.loop-run-test.true in
     let look = rw c.as_slice-run-items.ensures at (rw c.as_slice.ensures at c.in_default.ensures.lookup) in
     not-there c.args.program.now.scenario.now.scripts _ look.3 (c.requires.declared c.loop-run.run-index _ lt)
 
 pub run_line-requires-clause-room : goal.run_line-requires-clause-room
-run_line-requires-clause-room c =
+run_line-requires-clause-room g c =
     let s = c.args.program.now.scenario.now in
     let m = c.loop-run.own in
     let lt = rw c.as_slice-run-items.ensures at c.loop-run-test.true in
@@ -35,15 +36,15 @@ run_line-requires-clause-room c =
     omega (arith, r)
 
 pub run_line-requires-clause-found : goal.run_line-requires-clause-found
-run_line-requires-clause-found c =
+run_line-requires-clause-found g c =
     let look = rw c.as_slice.ensures at c.in-Some.ensures.lookup in
     (_, get-is _ _ c.in-Some.script.now look.3.0 (look.3.1 _))
 
 pub run_line-requires-clause-outside : goal.run_line-requires-clause-outside
-run_line-requires-clause-outside c = c.loop-run.invariant.even Plain
+run_line-requires-clause-outside g c = c.loop-run.invariant.even Plain
 
 pub loop-run-preserved : goal.loop-run-preserved
-loop-run-preserved c =
+loop-run-preserved g c =
     let p = c.args.program.now in
     let s = p.scenario.now in
     let n = c.loop-run.run-index in
@@ -68,6 +69,7 @@ loop-run-preserved c =
           let asked = o.asked in
           record {
             sound = rw w.own-is o.sound;
+            tied = rw w.own-is o.tied;
             lives = rw w.own-is (o.lives ∙ v.lives);
             down = rw w.own-is o.down;
             even = rw w.own-is (λ d. o.outside d ∙ v.even d);
@@ -79,6 +81,7 @@ loop-run-preserved c =
           let r = other-room s.scripts s.runs n (record { line = 0; processor = 0; script = record { 0 = 0 } }) (asked_of s m) words lt cost most in
           record {
             sound = rw w.own-is v.sound;
+            tied = rw w.own-is v.tied;
             lives = rw w.own-is v.lives;
             down = rw w.own-is v.down;
             even = rw w.own-is v.even;
@@ -89,7 +92,7 @@ loop-run-preserved c =
     ]
 
 pub returns-clause-wrote : goal.returns-clause-wrote
-returns-clause-wrote c =
+returns-clause-wrote g c =
     let s = c.args.program.now.scenario.now in
     let n = c.loop-run.run-index in
     let lt = rw c.as_slice-run-items.ensures at c.loop-run-test.false in

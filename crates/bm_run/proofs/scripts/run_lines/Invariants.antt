@@ -3,6 +3,7 @@ use Rattle.bm_journal.specs.declared.ids.Domain.{Domain}
 use Rattle.bm_journal.specs.declared.ids.Domain.TheVariants.{Plain}
 use Rattle.bm_exec.specs.Lists.{Behind, behind_of}
 use Rattle.bm_levels.specs.AtProcessor.{SameLives, lists_of}
+use Rattle.bm_levels.specs.AtTie.{TiedAt}
 use Rattle.bm_levels.specs.Ready.{asked_of, left_of, word_of}
 use Rattle.bm_levels.specs.Sound.{Sound}
 use Rattle.bm_run.specs.Lines.{lines_cost}
@@ -10,8 +11,9 @@ use Rattle.bm_run.proofs.Lines.{Wrote_so_far}
 use Rattle.bm_run.proofs.scripts.run_lines.Given as goal
 
 abbrev pub invariant-loop-run : goal.invariant-loop-run
-invariant-loop-run l = record {
+invariant-loop-run g l = record {
   sound : Sound l.program l.own;
+  tied : TiedAt g.B.Since.since g.B.Since.start l.own;
   lives : SameLives l.initial.own l.own;
   down : Behind (behind_of l.deferred.behind) (lists_of l.own) [];
   even : (d : Domain) → word_of d l.own % 2 ≡ 0;

@@ -1,5 +1,6 @@
 use Rattle.std.proofs.Common.{refl}
 use Rattle.bm_levels.specs.declared.processor.Processor.{Processor}
+use Rattle.bm_levels.specs.AtTie.{tied-quiet}
 use Rattle.bm_levels.proofs.Noted.{fine-noted}
 use Rattle.bm_run.proofs.Sections.{sound-noted}
 use Rattle.bm_run.proofs.Written.{wrote-still}
@@ -18,3 +19,8 @@ returns-clause-wrote c =
     let m : Processor = c.args.own.now in
     let n = rw c.ordinary.ensures at c.note.ensures.step in
     wrote-still m (record m { caches = c.note.new.self }) c.args.entry n.records c.requires.still (record { processors = refl; processor = refl; number = λ d. refl; parcels = refl; pages = refl })
+
+pub returns-clause-tied : goal.returns-clause-tied
+returns-clause-tied c q since start t =
+    let n = rw c.ordinary.ensures at c.note.ensures.step in
+    tied-quiet since start 0 c.args.own.now c.note.new.self c.args.entry q n.records t

@@ -27,3 +27,6 @@ poll-requires-clause-stands g c =
     let left = c.leave.ensures in
     let same : (known c.leave.new.self).grace.processors ≡ (known h.side).grace.processors = ap (λ (k : Known). k.grace.processors) left.known in
     stands-side _ _ (λ m. Unit {0}) (λ m. tests_by (rights m.side)) (λ m. record { level = 0; processors = (known m.side).grace.processors; through = 0 }) (λ m. m.caches) h (record { caches = h.caches; side = c.leave.new.self }) refl (ap (λ n. let f : Face = record { level = 0; processors = n; through = 0 } in f) same) tt (ages-onward (rights h.side) (rights c.leave.new.self) [] left.rights) c.stamp_and_poll.ensures.stands
+
+pub stamp_and_poll-requires-clause-apart : goal.stamp_and_poll-requires-clause-apart
+stamp_and_poll-requires-clause-apart g c h w s = s

@@ -4,3 +4,6 @@ pub stamp_and_poll-requires-clause-stands : goal.stamp_and_poll-requires-clause-
 stamp_and_poll-requires-clause-stands g c =
     let e = c.desk_over-desk.ensures in
     record { sound = tt; fine = e.fine; dated = e.dated }
+
+pub stamp_and_poll-requires-clause-apart : goal.stamp_and_poll-requires-clause-apart
+stamp_and_poll-requires-clause-apart g c h w s = s

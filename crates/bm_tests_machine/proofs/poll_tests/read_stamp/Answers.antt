@@ -10,7 +10,7 @@ pub returns-clause-positive : goal.returns-clause-positive
 returns-clause-positive g c = let k = c.stamp.ensures.known in omega (arith, k.stamp_is)
 
 pub returns-clause-stands : goal.returns-clause-stands
-returns-clause-stands g c = stands-knows g.R.Recorder.log g.R.Recorder.counts g.H.Host.sound g.H.Host.tests g.H.Host.face g.H.Host.held g.H.Desk.shared g.H.Desk.with_shared g.H.W.Knows.known g.H.W.Knows.rights g.met.H.Desk.shared_back g.met.H.Desk.held_apart g.met.H.Desk.face_apart g.met.H.Desk.sound_apart g.met.H.Desk.tests_are c.args.host.now c.world.result.now c.stamp.new.self _ c.world.ensures.held c.stamp.ensures.known.known (alike-read _ _ _ _) c.stamp.ensures.rights c.requires.stands
+returns-clause-stands g c = stands-knows g.R.Recorder.log g.R.Recorder.counts g.H.Host.sound g.H.Host.tests g.H.Host.face g.H.Host.held g.H.Desk.shared g.H.Desk.with_shared g.H.W.Knows.known g.H.W.Knows.rights g.met.H.Desk.shared_back g.met.H.Desk.held_apart g.met.H.Desk.face_apart (λ h w a s. c.requires.apart h w s) g.met.H.Desk.tests_are c.args.host.now c.world.result.now c.stamp.new.self _ c.world.ensures.held c.stamp.ensures.known.known (alike-read _ _ _ _) c.stamp.ensures.rights c.requires.stands
 
 pub returns-clause-since : goal.returns-clause-since
 returns-clause-since g c u =

@@ -6,4 +6,4 @@ pub returns : goal.returns
 returns c =
     let next = c.self.inside.next.items in
     let h = get_or c.self.inside.heads c.args.list none in
-    rw (← c.self.view_is) (sym (ap length (at-chain next c.self.inside.heads c.args.list (within next c.self.inside.heads c.args.list c.self.invariant c.requires)) ∙ length-follow next h.length h.first))
+    rw (← c.self.view_is) (sym (ap length (at-chain next c.self.inside.heads c.args.list (within next c.self.inside.heads c.args.list c.self.invariant.0 c.requires)) ∙ length-follow next h.length h.first))

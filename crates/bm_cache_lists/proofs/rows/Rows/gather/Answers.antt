@@ -1,14 +1,14 @@
-use Rattle.std.proofs.Common.{◌≡◌, ◌<◌, ◌++◌, [], List, length, set, Some, ap, ◌∙◌, sym, arith}
-use Rattle.std.proofs.lemmas.List.{length-map}
+use Rattle.std.proofs.Common.{◌≡◌, ◌<◌, ◌++◌, [], length, set, Some, ap, ◌∙◌, arith}
 use Rattle.bm_page.specs.UnitState.{UnitState}
-use Rattle.bm_law.specs.State.{Row, seen_row}
-use Rattle.bm_cache_lists.specs.Housed.{row_at, unit_at}
+use Rattle.bm_law.specs.State.{Row}
+use Rattle.bm_cache_lists.specs.Housed.{row_at}
 use Rattle.bm_law.specs.Places.{list_at}
 use Rattle.bm_cache_lists.specs.Stacks.{with_list}
 use Rattle.bm_cache_lists.specs.Numbers.{numbers_in, with_numbers}
 use Rattle.bm_cache_lists.specs.declared.line.Numbers.{Numbers}
 use Rattle.bm_journal.specs.declared.change.Stack.{Stack}
 use Rattle.bm_journal.specs.declared.change.Stack.TheVariants.{Free, Extra, Delayed, ExtraDelayed, First, Ready, Second}
+use Rattle.bm_cache_lists.proofs.Houses.{eleven-rows}
 use Rattle.bm_cache_lists.proofs.Loops.{twice}
 use Rattle.bm_cache_lists.proofs.rows.Rows.gather.Goals as goal
 
@@ -23,7 +23,7 @@ unfolding onto ended
 returns c =
     let old = c.args.self.now in
     let i = c.args.row in
-    let l : length old ≡ 11 = ap (λ (rs : List (Row UnitState)). length rs) (sym c.self.view_is) ∙ length-map c.self.inside.lines.items (seen_row (unit_at c.self.inside.places.items)) ∙ c.self.invariant.eleven in
+    let l : length old ≡ 11 = eleven-rows c.self.inside.places.items c.self.inside.lines.items c.args.self.now c.self.invariant.0 c.self.view_is in
     let b : i < length old = omega (arith, l, c.requires) in
     let r1 = onto Ready (row_at old i) in
     let r2 = onto First r1 in

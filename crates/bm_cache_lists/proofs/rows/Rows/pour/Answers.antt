@@ -12,10 +12,10 @@ use Rattle.bm_cache_lists.proofs.rows.Rows.pour.Goals as goal
 pub invariant_of-self : goal.invariant_of-self
 invariant_of-self c =
     let F : Row ℕ → Row ℕ = λ r. with_list c.args.from [] (with_list c.args.to (reverse (list_at c.args.from r) ++ list_at c.args.to r) r) in
-    kept c.self.inside.places.items c.self.inside.lines.items c.args.row c.index_mut.result.now c.pour.new.self F c.self.invariant c.requires.row c.index_mut.ensures.value c.pour.ensures (onto-same c.args.from c.args.to c.requires.two (λ xs. reverse xs) times-reverse)
+    (kept c.self.inside.places.items c.self.inside.lines.items c.args.row c.index_mut.result.now c.pour.new.self F c.self.invariant.0 c.requires.row c.index_mut.ensures.value c.pour.ensures (onto-same c.args.from c.args.to c.requires.two (λ xs. reverse xs) times-reverse), c.self.invariant.1)
 
 pub returns : goal.returns
 returns c =
     let F : Row ℕ → Row ℕ = λ r. with_list c.args.from [] (with_list c.args.to (reverse (list_at c.args.from r) ++ list_at c.args.to r) r) in
     let G : Row UnitState → Row UnitState = λ r. with_list c.args.from [] (with_list c.args.to (reverse (list_at c.args.from r) ++ list_at c.args.to r) r) in
-    rw (← c.self.view_is) (wrote c.self.inside.places.items c.self.inside.lines.items c.args.row c.index_mut.result.now c.pour.new.self F G c.self.invariant c.requires.row c.index_mut.ensures.value c.pour.ensures (onto-seen c.args.from c.args.to c.requires.two (unit_at c.self.inside.places.items) (λ xs. reverse xs) (λ xs. reverse xs) (map-reverse (unit_at c.self.inside.places.items))))
+    rw (← c.self.view_is) (wrote c.self.inside.places.items c.self.inside.lines.items c.args.row c.index_mut.result.now c.pour.new.self F G c.self.invariant.0 c.requires.row c.index_mut.ensures.value c.pour.ensures (onto-seen c.args.from c.args.to c.requires.two (unit_at c.self.inside.places.items) (λ xs. reverse xs) (λ xs. reverse xs) (map-reverse (unit_at c.self.inside.places.items))))

@@ -1,19 +1,19 @@
-use Rattle.std.proofs.Common.{◌≡◌, ◌<◌, ◌++◌, [], List, length, reverse, set, Some, ap, ◌∙◌, sym, arith}
+use Rattle.std.proofs.Common.{◌≡◌, ◌<◌, ◌++◌, [], List, length, reverse, set, Some, ap, ◌∙◌, arith}
 use Rattle.std.specs.Prelude.{flat_map}
-use Rattle.std.proofs.lemmas.List.{length-map}
 use Rattle.bm_page.specs.UnitState.{UnitState}
-use Rattle.bm_law.specs.State.{Row, seen_row, seven_lists}
-use Rattle.bm_cache_lists.specs.Housed.{row_at, unit_at}
+use Rattle.bm_law.specs.State.{Row, seven_lists}
+use Rattle.bm_cache_lists.specs.Housed.{row_at}
 use Rattle.bm_law.specs.Places.{list_at}
 use Rattle.bm_cache_lists.specs.Stacks.{with_list}
 use Rattle.bm_journal.specs.declared.change.Stack.TheVariants.{Second}
+use Rattle.bm_cache_lists.proofs.Houses.{eleven-rows}
 use Rattle.bm_cache_lists.proofs.Loops.{twice, turned-in, two-turns, seven-below}
 use Rattle.bm_cache_lists.proofs.rows.Rows.sweep.Goals as goal
 
 pub push_parcels-requires-clause-fresh : goal.push_parcels-requires-clause-fresh
 push_parcels-requires-clause-fresh c = λ n i.
     let old = c.args.self.now in
-    let l : length old ≡ 11 = ap (λ (rs : List (Row UnitState)). length rs) (sym c.self.view_is) ∙ length-map c.self.inside.lines.items (seen_row (unit_at c.self.inside.places.items)) ∙ c.self.invariant.eleven in
+    let l : length old ≡ 11 = eleven-rows c.self.inside.places.items c.self.inside.lines.items c.args.self.now c.self.invariant.0 c.self.view_is in
     let b : c.args.row < length old = omega (arith, l, c.requires.row) in
     omega (arith, turned-in c.args.row Second old c.turn_over.new.self b c.turn_over.ensures n i, c.requires.fresh n i)
 
@@ -26,7 +26,7 @@ returns c =
     let old = c.args.self.now in
     let i = c.args.row in
     let us : List UnitState = flat_map (λ q. q.items) c.args.parcels.items in
-    let l : length old ≡ 11 = ap (λ (rs : List (Row UnitState)). length rs) (sym c.self.view_is) ∙ length-map c.self.inside.lines.items (seen_row (unit_at c.self.inside.places.items)) ∙ c.self.invariant.eleven in
+    let l : length old ≡ 11 = eleven-rows c.self.inside.places.items c.self.inside.lines.items c.args.self.now c.self.invariant.0 c.self.view_is in
     let b : i < length old = omega (arith, l, c.requires.row) in
     let r = row_at old i in
     let r1 : Row UnitState = with_list Second (reverse r.deferred.second) r in

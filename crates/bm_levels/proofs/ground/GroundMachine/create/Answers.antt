@@ -5,13 +5,13 @@ use Rattle.bm_levels.proofs.Grounds.{sound-still, statements-still}
 use Rattle.bm_levels.proofs.ground.GroundMachine.create.Goals as goal
 
 pub returns-clause-sound : goal.returns-clause-sound
-returns-clause-sound c =
+returns-clause-sound g c =
     let s = c.requires.sound in
     let e = c.make.ensures in
-    (sound-still 1 c.args.self.now.program.now c.args.self.now.own.now c.make.new.own e.between e.at s.0, s.1)
+    (sound-still 1 c.args.self.now.program.now c.args.self.now.own.now c.make.new.own e.between e.at s.0, s.1, c.make.ensures.tied)
 
 pub returns-clause-keeps : goal.returns-clause-keeps
-returns-clause-keeps c =
+returns-clause-keeps g c =
     let e = c.make.ensures in
     let d = e.created in
     (statements-still 1 c.args.self.now.program.now (entry.New c.args.name c.args.values ∷ d.own) c.args.self.now.own.now c.make.new.own e.between d.records (still-created _ _ _ _ _ _ _ _ _ d), refl)

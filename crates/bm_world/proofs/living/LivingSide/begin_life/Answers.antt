@@ -1,8 +1,10 @@
-use Rattle.std.proofs.Common.{Some, true, arith, ◌≡◌, ◌+◌, ◌<◌, ◌^◌, length, set, subst, sym}
+use Rattle.std.proofs.Common.{Some, true, arith, ◌≡◌, ◌+◌, ◌<◌, ◌^◌, length, refl, set, subst, sym}
 use Rattle.bm_post.specs.HasRoom.{room-of}
-use Rattle.bm_world.specs.LivingState.{LivingState, may_live, next_life, rights_living}
+use Rattle.bm_world.specs.LivingState.{LivingState, may_live, with_begun, next_life, rights_living}
 use Rattle.bm_world.proofs.Alive.{begun-gone, begun-lasts, counted, has-room, lives-as, living-begun}
 use Rattle.bm_world.proofs.SlotLemmas.{at-same}
+use Rattle.bm_world.proofs.LivingDid.{does-make}
+use Rattle.bm_world.proofs.Alive.{lives-not}
 use Rattle.bm_world.proofs.living.LivingSide.begin_life.Goals as goal
 
 pub invariant_of-self : goal.invariant_of-self
@@ -69,3 +71,21 @@ returns-clause-lives c =
     let there : u.number < length i.slots.slots.items = omega (arith, number, size) in
     let put = rw c.begin_life.ensures at c.put.ensures in
     rw put (at-same i.slots.slots.items u.number (Some (next_life u)) there)
+
+pub returns-clause-does : goal.returns-clause-does
+returns-clause-does c h =
+    let i = c.self.inside in
+    let u = c.args.unit in
+    let a : LivingState = record { side = i.side; slots = i.slots.slots.items; begun = i.begun.counts.items; asked = i.asked } in
+    let mine = subst (λ (s : LivingState). (rights_living s).mine u.number ≡ true) (sym c.self.view_is) c.requires.mine in
+    let settled = subst (λ (s : LivingState). may_live s.begun u.number u.life ≡ true) (sym c.self.view_is) c.requires.settled in
+    let number = (room-of u.number u.life u.seal (has-room i.begun.counts.items u.number u.life settled)).0 in
+    let size = c.self.invariant.size in
+    let sizes = c.self.invariant.counts in
+    let there : u.number < length i.slots.slots.items = omega (arith, number, size) in
+    let counts : u.number < length i.begun.counts.items = omega (arith, number, sizes) in
+    let put = rw c.begin_life.ensures at c.put.ensures in
+    let said = rw c.begin_life.ensures at (rw c.life.ensures at (rw c.number.ensures at c.set.ensures)) in
+    let home = subst (λ (s : LivingState). u.home ≡ s.side.grace.processor) (sym c.self.view_is) h in
+    let lives = lives-as i.begun.counts.items u.number u.life settled in
+    rw (← c.self.view_is, put, said) (does-make u a (with_begun u a) refl (lives-not i.side.post i.slots.slots.items i.begun.counts.items u.number mine) lives (λ n. counted i.begun.counts.items u.number u.life n counts lives) there home)

@@ -1,6 +1,10 @@
 use Rattle.bm_world.proofs.Alive.{fetches-living, living-fetched}
 use Rattle.bm_world.proofs.Lived.{lived-fetched}
 use Rattle.bm_world.proofs.living.LivingSidePost.fetch.Goals as goal
+use Rattle.std.proofs.Common.{[], ◌∷◌, drop, length, refl}
+use Rattle.bm_law_order.specs.Act as act
+use Rattle.bm_post.specs.Rights.{numbers}
+use Rattle.bm_world.proofs.LivingDid.{lifts-ok}
 
 pub invariant_of-self : goal.invariant_of-self
 invariant_of-self c =
@@ -15,3 +19,8 @@ returns-clause-ok c =
     let i = c.self.inside in
     let said = c.fetch.ensures in
     rw (← c.self.view_is) (fetches-living c.fetch.result c.args.class c.args.want c.args.out.now.items c.fetch.new.out.items i.side.post c.fetch.new.self.post i.slots.slots.items i.begun.counts.items i.asked c.self.invariant said.units said.each said.ok)
+
+pub returns-clause-does : goal.returns-clause-does
+returns-clause-does c =
+    let i = c.self.inside in
+    rw (← c.self.view_is) (lifts-ok c.fetch.result (act.Fetches c.args.class c.args.want (numbers (drop (length c.args.out.now.items) c.fetch.new.out.items)) ∷ []) (record { side = i.side; slots = i.slots.slots.items; begun = i.begun.counts.items; asked = i.asked }) (record { side = c.fetch.new.self; slots = i.slots.slots.items; begun = i.begun.counts.items; asked = i.asked }) refl refl c.fetch.ensures.does)

@@ -1,4 +1,4 @@
-use Rattle.std.proofs.Common.{ap, subst, sym}
+use Rattle.std.proofs.Common.{ap, subst, sym, [], ◌∷◌, refl}
 use Rattle.std.specs.List.{All}
 use Rattle.bm_post.specs.PostState.{PostState}
 use Rattle.bm_post.specs.Rights.{Holds, MayLeave, numbers}
@@ -6,6 +6,9 @@ use Rattle.bm_world.specs.LivingState.{LivingState, rights_living}
 use Rattle.bm_world.proofs.Alive.{holds-post, leave-lived, leave-post, living-lost, loses-living}
 use Rattle.bm_world.proofs.Lived.{lived-back}
 use Rattle.bm_world.proofs.living.LivingSidePost.put_back.Goals as goal
+use Rattle.bm_law_order.specs.Act as act
+use Rattle.bm_law_order.specs.Act.{sealed}
+use Rattle.bm_world.proofs.LivingDid.{lifts}
 
 pub put_back-requires-clause-mine : goal.put_back-requires-clause-mine
 put_back-requires-clause-mine c =
@@ -31,3 +34,8 @@ pub returns-clause-back : goal.returns-clause-back
 returns-clause-back c =
     let i = c.self.inside in
     rw (← c.self.view_is) (loses-living i.side.post c.put_back.new.self.post i.slots.slots.items i.begun.counts.items (numbers c.args.units.items) c.put_back.ensures.back)
+
+pub returns-clause-does : goal.returns-clause-does
+returns-clause-does c =
+    let i = c.self.inside in
+    rw (← c.self.view_is) (lifts (act.Returns (sealed c.args.units.items) ∷ []) (record { side = i.side; slots = i.slots.slots.items; begun = i.begun.counts.items; asked = i.asked }) (record { side = c.put_back.new.self; slots = i.slots.slots.items; begun = i.begun.counts.items; asked = i.asked }) refl refl c.put_back.ensures.does)

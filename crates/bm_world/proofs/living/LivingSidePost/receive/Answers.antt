@@ -1,6 +1,8 @@
 use Rattle.bm_world.proofs.Alive.{living-received, receives-living}
 use Rattle.bm_world.proofs.Lived.{lived-received, parcel-lived}
 use Rattle.bm_world.proofs.living.LivingSidePost.receive.Goals as goal
+use Rattle.std.proofs.Common.{refl}
+use Rattle.bm_world.proofs.LivingDid.{lifts}
 
 pub invariant_of-self : goal.invariant_of-self
 invariant_of-self c =
@@ -15,3 +17,8 @@ returns-clause-some c =
     let said = c.receive.ensures in
     let lived = parcel-lived c.receive.result (λ v. v.items) c.args.class i.begun.counts.items i.side.post c.receive.new.self.post said.oldest c.self.invariant.lived in
     rw (← c.self.view_is) (receives-living c.receive.result (λ v. v.items) c.args.class i.side.post c.receive.new.self.post i.slots.slots.items i.begun.counts.items i.asked c.self.invariant lived said.some)
+
+pub returns-clause-does : goal.returns-clause-does
+returns-clause-does c =
+    let i = c.self.inside in
+    rw (← c.self.view_is) (lifts _ (record { side = i.side; slots = i.slots.slots.items; begun = i.begun.counts.items; asked = i.asked }) (record { side = c.receive.new.self; slots = i.slots.slots.items; begun = i.begun.counts.items; asked = i.asked }) refl refl c.receive.ensures.does)

@@ -1,0 +1,10 @@
+pub mod Once
+pub mod PeriodNumbers
+pub mod LivesGiven
+pub mod LivesEnded
+pub mod References
+pub mod ParcelsSent
+pub mod UnitsOut
+pub mod OrderOf
+pub mod WorkedOrders
+pub mod WorkedPolls

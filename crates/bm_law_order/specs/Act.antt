@@ -1,0 +1,38 @@
+-- What a processor did to what all share, as the world tells it: one act a call. (This project's own.)
+use Rattle.std.specs.Prelude.{ℕ, List, Option, map}
+use Rattle.bm_journal.specs.declared.ids.Domain.{Domain}
+use Rattle.bm_journal.specs.declared.period.Period.{Period}
+use Rattle.bm_page.specs.UnitState.{UnitState}
+use Rattle.bm_page.specs.declared.units.Seal.{Seal}
+
+-- A unit with the seal that it has, by its number.
+pub record Sealed : Type 0 where
+  pub unit : ℕ
+  pub seal : Option Seal
+
+abbrev pub units_of : List Sealed → List ℕ
+units_of us = map (λ u. u.unit) us
+
+-- units as a caller has them
+abbrev pub sealed : List UnitState → List Sealed
+sealed us = map (λ u. let s : Sealed = record { unit = u.number; seal = u.seal } in s) us
+
+-- Units are named by their numbers, and with their seals where they are given away: what was sent or returned, and what began a
+-- life. A receive that found nothing has no units. A read of a number has the stamp that it was compared with; a begin has the odd
+-- number that it left, and one that came too late the even number that was named and the other one that it found; a look has the
+-- words that it found.
+pub data Act : Type 0 where
+  Enters : Domain → (word : ℕ) → Act
+  Leaves : Domain → (word : ℕ) → Act
+  Stamps : Domain → (stamp : ℕ) → Act
+  Reads : Domain → (stamp number : ℕ) → Act
+  Begins : Domain → (number : ℕ) → Act
+  Misses : Domain → (even number : ℕ) → Act
+  Looks : Domain → (words : List ℕ) → Act
+  Finishes : Period → Act
+  Fetches : (class want : ℕ) → List ℕ → Act
+  Returns : List Sealed → Act
+  Sends : (class to : ℕ) → List Sealed → Act
+  Receives : (class : ℕ) → List ℕ → Act
+  Makes : (unit life : ℕ) → Option Seal → Act
+  Ends : (unit life home : ℕ) → Act

@@ -1,0 +1,97 @@
+-- Which entries of a level stand for which acts. (This project's own: journals are.)
+use Rattle.std.specs.Prelude.{◌≡◌, ℕ, Bool, true, false, if◌then◌else◌, Option, None, Some, List, [], ◌∷◌, ◌++◌, map}
+use Rattle.std.specs.List.{concat}
+use Rattle.bm_journal.specs.declared.ids.Domain.{Domain}
+use Rattle.bm_journal.specs.declared.period.Period.{Period}
+use Rattle.bm_journal.specs.declared.units.Units.TheVariants.{Whole}
+use Rattle.bm_journal.specs.declared.entry.Entry.{Entry}
+use Rattle.bm_journal.specs.declared.entry.Entry.TheVariants as entry
+use Rattle.bm_deferred.specs.Pages.{prefill}
+use Rattle.bm_page.specs.declared.units.Seal.{Seal}
+use Rattle.bm_law.specs.Phrases.{given}
+use Rattle.bm_law_order.specs.Act.{Act, Sealed, units_of}
+use Rattle.bm_law_order.specs.Act as act
+use Rattle.bm_law_order.specs.Quiet.{is_quiet}
+
+-- Acts that belong together, with their entries. A period that begins is looked at before anything else is done, and one that
+-- ends was looked at directly before. A sweep receives parcels until there is none.
+pub data Chunk : Type 0 where
+  Quiet : (e : Entry) → is_quiet e ≡ true → Chunk
+  Looking : Domain → List ℕ → Chunk
+  Asking : Domain → (stamp number : ℕ) → Chunk
+  Missing : Domain → (even number : ℕ) → Chunk
+  Entering : Domain → (word : ℕ) → Chunk
+  Leaving : Domain → (word : ℕ) → Chunk
+  Stamping : (class : ℕ) → Domain → (stamp : ℕ) → Chunk
+  Passing : (class : ℕ) → Domain → (stamp number : ℕ) → Chunk
+  Beginning : Domain → (number : ℕ) → List ℕ → Chunk
+  Finishing : List ℕ → Period → Chunk
+  WholePeriod : (number : ℕ) → List ℕ → Period → Chunk
+  Filling : (class : ℕ) → List ℕ → Chunk
+  Fetching : (class want : ℕ) → List ℕ → Chunk
+  Returning : (class : ℕ) → List Sealed → Chunk
+  Sending : (class to : ℕ) → List Sealed → Chunk
+  Receiving : (class : ℕ) → List ℕ → Chunk
+  FindingNone : (class : ℕ) → Chunk
+  Sweeping : (class : ℕ) → List ℕ → List (List ℕ) → Chunk
+  Making : (unit life : ℕ) → Option Seal → Chunk
+  Ending : (unit life home : ℕ) → (delayed : Bool) → Chunk
+
+-- a seal as an entry names it: the plain stamp and the number seen
+abbrev pub seal_told : Option Seal → Option (ℕ × ℕ)
+seal_told None = None
+seal_told (Some seal) = Some (seal.stamp, seal.seen)
+
+abbrev pub acts_of : Chunk → List Act
+acts_of (Quiet e q) = []
+acts_of (Looking d ws) = act.Looks d ws ∷ []
+acts_of (Asking d x n) = act.Reads d x n ∷ []
+acts_of (Missing d even n) = act.Misses d even n ∷ []
+acts_of (Entering d w) = act.Enters d w ∷ []
+acts_of (Leaving d w) = act.Leaves d w ∷ []
+acts_of (Stamping c d x) = act.Stamps d x ∷ []
+acts_of (Passing c d x n) = act.Reads d x n ∷ []
+acts_of (Beginning d n ws) = act.Begins d n ∷ act.Looks d ws ∷ []
+acts_of (Finishing ws p) = act.Looks p.domain ws ∷ act.Finishes p ∷ []
+acts_of (WholePeriod n ws p) = act.Begins p.domain n ∷ act.Looks p.domain ws ∷ act.Finishes p ∷ []
+acts_of (Filling c us) = act.Fetches c (prefill c) us ∷ []
+acts_of (Fetching c want us) = act.Fetches c want us ∷ []
+acts_of (Returning c us) = act.Returns us ∷ []
+acts_of (Sending c to us) = act.Sends c to us ∷ []
+acts_of (Receiving c us) = act.Receives c us ∷ []
+acts_of (FindingNone c) = act.Receives c [] ∷ []
+acts_of (Sweeping c us parcels) = map (act.Receives c) parcels ++ act.Receives c [] ∷ []
+acts_of (Making u life seal) = act.Makes u life seal ∷ []
+acts_of (Ending u life home delayed) = act.Ends u life home ∷ []
+
+abbrev pub entries_of : Chunk → List Entry
+entries_of (Quiet e q) = e ∷ []
+entries_of (Entering d w) = entry.In d w ∷ []
+entries_of (Leaving d w) = entry.Out d w ∷ []
+entries_of (Stamping c d x) = entry.Stamp c d x ∷ []
+entries_of (Passing c d x n) = entry.Pass c d n ∷ []
+entries_of (Beginning d n ws) = entry.Begin d n ∷ []
+entries_of (Finishing ws p) = entry.Finish p ∷ []
+entries_of (WholePeriod n ws p) = entry.Begin p.domain n ∷ entry.Finish p ∷ []
+entries_of (Filling c us) = entry.Fill c (Whole us) ∷ []
+entries_of (Fetching c want us) = entry.Fetch c want (Whole us) ∷ []
+entries_of (Returning c us) = entry.Return c (Whole (units_of us)) ∷ []
+entries_of (Sending c to us) = entry.Send c to (Whole (units_of us)) ∷ []
+entries_of (Receiving c us) = entry.Receive c (Whole us) ∷ []
+entries_of (Sweeping c us parcels) = entry.Sweep c (Whole (us ++ concat parcels)) ∷ []
+entries_of (Making u life seal) = given u life (seal_told seal) ∷ []
+entries_of (Ending u life home delayed) = entry.Drop u life ∷ entry.Last ∷ (if delayed then entry.Delay u home else entry.Free u home) ∷ []
+entries_of _ = []
+
+-- What a pass and a given unit say is judged by the log before them; what other chunks say, by themselves.
+abbrev pub is_judged : Chunk → Bool
+is_judged (Passing c d x n) = true
+is_judged (Making u life seal) = true
+is_judged _ = false
+
+-- these entries stand for these acts, whatever the log before
+pub record Shows (acts : List Act) (entries : List Entry) : Type 0 where
+  pub chunk : Chunk
+  pub free : is_judged chunk ≡ false
+  pub acts_are : acts_of chunk ≡ acts
+  pub entries_are : entries_of chunk ≡ entries

@@ -1,0 +1,72 @@
+-- What a unit that was freed with delay has to wait for before it is given again. (bpf_mem_free_rcu of kernel/bpf/memalloc.c puts it on
+-- free_by_rcu, from which call_rcu takes it; that a reply names the stamp and the number seen is this project's own.)
+use Rattle.std.specs.Prelude.{◌≡◌, ◌≤◌, ℕ, eqb, if◌then◌else◌, Option, Some, None, List, [], ◌∷◌}
+use Rattle.bm_journal.specs.declared.ids.Domain.TheVariants.{Plain}
+use Rattle.bm_journal.specs.declared.entry.Entry.{Entry}
+use Rattle.bm_journal.specs.declared.entry.Entry.TheVariants as entry
+use Rattle.bm_journal.specs.EntryText.{unit_list}
+use Rattle.bm_deferred.specs.Begun.{for_domain}
+use Rattle.bm_law.specs.State.{State, opening}
+use Rattle.bm_law.specs.Lists.{next as lists_after}
+use Rattle.bm_law_order.specs.Orders.{AllFit, Order}
+use Rattle.bm_law_order.specs.Polls.{for_processor}
+
+-- Since its life ended a unit waits for nothing; it was freed with delay, and waits for the plain grace period of its batch; or that
+-- period was seen to be over, with this stamp by this number.
+pub data Wait : Type 0 where
+  Nothing : Wait
+  Batch : Wait
+  Over : (stamp seen : ℕ) → Wait
+
+-- By unit what it waits for; by processor the lists that its log leaves, and the class and number of the plain pass that was its last
+-- entry of level 0, if that was one.
+pub record Waiting : Type 0 where
+  pub waits : ℕ → Wait
+  pub lists : ℕ → State ℕ
+  pub passed : ℕ → Option (ℕ × ℕ)
+
+abbrev pub on_unit : ℕ → Wait → (ℕ → Wait) → ℕ → Wait
+on_unit u wait waits v = if eqb v u then wait else waits v
+
+abbrev pub on_units : List ℕ → Wait → (ℕ → Wait) → ℕ → Wait
+on_units [] wait waits = waits
+on_units (u ∷ us) wait waits = on_unit u wait (on_units us wait waits)
+
+-- a batch that is sent behind a pass of its class has waited: its stamp, and the number that was seen
+abbrev pub waited : (class : ℕ) → Option ℕ → Option (ℕ × ℕ) → List ℕ → (ℕ → Wait) → ℕ → Wait
+waited c (Some stamp) (Some (d, seen)) us waits = if eqb c d then on_units us (Over stamp seen) waits else waits
+waited c _ _ us waits = waits
+
+abbrev pub waits_after : (p : ℕ) → Entry → Waiting → ℕ → Wait
+waits_after p (entry.Delay u home) m = on_unit u Batch m.waits
+waits_after p (entry.Free u home) m = on_unit u Nothing m.waits
+waits_after p (entry.Send c to us) m = waited c ((m.lists p).rows c).deferred.plain (m.passed p) (unit_list us) m.waits
+waits_after p (entry.Given u life) m = on_unit u Nothing m.waits
+waits_after p (entry.GivenAfter u life stamp seen) m = on_unit u Nothing m.waits
+waits_after p _ m = m.waits
+
+abbrev pub passed_after : Entry → Option (ℕ × ℕ)
+passed_after (entry.Pass c d n) = for_domain Plain d (Some (c, n)) None
+passed_after _ = None
+
+-- after an entry of level l of processor p
+abbrev pub waiting_after : (p l : ℕ) → Entry → Waiting → Waiting
+waiting_after p l e m = record {
+  waits = waits_after p e m;
+  lists = for_processor p (lists_after (m.lists p) (l, e)) m.lists;
+  passed = if eqb l 0 then for_processor p (passed_after e) m.passed else m.passed;
+}
+
+-- A unit is given without a seal where it waits for nothing, and with the stamp and the number of its batch where that has waited long
+-- enough.
+abbrev pub SealFits : (p l : ℕ) → Entry → Waiting → Type 0
+SealFits p l (entry.Given u life) m = m.waits u ≡ Nothing
+SealFits p l (entry.GivenAfter u life stamp seen) m = (m.waits u ≡ Over stamp seen) × (stamp ≤ seen)
+SealFits p l _ m = Unit {0}
+
+abbrev pub nobody_waits : Waiting
+nobody_waits = record { waits = λ u. Nothing; lists = opening; passed = λ p. None }
+
+-- Each unit of an order is given with what it has waited for.
+abbrev pub IsSealed : Order → Type 0
+IsSealed order = AllFit waiting_after SealFits order nobody_waits

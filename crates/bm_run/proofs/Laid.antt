@@ -1,0 +1,113 @@
+-- The log of a run is laid.
+use Rattle.std.specs.Prelude.{◌≢◌, ◌⊎◌, None, not}
+use Rattle.std.proofs.Common.{◌≡◌, arith, inl, ◌++◌, ◌∷◌, [], ℕ, zero, suc, Bool, true, false, if◌then◌else◌, List, map, get_or, set, drop, refl, sym, ◌∙◌, ap, subst, append-nil, append_assoc, lit<, lit≤}
+use Rattle.std.proofs.lemmas.List.{map-append}
+use Rattle.bm_journal.specs.declared.ids.Domain.{Domain}
+use Rattle.bm_journal.specs.declared.ids.Domain.TheVariants.{Plain, Tracing}
+use Rattle.bm_law.specs.Lists.{Log}
+use Rattle.bm_law_order.specs.Act.{Act}
+use Rattle.bm_law_order.specs.ByDomain.{of}
+use Rattle.bm_law_order.specs.Orders.{AllShared, IsLaid, by}
+use Rattle.bm_law_order.specs.Shared.{Shared, fresh}
+use Rattle.bm_law_order.specs.Story.{Steady, deeds, lines, plainly}
+use Rattle.bm_law_order.specs.Tie.{Tied, whatever}
+use Rattle.bm_law_order.specs.Whole.{before_first, behind_first, closing_of, cut_behind, from_first, given_up, in_turns, is_ended, is_fill, is_finish_or_sweep, is_sweep, is_yield, joined, opening_of, periods_ended, rest_of, run_of, scripts_of, swept, through_first, turns_of, whole, with_front}
+use Rattle.bm_law_order.proofs.Stories.{story-reads}
+use Rattle.bm_world.specs.LivingState.{LivingState}
+use Rattle.bm_world.specs.Told.{IsSideOf}
+use Rattle.bm_world.specs.ToldLiving.{LivingDoes, told_living}
+use Rattle.bm_opening.specs.Opened.{outset}
+use Rattle.bm_opening.proofs.FreshTold.{outset-told}
+
+outset-side : (pages : ℕ) → IsSideOf 0 (outset pages).side
+outset-side pages = record { post_is = refl; grace_is = refl; agree = refl; turn = lit< tt; most = lit≤ tt; boxes = refl; plain_words = refl; tracing_words = refl }
+
+fresh-steady : (pages : ℕ) → Steady (fresh 1 pages)
+fresh-steady pages = record { looked = looked; undropped = λ p l. refl; full = λ p c i u lt. absurd (omega (arith, lt)) }
+  where
+    looked : (d : Domain) → ((of d (fresh 1 pages).numbers).driver ≡ None) ⊎ ((of d (fresh 1 pages).looks).first ≢ [])
+    looked Plain = inl refl
+    looked Tracing = inl refl
+
+-- a log that is tied since the outset is laid
+pub tied-laid : (pages : ℕ) (log : Log) (world : LivingState) → Tied whatever LivingDoes [] (outset pages) 0 [] [] log world → IsLaid 1 pages (by 0 log)
+tied-laid pages log world t =
+    let none : deeds t.story ++ [] ≡ deeds t.story = append-nil (deeds t.story) in
+    let did = (subst (λ (z : List Act). LivingDoes z (outset pages) world) none t.done_is).did 0 (outset-side pages) in
+    let first = outset-told pages in
+    let r = story-reads 0 t.story (told_living (outset pages)) did.leads.fit (subst Steady (sym first) (fresh-steady pages)) in
+    let log_is : log ≡ lines t.story = t.log_is ∙ append-nil (lines t.story) in
+    subst (λ z. IsLaid 1 pages (by 0 z)) (sym log_is) (subst (λ (s : Shared). AllShared (by 0 (lines t.story)) s) (ap plainly first) r.leads.fit)
+
+-- ---- the whole order of one log
+
+cut-first : {A : Type 0} (test : A → Bool) (xs : List A) → before_first test xs ++ from_first test xs ≡ xs
+cut-first test [] = refl
+cut-first test (x ∷ xs) = cut (cut-first test xs) (test x) refl
+  where
+    cut : before_first test xs ++ from_first test xs ≡ xs → (b : Bool) → test x ≡ b → before_first test (x ∷ xs) ++ from_first test (x ∷ xs) ≡ x ∷ xs
+    cut rest true e = rw e refl
+    cut rest false e = rw e (ap (λ ys. x ∷ ys) rest)
+
+cut-through : {A : Type 0} (test : A → Bool) (xs : List A) → through_first test xs ++ behind_first test xs ≡ xs
+cut-through test [] = refl
+cut-through test (x ∷ xs) = cut (cut-through test xs) (test x) refl
+  where
+    cut : through_first test xs ++ behind_first test xs ≡ xs → (b : Bool) → test x ≡ b → through_first test (x ∷ xs) ++ behind_first test (x ∷ xs) ≡ x ∷ xs
+    cut rest true e = rw e refl
+    cut rest false e = rw e (ap (λ ys. x ∷ ys) rest)
+
+joined-front : {A : Type 0} (x : A) (pieces : List (List A)) → joined (with_front x pieces) ≡ x ∷ joined pieces
+joined-front x [] = refl
+joined-front x (piece ∷ pieces) = refl
+
+joined-cut : {A : Type 0} (test : A → Bool) (xs : List A) → joined (cut_behind test xs) ≡ xs
+joined-cut test [] = refl
+joined-cut test (x ∷ xs) = cut (joined-cut test xs) (test x) refl
+  where
+    cut : joined (cut_behind test xs) ≡ xs → (b : Bool) → test x ≡ b → joined (cut_behind test (x ∷ xs)) ≡ x ∷ xs
+    cut rest true e = rw e (ap (λ ys. x ∷ ys) rest)
+    cut rest false e = rw e (joined-front x (cut_behind test xs) ∙ ap (λ ys. x ∷ ys) rest)
+
+by-append : (p : ℕ) (a b : Log) → by p (a ++ b) ≡ by p a ++ by p b
+by-append p a b = map-append _ a b
+
+no-turn : (n : ℕ) (pieces : List Log) (turns : List ℕ) → in_turns (suc n ∷ turns) (pieces ∷ []) ≡ in_turns turns (pieces ∷ [])
+no-turn zero pieces turns = refl
+no-turn (suc n) pieces turns = refl
+
+-- however the turns of one processor are named, its pieces come in order
+one-in-turns : (turns : List ℕ) (pieces : List Log) → in_turns turns (pieces ∷ []) ≡ by 0 (joined pieces)
+one-in-turns [] pieces = append-nil (by 0 (joined pieces))
+one-in-turns (zero ∷ turns) [] = one-in-turns turns []
+one-in-turns (zero ∷ turns) (piece ∷ pieces) = ap (λ z. by 0 piece ++ z) (one-in-turns turns pieces) ∙ sym (by-append 0 piece (joined pieces))
+one-in-turns (suc n ∷ turns) pieces = no-turn n pieces turns ∙ one-in-turns turns pieces
+
+pub whole-one : (turns : List ℕ) (log : Log) → whole turns (log ∷ []) ≡ by 0 log
+whole-one turns log =
+    let o = opening_of log in
+    let r = run_of log in
+    let s = scripts_of log in
+    let c = closing_of log in
+    let g = given_up log in
+    let p = periods_ended log in
+    let w = swept log in
+    let turned = in_turns turns (turns_of log ∷ []) in
+    let nil : (z : Log) → by 0 z ++ [] ≡ by 0 z = λ z. append-nil (by 0 z) in
+    let last : (by 0 p ++ []) ++ (by 0 w ++ []) ≡ by 0 p ++ by 0 w = ap (λ z. z ++ (by 0 w ++ [])) (nil p) ∙ ap (λ z. by 0 p ++ z) (nil w) in
+    let behind : (by 0 g ++ []) ++ ((by 0 p ++ []) ++ (by 0 w ++ [])) ≡ by 0 g ++ (by 0 p ++ by 0 w) = ap (λ z. z ++ ((by 0 p ++ []) ++ (by 0 w ++ []))) (nil g) ∙ ap (λ z. by 0 g ++ z) last in
+    let scripts : turned ≡ by 0 s = one-in-turns turns (turns_of log) ∙ ap (by 0) (joined-cut is_yield s) in
+    let after : turned ++ ((by 0 g ++ []) ++ ((by 0 p ++ []) ++ (by 0 w ++ []))) ≡ by 0 s ++ (by 0 g ++ (by 0 p ++ by 0 w)) = ap (λ z. z ++ ((by 0 g ++ []) ++ ((by 0 p ++ []) ++ (by 0 w ++ [])))) scripts ∙ ap (λ z. by 0 s ++ z) behind in
+    let A = by 0 o ++ [] in
+    let G = by 0 g ++ [] in
+    let P = by 0 p ++ [] in
+    let W = by 0 w ++ [] in
+    let apart : whole turns (log ∷ []) ≡ A ++ (turned ++ (G ++ (P ++ W))) = append_assoc (A ++ turned ++ G) P W ∙ (append_assoc (A ++ turned) G (P ++ W) ∙ append_assoc A turned (G ++ (P ++ W))) in
+    let parts : A ++ (turned ++ (G ++ (P ++ W))) ≡ by 0 o ++ (by 0 s ++ (by 0 g ++ (by 0 p ++ by 0 w))) = ap (λ z. z ++ (turned ++ ((by 0 g ++ []) ++ ((by 0 p ++ []) ++ (by 0 w ++ []))))) (nil o) ∙ ap (λ z. by 0 o ++ z) after in
+    let rest : p ++ w ≡ from_first is_finish_or_sweep c = cut-first is_sweep (from_first is_finish_or_sweep c) in
+    let closing : g ++ (p ++ w) ≡ c = ap (λ z. g ++ z) rest ∙ cut-first is_finish_or_sweep c in
+    let run : s ++ (g ++ (p ++ w)) ≡ r = ap (λ z. s ++ z) closing ∙ cut-through is_ended r in
+    let all : o ++ (s ++ (g ++ (p ++ w))) ≡ log = ap (λ z. o ++ z) run ∙ cut-first (λ e. not (is_fill e)) log in
+    let split : by 0 (o ++ (s ++ (g ++ (p ++ w)))) ≡ by 0 o ++ (by 0 s ++ (by 0 g ++ (by 0 p ++ by 0 w))) =
+    by-append 0 o (s ++ (g ++ (p ++ w))) ∙ ap (λ z. by 0 o ++ z) (by-append 0 s (g ++ (p ++ w)) ∙ ap (λ z. by 0 s ++ z) (by-append 0 g (p ++ w) ∙ ap (λ z. by 0 g ++ z) (by-append 0 p w))) in
+    apart ∙ (parts ∙ (sym split ∙ ap (by 0) all))

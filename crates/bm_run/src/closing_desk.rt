@@ -1,0 +1,177 @@
+//! The desk of the processor that a run closes.
+
+ghost use Rattle.std.specs.Prelude.{◌≡◌, ◌∷◌, [], refl, true};
+ghost use Rattle.std.proofs.Common.{◌∙◌, ap, subst, sym};
+ghost use Rattle.std.proofs.lemmas.Bool.{and_parts};
+ghost use Rattle.bm_cache.specs.Span.{Face};
+ghost use Rattle.bm_cache.specs.Steps.{is_reply, is_step};
+ghost use Rattle.bm_desk.specs.DeskTests.{tests_by};
+ghost use Rattle.bm_desk.specs.Goes.{Alike};
+ghost use Rattle.bm_desk.specs.Still.{alike-joined, alike-still, goes-still};
+ghost use Rattle.bm_journal.specs.declared.entry.Entry.TheVariants as entry;
+ghost use Rattle.bm_law_order.specs.Act as act;
+ghost use Rattle.bm_law_order.specs.Quiet.{is_quiet};
+ghost use Rattle.bm_world.specs.LivingState.{known_living, rights_living};
+ghost use Rattle.bm_run.specs.ClosingTie.{Ends, ends-back, ends-closed, ends-did, ends-noted, ends-passed, ends-quiet, ends-said, ends-stepped, ends-told, ends-waited, shows_begun, shows_looked, shows_missed, shows_read, whole-period};
+
+use bm_cache::{Caches, Host};
+use bm_closing::Ended;
+use bm_desk::Desk;
+use bm_journal::{Keep, Level};
+use bm_levels::Since;
+use bm_world::LivingSide;
+use std::marker::PhantomData;
+
+/// A processor that has ended: its caches and its side of all that processors share, at the level of ordinary code, tied to its log
+/// since a time. No handler runs on it, and no unit is freed. This project's own.
+pub(crate) struct ClosingDesk<B> {
+    pub(crate) caches: Caches<Keep>,
+    pub(crate) side: LivingSide,
+    pub(crate) since: PhantomData<B>,
+}
+
+impl<B: Since> Host<Keep> for ClosingDesk<B> {
+    ghost held = { λ m. m.caches };
+
+    ghost with_held = { λ m c. record m { caches = c } };
+
+    ghost face = { λ m. record { level = 0; processors = (known_living m.side).grace.processors; through = 0 } };
+
+    ghost pending = { λ m. 0 };
+
+    ghost tests = { λ m. tests_by (rights_living m.side) };
+
+    ghost sound = { λ m. Ends B.since B.start [] [] m.caches.recorder.told m.side };
+
+    ghost asked = { λ m. Ends B.since B.start [] [] m.caches.recorder.told m.side };
+
+    ghost gave = { λ _ _ m. Unit {0} };
+
+    ghost frees = { λ _ _ m. ⊥ };
+
+    ghost keeps = { λ a b. b.side ≡ a.side };
+
+    ghost held_back = { λ h c. refl };
+
+    ghost face_back = { λ h c. refl };
+
+    ghost pending_back = { λ h c. refl };
+
+    ghost tests_back = { λ h c. refl };
+
+    ghost sound_back = { λ h c e s. ends-back B.since B.start c.recorder.told h.caches.recorder.told h.side e s };
+
+    ghost asked_back = { λ h c e s. ends-back B.since B.start c.recorder.told h.caches.recorder.told h.side e s };
+
+    ghost sound_stepped = { λ h c e i a s. ends-quiet B.since B.start e h.caches.recorder.told c.recorder.told h.side (and_parts (is_step e) (is_quiet e) i).1 a s };
+
+    ghost sound_said = { λ h c e i a s. ends-quiet B.since B.start e h.caches.recorder.told c.recorder.told h.side (and_parts (is_reply e) (is_quiet e) i).1 a s };
+
+    ghost sound_given = { λ h c u n x a s. tt };
+
+    ghost sound_freed = { λ h c e u n i a s. absurd s };
+
+    ghost keeps_back = { λ h c. refl };
+
+    ghost keeps_same = { λ h. refl };
+
+    ghost keeps_join = { λ a b c k m. m ∙ k };
+
+    fn caches(&mut self) -> &mut Caches<Keep> {
+        &mut self.caches
+    }
+
+    fn level(&self) -> Level {
+        Level::ordinary()
+    }
+
+    fn point(&mut self) {}
+}
+
+impl<B: Since> Desk<Keep> for ClosingDesk<B> {
+    type W = LivingSide;
+
+    ghost shared = { λ m. m.side };
+
+    ghost with_shared = { λ m w. record m { side = w } };
+
+    ghost stays = { λ a b. Alike (known_living a.side) (known_living b.side) };
+
+    ghost owes = { λ done es m. Ends B.since B.start done es m.caches.recorder.told m.side };
+
+    ghost asked_owes = { λ done m. Ends B.since B.start done [] m.caches.recorder.told m.side };
+
+    ghost rested = { λ d x m. Ends B.since B.start [] [] m.caches.recorder.told m.side };
+
+    ghost asked_rested = { λ d x done m. Ends B.since B.start done [] m.caches.recorder.told m.side };
+
+    fn world(&mut self) -> &mut LivingSide {
+        &mut self.side
+    }
+
+    ghost shared_back = { λ h w. refl };
+
+    ghost held_apart = { λ h w. refl };
+
+    ghost shared_apart = { λ h c. refl };
+
+    ghost face_apart = { λ h w a. ap (λ n. let f : Face = record { level = 0; processors = n; through = 0 } in f) a.processors };
+
+    ghost pending_apart = { λ h w. refl };
+
+    ghost stays_apart = { λ h w a. a };
+
+    ghost tests_are = { λ h. refl };
+
+    ghost processors_are = { λ h. refl };
+
+    ghost known_goes = { λ a b k. goes-still (known_living a.side) (known_living b.side) (ap known_living k) };
+
+    ghost keeps_stays = { λ a b k. alike-still (known_living a.side) (known_living b.side) (ap known_living k) };
+
+    ghost stays_join = { λ a b c k m. alike-joined (known_living a.side) (known_living b.side) (known_living c.side) k m };
+
+    ghost owes_open = { λ h s. s };
+
+    ghost owes_shut = { λ h o. o };
+
+    ghost owes_done = { λ h w done more es a d o. ends-did B.since B.start done more es h.caches.recorder.told h.side w d o };
+
+    ghost owes_said = { λ h c done es e i a o. ends-said B.since B.start done es e h.caches.recorder.told c.recorder.told h.side a o };
+
+    ghost owes_closed = { λ h done es x o. ends-closed B.since B.start done es h.caches.recorder.told h.side x o };
+
+    ghost asked_open = { λ h s. s };
+
+    ghost asked_done = { λ h w done more a d o. ends-did B.since B.start done more [] h.caches.recorder.told h.side w d o };
+
+    ghost asked_closed = { λ h done x o. ends-closed B.since B.start done [] h.caches.recorder.told h.side x o };
+
+    ghost asked_stepped = { λ h c done e i x a o. ends-stepped B.since B.start done e h.caches.recorder.told c.recorder.told h.side x a o };
+
+    ghost rested_looked = { λ h d x f o. ends-closed B.since B.start _ [] h.caches.recorder.told h.side (shows_looked d _) o };
+
+    ghost rested_begun = { λ h d x n b f o. ends-closed B.since B.start _ _ h.caches.recorder.told h.side (shows_begun d n _) o };
+
+    ghost rested_read = { λ h d x n i z o. ends-closed B.since B.start _ [] h.caches.recorder.told h.side (shows_read d x n) o };
+
+    ghost rested_missed = { λ h d x even n o. ends-closed B.since B.start _ [] h.caches.recorder.told h.side (shows_missed d even n) o };
+
+    ghost rested_whole = { λ h d x n ws p q b o. ends-closed B.since B.start _ _ h.caches.recorder.told h.side (whole-period d n ws p q) o };
+
+    ghost rested_lent = { λ h w d x e r. subst (λ v. Ends B.since B.start [] [] h.caches.recorder.told v) (sym e) r };
+
+    ghost rested_kept = { λ a b d x k m s r. s };
+
+    ghost rested_done = { λ h w d x done more a m r. ends-did B.since B.start done more [] h.caches.recorder.told h.side w m r };
+
+    ghost rested_passed = { λ h c i d x n a r. ends-passed B.since B.start i d x n c.recorder.told h.side (ends-said B.since B.start (act.Reads d x n ∷ []) [] (entry.Pass i d n) h.caches.recorder.told c.recorder.told h.side a r) };
+}
+
+impl<B: Since> Ended<Keep> for ClosingDesk<B> {
+    ghost owes_noted = { λ h c done es more a o. ends-noted B.since B.start done es more h.caches.recorder.told c.recorder.told h.side a o };
+
+    ghost owes_told = { λ h done more es others s o. ends-told B.since B.start done more es others h.caches.recorder.told h.side s o };
+
+    ghost owes_passed = { λ h d x n m c ws p e f o. ends-waited B.since B.start d x n m c ws p h.caches.recorder.told h.side e o };
+}

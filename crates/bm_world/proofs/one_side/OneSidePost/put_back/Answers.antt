@@ -1,0 +1,12 @@
+use Rattle.std.proofs.Common.{refl, sym, subst}
+use Rattle.bm_world.specs.SideState.{SideState}
+use Rattle.bm_post.specs.PostState.{rights_in}
+use Rattle.bm_post.specs.Rights.{Holds}
+use Rattle.bm_world.proofs.Did.{does-return}
+use Rattle.bm_world.proofs.one_side.OneSidePost.put_back.Goals as goal
+
+pub returns-clause-does : goal.returns-clause-does
+returns-clause-does c =
+    let i = c.self.inside in
+    let holds = subst (λ (w : SideState). Holds (rights_in w.post) c.args.units.items) (sym c.self.view_is) c.requires.mine in
+    rw (← c.self.view_is) (does-return c.args.units.items (record { post = i.post; grace = i.grace }) (record { post = c.put_back.new.self; grace = i.grace }) holds c.put_back.ensures.state refl)

@@ -1,0 +1,41 @@
+-- What the world with the units that live in it tells of what processors share, and what its side did.
+use Rattle.std.specs.Prelude.{ℕ, Option, None, Some, List, [], ◌++◌}
+use Rattle.bm_law_order.specs.Act.{Act}
+use Rattle.bm_page.specs.UnitState.{UnitState}
+use Rattle.bm_law_order.specs.Acts.{ActsLead}
+use Rattle.bm_law_order.specs.Lives.{Life, Lives}
+use Rattle.bm_law_order.specs.Shared.{Shared}
+use Rattle.bm_law_order.proofs.ActsJoin.{acts-join, acts-same}
+use Rattle.bm_world.specs.LivingState.{LivingState, begun_at}
+use Rattle.bm_world.specs.Slots.{unit_at}
+use Rattle.bm_world.specs.Told.{IsSideOf, told}
+
+-- the life that a unit has: so far no more than one reference is there
+abbrev pub life_of : Option UnitState → Option Life
+life_of None = None
+life_of (Some unit) = Some (record { maker = unit.home; count = 1 })
+
+-- between two calls no drop is under way
+abbrev pub lives_told : LivingState → Lives
+lives_told world = record { begun = begun_at world.begun; holds = λ n. life_of (unit_at world.slots n); dropping = λ p l. None }
+
+abbrev pub told_living : LivingState → Shared
+told_living world = told (lives_told world) world.side
+
+pub record LivingDid (p : ℕ) (acts : List Act) (before now : LivingState) : Type 0 where
+  pub leads : ActsLead p acts (told_living before) (told_living now)
+  pub stays : IsSideOf p now.side
+
+pub record LivingDoes (acts : List Act) (before now : LivingState) : Type 0 where
+  pub did : (p : ℕ) → IsSideOf p before.side → LivingDid p acts before now
+
+pub living-same : (a : LivingState) → LivingDoes [] a a
+living-same a = record { did = λ p s. record { leads = acts-same p (told_living a); stays = s } }
+
+pub living-join : (es fs : List Act) (a b c : LivingState) → LivingDoes es a b → LivingDoes fs b c → LivingDoes (es ++ fs) a c
+living-join es fs a b c x y = record {
+  did = λ p s.
+      let u = x.did p s in
+      let v = y.did p u.stays in
+      record { leads = acts-join p es fs (told_living a) (told_living b) (told_living c) u.leads v.leads; stays = v.stays };
+}
