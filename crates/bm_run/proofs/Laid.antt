@@ -1,23 +1,25 @@
--- The log of a run is laid.
+-- The log of a run is laid, and no period is in progress after it.
 use Rattle.std.specs.Prelude.{◌≢◌, ◌⊎◌, None, not}
 use Rattle.std.proofs.Common.{◌≡◌, arith, inl, ◌++◌, ◌∷◌, [], ℕ, zero, suc, Bool, true, false, if◌then◌else◌, List, map, get_or, set, drop, refl, sym, ◌∙◌, ap, subst, append-nil, append_assoc, lit<, lit≤}
 use Rattle.std.proofs.lemmas.List.{map-append}
 use Rattle.bm_journal.specs.declared.ids.Domain.{Domain}
 use Rattle.bm_journal.specs.declared.ids.Domain.TheVariants.{Plain, Tracing}
 use Rattle.bm_law.specs.Lists.{Log}
-use Rattle.bm_law_order.specs.Act.{Act}
+use Rattle.bm_law_order.specs.Acts.{ActsLead}
 use Rattle.bm_law_order.specs.ByDomain.{of}
-use Rattle.bm_law_order.specs.Orders.{AllShared, IsLaid, by}
+use Rattle.bm_law_order.specs.Orders.{Leads, by}
 use Rattle.bm_law_order.specs.Shared.{Shared, fresh}
-use Rattle.bm_law_order.specs.Story.{Steady, deeds, lines, plainly}
+use Rattle.bm_law_order.specs.Story.{Steady, plainly}
 use Rattle.bm_law_order.specs.Tie.{Tied, whatever}
 use Rattle.bm_law_order.specs.Whole.{before_first, behind_first, closing_of, cut_behind, from_first, given_up, in_turns, is_ended, is_fill, is_finish_or_sweep, is_sweep, is_yield, joined, opening_of, periods_ended, rest_of, run_of, scripts_of, swept, through_first, turns_of, whole, with_front}
-use Rattle.bm_law_order.proofs.Stories.{story-reads}
+use Rattle.bm_law_order.proofs.TiesLead.{tied-leads}
 use Rattle.bm_world.specs.LivingState.{LivingState}
 use Rattle.bm_world.specs.Told.{IsSideOf}
 use Rattle.bm_world.specs.ToldLiving.{LivingDoes, told_living}
 use Rattle.bm_opening.specs.Opened.{outset}
 use Rattle.bm_opening.proofs.FreshTold.{outset-told}
+use Rattle.bm_run.specs.ClosingTie.{IsIdle}
+use Rattle.bm_run.specs.JournalLaid.{IsIdleAfter}
 
 outset-side : (pages : ℕ) → IsSideOf 0 (outset pages).side
 outset-side pages = record { post_is = refl; grace_is = refl; agree = refl; turn = lit< tt; most = lit≤ tt; boxes = refl; plain_words = refl; tracing_words = refl }
@@ -29,15 +31,19 @@ fresh-steady pages = record { looked = looked; undropped = λ p l. refl; full = 
     looked Plain = inl refl
     looked Tracing = inl refl
 
--- a log that is tied since the outset is laid
-pub tied-laid : (pages : ℕ) (log : Log) (world : LivingState) → Tied whatever LivingDoes [] (outset pages) 0 [] [] log world → IsLaid 1 pages (by 0 log)
-tied-laid pages log world t =
-    let none : deeds t.story ++ [] ≡ deeds t.story = append-nil (deeds t.story) in
-    let did = (subst (λ (z : List Act). LivingDoes z (outset pages) world) none t.done_is).did 0 (outset-side pages) in
+-- a log that is tied since the outset leads from there to what its world tells
+pub tied-led : (pages : ℕ) (log : Log) (world : LivingState) → Tied whatever LivingDoes [] (outset pages) 0 [] [] log world → Leads (by 0 log) (fresh 1 pages) (plainly (told_living world))
+tied-led pages log world t =
     let first = outset-told pages in
-    let r = story-reads 0 t.story (told_living (outset pages)) did.leads.fit (subst Steady (sym first) (fresh-steady pages)) in
-    let log_is : log ≡ lines t.story = t.log_is ∙ append-nil (lines t.story) in
-    subst (λ z. IsLaid 1 pages (by 0 z)) (sym log_is) (subst (λ (s : Shared). AllShared (by 0 (lines t.story)) s) (ap plainly first) r.leads.fit)
+    let did = (t.done_is.did 0 (outset-side pages)).leads in
+    let told : Tied whatever (ActsLead 0) [] (told_living (outset pages)) 0 [] [] log (told_living world) = record { story = t.story; judged = t.judged; log_is = t.log_is; done_is = did } in
+    let r = tied-leads whatever 0 0 [] log (told_living (outset pages)) (told_living world) told (subst Steady (sym first) (fresh-steady pages)) in
+    subst (λ z. Leads (by 0 z) (fresh 1 pages) (plainly (told_living world))) (sym r.log_is) (subst (λ (s : Shared). Leads (by 0 r.added) s (plainly (told_living world))) (ap plainly first) r.leads)
+
+-- and where nobody has a period in progress in that world, nobody has one after the log
+pub led-idle : (pages : ℕ) (log : Log) (world : LivingState) → Leads (by 0 log) (fresh 1 pages) (plainly (told_living world)) → IsIdle world → IsIdleAfter pages log
+led-idle pages log world l idle Plain = ap (λ (s : Shared). s.numbers.plain.driver) l.now_is ∙ idle Plain
+led-idle pages log world l idle Tracing = ap (λ (s : Shared). s.numbers.tracing.driver) l.now_is ∙ idle Tracing
 
 -- ---- the whole order of one log
 

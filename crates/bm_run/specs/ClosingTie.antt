@@ -17,6 +17,7 @@ use Rattle.bm_law_order.specs.Quiet.{is_quiet}
 use Rattle.bm_law_order.specs.Story.{AllJudged, Story, Told, at_level, deeds, lines, lines_of}
 use Rattle.bm_law_order.specs.Tie.{Tied, TiedBy, whatever}
 use Rattle.bm_law_order.proofs.Ties.{law-closed, law-done, law-quiet, law-said, law-stepped}
+use Rattle.bm_grace.specs.PlainState.{domain_in}
 use Rattle.bm_closing.specs.Told.{at_once, passed_at_once}
 use Rattle.bm_levels.specs.AtTie.{as-judged, unjudged}
 use Rattle.bm_world.specs.LivingState.{LivingState}
@@ -26,9 +27,13 @@ use Rattle.bm_world.specs.ToldLiving.{LivingDoes, living-join, living-same}
 abbrev pub Ends : Log → LivingState → List Act → List Entry → Option Log → LivingState → Type 0
 Ends since start done es told side = TiedBy whatever LivingDoes since start 0 done es told side
 
--- a log that is tied to some world since then
+-- nobody has a grace period in progress
+abbrev pub IsIdle : LivingState → Type 0
+IsIdle world = (d : Domain) → (domain_in d world.side.grace).driver ≡ None
+
+-- a log that is tied since then to some world in which no period is in progress
 abbrev pub IsTiedLog : Log → LivingState → Log → Type 0
-IsTiedLog since start log = (world : LivingState) × Tied whatever LivingDoes since start 0 [] [] log world
+IsTiedLog since start log = (world : LivingState) × (Tied whatever LivingDoes since start 0 [] [] log world × IsIdle world)
 
 pub ends-back : (since : Log) (start : LivingState) (now before : Option Log) (side : LivingState) → now ≡ before → Ends since start [] [] before side → Ends since start [] [] now side
 ends-back since start now before side e t = subst (λ o. Ends since start [] [] o side) (sym e) t

@@ -27,7 +27,7 @@ ghost use Rattle.bm_built.specs.Yet.{RunsYet};
 ghost use Rattle.bm_opening.specs.Opened.{outset};
 ghost use Rattle.bm_run.specs.Closed.{Closed};
 ghost use Rattle.bm_run.specs.ClosingTie.{IsTiedLog};
-ghost use Rattle.bm_run.specs.JournalLaid.{LaidWhole};
+ghost use Rattle.bm_run.specs.JournalLaid.{IsIdleAfter, LaidWhole};
 ghost use Rattle.bm_run.specs.Lines.{when_on};
 
 use crate::classes::{opened_classes, type_classes, with_marks};
@@ -98,6 +98,7 @@ fn journal_of(
     requires lives { WholeLives (log ∷ []) }
     requires returns { ReturnsLaw (log ∷ []) }
     requires laid { IsLaid 1 scenario.now.pages (by 0 log) }
+    requires idle { IsIdleAfter scenario.now.pages log }
     ensures lawful { IfOk result (LawfulWhole scenario.now) }
     ensures laid { IfOk result (LaidWhole scenario.now) }
 {
@@ -187,7 +188,7 @@ fn when_on<'s>(on: bool, classes: &'s [Class]) -> Option<&'s [Class]>
     if on { Some(classes) } else { None }
 }
 
-// The log of a run, tied since the outset.
+// The log of a run, tied since the outset; no grace period is in progress after it.
 fn log_of<B: Since>(
     alloc: Global,
     scenario: &Scenario,
@@ -203,6 +204,7 @@ fn log_of<B: Since>(
     requires start { B.start ≡ outset scenario.now.pages }
     ensures lawful { IfOk result (LawfulLog scenario.now 0) }
     ensures laid { IfOk result (λ log. IsLaid 1 scenario.now.pages (by 0 log)) }
+    ensures idle { IfOk result (IsIdleAfter scenario.now.pages) }
     ensures short { IfOk result (λ log. JournalShort scenario.now.pages (log ∷ [])) }
     ensures lives { IfOk result (λ log. WholeLives (log ∷ [])) }
     ensures returns { IfOk result (λ log. ReturnsLaw (log ∷ [])) }
@@ -233,8 +235,8 @@ fn log_of<B: Since>(
     close::<B>(alloc, own, opened)
 }
 
-/// Runs a checked scenario of the forms that run by now, and gives its journal, which is lawful and laid. Its time grows with
-/// the statements run. Want of memory is the only refusal.
+/// Runs a checked scenario of the forms that run by now, and gives its journal, which is lawful and laid, and in which each grace
+/// period has ended. Its time grows with the statements run. Want of memory is the only refusal.
 pub fn replay(alloc: Global, checked: &Checked) -> Result<Journal, NoMemory>
     requires { RunsYet checked.now }
     ensures lawful { IfOk result (LawfulWhole checked.now) }

@@ -1,14 +1,18 @@
+use Rattle.std.specs.Prelude.{None}
 use Rattle.std.proofs.Common.{rules, ◌≡◌, ◌∷◌, [], ℕ, List, Some, lit≤, refl, sym, subst, slice_get}
 use Rattle.bm_law.specs.Lists.{Log}
-use Rattle.bm_law_order.specs.Orders.{IsLaid, Order}
+use Rattle.bm_law_order.specs.ByDomain.{of}
+use Rattle.bm_law_order.specs.Orders.{IsLaid, Order, shared_over}
+use Rattle.bm_law_order.specs.Shared.{fresh}
 use Rattle.bm_law_order.specs.Whole.{whole}
 use Rattle.bm_run.specs.JournalLaid.{named_turns}
 use Rattle.bm_run.proofs.Laid.{whole-one}
 use Rattle.bm_lawful.specs.Lawful.{LawfulLog}
 use Rattle.bm_lawful.specs.Short.{JournalShort}
 use Rattle.bm_lawful.proofs.Told.{one-log}
+use Rattle.bm_journal.specs.declared.ids.Domain.{Domain}
 use Rattle.bm_journal.specs.declared.ids.Domain.TheVariants.{Plain, Tracing}
-use Rattle.bm_lives.specs.GraceLaw.{GraceLaw}
+use Rattle.bm_lives.specs.GraceLaw.{AllEnded, GraceLaw}
 use Rattle.bm_lives.specs.Lives.{WholeLives}
 use Rattle.bm_lives.specs.StampLaw.{SeenFit, StampsFit}
 use Rattle.bm_lives.specs.Together.{EachLog}
@@ -47,11 +51,16 @@ returns-clause-laid c =
     let order = whole (named_turns s.turns) logs in
     let of-logs = c.whole_law.ensures (named_turns s.turns) logs in
     let one : IsLaid 1 s.pages order = subst (λ (o : Order). IsLaid 1 s.pages o) (sym (whole-one (named_turns s.turns) log)) c.requires.laid in
+    let idle : (d : Domain) → (of d (shared_over order (fresh 1 s.pages)).numbers).driver ≡ None = λ d. subst (λ (o : Order). (of d (shared_over o (fresh 1 s.pages)).numbers).driver ≡ None) (sym (whole-one (named_turns s.turns) log)) (c.requires.idle d) in
     let laws = c.journal_law.ensures in
     let now = sym c.in_ok-logs.ensures in
     record {
       laid = subst (λ (x : List Log). IsLaid s.processors s.pages (whole (named_turns s.turns) x)) now (subst (λ (n : ℕ). IsLaid n s.pages order) (sym c.requires.yet.one) one);
-      grace = subst GraceLaw now (laws.grace s.pages logs order (lit≤ tt) of-logs one);
+      grace = record {
+        law = subst GraceLaw now (laws.grace s.pages logs order (lit≤ tt) of-logs one);
+        plain_ended = subst (AllEnded Plain) now (laws.ended Plain 1 s.pages logs order of-logs one (idle Plain));
+        tracing_ended = subst (AllEnded Tracing) now (laws.ended Tracing 1 s.pages logs order of-logs one (idle Tracing));
+      };
       plain_stamps = subst (EachLog (λ p es. StampsFit Plain [] es)) now (laws.stamps Plain 1 s.pages logs order of-logs one);
       tracing_stamps = subst (EachLog (λ p es. StampsFit Tracing [] es)) now (laws.stamps Tracing 1 s.pages logs order of-logs one);
       plain_seen = subst (SeenFit Plain) now (laws.seen Plain 1 s.pages logs order of-logs one);

@@ -5,6 +5,7 @@ use Rattle.bm_lives.specs.Lives.{WholeLives}
 use Rattle.bm_returns.specs.Units.{FreedAsGiven}
 use Rattle.bm_world.specs.LivingState.{LivingState, known_living}
 use Rattle.bm_exec.specs.Lists.{Behind}
+use Rattle.bm_law_order.specs.Orders.{IsLaid, by}
 use Rattle.bm_law_order.specs.Tie.{Tied, whatever}
 use Rattle.bm_world.specs.ToldLiving.{LivingDoes}
 use Rattle.bm_opening.specs.Opened.{outset}
@@ -15,10 +16,11 @@ use Rattle.bm_levels.specs.declared.processor.Processor.{Processor}
 use Rattle.bm_levels.specs.declared.program.Program.{Program}
 use Rattle.bm_opening.proofs.Bounds.{few-planned, within}
 use Rattle.bm_run.specs.Closed.{Closed}
+use Rattle.bm_run.specs.JournalLaid.{IsIdleAfter}
 use Rattle.bm_run.specs.Lines.{lines_cost}
 use Rattle.bm_run.proofs.Declared.{all-declared, few-left, room-all, room-for}
 use Rattle.bm_run.proofs.Lines.{down-when, few-when}
-use Rattle.bm_run.proofs.Laid.{tied-laid}
+use Rattle.bm_run.proofs.Laid.{led-idle, tied-led}
 use Rattle.bm_run.proofs.LogLaw.{RunLeft, alone-sends, lawful-run, lived-run, short-run, unused-rows}
 use Rattle.bm_run.proofs.OpenedList.{opened-ascend, opened-few}
 use Rattle.bm_run.proofs.Results.{both-if-ok, if-ok, not-err}
@@ -129,6 +131,15 @@ pub close-requires-clause-tied : goal.close-requires-clause-tied
 close-requires-clause-tied g c =
     c.begin_closing.ensures.tied g.B.Since.since g.B.Since.start (not-err c.run_lines.result _ c.if-is_err.ensures.value c.run_lines.ensures.tied)
 
+-- the log leads from the outset to a world in which nobody has a period in progress
+led-log : (g : Over) (c : goal.After-close g) → IfOk c.close.result (λ final. IsLaid 1 c.args.scenario.now.pages (by 0 final) × IsIdleAfter c.args.scenario.now.pages final)
+led-log g c = if-ok c.close.result _ _ c.close.ensures.tied (λ final t.
+    let pages = c.args.scenario.now.pages in
+    let tied = subst (λ l. Tied whatever LivingDoes l (outset pages) 0 [] [] final t.0) c.requires.since (subst (λ w. Tied whatever LivingDoes g.B.Since.since w 0 [] [] final t.0) c.requires.start t.1.0) in
+    let led = tied-led pages final t.0 tied in (led.fit, led-idle pages final t.0 led t.1.1))
+
 pub returns-clause-laid : goal.returns-clause-laid
-returns-clause-laid g c = if-ok c.close.result _ _ c.close.ensures.tied (λ final t.
-    tied-laid c.args.scenario.now.pages final t.0 (subst (λ l. Tied whatever LivingDoes l (outset c.args.scenario.now.pages) 0 [] [] final t.0) c.requires.since (subst (λ w. Tied whatever LivingDoes g.B.Since.since w 0 [] [] final t.0) c.requires.start t.1)))
+returns-clause-laid g c = if-ok c.close.result _ _ (led-log g c) (λ final h. h.0)
+
+pub returns-clause-idle : goal.returns-clause-idle
+returns-clause-idle g c = if-ok c.close.result _ _ (led-log g c) (λ final h. h.1)
