@@ -16,7 +16,6 @@ use Rattle.bm_cache.specs.Span.{Face}
 use Rattle.bm_cache.specs.declared.caches.Caches.{Caches}
 use Rattle.bm_deferred.specs.Parts.{Part}
 use Rattle.bm_deferred.specs.WorkPhrases.{Work}
-use Rattle.bm_deferred.proofs.Pages.{spares-same}
 use Rattle.bm_lawful.specs.Works.{UntilDown, lowest_raised}
 use Rattle.bm_desk.specs.Works.{Posted, Stands, Works}
 use Rattle.bm_desk.proofs.Rests.{ready-again}
@@ -93,10 +92,10 @@ module _ {H R : Type 0} (log : R → Option Log) (counts : R → Counts) (sound 
   }
 
   -- the flags were looked at
-  pub going-asked : (a b c : H) → (known c).parcels ≡ (known b).parcels → (known c).pages ≡ (known b).pages → Posted faces waits stays holds known tests [] b c → Going log faces waits stays holds known classes a b → Going log faces waits stays holds known classes a c
-  going-asked a b c m q p g = record {
+  pub going-asked : (a b c : H) → (known c).parcels ≡ (known b).parcels → Posted faces waits stays holds known tests [] b c → Going log faces waits stays holds known classes a b → Going log faces waits stays holds known classes a c
+  going-asked a b c m p g = record {
     done = g.done;
-    works = works-posted log counts faces waits stays holds known tests join [] g.done g.done (λ l. Toward (UntilDown classes) (UntilDown classes)) a b c g.works (m, spares-same (known b).pages (known c).pages q) p;
+    works = works-posted log counts faces waits stays holds known tests join [] g.done g.done (λ l. Toward (UntilDown classes) (UntilDown classes)) a b c g.works m p;
     left = omega (arith, g.left, left-asked log faces waits stays holds known classes tests b c p);
   }
 

@@ -8,7 +8,7 @@ use Rattle.bm_grace.specs.declared.answer.Began.{Began}
 use Rattle.bm_grace.specs.declared.answer.Began.TheVariants.{Won, Moved}
 use Rattle.bm_grace.specs.Known.{Known, Side, side}
 use Rattle.bm_grace.specs.Calls.{changed, looked, read, began, finished, told}
-use Rattle.bm_post.specs.Calls.{Mails, Stocks}
+use Rattle.bm_post.specs.Calls.{Mails, Posts}
 use Rattle.bm_deferred.specs.Inboxes.{Inboxes}
 use Rattle.bm_desk.specs.Goes.{Alike}
 
@@ -49,13 +49,13 @@ alike-but k steps parcels = record { processors = refl; processor = refl; words 
 pub alike-mails : (t : Bool) (f : Inboxes → Inboxes) (a b : Known) → Mails t f a b → Alike a b
 alike-mails t f a b h = subst (λ k. Alike a k) (sym h.known) (alike-but a (told t a.steps h.steps) (option_map f a.parcels))
 
--- or give classes to pages, or take them
-alike-pages : (k : Known) (steps : List TableStep) (pages : List (Option ℕ)) → Alike k (record k { steps = steps; pages = pages })
-alike-pages k steps pages = record { processors = refl; processor = refl; words = w; objects = refl }
+-- or steps alone
+alike-more : (k : Known) (steps : List TableStep) → Alike k (record k { steps = steps })
+alike-more k steps = record { processors = refl; processor = refl; words = w; objects = refl }
   where
-    w : (d : Domain) → (side d (record k { steps = steps; pages = pages })).word ≡ (side d k).word
+    w : (d : Domain) → (side d (record k { steps = steps })).word ≡ (side d k).word
     w Plain = refl
     w Tracing = refl
 
-pub alike-stocks : (t : Bool) (a b : Known) → Stocks t a b → Alike a b
-alike-stocks t a b h = subst (λ k. Alike a k) (sym h.known) (alike-pages a (told t a.steps h.steps) h.pages)
+pub alike-posts : (t : Bool) (a b : Known) → Posts t a b → Alike a b
+alike-posts t a b h = subst (λ k. Alike a k) (sym h.known) (alike-more a (told t a.steps h.steps))

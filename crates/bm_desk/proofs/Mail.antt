@@ -20,11 +20,9 @@ use Rattle.bm_cache.specs.Tokens.{Token, number_of}
 use Rattle.bm_cache.specs.declared.caches.Caches.{Caches}
 use Rattle.bm_cache.proofs.Moments.{goes-join}
 use Rattle.bm_deferred.specs.Inboxes.{Inboxes, Carries, Delivered, TakesOldest, inboxes_after, oldest}
-use Rattle.bm_deferred.specs.Pages.{StaysSupplied, TakesPages}
 use Rattle.bm_deferred.specs.Parts.{Say}
 use Rattle.bm_deferred.specs.WorkPhrases.{IsOne}
 use Rattle.bm_deferred.proofs.Inboxes.{delivered-one, delivered-records}
-use Rattle.bm_deferred.proofs.Pages.{spares-same, supplied-brought, supplied-records}
 use Rattle.bm_post.specs.Calls.{Mails}
 use Rattle.bm_post.specs.Parcels.{parcel_sent, parcel_taken}
 use Rattle.bm_desk.specs.Works.{Handled, Posted, Works}
@@ -80,15 +78,14 @@ batch-target c n s t to e h a = subst (λ x. x < n) (sym (h ∙ ap (λ (z : Stat
 
 module _ {H R W : Type 0} (log : R → Option Log) (faces : H → Face) (waits : H → ℕ) (stays : H → H → Type 0) (holds : H → Caches R) (shared : H → W) (known : W → Known) where
   -- the post gave the oldest parcel, or told that there is none, and that was recorded
-  pub works-received : (tests : H → Tests) (join : (a b c : H) → stays a b → stays b c → stays a c) (h x k : H) (c : ℕ) (us : List Token) → Posted faces waits stays holds (λ z. known (shared z)) tests [] h x → Carries (known (shared h)).grace.processor (entry.Receive c (Whole (map number_of us))) (known (shared h)).parcels (known (shared x)).parcels → (known (shared x)).pages ≡ (known (shared h)).pages → Handled faces waits stays shared tests x k → TookUnits log (faces x).level (entry.Receive c) (map number_of us) us (holds x) (holds k) → Works log faces waits stays holds (λ z. known (shared z)) 0 0 (λ l. Say l (IsOne (entry.Receive c (Whole (map number_of us))))) h k
-  works-received tests join h x k c us p m q d t =
+  pub works-received : (tests : H → Tests) (join : (a b c : H) → stays a b → stays b c → stays a c) (h x k : H) (c : ℕ) (us : List Token) → Posted faces waits stays holds (λ z. known (shared z)) tests [] h x → Carries (known (shared h)).grace.processor (entry.Receive c (Whole (map number_of us))) (known (shared h)).parcels (known (shared x)).parcels → Handled faces waits stays shared tests x k → TookUnits log (faces x).level (entry.Receive c) (map number_of us) us (holds x) (holds k) → Works log faces waits stays holds (λ z. known (shared z)) 0 0 (λ l. Say l (IsOne (entry.Receive c (Whole (map number_of us))))) h k
+  works-received tests join h x k c us p m d t =
       let l = (faces h).level in
       let ns = map number_of us in
       let e = entry.Receive c (Whole ns) in
       let n = (known (shared h)).grace.processor in
       let B : W → Option Inboxes = λ w. (known w).parcels in
       let K : W → Sides = λ w. (known w).grace in
-      let G : W → List (Option ℕ) = λ w. (known w).pages in
       let M : Option Inboxes → Type 0 = λ o. Carries n e (B (shared h)) o in
       let v = units-at log l (faces x).level (entry.Receive c) ns us (holds h) (holds x) (holds k) (ap (λ (z : Face). z.level) p.face) p.held t in
       let a = log (holds h).recorder in
@@ -97,7 +94,6 @@ module _ {H R W : Type 0} (log : R → Option Log) (faces : H → Face) (waits :
       let gx : Goes faces waits stays h x = record { face = p.face; pending = omega (arith, p.pending); keeps = p.stays } in
       let gk : Goes faces waits stays x k = record { face = d.face; pending = omega (arith, d.pending); keeps = d.stays } in
       works-entry log faces waits stays holds (λ z. known (shared z)) h k e us tt (goes-join join gx gk) (ap K d.shared_is ∙ p.known_is) r v.processor v.after (received-active l c ns us (shown (holds h))) refl (delivered-one l (faces h).processors n e (B (shared h)) (B (shared k)) a b (subst M (sym (ap B d.shared_is)) m) tt (Records-one l e a b r))
-      (supplied-records l (e ∷ []) (G (shared h)) (G (shared k)) a b (tt, tt) (spares-same (G (shared h)) (G (shared k)) (ap G d.shared_is ∙ q)) (Records-one l e a b r))
 
   -- the post took a parcel, and that was recorded
   pub mail-sent : (a w x y : H) (i to : ℕ) (ms ns : List ℕ) → to < (faces a).processors → shared w ≡ shared a → shared y ≡ shared x → ms ≡ ns → Carries (known (shared w)).grace.processor (entry.Send i to (Whole ms)) (known (shared w)).parcels (known (shared x)).parcels → Appends (log (holds a).recorder) (faces a).level (entry.Send i to (Whole ns)) (log (holds y).recorder) → Delivered (faces a).level (faces a).processors (known (shared a)).grace.processor (known (shared a)).parcels (known (shared y)).parcels (log (holds a).recorder) (log (holds y).recorder)
@@ -109,25 +105,15 @@ module _ {H R W : Type 0} (log : R → Option Log) (faces : H → Face) (waits :
       let c : M (shared a) ns (shared y) = subst (λ v. M v ns (shared y)) p (subst (λ us. M (shared w) us (shared y)) n (subst (M (shared w) ms) (sym q) m)) in
       delivered-one l (faces a).processors (known (shared a)).grace.processor e (B (shared a)) (B (shared y)) (log (holds a).recorder) (log (holds y).recorder) c f (Records-one l e (log (holds a).recorder) (log (holds y).recorder) r)
 
-  -- and so the pages are as they were
-  pub supplied-sent : (a w x y : H) (i to : ℕ) (ns : List ℕ) → shared w ≡ shared a → shared y ≡ shared x → (known (shared x)).pages ≡ (known (shared w)).pages → Appends (log (holds a).recorder) (faces a).level (entry.Send i to (Whole ns)) (log (holds y).recorder) → StaysSupplied (faces a).level (known (shared a)).pages (known (shared y)).pages (log (holds a).recorder) (log (holds y).recorder)
-  supplied-sent a w x y i to ns p q m r =
-      let l = (faces a).level in
-      let e = entry.Send i to (Whole ns) in
-      let G : W → List (Option ℕ) = λ v. (known v).pages in
-      supplied-records l (e ∷ []) (G (shared a)) (G (shared y)) (log (holds a).recorder) (log (holds y).recorder) (tt, tt) (spares-same (G (shared a)) (G (shared y)) (ap G q ∙ m ∙ ap G p)) (Records-one l e (log (holds a).recorder) (log (holds y).recorder) r)
-
   -- the post gave units, and that was recorded
-  pub works-fetched : (tests : H → Tests) (join : (a b c : H) → stays a b → stays b c → stays a c) (h x k : H) (c want : ℕ) (us : List Token) → Posted faces waits stays holds (λ z. known (shared z)) tests [] h x → (known (shared x)).parcels ≡ (known (shared h)).parcels → TakesPages want (map number_of us) (known (shared h)).pages (known (shared x)).pages → Handled faces waits stays shared tests x k → TookUnits log (faces x).level (entry.Fetch c want) (map number_of us) us (holds x) (holds k) → Works log faces waits stays holds (λ z. known (shared z)) 0 0 (λ l. Say l (IsOne (entry.Fetch c want (Whole (map number_of us))))) h k
-  works-fetched tests join h x k c want us p m q d t =
+  pub works-fetched : (tests : H → Tests) (join : (a b c : H) → stays a b → stays b c → stays a c) (h x k : H) (c want : ℕ) (us : List Token) → Posted faces waits stays holds (λ z. known (shared z)) tests [] h x → (known (shared x)).parcels ≡ (known (shared h)).parcels → Handled faces waits stays shared tests x k → TookUnits log (faces x).level (entry.Fetch c want) (map number_of us) us (holds x) (holds k) → Works log faces waits stays holds (λ z. known (shared z)) 0 0 (λ l. Say l (IsOne (entry.Fetch c want (Whole (map number_of us))))) h k
+  works-fetched tests join h x k c want us p m d t =
       let l = (faces h).level in
       let ns = map number_of us in
       let e = entry.Fetch c want (Whole ns) in
       let n = (known (shared h)).grace.processor in
       let B : W → Option Inboxes = λ w. (known w).parcels in
       let K : W → Sides = λ w. (known w).grace in
-      let G : W → List (Option ℕ) = λ w. (known w).pages in
-      let F : List (Option ℕ) → Type 0 = λ z. TakesPages want ns (G (shared h)) z in
       let v = units-at log l (faces x).level (entry.Fetch c want) ns us (holds h) (holds x) (holds k) (ap (λ (z : Face). z.level) p.face) p.held t in
       let a = log (holds h).recorder in
       let b = log (holds k).recorder in
@@ -135,4 +121,3 @@ module _ {H R W : Type 0} (log : R → Option Log) (faces : H → Face) (waits :
       let gx : Goes faces waits stays h x = record { face = p.face; pending = omega (arith, p.pending); keeps = p.stays } in
       let gk : Goes faces waits stays x k = record { face = d.face; pending = omega (arith, d.pending); keeps = d.stays } in
       works-entry log faces waits stays holds (λ z. known (shared z)) h k e us tt (goes-join join gx gk) (ap K d.shared_is ∙ p.known_is) r v.processor v.after (λ i. refl) refl (delivered-records l (faces h).processors n (e ∷ []) (B (shared h)) (B (shared k)) a b (tt, tt) (ap B d.shared_is ∙ m) (Records-one l e a b r))
-      (supplied-brought l want ns e (G (shared h)) (G (shared k)) a b refl refl (subst F (sym (ap G d.shared_is)) q) (Records-one l e a b r))

@@ -18,7 +18,6 @@ use Rattle.bm_deferred.specs.Begun.{begun_by}
 use Rattle.bm_deferred.proofs.Begun.{IsIdle, IsStill, StillPart, progressed-grew, progressed-records, still-idle}
 use Rattle.bm_deferred.proofs.Each.{part-map}
 use Rattle.bm_deferred.proofs.Inboxes.{IsQuiet, delivered-grew, delivered-records, still-quiet}
-use Rattle.bm_deferred.proofs.Pages.{TakesNone, spares-same, still-takes-none, supplied-grew, supplied-records}
 use Rattle.bm_work.specs.Grown.{GrewBy}
 use Rattle.bm_work.proofs.Grown.{grew-stand}
 use Rattle.bm_work.proofs.Steps.{unbroken-point}
@@ -66,7 +65,6 @@ module _ {H R : Type 0} (log : R → Option Log) (tests : H → Tests) (faces : 
         same_side = n.processor;
         periods = λ d. progressed-records l d [] (begun_by (side d (known h)).number) (begun_by (side d (known k)).number) a b (ap begun_by (n.number d)) r;
         mail = delivered-records l (faces h).processors (known h).grace.processor [] (known h).parcels (known k).parcels a b tt n.parcels r;
-        supplied = supplied-records l [] (known h).pages (known k).pages a b tt (spares-same (known h).pages (known k).pages n.pages) r;
       }
 
 module _ {H R : Type 0} (log : R → Option Log) (counts : R → Counts) (sound : H → Type 0) (tests : H → Tests) (faces : H → Face) (waits : H → ℕ) (stays keeps : H → H → Type 0) (holds : H → Caches R) (known : H → Known) (on : (a b : H) → keeps a b → stays a b) (goes-on : (a b : H) → keeps a b → GoesOn (known a) (known b)) where
@@ -87,7 +85,6 @@ module _ {H R : Type 0} (log : R → Option Log) (counts : R → Counts) (sound 
         same_side = n.processor;
         periods = λ d. progressed-grew l d (P l) (seen number_of (shown (holds h))) (begun_by (side d (known h)).number) (begun_by (side d (known k)).number) (log (holds h).recorder) (log (holds k).recorder) (part-map IsStill IsIdle still-idle l (P l) (e l)) (ap begun_by (n.number d)) g;
         mail = delivered-grew l (faces h).processors (known h).grace.processor (P l) (seen number_of (shown (holds h))) (known h).parcels (known k).parcels (log (holds h).recorder) (log (holds k).recorder) (part-map IsStill IsQuiet still-quiet l (P l) (e l)) n.parcels g;
-        supplied = supplied-grew l (P l) (seen number_of (shown (holds h))) (known h).pages (known k).pages (log (holds h).recorder) (log (holds k).recorder) (part-map IsStill TakesNone still-takes-none l (P l) (e l)) (spares-same (known h).pages (known k).pages n.pages) g;
       }
 
   -- what a call needs, after one that leaves what deferred work alone writes

@@ -21,11 +21,9 @@ use Rattle.bm_law.specs.Spans.{own_entries}
 use Rattle.bm_law.proofs.Spans.{from-append, own-append}
 use Rattle.bm_deferred.specs.Begun.{Progressed, begun_by}
 use Rattle.bm_deferred.specs.Inboxes.{Delivered}
-use Rattle.bm_deferred.specs.Pages.{Spares, StaysSupplied}
 use Rattle.bm_deferred.specs.Parts.{Part, Nothing, Say, Stand, Then}
 use Rattle.bm_deferred.proofs.Begun.{progressed-join, progressed-none}
 use Rattle.bm_deferred.proofs.Inboxes.{delivered-join, delivered-none}
-use Rattle.bm_deferred.proofs.Pages.{spares-same, supplied-same}
 use Rattle.bm_work.specs.Grown.{GrewBy}
 use Rattle.bm_work.proofs.Grown.{grew-map, grew-none, grew-parts}
 use Rattle.bm_desk.specs.Dated.{Dated}
@@ -90,22 +88,11 @@ pub same-numbers : (a b : Known) → b.grace ≡ a.grace → (d : Domain) → (s
 same-numbers a b e Plain = ap (λ (s : Sides). s.plain.number) e
 same-numbers a b e Tracing = ap (λ (s : Sides). s.tracing.number) e
 
--- the parcels are as they were, and no page more has a class
+-- the parcels are as they were
 abbrev pub StaysPut : Known → Known → Type 0
-StaysPut before now = (now.parcels ≡ before.parcels) × Spares before.pages now.pages
+StaysPut before now = now.parcels ≡ before.parcels
 
 module _ {H R : Type 0} (log : R → Option Log) (faces : H → Face) (holds : H → Caches R) (known : H → Known) where
-  -- pages over two stretches, and where no page more takes a class
-  pub supplied-join : (a b c : H) → faces b ≡ faces a → StaysSupplied (faces a).level (known a).pages (known b).pages (log (holds a).recorder) (log (holds b).recorder) → StaysSupplied (faces b).level (known b).pages (known c).pages (log (holds b).recorder) (log (holds c).recorder) → StaysSupplied (faces a).level (known a).pages (known c).pages (log (holds a).recorder) (log (holds c).recorder)
-  supplied-join a b c e v w n h =
-      let M : Face → Type 0 = λ f. StaysSupplied f.level (known b).pages (known c).pages (log (holds b).recorder) (log (holds c).recorder) in
-      subst M e w n (v n h)
-
-  pub supplied-kept : (a b : H) → holds b ≡ holds a → Spares (known a).pages (known b).pages → StaysSupplied (faces a).level (known a).pages (known b).pages (log (holds a).recorder) (log (holds b).recorder)
-  supplied-kept a b e s =
-      let M : Caches R → Type 0 = λ x. StaysSupplied (faces a).level (known a).pages (known b).pages (log (holds a).recorder) (log x.recorder) in
-      subst M (sym e) (supplied-same (faces a).level (known a).pages (known b).pages (log (holds a).recorder) s)
-
   -- parcels over two stretches, and where the side is called that keeps them
   pub mail-join : (a b c : H) → faces b ≡ faces a → (known b).grace.processor ≡ (known a).grace.processor → Delivered (faces a).level (faces a).processors (known a).grace.processor (known a).parcels (known b).parcels (log (holds a).recorder) (log (holds b).recorder) → Delivered (faces b).level (faces b).processors (known b).grace.processor (known b).parcels (known c).parcels (log (holds b).recorder) (log (holds c).recorder) → Delivered (faces a).level (faces a).processors (known a).grace.processor (known a).parcels (known c).parcels (log (holds a).recorder) (log (holds c).recorder)
   mail-join a b c e s v w =
@@ -160,7 +147,6 @@ module _ {H R : Type 0} (log : R → Option Log) (counts : R → Counts) (faces 
         same_side = w.same_side ∙ v.same_side;
         periods = periods-join log faces holds known a b c v.goes.face v.periods w.periods;
         mail = mail-join log faces holds known a b c v.goes.face v.same_side v.mail w.mail;
-        supplied = supplied-join log faces holds known a b c v.goes.face v.supplied w.supplied;
       }
 
   -- two calls, one after the other
@@ -189,12 +175,11 @@ module _ {H R : Type 0} (log : R → Option Log) (counts : R → Counts) (faces 
         same_side = c.same_side;
         periods = periods-same log faces holds known a b e c.numbers;
         mail = mail-same log faces holds known a b e c.parcels;
-        supplied = supplied-kept log faces holds known a b e (spares-same (known a).pages (known b).pages c.pages);
       }
 
   -- more periods may have begun
   pub works-at-most : (p t p' t' : ℕ) (P : ℕ → Part) (a b : H) → p ≤ p' → t ≤ t' → Works log faces waits stays holds known p t P a b → Works log faces waits stays holds known p' t' P a b
-  works-at-most p t p' t' P a b h k w = record { phrase = w.phrase; goes = w.goes; alone = w.alone; flags = w.flags; processor = w.processor; active = w.active; plain_begins = omega (arith, w.plain_begins, h); tracing_begins = omega (arith, w.tracing_begins, k); same_side = w.same_side; periods = w.periods; mail = w.mail; supplied = w.supplied }
+  works-at-most p t p' t' P a b h k w = record { phrase = w.phrase; goes = w.goes; alone = w.alone; flags = w.flags; processor = w.processor; active = w.active; plain_begins = omega (arith, w.plain_begins, h); tracing_begins = omega (arith, w.tracing_begins, k); same_side = w.same_side; periods = w.periods; mail = w.mail }
 
 -- a call, and then one that stops for want of memory
 pub works-stopped : {H R : Type 0} (log : R → Option Log) (counts : R → Counts) (faces : H → Face) (waits : H → ℕ) (stays : H → H → Type 0) (holds : H → Caches R) (known : H → Known) (p t : ℕ) (P Q W : ℕ → Part) (a b c : H) → ((l : ℕ) (s : State ℕ) (one two : Log) → P l s one → Q l (after s one) two → W l s (one ++ two)) → Placed log counts (holds a) → Placed log counts (holds b) → Works log faces waits stays holds known p t P a b → Stopped log counts faces holds Q b c → Stopped log counts faces holds W a c
@@ -228,21 +213,21 @@ pub works-map-at : {H R : Type 0} (log : R → Option Log) (faces : H → Face) 
 works-map-at log faces waits stays holds known p t P Q a b f w =
     let l = (faces a).level in
     let s = seen number_of (shown (holds a)) in
-    record { phrase = grew-map (P l) (Q l) s (log (holds a).recorder) (log (holds b).recorder) (f l) w.phrase; goes = w.goes; alone = w.alone; flags = w.flags; processor = w.processor; active = w.active; plain_begins = w.plain_begins; tracing_begins = w.tracing_begins; same_side = w.same_side; periods = w.periods; mail = w.mail; supplied = w.supplied }
+    record { phrase = grew-map (P l) (Q l) s (log (holds a).recorder) (log (holds b).recorder) (f l) w.phrase; goes = w.goes; alone = w.alone; flags = w.flags; processor = w.processor; active = w.active; plain_begins = w.plain_begins; tracing_begins = w.tracing_begins; same_side = w.same_side; periods = w.periods; mail = w.mail }
 
 -- a part that is another one too, from these lists and at the desk's level
 pub works-map-here : {H R : Type 0} (log : R → Option Log) (faces : H → Face) (waits : H → ℕ) (stays : H → H → Type 0) (holds : H → Caches R) (known : H → Known) (p t : ℕ) (P Q : ℕ → Part) (a b : H) → ((part : Log) → P (faces a).level (seen number_of (shown (holds a))) part → Q (faces a).level (seen number_of (shown (holds a))) part) → Works log faces waits stays holds known p t P a b → Works log faces waits stays holds known p t Q a b
 works-map-here log faces waits stays holds known p t P Q a b f w =
     let l = (faces a).level in
     let s = seen number_of (shown (holds a)) in
-    record { phrase = grew-map (P l) (Q l) s (log (holds a).recorder) (log (holds b).recorder) f w.phrase; goes = w.goes; alone = w.alone; flags = w.flags; processor = w.processor; active = w.active; plain_begins = w.plain_begins; tracing_begins = w.tracing_begins; same_side = w.same_side; periods = w.periods; mail = w.mail; supplied = w.supplied }
+    record { phrase = grew-map (P l) (Q l) s (log (holds a).recorder) (log (holds b).recorder) f w.phrase; goes = w.goes; alone = w.alone; flags = w.flags; processor = w.processor; active = w.active; plain_begins = w.plain_begins; tracing_begins = w.tracing_begins; same_side = w.same_side; periods = w.periods; mail = w.mail }
 
 -- a part that is another one too
 pub works-map : {H R : Type 0} (log : R → Option Log) (faces : H → Face) (waits : H → ℕ) (stays : H → H → Type 0) (holds : H → Caches R) (known : H → Known) (p t : ℕ) (P Q : ℕ → Part) (a b : H) → ((l : ℕ) (s : State ℕ) (part : Log) → P l s part → Q l s part) → Works log faces waits stays holds known p t P a b → Works log faces waits stays holds known p t Q a b
 works-map log faces waits stays holds known p t P Q a b f w =
     let l = (faces a).level in
     let s = seen number_of (shown (holds a)) in
-    record { phrase = grew-map (P l) (Q l) s (log (holds a).recorder) (log (holds b).recorder) (f l s) w.phrase; goes = w.goes; alone = w.alone; flags = w.flags; processor = w.processor; active = w.active; plain_begins = w.plain_begins; tracing_begins = w.tracing_begins; same_side = w.same_side; periods = w.periods; mail = w.mail; supplied = w.supplied }
+    record { phrase = grew-map (P l) (Q l) s (log (holds a).recorder) (log (holds b).recorder) (f l s) w.phrase; goes = w.goes; alone = w.alone; flags = w.flags; processor = w.processor; active = w.active; plain_begins = w.plain_begins; tracing_begins = w.tracing_begins; same_side = w.same_side; periods = w.periods; mail = w.mail }
 
 -- nothing was done, where that is such a part
 pub works-still : {H R : Type 0} (log : R → Option Log) (faces : H → Face) (waits : H → ℕ) (stays : H → H → Type 0) (holds : H → Caches R) (known : H → Known) (P : ℕ → Part) (a : H) → stays a a → ((l : ℕ) → P l (seen number_of (shown (holds a))) []) → Works log faces waits stays holds known 0 0 P a a
@@ -258,7 +243,6 @@ works-still log faces waits stays holds known P a k h = record {
   same_side = refl;
   periods = periods-same log faces holds known a a refl (λ d. refl);
   mail = mail-same log faces holds known a a refl refl;
-  supplied = supplied-kept log faces holds known a a refl (spares-same (known a).pages (known a).pages refl);
 }
 
 -- the same at the desk's level
@@ -275,12 +259,11 @@ works-still-here log faces waits stays holds known P a k h = record {
   same_side = refl;
   periods = periods-same log faces holds known a a refl (λ d. refl);
   mail = mail-same log faces holds known a a refl refl;
-  supplied = supplied-kept log faces holds known a a refl (spares-same (known a).pages (known a).pages refl);
 }
 
--- the caches alone changed, and so the parcels and the pages are as they were
+-- the caches alone changed, and so the parcels are as they were
 pub handled-mail : {H W : Type 0} {faces : H → Face} {waits : H → ℕ} {keeps : H → H → Type 0} {shared : H → W} {tests : H → Tests} {a b : H} (known : W → Known) → Handled faces waits keeps shared tests a b → StaysPut (known (shared a)) (known (shared b))
-handled-mail {H} {W} {shared = shared} {a = a} {b = b} known h = (ap (λ (w : W). (known w).parcels) h.shared_is, spares-same (known (shared a)).pages (known (shared b)).pages (ap (λ (w : W). (known w).pages) h.shared_is))
+handled-mail {H} {W} {shared = shared} {a = a} {b = b} known h = ap (λ (w : W). (known w).parcels) h.shared_is
 
 -- a flag that is down stays down where no handler ran
 pub flag-down : {H R : Type 0} {waits : H → ℕ} {holds : H → Caches R} {a b : H} (c : ℕ) → RaisesNone waits holds a b → waits b ≡ waits a → ((shown (holds a)).rows c).raised ≡ false → ((shown (holds b)).rows c).raised ≡ false
@@ -302,7 +285,7 @@ module _ {H R : Type 0} (log : R → Option Log) (counts : R → Counts) (faces 
   called-works p t p' t' Q a b c x y h w = works-join log counts faces waits stays holds known join p t p' t' (λ l. Nothing) Q Q a b c (λ l s one two i k. nothing-first (Q l) s one two i k) x y (works-called log counts faces waits stays holds known rights p t a b h) w
 
 module _ {H R : Type 0} (log : R → Option Log) (counts : R → Counts) (faces : H → Face) (waits : H → ℕ) (stays : H → H → Type 0) (holds : H → Caches R) (known : H → Known) (tests : H → Tests) (join : (a b c : H) → stays a b → stays b c → stays a c) where
-  -- a call of the post that keeps the parcels, and by which no page more takes a class, records nothing
+  -- a call of the post that keeps the parcels records nothing
   works-kept : (gone : List ℕ) (a b : H) → StaysPut (known a) (known b) → Posted faces waits stays holds known tests gone a b → Works log faces waits stays holds known 0 0 (λ l. Nothing) a b
   works-kept gone a b m h =
       let e = h.held in
@@ -319,15 +302,14 @@ module _ {H R : Type 0} (log : R → Option Log) (counts : R → Counts) (faces 
         tracing_begins = omega (arith, ap (λ (z : Sides). z.tracing.begins) h.known_is);
         same_side = ap (λ (z : Sides). z.processor) h.known_is;
         periods = periods-same log faces holds known a b e (same-numbers (known a) (known b) h.known_is);
-        mail = mail-same log faces holds known a b e m.0;
-        supplied = supplied-kept log faces holds known a b e m.1;
+        mail = mail-same log faces holds known a b e m;
       }
 
   -- such a call of the post, and then another call
   pub posted-works : (gone : List ℕ) (p t : ℕ) (Q : ℕ → Part) (a b c : H) → Placed log counts (holds a) → Placed log counts (holds b) → StaysPut (known a) (known b) → Posted faces waits stays holds known tests gone a b → Works log faces waits stays holds known p t Q b c → Works log faces waits stays holds known p t Q a c
   posted-works gone p t Q a b c x y m h w =
       let r = works-join log counts faces waits stays holds known join 0 0 p t (λ l. Nothing) Q Q a b c (λ l s one two i k. nothing-first (Q l) s one two i k) x y (works-kept gone a b m h) w in
-      record { phrase = r.phrase; goes = r.goes; alone = r.alone; flags = r.flags; processor = r.processor; active = r.active; plain_begins = omega (arith, r.plain_begins); tracing_begins = omega (arith, r.tracing_begins); same_side = r.same_side; periods = r.periods; mail = r.mail; supplied = r.supplied }
+      record { phrase = r.phrase; goes = r.goes; alone = r.alone; flags = r.flags; processor = r.processor; active = r.active; plain_begins = omega (arith, r.plain_begins); tracing_begins = omega (arith, r.tracing_begins); same_side = r.same_side; periods = r.periods; mail = r.mail }
 
   -- another call, and then such a one of the post
   pub works-posted : (gone : List ℕ) (p t : ℕ) (P : ℕ → Part) (a b c : H) → Works log faces waits stays holds known p t P a b → StaysPut (known b) (known c) → Posted faces waits stays holds known tests gone b c → Works log faces waits stays holds known p t P a c
@@ -347,8 +329,7 @@ module _ {H R : Type 0} (log : R → Option Log) (counts : R → Counts) (faces 
         tracing_begins = omega (arith, w.tracing_begins, ap (λ (z : Sides). z.tracing.begins) h.known_is);
         same_side = ap (λ (z : Sides). z.processor) h.known_is ∙ w.same_side;
         periods = periods-join log faces holds known a b c w.goes.face w.periods (periods-same log faces holds known b c e (same-numbers (known b) (known c) h.known_is));
-        mail = mail-join log faces holds known a b c w.goes.face w.same_side w.mail (mail-same log faces holds known b c e m.0);
-        supplied = supplied-join log faces holds known a b c w.goes.face w.supplied (supplied-kept log faces holds known b c e m.1);
+        mail = mail-join log faces holds known a b c w.goes.face w.same_side w.mail (mail-same log faces holds known b c e m);
       }
 
   -- such a call of the post, and then one that stops

@@ -14,7 +14,6 @@ goes-still a b e = subst (λ (x : Known). GoesOn a x) (sym e) record {
   begins = λ d. refl;
   seen = λ d. omega arith;
   parcels = refl;
-  pages = refl;
 }
 
 -- and so it is alike

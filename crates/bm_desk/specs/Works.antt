@@ -15,7 +15,6 @@ use Rattle.bm_cache.specs.Span.{Face, Fine, Goes, RaisesNone, Unbroken}
 use Rattle.bm_cache.specs.declared.caches.Caches.{Caches}
 use Rattle.bm_deferred.specs.Begun.{Progressed, begun_by}
 use Rattle.bm_deferred.specs.Inboxes.{Delivered}
-use Rattle.bm_deferred.specs.Pages.{StaysSupplied}
 use Rattle.bm_deferred.specs.Parts.{Part}
 use Rattle.bm_work.specs.Grown.{GrewBy}
 use Rattle.bm_desk.specs.Dated.{Dated}
@@ -38,7 +37,7 @@ tracing_of Plain = 0
 tracing_of Tracing = 1
 
 -- The side was called and nothing else: the caches, the face and what waits are as they were, the rights age, the side is the
--- same processor's, with the same parcels, the same classes of pages and the same periods in progress, and of the periods that
+-- same processor's, with the same parcels and the same periods in progress, and of the periods that
 -- may still begin at most so many plain and tracing ones are used up.
 pub record Called {H R : Type 0} (faces : H → Face) (waits : H → ℕ) (keeps : H → H → Type 0) (holds : H → Caches R) (known : H → Known) (rights : H → Rights) (plain tracing : ℕ) (before now : H) : Type 0 where
   pub held : holds now ≡ holds before
@@ -48,7 +47,6 @@ pub record Called {H R : Type 0} (faces : H → Face) (waits : H → ℕ) (keeps
   pub ages : Ages (rights before) (rights now)
   pub same_side : (known now).grace.processor ≡ (known before).grace.processor
   pub parcels : (known now).parcels ≡ (known before).parcels
-  pub pages : (known now).pages ≡ (known before).pages
   pub numbers : (d : Domain) → (side d (known now)).number ≡ (side d (known before)).number
   pub plain_begins : (known before).grace.plain.begins ≤ (known now).grace.plain.begins + plain
   pub tracing_begins : (known before).grace.tracing.begins ≤ (known now).grace.tracing.begins + tracing
@@ -62,13 +60,12 @@ pub record Turned {H R : Type 0} (faces : H → Face) (waits : H → ℕ) (keeps
   pub ages : Ages (rights before) (rights now)
   pub same_side : (known now).grace.processor ≡ (known before).grace.processor
   pub parcels : (known now).parcels ≡ (known before).parcels
-  pub pages : (known now).pages ≡ (known before).pages
   pub plain_begins : (known before).grace.plain.begins ≤ (known now).grace.plain.begins + plain
   pub tracing_begins : (known before).grace.tracing.begins ≤ (known now).grace.tracing.begins + tracing
 
 -- The post was called and nothing else: the caches, the face and what waits are as they were, what was true of units that
--- aren't among these is true, and what is known of grace periods is as it was. What became of parcels and
--- pages is said beside it.
+-- aren't among these is true, and what is known of grace periods is as it was. What became of parcels
+-- is said beside it.
 pub record Posted {H R : Type 0} (faces : H → Face) (waits : H → ℕ) (keeps : H → H → Type 0) (holds : H → Caches R) (known : H → Known) (tests : H → Tests) (gone : List ℕ) (before now : H) : Type 0 where
   pub held : holds now ≡ holds before
   pub face : faces now ≡ faces before
@@ -81,8 +78,7 @@ pub record Posted {H R : Type 0} (faces : H → Face) (waits : H → ℕ) (keeps
 -- on; where no handler ran there are entries of its own level alone, and no flag was raised; each active number is as it was;
 -- at most so many plain and tracing periods have begun, and the side has those in progress that the entries tell; and of the
 -- parcels that are told, each that came was the oldest one, each that went goes to one of the processors, nothing was swept,
--- and those that are left are what the entries tell. If each page that has a class gave a unit by entries of the log, and these
--- fetched fewer units than were wanted only where each page gave one, it is so now.
+-- and those that are left are what the entries tell.
 pub record Works {H R : Type 0} (log : R → Option Log) (faces : H → Face) (waits : H → ℕ) (stays : H → H → Type 0) (holds : H → Caches R) (known : H → Known) (plain tracing : ℕ) (part : ℕ → Part) (before now : H) : Type 0 where
   pub phrase : GrewBy (part (faces before).level) (seen number_of (shown (holds before))) (log (holds before).recorder) (log (holds now).recorder)
   pub goes : Goes faces waits stays before now
@@ -95,7 +91,6 @@ pub record Works {H R : Type 0} (log : R → Option Log) (faces : H → Face) (w
   pub same_side : (known now).grace.processor ≡ (known before).grace.processor
   pub periods : (d : Domain) → Progressed (faces before).level d (begun_by (side d (known before)).number) (begun_by (side d (known now)).number) (log (holds before).recorder) (log (holds now).recorder)
   pub mail : Delivered (faces before).level (faces before).processors (known before).grace.processor (known before).parcels (known now).parcels (log (holds before).recorder) (log (holds now).recorder)
-  pub supplied : StaysSupplied (faces before).level (known before).pages (known now).pages (log (holds before).recorder) (log (holds now).recorder)
 
 -- A call stopped for want of memory: the log has grown by this part, and the caches are placed.
 pub record Stopped {H R : Type 0} (log : R → Option Log) (counts : R → Counts) (faces : H → Face) (holds : H → Caches R) (part : ℕ → Part) (before now : H) : Type 0 where

@@ -14,7 +14,6 @@ ghost use Rattle.bm_cache.specs.Placed.{Placed};
 ghost use Rattle.bm_cache.specs.Shown.{shown};
 ghost use Rattle.bm_cache.specs.Tests.{Reusable};
 ghost use Rattle.bm_cache.specs.Tokens.{Token, number_of};
-ghost use Rattle.bm_deferred.specs.Pages.{TakesPages};
 ghost use Rattle.bm_deferred.specs.Parts.{Say, Stand};
 ghost use Rattle.bm_deferred.specs.WorkPhrases.{AddAll};
 ghost use Rattle.bm_work.specs.Fit.{Fit};
@@ -44,8 +43,6 @@ fn get_fetched<R: Recorder, H: Desk<R>>(
     requires stands { Stands R.log R.counts Whatever H.Host.tests H.Host.face H.Host.held host.old }
     ensures posted { Posted H.Host.face H.Host.pending H.stays H.Host.held (λ h. H.W.Knows.known (H.shared h)) H.Host.tests [] host.old host.new }
     ensures mail { (H.W.Knows.known (H.shared host.new)).parcels ≡ (H.W.Knows.known (H.shared host.old)).parcels }
-    ensures pages { IfOk result (λ us. TakesPages want (map number_of us.items) (H.W.Knows.known (H.shared host.old)).pages (H.W.Knows.known (H.shared host.new)).pages) }
-    ensures same_pages { OnErr result ((H.W.Knows.known (H.shared host.new)).pages ≡ (H.W.Knows.known (H.shared host.old)).pages) }
     ensures few { IfOk result (λ us. length us.items ≤ want) }
     ensures sit { IfOk result (λ us. All (Sits class) us.items) }
     ensures fresh { IfOk result (λ us. (n : ℕ) → stands n (seen number_of (shown (H.Host.held host.new))) + times n (map number_of us.items) ≤ 1) }

@@ -35,7 +35,6 @@ fn get_parcel<R: Recorder, H: Desk<R>>(alloc: Global, host: &mut H, class: Class
     requires stands { Stands R.log R.counts Whatever H.Host.tests H.Host.face H.Host.held host.old }
     ensures posted { Posted H.Host.face H.Host.pending H.stays H.Host.held (λ h. H.W.Knows.known (H.shared h)) H.Host.tests [] host.old host.new }
     ensures mail { Carries (H.W.Knows.known (H.shared host.old)).grace.processor (entry.Receive class (Whole (numbers result.items))) (H.W.Knows.known (H.shared host.old)).parcels (H.W.Knows.known (H.shared host.new)).parcels }
-    ensures pages { (H.W.Knows.known (H.shared host.new)).pages ≡ (H.W.Knows.known (H.shared host.old)).pages }
     ensures sit { All (Sits class) result.items }
     ensures fresh { (n : ℕ) → stands n (seen number_of (shown (H.Host.held host.new))) + times n (map number_of result.items) ≤ 1 }
     ensures reusable { All (Reusable (H.Host.tests host.new)) result.items }

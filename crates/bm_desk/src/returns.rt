@@ -14,7 +14,6 @@ ghost use Rattle.bm_cache.specs.Lent.{Ended, Lends, SecondIsLent, with_second};
 ghost use Rattle.bm_cache.specs.Placed.{Placed};
 ghost use Rattle.bm_cache.specs.Shown.{shown};
 ghost use Rattle.bm_cache.specs.Tokens.{Token};
-ghost use Rattle.bm_deferred.specs.Pages.{Spares};
 ghost use Rattle.bm_deferred.specs.Parts.{Nothing, Say};
 ghost use Rattle.bm_deferred.specs.WorkPhrases.{IsReturn};
 ghost use Rattle.bm_desk.specs.Works.{Handled, Posted, Stands, Stopped, Works};
@@ -49,7 +48,6 @@ fn give_back<R: Recorder, H: Desk<R>>(host: &mut H, units: Vec<Unit>)
     requires fit { All (MayLeave (H.W.Knows.rights (H.shared host.old))) units.items }
     ensures posted { Posted H.Host.face H.Host.pending H.stays H.Host.held (λ h. H.W.Knows.known (H.shared h)) H.Host.tests (numbers units.items) host.old host.new }
     ensures mail { (H.W.Knows.known (H.shared host.new)).parcels ≡ (H.W.Knows.known (H.shared host.old)).parcels }
-    ensures pages { Spares (H.W.Knows.known (H.shared host.old)).pages (H.W.Knows.known (H.shared host.new)).pages }
     ensures owes { (done : List Act) → H.asked_owes done host.old → H.asked_owes (done ++ act.Returns (sealed units.items) ∷ []) host.new }
 {
     host.world().put_back(units);

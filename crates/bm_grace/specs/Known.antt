@@ -50,8 +50,6 @@ pub record Known : Type 0 where
   -- the parcels in its own inbox of each class, by the numbers of their units, the oldest first, where they are told
   pub parcels : Option (ℕ → List (List ℕ))
   pub objects : Objects
-  -- by page of the stock its class, if it has one; a page has one while a unit of it is out
-  pub pages : List (Option ℕ)
 
 abbrev pub side : Domain → Known → Side
 side Plain known = known.grace.plain
@@ -71,5 +69,4 @@ no_known = record {
   steps = [];
   parcels = None;
   objects = no_objects;
-  pages = [];
 }

@@ -84,7 +84,7 @@ side_in processor here =
       seen = here.number;
     }
 
--- What the processor whose side it is knows. No steps are told, no parcels, no objects, and no pages.
+-- What the processor whose side it is knows. No steps are told, no parcels, and no objects.
 abbrev pub known_in : PlainState → Known
 known_in state = record {
   grace = record {
@@ -96,5 +96,4 @@ known_in state = record {
   steps = [];
   parcels = None;
   objects = no_objects;
-  pages = [];
 }

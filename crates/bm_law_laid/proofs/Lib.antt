@@ -16,3 +16,4 @@ pub mod Growing
 pub mod PeriodsAlong
 pub mod GraceOver
 pub mod StampsAlong
+pub mod PagesNamed

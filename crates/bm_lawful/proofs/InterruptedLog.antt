@@ -32,7 +32,7 @@ use Rattle.bm_lawful.specs.WorkedHandlers.{counted, finds_busy, handled, handler
 use Rattle.bm_lawful.proofs.BlockParts.{RunsList, block-parts}
 use Rattle.bm_lawful.proofs.Opening.{first-four}
 use Rattle.bm_lawful.proofs.OneObject.{sweep}
-use Rattle.bm_lawful.specs.Short.{ordinary_entries}
+use Rattle.bm_lawful.specs.Short.{all_entries}
 use Rattle.bm_deferred.proofs.Pages.{short-named}
 use Rattle.bm_lawful.proofs.Ran.{drop-runs, dropped, dropped-owns_nothing, new-runs}
 use Rattle.bm_lawful.proofs.Taken.{holding}
@@ -182,7 +182,7 @@ interrupted-lawful = record {
   heading = heading;
   count = refl;
   logs = one-log (handled (makes_and_drops 7 8 9)) interrupted_log log-lawful;
-  short = short-named 1 (ordinary_entries interrupted_journal.logs) refl;
+  short = short-named 1 (all_entries interrupted_journal.logs) refl;
   graphs = refl;
   totals = refl;
 }

@@ -27,7 +27,7 @@ use Rattle.bm_lawful.specs.OwnGrammar.{ordinary}
 use Rattle.bm_lawful.proofs.Unplanned.{done-ordinary}
 use Rattle.bm_lawful.specs.SectionWords.{SectionWords}
 use Rattle.bm_lawful.specs.Lawful.{HeadingOf, Lawful, LawfulLog}
-use Rattle.bm_lawful.specs.Short.{ordinary_entries}
+use Rattle.bm_lawful.specs.Short.{all_entries}
 use Rattle.bm_deferred.proofs.Pages.{short-named}
 use Rattle.bm_lawful.specs.WorkedJournal.{vector_of, block_of, sweep_period}
 use Rattle.bm_lawful.specs.WorkedDeferred.{block, makes_never, no_block, begins, work_reads, refills, work_ends, stops, closes, no_block_log, no_block_journal}
@@ -161,7 +161,7 @@ no_block-lawful = record {
   heading = heading;
   count = refl;
   logs = one-log no_block no_block_log log-lawful;
-  short = short-named 2 (ordinary_entries no_block_journal.logs) refl;
+  short = short-named 2 (all_entries no_block_journal.logs) refl;
   graphs = refl;
   totals = refl;
 }

@@ -19,7 +19,7 @@ use Rattle.bm_lawful.specs.Held.{no_names}
 use Rattle.bm_lawful.specs.OwnGrammar.{IsLog, LawfulLog, ordinary}
 use Rattle.bm_lawful.specs.SectionWords.{SectionWords}
 use Rattle.bm_lawful.specs.Lawful.{HeadingOf, Lawful}
-use Rattle.bm_lawful.specs.Short.{ordinary_entries}
+use Rattle.bm_lawful.specs.Short.{all_entries}
 use Rattle.bm_deferred.proofs.Pages.{short-named}
 use Rattle.bm_lawful.specs.WorkedJournal.{asks, asked, took_none, ended, no_object, no_object_log, no_object_journal}
 use Rattle.bm_lawful.proofs.Ran.{with_null, null-runs, null-owns_nothing}
@@ -98,7 +98,7 @@ no_object-lawful = record {
   heading = heading;
   count = refl;
   logs = one-log no_object no_object_log (told-log no_object refl 0 refl no_object_log log-lawful);
-  short = short-named 0 (ordinary_entries no_object_journal.logs) refl;
+  short = short-named 0 (all_entries no_object_journal.logs) refl;
   graphs = refl;
   totals = refl;
 }

@@ -30,7 +30,7 @@ use Rattle.bm_lawful.specs.OwnGrammar.{ordinary}
 use Rattle.bm_lawful.proofs.Unplanned.{done-ordinary}
 use Rattle.bm_lawful.specs.SectionWords.{SectionWords}
 use Rattle.bm_lawful.specs.Lawful.{HeadingOf, Lawful, LawfulLog}
-use Rattle.bm_lawful.specs.Short.{ordinary_entries}
+use Rattle.bm_lawful.specs.Short.{all_entries}
 use Rattle.bm_deferred.proofs.Pages.{short-named}
 use Rattle.bm_lawful.specs.WorkedJournal.{vector_of, block_of, x_name, item_id, drops_x, drops_x_unless_null, sweep_period}
 use Rattle.bm_lawful.specs.WorkedDeferred.{block, makes_block, makes_and_drops_block, one_block, begins, takes, drops, work_reads, refills, work_ends, stops, closes, one_block_log, one_block_journal}
@@ -242,7 +242,7 @@ one_block-lawful = record {
   heading = heading;
   count = refl;
   logs = one-log one_block one_block_log log-lawful;
-  short = short-named 2 (ordinary_entries one_block_journal.logs) refl;
+  short = short-named 2 (all_entries one_block_journal.logs) refl;
   graphs = refl;
   totals = refl;
 }

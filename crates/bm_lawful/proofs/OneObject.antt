@@ -19,7 +19,7 @@ use Rattle.bm_lawful.proofs.Opening.{first-four}
 use Rattle.bm_lawful.specs.OwnGrammar.{IsLog, LawfulLog, ordinary}
 use Rattle.bm_lawful.specs.SectionWords.{SectionWords}
 use Rattle.bm_lawful.specs.Lawful.{HeadingOf, Lawful}
-use Rattle.bm_lawful.specs.Short.{ordinary_entries}
+use Rattle.bm_lawful.specs.Short.{all_entries}
 use Rattle.bm_deferred.proofs.Pages.{short-named}
 use Rattle.bm_lawful.specs.WorkedJournal.{asks, one_page, asked, took, gave, ended, swept, sweep_period, one_object, one_object_log, one_object_journal}
 use Rattle.bm_lawful.proofs.Ran.{dropped, object-runs, dropped-owns_nothing}
@@ -115,7 +115,7 @@ one_object-lawful = record {
   heading = heading;
   count = refl;
   logs = one-log one_object one_object_log (told-log one_object refl 0 refl one_object_log log-lawful);
-  short = short-named 1 (ordinary_entries one_object_journal.logs) refl;
+  short = short-named 1 (all_entries one_object_journal.logs) refl;
   graphs = refl;
   totals = refl;
 }

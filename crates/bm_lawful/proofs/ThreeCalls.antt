@@ -18,7 +18,7 @@ use Rattle.bm_lawful.specs.Held.{no_names}
 use Rattle.bm_lawful.specs.OwnGrammar.{IsLog, LawfulLog, ordinary}
 use Rattle.bm_lawful.specs.SectionWords.{SectionWords}
 use Rattle.bm_lawful.specs.Lawful.{HeadingOf, Lawful}
-use Rattle.bm_lawful.specs.Short.{ordinary_entries}
+use Rattle.bm_lawful.specs.Short.{all_entries}
 use Rattle.bm_deferred.proofs.Pages.{short-named}
 use Rattle.bm_lawful.specs.WorkedJournal.{asks, took_none, twice_part, main_part, three_calls, three_calls_log, three_calls_journal}
 use Rattle.bm_lawful.proofs.Ran.{with_null, two_nulls, null-runs, twice-runs, null-owns_nothing, nulls-own_nothing}
@@ -105,7 +105,7 @@ three_calls-lawful = record {
   heading = heading;
   count = refl;
   logs = one-log three_calls three_calls_log (told-log three_calls refl 0 refl three_calls_log log-lawful);
-  short = short-named 0 (ordinary_entries three_calls_journal.logs) refl;
+  short = short-named 0 (all_entries three_calls_journal.logs) refl;
   graphs = refl;
   totals = refl;
 }

@@ -7,7 +7,7 @@ use Rattle.bm_journal.specs.declared.entry.Entry.{Entry}
 use Rattle.bm_deferred.specs.Pages.{HasShort, all_given, units_given, wanted}
 use Rattle.bm_deferred.proofs.Pages.{any_short, not-named}
 use Rattle.bm_lawful.specs.Lawful.{Lawful}
-use Rattle.bm_lawful.specs.Short.{ordinary_entries}
+use Rattle.bm_lawful.specs.Short.{all_entries}
 use Rattle.bm_lawful.specs.WrongShort.{three_pages, third_unnamed}
 
 short-by : (e : Entry) (es : List Entry) (b : Bool) → nat_lt (length (units_given e)) (wanted e) ≡ b → (b || any_short es) ≡ true → (any_short es ≡ true → HasShort es) → HasShort (e ∷ es)
@@ -21,5 +21,5 @@ has-short (e ∷ es) h = short-by e es (nat_lt (length (units_given e)) (wanted 
 pub third_unnamed-wrong : ¬ Lawful three_pages third_unnamed
 unfolding size_of_class
 third_unnamed-wrong l =
-    let es = ordinary_entries third_unnamed.logs in
+    let es = all_entries third_unnamed.logs in
     not-named 2 (all_given es) refl (l.short (has-short es refl) 2 (lit< tt))

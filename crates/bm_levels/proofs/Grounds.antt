@@ -16,7 +16,6 @@ use Rattle.bm_deferred.specs.Begun.{begun_by}
 use Rattle.bm_deferred.proofs.Begun.{AllStill, IsIdle, IsStill, over-idle, progressed-records, still-idle}
 use Rattle.bm_deferred.proofs.Each.{of-map}
 use Rattle.bm_deferred.proofs.Inboxes.{IsQuiet, delivered-records, still-quiet}
-use Rattle.bm_deferred.proofs.Pages.{TakesNone, spares-same, still-takes-none, supplied-records}
 use Rattle.bm_desk.specs.Dated.{Dated}
 use Rattle.bm_desk.specs.Goes.{GoesOn}
 use Rattle.bm_desk.proofs.Points.{dated-kept}
@@ -37,7 +36,7 @@ pub both-ok : {X E : Type 0} (r : Result X E) (A B : Type 0) → OnOk r A → On
 both-ok (Ok x) A B a b = (a, b)
 both-ok (Err e) A B a b = tt
 
--- entries of its own that have nothing to do with parcels, periods and the stock, of which the side knows what it knew
+-- entries of its own that have nothing to do with parcels and periods, of which the side knows what it knew
 ordinary-still : (own : List Entry) (a b : Processor) → GoesOn (known_of a) (known_of b) → Records 0 own (log_of a) (log_of b) → AllStill own → Ordinary a b
 ordinary-still own a b g r q =
     let k = known_of a in
@@ -47,7 +46,6 @@ ordinary-still own a b g r q =
       processor = g.processor;
       periods = λ d. progressed-records 0 d own (begun_by (side d k).number) (begun_by (side d n).number) (log_of a) (log_of b) (ap begun_by (g.number d) ∙ sym (over-idle d (begun_by (side d k).number) own (of-map IsStill IsIdle still-idle own q))) r;
       mail = delivered-records 0 k.grace.processors k.grace.processor own k.parcels n.parcels (log_of a) (log_of b) (of-map IsStill IsQuiet still-quiet own q) g.parcels r;
-      supplied = supplied-records 0 own k.pages n.pages (log_of a) (log_of b) (of-map IsStill TakesNone still-takes-none own q) (spares-same k.pages n.pages g.pages) r;
     }
 
 -- a call of ordinary code for an object, or to end one, with the handlers between its steps

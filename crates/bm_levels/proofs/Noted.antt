@@ -102,9 +102,9 @@ none-passes r n h (suc (suc k)) life seal = rw h refl
 pub stands-nowhere : (l n : ℕ) (m : Processor) → (rights_living m.side).mine n ≡ false → FineAt l m → stands n (lists_of m) ≡ 0
 stands-nowhere l n m h f = nowhere n (shown m.caches) (failing n (tests_of m) (shown m.caches) (none-passes (rights_living m.side) n h) f.proper)
 
--- what is known of grace periods, parcels and pages is as it was
-goes-graced : (a b : Known) → b.grace ≡ a.grace → b.parcels ≡ a.parcels → b.pages ≡ a.pages → GoesOn a b
-goes-graced a b g q r =
+-- what is known of grace periods and parcels is as it was
+goes-graced : (a b : Known) → b.grace ≡ a.grace → b.parcels ≡ a.parcels → GoesOn a b
+goes-graced a b g q =
     let F : Sides → Type 0 = λ x. GoesOn a (record b { grace = x }) in
     subst F (sym g) (record {
       processors = refl;
@@ -116,7 +116,6 @@ goes-graced a b g q r =
       begins = λ d. same (λ (s : Side). s.begins) d;
       seen = λ d. (let e = same (λ (s : Side). s.seen) d in omega (arith, e));
       parcels = q;
-      pages = r;
     })
   where
     same : {A : Type 0} (f : Side → A) (d : Domain) → f (side d (record b { grace = a.grace })) ≡ f (side d a)
@@ -138,10 +137,10 @@ between-sided n l p m w s a f c =
         asks_most = omega (arith, a);
         words_most = (let e = ap (λ (x : Sides). x.plain.word) g in omega (arith, e));
         inner = λ h. ap (λ (x : Sides). x.plain.word) g;
-        parity = λ d. (goes-graced (known_of m) (known_living w) g (ap (λ (x : SideState). (side_known x).parcels) s) (ap (λ (x : SideState). (side_known x).pages) s)).words d;
+        parity = λ d. (goes-graced (known_of m) (known_living w) g (ap (λ (x : SideState). (side_known x).parcels) s)).words d;
         processors = ap (λ (x : Sides). x.processors) g;
         processor = ap (λ (x : Sides). x.processor) g;
       };
-      goes = goes-graced (known_of m) (known_living w) g (ap (λ (x : SideState). (side_known x).parcels) s) (ap (λ (x : SideState). (side_known x).pages) s);
+      goes = goes-graced (known_of m) (known_living w) g (ap (λ (x : SideState). (side_known x).parcels) s);
       fewer = omega arith;
     }

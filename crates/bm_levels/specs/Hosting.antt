@@ -205,5 +205,4 @@ goes-joined a b c x y = record {
   begins = λ d. y.begins d ∙ x.begins d;
   seen = λ d. (let v = x.seen d in let w = y.seen d in omega (arith, v, w));
   parcels = y.parcels ∙ x.parcels;
-  pages = y.pages ∙ x.pages;
 }

@@ -7,7 +7,6 @@ use Rattle.bm_deferred.specs.Begun.{begun_by}
 use Rattle.bm_deferred.specs.Inboxes.{Delivered}
 use Rattle.bm_deferred.proofs.Begun.{progressed-join, progressed-none}
 use Rattle.bm_deferred.proofs.Inboxes.{delivered-join, delivered-none}
-use Rattle.bm_deferred.proofs.Pages.{spares-same, supplied-same}
 use Rattle.bm_levels.specs.AtProcessor.{log_of}
 use Rattle.bm_levels.specs.Ordinary.{Ordinary, Statements}
 use Rattle.bm_levels.specs.Ready.{known_of}
@@ -21,7 +20,6 @@ ordinary-same m =
       processor = refl;
       periods = λ d. progressed-none 0 d (begun_by (side d k).number) (begun_by (side d k).number) (log_of m) refl;
       mail = delivered-none 0 k.grace.processors k.grace.processor k.parcels k.parcels (log_of m) refl;
-      supplied = supplied-same 0 k.pages k.pages (log_of m) (spares-same k.pages k.pages refl);
     }
 
 -- what each of two stretches leaves, both leave
@@ -37,7 +35,6 @@ ordinary-joined a b c x y =
       processor = y.processor ∙ x.processor;
       periods = λ d. progressed-join 0 d (begun_by (side d i).number) (begun_by (side d j).number) (begun_by (side d k).number) (log_of a) (log_of b) (log_of c) (x.periods d) (y.periods d);
       mail = delivered-join 0 i.grace.processors i.grace.processor i.parcels j.parcels k.parcels (log_of a) (log_of b) (log_of c) x.mail mail;
-      supplied = λ pages h. y.supplied pages (x.supplied pages h);
     }
 
 -- where nothing is done

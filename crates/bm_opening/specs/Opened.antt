@@ -51,7 +51,6 @@ pub record IsOpen (p : Program) (f : Filling) (m : Processor) : Type 0 where
   pub parcels : (known_of m).parcels ≡ Some (λ c. [])
   pub numbers : (d : Domain) → (side d (known_of m)).number ≡ 0
   pub words : (d : Domain) → (side d (known_of m)).word ≡ 0
-  pub pages : (known_of m).pages ≡ f.pool.classes
   pub planned : left_of m ≡ planned_for 0 p.scenario.now
   pub running : m.running.items ≡ []
   pub inside : m.inside ≡ false

@@ -4,4 +4,3 @@ pub mod Fetched
 pub mod Posts
 pub mod Room
 pub mod Told
-pub mod Pages

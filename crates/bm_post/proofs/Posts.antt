@@ -14,8 +14,8 @@ use Rattle.bm_page.specs.Stock.{Stock, stocked_at, fetched}
 use Rattle.bm_page.specs.Out.{AreOut, IsFromStock}
 use Rattle.bm_grace.specs.Rights.{Rights}
 use Rattle.bm_post.specs.Rights.{AreSame, MayLeave, Gains, Loses, Holds, numbers}
-use Rattle.bm_post.specs.Calls.{IsOf, Takes, Fetches, Receives}
-use Rattle.bm_post.specs.PostState.{Parcels, PostState, all_returned, is_mine, rights_in, times_in, waits, no_parcels}
+use Rattle.bm_post.specs.Calls.{IsOf, Posts, Takes, Fetches, Receives}
+use Rattle.bm_post.specs.PostState.{Parcels, PostState, all_returned, is_mine, known_by, rights_in, times_in, waits, no_parcels}
 use Rattle.bm_post.specs.Kept.{IsParcel, IsPost, IsRoomy}
 use Rattle.bm_post.proofs.Counts.{at-number, here-times, once-pairs, zero-or-more}
 use Rattle.bm_post.proofs.Fetched.{fetch-keeps, fetch-others}
@@ -276,3 +276,9 @@ empty-front xs ys x e all = go ys (subst (All (λ (y : Parcels). y ≡ [])) e al
         head : (y : Parcels) (ys : List Parcels) → All (λ (z : Parcels). z ≡ []) ((y ∷ ys) ++ x ∷ []) → All (λ (z : Parcels). z ≡ []) ys → All (λ (z : Parcels). z ≡ []) (y ∷ ys)
         head y ys h rest zero d lt = h 0 d (omega arith)
         head y ys h rest (suc k) d lt = rest k d (omega arith)
+
+-- ---- what a post knows
+
+-- it knows nothing of the pool
+pub posts-of : (pool pool' : Stock) (p q : ℕ) (xs : List Parcels) → Posts false (known_by (record { pool = pool; processors = p; processor = q; inboxes = xs })) (known_by (record { pool = pool'; processors = p; processor = q; inboxes = xs }))
+posts-of pool pool' p q xs = record { steps = []; known = refl }

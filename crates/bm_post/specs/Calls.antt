@@ -42,12 +42,6 @@ pub record Posts (tells : Bool) (before now : Known) : Type 0 where
   pub steps : List TableStep
   pub known : now ≡ record before { steps = told tells before.steps steps }
 
--- .. and the pages took classes, or lost them
-pub record Stocks (tells : Bool) (before now : Known) : Type 0 where
-  pub steps : List TableStep
-  pub pages : List (Option ℕ)
-  pub known : now ≡ record before { steps = told tells before.steps steps; pages = pages }
-
 -- .. and the parcels that are told, if they are, went so
 pub record Mails (tells : Bool) (change : Inboxes → Inboxes) (before now : Known) : Type 0 where
   pub steps : List TableStep

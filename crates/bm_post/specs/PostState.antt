@@ -65,15 +65,14 @@ is_mine state n = (stocked_at state.pool.units n).out && eqb (waits n state.inbo
 abbrev pub told_in : PostState → Inboxes
 told_in state = λ c. if nat_lt c 11 then map numbers (inbox state.processor c state) else []
 
--- A post knows among how many processors it is, and whose side, tells its parcels, and knows the pages; of grace periods and of
--- objects it knows nothing.
+-- A post knows among how many processors it is, and whose side, and tells its parcels; of grace periods and of objects it knows
+-- nothing.
 abbrev pub known_by : PostState → Known
 known_by state = record {
   grace = record { processors = state.processors; processor = state.processor; plain = no_side; tracing = no_side };
   steps = [];
   parcels = Some (told_in state);
   objects = no_objects;
-  pages = state.pool.classes;
 }
 
 -- On one thread each unit with room for one life more may be used again as soon as it is there, whatever its seal.

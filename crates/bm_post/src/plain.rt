@@ -3,12 +3,11 @@
 ghost use Rattle.std.specs.Prelude.{◌≡◌, ◌+◌, ◌*◌, ◌%◌, ◌<◌, ◌≤◌, ◌∷◌, ◌++◌, [], IfOk, IfErr, IfSome, IfNone, OnOk, OnErr, None, drop, false, length, reverse, vec_capacity};
 ghost use Rattle.std.specs.List.{All};
 ghost use Rattle.std.specs.Option.{option_map_or};
-ghost use Rattle.bm_deferred.specs.Pages.{TakesPages, Spares};
 ghost use Rattle.bm_page.specs.Out.{IsFromStock};
 ghost use Rattle.bm_page.specs.Stock.{fetched as stock_fetched, next_unit};
 ghost use Rattle.bm_post.specs.Kept.{IsRoomy};
 ghost use Rattle.bm_post.specs.HasRoom.{room-of};
-ghost use Rattle.bm_post.specs.Calls.{Fetches, GivesBack, IsOf, KeepsCalls, Mails, Receives, Stocks, TellsCall, fetched, received, returned_call, sent};
+ghost use Rattle.bm_post.specs.Calls.{Fetches, GivesBack, IsOf, KeepsCalls, Mails, Posts, Receives, TellsCall, fetched, received, returned_call, sent};
 ghost use Rattle.bm_post.specs.PostState.{Parcels, all_returned, inbox, no_parcels, known_by, rights_in, sent_to, taken_by, told_in};
 ghost use Rattle.bm_post.specs.Parcels.{oldest, parcel_sent, parcel_taken};
 ghost use Rattle.bm_post.specs.Rights.{AreSame, Holds, Lasting, MayLeave, numbers};
@@ -175,9 +174,7 @@ impl Post for PlainPost {
         ensures err { OnErr result (out.new.items ≡ out.old.items) }
         ensures same { OnErr result (AreSame (rights_in self.old) (rights_in self.new)) }
         ensures lasts { Lasting [] (rights_in self.old) (rights_in self.new) }
-        ensures known { Stocks false (known_by self.old) (known_by self.new) }
-        ensures pages { OnOk result (TakesPages want (numbers (drop (length out.old.items) out.new.items)) self.old.pool.classes self.new.pool.classes) }
-        ensures same_pages { OnErr result (self.new.pool.classes ≡ self.old.pool.classes) }
+        ensures known { Posts false (known_by self.old) (known_by self.new) }
     {
         self.pool.fetch(class, want, out)
     }
@@ -188,8 +185,7 @@ impl Post for PlainPost {
         ensures state { self.new ≡ record self.old { pool = all_returned (reverse units.items) self.old.pool } }
         ensures back { GivesBack (numbers units.items) (rights_in self.old) (rights_in self.new) }
         ensures lasts { Lasting (numbers units.items) (rights_in self.old) (rights_in self.new) }
-        ensures known { Stocks false (known_by self.old) (known_by self.new) }
-        ensures pages { Spares self.old.pool.classes self.new.pool.classes }
+        ensures known { Posts false (known_by self.old) (known_by self.new) }
     {
         put_all_back(&mut self.pool, units);
     }

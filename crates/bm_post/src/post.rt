@@ -4,12 +4,11 @@ ghost use Rattle.std.specs.Prelude.{◌≡◌, ◌<◌, ◌≤◌, ◌+◌, ◌^
 ghost use Rattle.std.specs.List.{All};
 ghost use Rattle.std.specs.Option.{option_map_or};
 ghost use Rattle.bm_page.specs.declared.units.Seal.{Seal};
-ghost use Rattle.bm_deferred.specs.Pages.{TakesPages, Spares};
 ghost use Rattle.bm_grace.specs.Rest.{StaysAtRest};
 ghost use Rattle.bm_grace.specs.Rights.{Rights};
 ghost use Rattle.bm_law_order.specs.Act as act;
 ghost use Rattle.bm_law_order.specs.Act.{sealed};
-ghost use Rattle.bm_post.specs.Calls.{Fetches, GivesBack, IsOf, KeepsCalls, Mails, PostCall, Posts, Receives, Stocks, TellsCall, fetched, received, returned_call, sent};
+ghost use Rattle.bm_post.specs.Calls.{Fetches, GivesBack, IsOf, KeepsCalls, Mails, PostCall, Posts, Receives, TellsCall, fetched, received, returned_call, sent};
 ghost use Rattle.bm_post.specs.Parcels.{oldest, parcel_sent, parcel_taken};
 ghost use Rattle.bm_post.specs.Rights.{AreSame, Holds, Lasting, MayLeave, numbers};
 
@@ -37,10 +36,7 @@ pub trait Post: Knows {
         ensures err { OnErr result (out.new.items ≡ out.old.items) }
         ensures same { OnErr result (AreSame (Self.rights self.old) (Self.rights self.new)) }
         ensures lasts { Lasting [] (Self.rights self.old) (Self.rights self.new) }
-        ensures known { Stocks Self.tells (Self.known self.old) (Self.known self.new) }
-        ensures pages { OnOk result
-            (TakesPages want (numbers (drop (length out.old.items) out.new.items)) (Self.known self.old).pages (Self.known self.new).pages) }
-        ensures same_pages { OnErr result ((Self.known self.new).pages ≡ (Self.known self.old).pages) }
+        ensures known { Posts Self.tells (Self.known self.old) (Self.known self.new) }
         ensures rest { StaysAtRest Self.rest self.old self.new }
         ensures calls { IfOk result (λ n. TellsCall (fetched class want n out.old.items out.new.items) (calls self.old) (calls self.new)) }
         ensures no_call { OnErr result (KeepsCalls (calls self.old) (calls self.new)) }
@@ -53,8 +49,7 @@ pub trait Post: Knows {
         requires fit { All (MayLeave (Self.rights self.old)) units.items }
         ensures back { GivesBack (numbers units.items) (Self.rights self.old) (Self.rights self.new) }
         ensures lasts { Lasting (numbers units.items) (Self.rights self.old) (Self.rights self.new) }
-        ensures known { Stocks Self.tells (Self.known self.old) (Self.known self.new) }
-        ensures pages { Spares (Self.known self.old).pages (Self.known self.new).pages }
+        ensures known { Posts Self.tells (Self.known self.old) (Self.known self.new) }
         ensures rest { StaysAtRest Self.rest self.old self.new }
         ensures calls { TellsCall (returned_call units.items) (calls self.old) (calls self.new) }
         ensures does { Self.does (act.Returns (sealed units.items) ∷ []) self.old self.new };

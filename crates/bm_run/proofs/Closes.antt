@@ -20,7 +20,6 @@ use Rattle.bm_cache.specs.Steps.{steps_in}
 use Rattle.bm_deferred.specs.Begun.{begun_by}
 use Rattle.bm_deferred.specs.Inboxes.{Inboxes, on_inbox}
 use Rattle.bm_deferred.specs.Parts.{Then}
-use Rattle.bm_deferred.proofs.Pages.{TakesNone}
 use Rattle.bm_deferred.proofs.Each.{AllOf, PartOf, of-append, of-map, part-nothing, part-say, part-then}
 use Rattle.bm_due.specs.Due.{due_handler}
 use Rattle.bm_due.specs.Plan.{Plan, due_of}
@@ -46,27 +45,27 @@ IsLate (entry.Handler name) = ⊥
 IsLate entry.Ended = ⊥
 IsLate e = IsInner e
 
--- it says nothing of lives, and takes nothing from the stock
+-- it says nothing of lives
 abbrev IsCalm : Entry → Type 0
-IsCalm e = IsLate e × SaysNoLife e × TakesNone e
+IsCalm e = IsLate e × SaysNoLife e
 
 finish-calm : (d : Domain) (own : List Entry) → MayFinish d own → AllOf IsCalm own
 finish-calm d own (inl e) = subst (AllOf IsCalm) (sym e) tt
-finish-calm d own (inr x) = subst (AllOf IsCalm) (sym x.1) (subst (λ (e : Entry). AllOf IsCalm (e ∷ [])) (sym x.2.2) ((tt, tt, tt), tt))
+finish-calm d own (inr x) = subst (AllOf IsCalm) (sym x.1) (subst (λ (e : Entry). AllOf IsCalm (e ∷ [])) (sym x.2.2) ((tt, tt), tt))
 
 begin-calm : (d : Domain) (own : List Entry) → MayBegin d own → AllOf IsCalm own
 begin-calm d own (inl e) = subst (AllOf IsCalm) (sym e) tt
-begin-calm d own (inr x) = subst (AllOf IsCalm) (sym x.2) ((tt, tt, tt), finish-calm d x.1 x.3)
+begin-calm d own (inr x) = subst (AllOf IsCalm) (sym x.2) ((tt, tt), finish-calm d x.1 x.3)
 
 poll-calm : (c : ℕ) (own : List Entry) → PollPhrase c Tracing own → AllOf IsCalm own
-poll-calm c own p = subst (AllOf IsCalm) (sym p.own_is) (of-append IsCalm p.ended (p.begun ++ entry.Pass c Tracing p.seen ∷ []) (finish-calm Tracing p.ended p.may_finish) (of-append IsCalm p.begun (entry.Pass c Tracing p.seen ∷ []) (begin-calm Tracing p.begun p.may_begin) ((tt, tt, tt), tt)))
+poll-calm c own p = subst (AllOf IsCalm) (sym p.own_is) (of-append IsCalm p.ended (p.begun ++ entry.Pass c Tracing p.seen ∷ []) (finish-calm Tracing p.ended p.may_finish) (of-append IsCalm p.begun (entry.Pass c Tracing p.seen ∷ []) (begin-calm Tracing p.begun p.may_begin) ((tt, tt), tt)))
 
 sweep-calm : (c : ℕ) (own : List Entry) → SweepPhrase c own → AllOf IsCalm own
-sweep-calm c own p = subst (AllOf IsCalm) (sym p.own_is) ((tt, tt, tt), ((tt, tt, tt), of-append IsCalm p.poll (entry.Return c (Whole p.returned) ∷ []) (poll-calm c p.poll p.polls) ((tt, tt, tt), tt)))
+sweep-calm c own p = subst (AllOf IsCalm) (sym p.own_is) ((tt, tt), ((tt, tt), of-append IsCalm p.poll (entry.Return c (Whole p.returned) ∷ []) (poll-calm c p.poll p.polls) ((tt, tt), tt)))
 
 ends-calm : (d : Domain) (begun : Option ℕ) → PartOf IsCalm 0 (EndsOne d begun)
 ends-calm d None = part-nothing IsCalm 0
-ends-calm d (Some n) = part-say IsCalm 0 _ (λ own h. subst (AllOf IsCalm) (sym h.3) ((tt, tt, tt), tt))
+ends-calm d (Some n) = part-say IsCalm 0 _ (λ own h. subst (AllOf IsCalm) (sym h.3) ((tt, tt), tt))
 
 where-calm : (c : ℕ) (us : List ℕ) → PartOf IsCalm 0 (SweepWhere c us)
 where-calm c [] = part-nothing IsCalm 0
@@ -89,9 +88,6 @@ rest-late known classes boxes s part h = of-map IsCalm IsLate (λ e k. k.0) (own
 
 pub rest-silent : (known : Known) (classes : List ℕ) (boxes : Inboxes) (s : State ℕ) (part : Log) → Then (EndsBegun known) (SweepsTold classes boxes) s part → Silent (own_entries 0 part)
 rest-silent known classes boxes s part h = of-map IsCalm SaysNoLife (λ e k. k.1) (own_entries 0 part) (rest-calm known classes boxes s part h)
-
-pub rest-takes-none : (known : Known) (classes : List ℕ) (boxes : Inboxes) (s : State ℕ) (part : Log) → Then (EndsBegun known) (SweepsTold classes boxes) s part → AllOf TakesNone (own_entries 0 part)
-rest-takes-none known classes boxes s part h = of-map IsCalm TakesNone (λ e k. k.2) (own_entries 0 part) (rest-calm known classes boxes s part h)
 
 -- ---- how the log goes on then
 

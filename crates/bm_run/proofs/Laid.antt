@@ -7,7 +7,7 @@ use Rattle.bm_journal.specs.declared.ids.Domain.TheVariants.{Plain, Tracing}
 use Rattle.bm_law.specs.Lists.{Log}
 use Rattle.bm_law_order.specs.Acts.{ActsLead}
 use Rattle.bm_law_order.specs.ByDomain.{of}
-use Rattle.bm_law_order.specs.Orders.{Leads, by}
+use Rattle.bm_law_order.specs.Orders.{IsLaid, Leads, Order, by}
 use Rattle.bm_law_order.specs.Shared.{Shared, fresh}
 use Rattle.bm_law_order.specs.Story.{Steady, plainly}
 use Rattle.bm_law_order.specs.Tie.{Tied, whatever}
@@ -117,3 +117,6 @@ whole-one turns log =
     let split : by 0 (o ++ (s ++ (g ++ (p ++ w)))) ≡ by 0 o ++ (by 0 s ++ (by 0 g ++ (by 0 p ++ by 0 w))) =
     by-append 0 o (s ++ (g ++ (p ++ w))) ∙ ap (λ z. by 0 o ++ z) (by-append 0 s (g ++ (p ++ w)) ∙ ap (λ z. by 0 s ++ z) (by-append 0 g (p ++ w) ∙ ap (λ z. by 0 g ++ z) (by-append 0 p w))) in
     apart ∙ (parts ∙ (sym split ∙ ap (by 0) all))
+
+pub laid-whole : (turns : List ℕ) (pages : ℕ) (log : Log) → IsLaid 1 pages (by 0 log) → IsLaid 1 pages (whole turns (log ∷ []))
+laid-whole turns pages log = subst (λ (o : Order). IsLaid 1 pages o) (sym (whole-one turns log))

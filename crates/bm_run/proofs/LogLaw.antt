@@ -11,7 +11,6 @@ use Rattle.bm_page.specs.Stock.{Stock, fetched}
 use Rattle.bm_grace.specs.Known.{side}
 use Rattle.bm_post.specs.PostState.{told_in}
 use Rattle.bm_post.specs.Rights.{numbers}
-use Rattle.bm_post.proofs.Pages.{fetched-brings, fetched-fewer}
 use Rattle.bm_law.specs.Alone.{AllAt, GrewAt, at_level}
 use Rattle.bm_law.specs.Lists.{Leaves, Log, after}
 use Rattle.bm_law.specs.Null.{NullLaw}
@@ -28,11 +27,9 @@ use Rattle.bm_cache.specs.Tokens.{Token, number_of}
 use Rattle.bm_deferred.specs.Begun.{Progressed, Progresses, begun_by, begun_over}
 use Rattle.bm_deferred.specs.Grown.{GrewBy, GrewPart}
 use Rattle.bm_deferred.specs.Inboxes.{Delivered, Delivers, Inboxes}
-use Rattle.bm_deferred.specs.Pages.{HasClass, ShortLaw, Supplies, SuppliesBy}
 use Rattle.bm_deferred.specs.Parts.{Part, Say, Stand, Then}
 use Rattle.bm_deferred.proofs.Begun.{IsIdle, begun-append, over-idle}
 use Rattle.bm_deferred.proofs.Each.{AllOf}
-use Rattle.bm_deferred.proofs.Pages.{spares-same, supplies-brought, supplies-more}
 use Rattle.bm_lawful.specs.Closing.{AreSweeps, EndsPeriods, in_progress}
 use Rattle.bm_lawful.specs.Fills.{AreFills, fresh_stock, prefill}
 use Rattle.bm_due.specs.Standing.{HandlersStand}
@@ -42,7 +39,6 @@ use Rattle.bm_lawful.specs.SectionWords.{SectionWords}
 use Rattle.bm_lawful.specs.Lawful.{LawfulLog}
 use Rattle.bm_lawful.specs.Opened.{opened_classes, uses_class}
 use Rattle.bm_lawful.specs.Parcels.{ParcelLaw, no_parcels, sends_alone}
-use Rattle.bm_lawful.specs.Short.{JournalShort}
 use Rattle.bm_mail.specs.SweepsTold.{ClosingTold, SweepsTold}
 use Rattle.bm_closing.specs.EndsBegun.{EndsBegun}
 use Rattle.bm_lives.specs.Together.{named as named_all, named_in, times as times_in}
@@ -70,7 +66,7 @@ use Rattle.bm_opening.specs.Filling.{filling}
 use Rattle.bm_opening.specs.Opened.{IsOpen}
 use Rattle.bm_run.specs.Closed.{Closed}
 use Rattle.bm_run.specs.Lines.{Wrote}
-use Rattle.bm_run.proofs.Closes.{LawfulSoFar, closing-is, ends-are, late-goes-on, rest-late, rest-silent, rest-takes-none}
+use Rattle.bm_run.proofs.Closes.{LawfulSoFar, closing-is, ends-are, late-goes-on, rest-late, rest-silent}
 use Rattle.bm_run.proofs.OpenedList.{opened-has, opened-none}
 use Rattle.bm_run.proofs.Sections.{runs-none}
 use Rattle.bm_run.proofs.Written.{told-of}
@@ -97,38 +93,6 @@ fills-silent : (fs : Fills) → Silent (fill_entries fs)
 fills-silent [] = tt
 fills-silent (f ∷ fs) = (tt, fills-silent fs)
 
--- ---- the pages of the opening
-
-none-fresh : (n page : ℕ) → ¬ HasClass page (replicate n (let o : Option ℕ = None in o))
-none-fresh zero page h = cc
-none-fresh (suc n) zero h = cc
-none-fresh (suc n) (suc page) h = none-fresh n page h
-
-fresh-supplied : (n : ℕ) → Supplies n (fresh_stock n).classes []
-fresh-supplied n = record {
-  count = length-replicate n None;
-  named = λ page h. absurd (none-fresh n page h);
-  short = λ h page lt. absurd h;
-}
-
-fills-supplied : (cs : List ℕ) (n : ℕ) (pool : Stock) (es : List Entry) → Supplies n pool.classes es → Supplies n (filling cs pool).pool.classes (es ++ fill_entries (filling cs pool).fills)
-fills-supplied [] n pool es h = subst (Supplies n pool.classes) (sym (append-nil es)) h
-fills-supplied (c ∷ cs) n pool es h =
-    let f = fetched c (prefill c) pool in
-    let e : Entry = entry.Fill c (named f.units) in
-    let one : Supplies n f.pool.classes (es ++ e ∷ []) = supplies-brought n (prefill c) (numbers f.units) e pool.classes f.pool.classes es refl refl (fetched-brings c (prefill c) pool f.pool refl (fetched-fewer c (prefill c) pool)) h in
-    subst (Supplies n (filling cs f.pool).pool.classes) (append_assoc es (e ∷ []) (fill_entries (filling cs f.pool).fills)) (fills-supplied cs n f.pool (es ++ e ∷ []) one)
-
-opened-supplied : (cs : List ℕ) (n : ℕ) (p : Program) (m : Processor) → IsOpen p (filling cs (fresh_stock n)) m → SuppliesBy 0 n (known_of m).pages (log_of m)
-opened-supplied cs n p m o = subst (λ (x : List (Option ℕ)). SuppliesBy 0 n x (log_of m)) (sym o.pages) (by (log_of m) o.told)
-  where
-    by : (x : Option Log) → IfSome x (λ es. es ≡ fill_log (filling cs (fresh_stock n)).fills) → SuppliesBy 0 n (filling cs (fresh_stock n)).pool.classes x
-    by None h = tt
-    by (Some es) h =
-        let fs : Fills = (filling cs (fresh_stock n)).fills in
-        let own : own_entries 0 es ≡ fill_entries fs = ap (own_entries 0) (h ∙ fill-level fs) ∙ level-own 0 (fill_entries fs) in
-        subst (Supplies n (filling cs (fresh_stock n)).pool.classes) (sym own) (fills-supplied cs n (fresh_stock n) [] (fresh-supplied n))
-
 -- ---- what a run leaves, by its logs
 
 pub record Told (s : Parts) (final : Log) : Type 0 where
@@ -151,7 +115,6 @@ pub record Told (s : Parts) (final : Log) : Type 0 where
   pub none : (u : ℕ) → lived.homes u ≡ None
   pub before : State ℕ
   pub leaves : Leaves 0 (fills ++ scripts) before
-  pub short : ShortLaw s.pages (own_entries 0 ((fills ++ scripts) ++ closing))
 
 same-some : {x y : Log} → Some x ≡ Some y → x ≡ y
 same-some q = cc
@@ -270,10 +233,6 @@ told-run s p m0 m2 m3 final periods r =
     let lived : Lived = lived_in (known_of m3).objects in
     let lives : LivesOn 0 no_lives lived (z.log ++ rest) = lives-join 0 no_lives lived lived z.log rest here3.1 (closing-live lived rest at_rest (rest-silent (known_of m3) classes (told_in m3.side.side.post) (lists_of m3) rest z.is_part)) in
     let empty : (u : ℕ) → lives_of m3.side.slots u ≡ None = λ u. ap (λ (x : LivingState). lives_of x.slots u) r.same ∙ r.lives u in
-    let pages : List (Option ℕ) = (known_of m3).pages in
-    let supplied : Supplies s.pages pages (own_entries 0 z.log) = subst (SuppliesBy 0 s.pages pages) z.told (e.ordinary.supplied s.pages (w.ordinary.supplied s.pages (opened-supplied classes s.pages p m0 o))) in
-    let supplied-all : Supplies s.pages pages (own_entries 0 z.log ++ own_entries 0 rest) = supplies-more s.pages pages pages (own_entries 0 z.log) (own_entries 0 rest) (rest-takes-none (known_of m3) classes (told_in m3.side.side.post) (lists_of m3) rest z.is_part) (spares-same pages pages refl) supplied in
-    let short-all : ShortLaw s.pages (own_entries 0 (z.log ++ rest)) = subst (ShortLaw s.pages) (sym (own-append 0 z.log rest)) supplied-all.short in
     let front2 : Leaves 0 front (lists_of m2) = subst (λ (x : Option Log). IfSome x (λ es. Leaves 0 es (lists_of m2))) told2 (told-of p m2 r.sound) in (
       record {
         fills = fills;
@@ -295,7 +254,6 @@ told-run s p m0 m2 m3 final periods r =
         none = λ u. ap home_of (empty u);
         before = lists_of m2;
         leaves = front2;
-        short = subst (λ (l : Log). ShortLaw s.pages (own_entries 0 l)) all short-all;
       },
       refl,
     )
@@ -415,12 +373,6 @@ lawful-run s p m0 m2 m3 final periods kept null sweeps mail r =
     (λ c. lists-end s c r.closed.last (list_any (uses_class c) s.types) refl (λ used. r.closed.empty c (opened-has s.types c used)) (λ never. ended-row s m2 m3 final t r.closed kept leaves r.lists c never))
     (λ l. ap (λ (h : Side Token). map number_of h.hand) (r.closed.ready.sides l (omega arith)))
     (λ c. (let h = r.closed.ready.active c in omega (arith, h)))
-
--- where the whole log names fewer units than were wanted
-pub short-run : (s : Parts) (p : Program) (m0 m2 m3 : Processor) (final : Log) → OwnPeriods → RunLeft s p m0 m2 m3 final → JournalShort s.pages (final ∷ [])
-short-run s p m0 m2 m3 final periods r =
-    let t : Told s final = (told-run s p m0 m2 m3 final periods r).0 in
-    subst (ShortLaw s.pages) (sym (append-nil (own_entries 0 final))) (subst (λ (l : Log). ShortLaw s.pages (own_entries 0 l)) (sym t.final_is) t.short)
 
 -- ---- lives over the whole log
 

@@ -59,7 +59,6 @@ unmoved-by kind a b k = record {
   processor = ap (λ (x : Known). x.grace.processor) k;
   number = λ d. ap (λ (x : Known). (side d x).number) k ∙ number-moved kind (known_of a) d;
   parcels = ap (λ (x : Known). x.parcels) k;
-  pages = ap (λ (x : Known). x.pages) k;
 }
 
 -- what stands in the lists is as it was, and so is what the side may do

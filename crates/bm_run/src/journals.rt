@@ -14,7 +14,6 @@ ghost use Rattle.bm_cache.specs.Shown.{shown};
 ghost use Rattle.bm_exec.specs.Lists.{behind_of};
 ghost use Rattle.bm_lawful.specs.Opened.{object_size, opened_classes};
 ghost use Rattle.bm_lawful.specs.Lawful.{LawfulLog};
-ghost use Rattle.bm_lawful.specs.Short.{JournalShort};
 ghost use Rattle.bm_lives.specs.Lives.{WholeLives};
 ghost use Rattle.bm_lives.specs.Returns.{ReturnsLaw};
 ghost use Rattle.bm_lives.specs.Whole.{LawfulWhole};
@@ -94,7 +93,6 @@ fn journal_of(
     requires classes { classes.now ≡ opened_classes scenario.now.types }
     requires whole { IsTrue (is_whole_log log) }
     requires lawful { LawfulLog scenario.now 0 log }
-    requires short { JournalShort scenario.now.pages (log ∷ []) }
     requires lives { WholeLives (log ∷ []) }
     requires returns { ReturnsLaw (log ∷ []) }
     requires laid { IsLaid 1 scenario.now.pages (by 0 log) }
@@ -205,7 +203,6 @@ fn log_of<B: Since>(
     ensures lawful { IfOk result (LawfulLog scenario.now 0) }
     ensures laid { IfOk result (λ log. IsLaid 1 scenario.now.pages (by 0 log)) }
     ensures idle { IfOk result (IsIdleAfter scenario.now.pages) }
-    ensures short { IfOk result (λ log. JournalShort scenario.now.pages (log ∷ [])) }
     ensures lives { IfOk result (λ log. WholeLives (log ∷ [])) }
     ensures returns { IfOk result (λ log. ReturnsLaw (log ∷ [])) }
     ensures whole { IfOk result (λ log. IsTrue (is_whole_log log)) }

@@ -18,7 +18,7 @@ ghost use Rattle.bm_grace.specs.Known.{side};
 ghost use Rattle.bm_law.specs.Stands.{stands, times};
 ghost use Rattle.bm_law.specs.State.{seen};
 ghost use Rattle.bm_grace.specs.Rest.{StaysAtRest};
-ghost use Rattle.bm_post.specs.Calls.{Stocks, Takes};
+ghost use Rattle.bm_post.specs.Calls.{Posts, Takes};
 ghost use Rattle.bm_world.specs.SideState.{SideAtRest, known_of};
 ghost use Rattle.bm_closing.specs.AtEnd.{AtEnd, ended_at};
 
@@ -114,7 +114,7 @@ fn fetched<S: World>(
 ) -> Vec<Unit>
     ensures count { length result.items ≡ want }
     ensures takes { Takes class result.items (S.Knows.rights side.old) (S.Knows.rights side.new) }
-    ensures posts { Stocks S.Knows.tells (S.Knows.known side.old) (S.Knows.known side.new) }
+    ensures posts { Posts S.Knows.tells (S.Knows.known side.old) (S.Knows.known side.new) }
     ensures rest { StaysAtRest S.Knows.rest side.old side.new }
 {
     let mut units = Vec::new(rt.alloc());

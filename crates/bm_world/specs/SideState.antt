@@ -17,9 +17,9 @@ pub record AreOne (post : PostState) (grace : PlainState) : Type 0 where
   pub processors : post.processors ≡ grace.processors
   pub processor : post.processor ≡ grace.processor
 
--- It knows what its side of the grace periods knows, and tells the parcels of its side of the post, and its pages.
+-- It knows what its side of the grace periods knows, and tells the parcels of its side of the post.
 abbrev pub known_of : SideState → Known
-known_of world = record (known_in world.grace) { parcels = Some (told_in world.post); pages = world.post.pool.classes }
+known_of world = record (known_in world.grace) { parcels = Some (told_in world.post) }
 
 -- All is at rest where it is in the grace periods.
 abbrev pub SideAtRest : SideState → Domain → ℕ → Type 0

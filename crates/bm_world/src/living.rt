@@ -3,7 +3,6 @@
 ghost use Rattle.std.specs.Prelude.{◌≡◌, ◌≢◌, ◌+◌, ◌%◌, ◌^◌, ◌<◌, ◌≤◌, ◌∷◌, ◌++◌, [], drop, ℕ, eqb, if◌then◌else◌, List, Option, None, Some, false, length, is_some, reverse, true, IfOk, IfErr, IfSome, IfNone, OnOk, OnErr};
 ghost use Rattle.std.specs.List.{All};
 ghost use Rattle.std.specs.Option.{option_map_or};
-ghost use Rattle.bm_deferred.specs.Pages.{TakesPages, Spares};
 ghost use Rattle.bm_page.specs.Stock.{fetched as stock_fetched};
 ghost use Rattle.bm_grace.specs.Answers.{Answers, BeganAt, CanFinish, Stamped, Verdict, ended, next, number_in};
 ghost use Rattle.bm_grace.specs.Calls.{began, entered, finished, found_at, left, looked, looks, read};
@@ -16,7 +15,7 @@ ghost use Rattle.bm_grace.specs.Known.{side};
 ghost use Rattle.bm_journal.specs.declared.ids.Domain.{Domain as DomainValue};
 ghost use Rattle.bm_grace.specs.PlainState.{domain_in, is_processor, period_begun, period_ended, period_looked, with_domain, word_moved, words_in};
 ghost use Rattle.bm_post.specs.PostState.{all_returned, inbox, sent_to, taken_by, told_in};
-ghost use Rattle.bm_post.specs.Calls.{Fetches, GivesBack, IsOf, Mails, Posts, Receives, Stocks};
+ghost use Rattle.bm_post.specs.Calls.{Fetches, GivesBack, IsOf, Mails, Posts, Receives};
 ghost use Rattle.bm_post.specs.Parcels.{oldest, parcel_sent, parcel_taken};
 ghost use Rattle.bm_post.specs.Rights.{AreSame, Gains, Holds, IsSettled, Lasting, Loses, MayLeave, numbers};
 ghost use Rattle.bm_world.specs.Slots.{AllEmpty, unit_at};
@@ -373,9 +372,7 @@ impl Post for LivingSide {
         ensures err { OnErr result (out.new.items ≡ out.old.items) }
         ensures same { OnErr result (AreSame (rights_living self.old) (rights_living self.new)) }
         ensures lasts { Lasting [] (rights_living self.old) (rights_living self.new) }
-        ensures known { Stocks false (known_living self.old) (known_living self.new) }
-        ensures pages { OnOk result (TakesPages want (numbers (drop (length out.old.items) out.new.items)) self.old.side.post.pool.classes self.new.side.post.pool.classes) }
-        ensures same_pages { OnErr result (self.new.side.post.pool.classes ≡ self.old.side.post.pool.classes) }
+        ensures known { Posts false (known_living self.old) (known_living self.new) }
         ensures rest { StaysAtRest LivingAtRest self.old self.new }
         ensures does { OnOk result (LivingDoes (act.Fetches class want (numbers (drop (length out.old.items) out.new.items)) ∷ []) self.old self.new) }
         ensures idle { OnErr result (LivingDoes [] self.old self.new) }
@@ -393,8 +390,7 @@ impl Post for LivingSide {
         ensures asked { self.new.asked ≡ self.old.asked }
         ensures back { GivesBack (numbers units.items) (rights_living self.old) (rights_living self.new) }
         ensures lasts { Lasting (numbers units.items) (rights_living self.old) (rights_living self.new) }
-        ensures known { Stocks false (known_living self.old) (known_living self.new) }
-        ensures pages { Spares self.old.side.post.pool.classes self.new.side.post.pool.classes }
+        ensures known { Posts false (known_living self.old) (known_living self.new) }
         ensures rest { StaysAtRest LivingAtRest self.old self.new }
         ensures does { LivingDoes (act.Returns (sealed units.items) ∷ []) self.old self.new }
     {

@@ -3,7 +3,6 @@
 ghost use Rattle.std.specs.Prelude.{◌≡◌, ℕ, ◌+◌, ◌%◌, ◌^◌, ◌<◌, ◌≤◌, ◌∷◌, ◌++◌, [], drop, None, false, length, reverse, true, IfOk, IfErr, IfSome, IfNone, OnOk, OnErr};
 ghost use Rattle.std.specs.List.{All};
 ghost use Rattle.std.specs.Option.{option_map_or};
-ghost use Rattle.bm_deferred.specs.Pages.{TakesPages, Spares};
 ghost use Rattle.bm_page.specs.Out.{IsFromStock};
 ghost use Rattle.bm_page.specs.Stock.{fetched as stock_fetched};
 ghost use Rattle.bm_grace.specs.Answers.{Answers, BeganAt, CanFinish, Stamped, Verdict, ended, next, number_in};
@@ -18,7 +17,7 @@ ghost use Rattle.bm_journal.specs.declared.ids.Domain.{Domain as DomainValue};
 ghost use Rattle.bm_grace.specs.PlainState.{domain_in, is_processor, period_begun, period_ended, period_looked, with_domain, word_moved, words_in};
 ghost use Rattle.bm_post.specs.PostState.{all_returned, inbox, rights_in, sent_to, taken_by, told_in};
 ghost use Rattle.bm_post.specs.HasRoom.{room-of};
-ghost use Rattle.bm_post.specs.Calls.{Fetches, GivesBack, IsOf, Mails, Posts, Receives, Stocks};
+ghost use Rattle.bm_post.specs.Calls.{Fetches, GivesBack, IsOf, Mails, Posts, Receives};
 ghost use Rattle.bm_post.specs.Parcels.{oldest, parcel_sent, parcel_taken};
 ghost use Rattle.bm_world.specs.SideState.{SideAtRest, idle-of, known_of};
 ghost use Rattle.bm_world.specs.Told.{SideDoes, does-join, does-same};
@@ -251,9 +250,7 @@ impl Post for OneSide {
         ensures err { OnErr result (out.new.items ≡ out.old.items) }
         ensures same { OnErr result (AreSame (rights_in self.old.post) (rights_in self.new.post)) }
         ensures lasts { Lasting [] (rights_in self.old.post) (rights_in self.new.post) }
-        ensures known { Stocks false (known_of self.old) (known_of self.new) }
-        ensures pages { OnOk result (TakesPages want (numbers (drop (length out.old.items) out.new.items)) self.old.post.pool.classes self.new.post.pool.classes) }
-        ensures same_pages { OnErr result (self.new.post.pool.classes ≡ self.old.post.pool.classes) }
+        ensures known { Posts false (known_of self.old) (known_of self.new) }
         ensures rest { StaysAtRest SideAtRest self.old self.new }
         ensures does { OnOk result (SideDoes (act.Fetches class want (numbers (drop (length out.old.items) out.new.items)) ∷ []) self.old self.new) }
         ensures idle { OnErr result (SideDoes [] self.old self.new) }
@@ -268,8 +265,7 @@ impl Post for OneSide {
         ensures grace { self.new.grace ≡ self.old.grace }
         ensures back { GivesBack (numbers units.items) (rights_in self.old.post) (rights_in self.new.post) }
         ensures lasts { Lasting (numbers units.items) (rights_in self.old.post) (rights_in self.new.post) }
-        ensures known { Stocks false (known_of self.old) (known_of self.new) }
-        ensures pages { Spares self.old.post.pool.classes self.new.post.pool.classes }
+        ensures known { Posts false (known_of self.old) (known_of self.new) }
         ensures rest { StaysAtRest SideAtRest self.old self.new }
         ensures does { SideDoes (act.Returns (sealed units.items) ∷ []) self.old self.new }
     {

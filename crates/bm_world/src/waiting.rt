@@ -3,7 +3,6 @@
 ghost use Rattle.std.specs.Prelude.{◌≡◌, ◌≢◌, ◌+◌, ◌%◌, ◌^◌, ◌<◌, ◌≤◌, ◌∷◌, ◌++◌, [], drop, ℕ, List, Option, None, Some, false, length, reverse, true, vec_capacity, IfOk, IfErr, IfSome, IfNone, OnOk, OnErr};
 ghost use Rattle.std.specs.List.{All};
 ghost use Rattle.std.specs.Option.{option_map_or};
-ghost use Rattle.bm_deferred.specs.Pages.{TakesPages, Spares};
 ghost use Rattle.bm_page.specs.Stock.{fetched as stock_fetched};
 ghost use Rattle.bm_page.specs.declared.units.Seal.{Seal};
 ghost use Rattle.bm_grace.specs.Answers.{Answers, BeganAt, CanFinish, Stamped, Verdict, ended, next, number_in};
@@ -16,7 +15,7 @@ ghost use Rattle.bm_grace.specs.Known.{side};
 ghost use Rattle.bm_grace.specs.PlainState.{domain_in, is_processor, period_begun, period_ended, period_looked, with_domain, word_moved, words_in};
 ghost use Rattle.bm_post.specs.PostState.{all_returned, inbox, is_mine, sent_to, taken_by, told_in};
 ghost use Rattle.bm_post.specs.HasRoom.{has_room};
-ghost use Rattle.bm_post.specs.Calls.{Fetches, GivesBack, IsOf, Mails, Posts, Receives, Stocks};
+ghost use Rattle.bm_post.specs.Calls.{Fetches, GivesBack, IsOf, Mails, Posts, Receives};
 ghost use Rattle.bm_post.specs.Parcels.{oldest, parcel_sent, parcel_taken};
 ghost use Rattle.bm_post.specs.Rights.{AreSame, Holds, Lasting, MayLeave, numbers};
 ghost use Rattle.bm_world.specs.SideState.{known_of};
@@ -281,9 +280,7 @@ impl Post for WaitingSide {
         ensures err { OnErr result (out.new.items ≡ out.old.items) }
         ensures same { OnErr result (AreSame (rights_now self.old) (rights_now self.new)) }
         ensures lasts { Lasting [] (rights_now self.old) (rights_now self.new) }
-        ensures known { Stocks false (known_of self.old.side) (known_of self.new.side) }
-        ensures pages { OnOk result (TakesPages want (numbers (drop (length out.old.items) out.new.items)) self.old.side.post.pool.classes self.new.side.post.pool.classes) }
-        ensures same_pages { OnErr result (self.new.side.post.pool.classes ≡ self.old.side.post.pool.classes) }
+        ensures known { Posts false (known_of self.old.side) (known_of self.new.side) }
         ensures rest { StaysAtRest WaitingAtRest self.old self.new }
     {
         self.side.fetch(class, want, out)
@@ -297,8 +294,7 @@ impl Post for WaitingSide {
         ensures waits { self.new.waits ≡ cleared (numbers units.items) self.old.waits }
         ensures back { GivesBack (numbers units.items) (rights_now self.old) (rights_now self.new) }
         ensures lasts { Lasting (numbers units.items) (rights_now self.old) (rights_now self.new) }
-        ensures known { Stocks false (known_of self.old.side) (known_of self.new.side) }
-        ensures pages { Spares self.old.side.post.pool.classes self.new.side.post.pool.classes }
+        ensures known { Posts false (known_of self.old.side) (known_of self.new.side) }
         ensures rest { StaysAtRest WaitingAtRest self.old self.new }
     {
         clear(&mut self.waits, &units);

@@ -20,7 +20,7 @@ use Rattle.bm_desk.specs.DeskTests.{tests_by}
 use Rattle.bm_desk.specs.Goes.{Alike}
 use Rattle.bm_desk.specs.Onward.{Onward}
 use Rattle.bm_desk.specs.Owed.{Whatever}
-use Rattle.bm_desk.proofs.Alike.{alike-stocks}
+use Rattle.bm_desk.proofs.Alike.{alike-posts}
 use Rattle.bm_desk.proofs.Came.{lasting-onward}
 use Rattle.bm_desk.proofs.Gone.{returned-apart, returned-once}
 use Rattle.bm_desk.proofs.Owing.{owes-called, shows, units-sealed}
@@ -70,7 +70,7 @@ returns-clause-at_end g c =
     let k : Known 0 (entry.Return i (Whole ms)) = record { level = omega (arith); class = search rules } in
     let units : c.in_ok-units.units.items ≡ us = c.in_ok-units.ensures.units ∙ ap (λ (x : Caches g.row.R.Denot). ((shown x).rows i).deferred.second) c.caches.ensures.held in
     let named : c.in-Ok.numbers.items ≡ ms = c.in-Ok.ensures ∙ ap (map number_of) units in
-    let alike : Alike (N (g.H.Desk.shared h1)) (N w) = subst (λ x. Alike (N x) (N w)) c.world.ensures.held (alike-stocks _ (N v) (N w) c.put_back.ensures.known) in
+    let alike : Alike (N (g.H.Desk.shared h1)) (N w) = subst (λ x. Alike (N x) (N w)) c.world.ensures.held (alike-posts _ (N v) (N w) c.put_back.ensures.known) in
     let A : Caches g.row.R.Denot → Type 0 = λ x. Lends L C (with_second i [] (shown x)) x z in
     let E : Caches g.row.R.Denot → Type 0 = λ x. Ended L c.level-level.result (entry.Return i (Whole c.in-Ok.numbers.items)) x y in
     let lent : A (g.H.Host.held h) = subst A c.caches.ensures.held c.in_ok-units.ensures.lent in
@@ -86,7 +86,7 @@ returns-clause-at_end g c =
     let r0 : g.R.Recorder.log z.recorder ≡ g.R.Recorder.log (g.H.Host.held h).recorder = ap g.R.Recorder.log lent.recorder in
     let o1 = g.met.H.Desk.owes_open h1 (g.met.H.Host.sound_back h z r0 c.requires.at_end.sound) in
     let given : List Sealed = sealed c.in_ok-units.units.items in
-    let o2 = owes-called g.H.Desk.shared g.H.Desk.with_shared N g.H.W.Knows.does (λ (done : List Act). g.H.Desk.owes done []) (λ x q done more. g.met.H.Desk.owes_done x q done more []) h1 v w (N w) (act.Returns given ∷ []) c.world.ensures.held refl (alike-stocks _ (N v) (N w) c.put_back.ensures.known) c.put_back.ensures.does [] o1 in
+    let o2 = owes-called g.H.Desk.shared g.H.Desk.with_shared N g.H.W.Knows.does (λ (done : List Act). g.H.Desk.owes done []) (λ x q done more. g.met.H.Desk.owes_done x q done more []) h1 v w (N w) (act.Returns given ∷ []) c.world.ensures.held refl (alike-posts _ (N v) (N w) c.put_back.ensures.known) c.put_back.ensures.does [] o1 in
     let ns = c.in-Ok.numbers.items in
     let x = entry.Return i (Whole ns) in
     let G : ℕ → Caches g.row.R.Denot → Type 0 = λ n q. Adds n (x ∷ []) (L q.recorder) (L y.recorder) in

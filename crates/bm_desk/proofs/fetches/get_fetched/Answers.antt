@@ -7,7 +7,7 @@ use Rattle.bm_cache.specs.Tests.{Reusable}
 use Rattle.bm_cache.specs.Tokens.{Token, number_of}
 use Rattle.bm_cache.specs.declared.caches.Caches.{Caches}
 use Rattle.bm_post.specs.Rights.{numbers}
-use Rattle.bm_desk.proofs.Alike.{alike-stocks}
+use Rattle.bm_desk.proofs.Alike.{alike-posts}
 use Rattle.bm_desk.proofs.Came.{fetched-all, gains-fresh, gains-onward, same-onward, takes-reusable}
 use Rattle.bm_desk.proofs.Sides.{passes-shared, proper-shared, stands-posted}
 use Rattle.bm_law_order.specs.Act.{Act}
@@ -42,12 +42,12 @@ returns-in-Ok-clause-reusable g c =
 pub returns-in-Ok-clause-stands : goal.returns-in-Ok-clause-stands
 returns-in-Ok-clause-stands g c =
     let e = c.in-Ok.ensures in
-    stands-posted g.R.Recorder.log g.R.Recorder.counts (λ _. Unit {0}) g.H.Host.tests g.H.Host.face g.H.Host.held g.H.Desk.shared g.H.Desk.with_shared g.H.W.Knows.known g.H.W.Knows.rights g.met.H.Desk.shared_back g.met.H.Desk.held_apart g.met.H.Desk.face_apart (λ h w a s. s) g.met.H.Desk.tests_are c.args.host.now c.world.result.now c.fetch.new.self c.world.ensures.held (alike-stocks _ _ _ e.known) (gains-onward (g.H.W.Knows.rights c.world.result.now) (g.H.W.Knows.rights c.fetch.new.self) (numbers e.ok.units) e.ok.takes.gains e.lasts) c.requires.stands
+    stands-posted g.R.Recorder.log g.R.Recorder.counts (λ _. Unit {0}) g.H.Host.tests g.H.Host.face g.H.Host.held g.H.Desk.shared g.H.Desk.with_shared g.H.W.Knows.known g.H.W.Knows.rights g.met.H.Desk.shared_back g.met.H.Desk.held_apart g.met.H.Desk.face_apart (λ h w a s. s) g.met.H.Desk.tests_are c.args.host.now c.world.result.now c.fetch.new.self c.world.ensures.held (alike-posts _ _ _ e.known) (gains-onward (g.H.W.Knows.rights c.world.result.now) (g.H.W.Knows.rights c.fetch.new.self) (numbers e.ok.units) e.ok.takes.gains e.lasts) c.requires.stands
 
 pub returns-in-Err-clause-stands : goal.returns-in-Err-clause-stands
 returns-in-Err-clause-stands g c =
     let e = c.in-Err.ensures in
-    stands-posted g.R.Recorder.log g.R.Recorder.counts (λ _. Unit {0}) g.H.Host.tests g.H.Host.face g.H.Host.held g.H.Desk.shared g.H.Desk.with_shared g.H.W.Knows.known g.H.W.Knows.rights g.met.H.Desk.shared_back g.met.H.Desk.held_apart g.met.H.Desk.face_apart (λ h w a s. s) g.met.H.Desk.tests_are c.args.host.now c.world.result.now c.fetch.new.self c.world.ensures.held (alike-stocks _ _ _ e.known) (same-onward (g.H.W.Knows.rights c.world.result.now) (g.H.W.Knows.rights c.fetch.new.self) e.same e.lasts) c.requires.stands
+    stands-posted g.R.Recorder.log g.R.Recorder.counts (λ _. Unit {0}) g.H.Host.tests g.H.Host.face g.H.Host.held g.H.Desk.shared g.H.Desk.with_shared g.H.W.Knows.known g.H.W.Knows.rights g.met.H.Desk.shared_back g.met.H.Desk.held_apart g.met.H.Desk.face_apart (λ h w a s. s) g.met.H.Desk.tests_are c.args.host.now c.world.result.now c.fetch.new.self c.world.ensures.held (alike-posts _ _ _ e.known) (same-onward (g.H.W.Knows.rights c.world.result.now) (g.H.W.Knows.rights c.fetch.new.self) e.same e.lasts) c.requires.stands
 
 pub returns-in-Ok-clause-owes : goal.returns-in-Ok-clause-owes
 returns-in-Ok-clause-owes g c done o =
@@ -57,4 +57,4 @@ returns-in-Ok-clause-owes g c done o =
     let e = c.in-Ok.ensures in
     let F : List Token → Type 0 = λ us. g.H.W.Knows.does (act.Fetches c.args.class c.args.want (numbers (drop (length us) c.fetch.new.out.items)) ∷ []) v w in
     let d : F [] = subst F c.new-units.ensures.items e.does in
-    owes-called g.H.Desk.shared g.H.Desk.with_shared g.H.W.Knows.known g.H.W.Knows.does g.H.Desk.asked_owes g.met.H.Desk.asked_done h v w _ (act.Fetches c.args.class c.args.want (numbers c.fetch.new.out.items) ∷ []) c.world.ensures.held refl (alike-stocks _ _ _ e.known) d done o
+    owes-called g.H.Desk.shared g.H.Desk.with_shared g.H.W.Knows.known g.H.W.Knows.does g.H.Desk.asked_owes g.met.H.Desk.asked_done h v w _ (act.Fetches c.args.class c.args.want (numbers c.fetch.new.out.items) ∷ []) c.world.ensures.held refl (alike-posts _ _ _ e.known) d done o

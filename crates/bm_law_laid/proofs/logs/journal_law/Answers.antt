@@ -1,5 +1,6 @@
 use Rattle.bm_law_laid.proofs.GraceOver.{logs-grace}
 use Rattle.bm_law_laid.proofs.OverLogs.{logs-ended, logs-lives, logs-numbers, logs-receivers, logs-returns}
+use Rattle.bm_law_laid.proofs.PagesNamed.{logs-short}
 use Rattle.bm_law_laid.proofs.StampsAlong.{logs-seen, logs-stamps}
 use Rattle.bm_law_laid.proofs.logs.journal_law.Goals as goal
 
@@ -11,6 +12,9 @@ returns-clause-given c = logs-lives
 
 pub returns-clause-returned : goal.returns-clause-returned
 returns-clause-returned c = logs-returns
+
+pub returns-clause-short : goal.returns-clause-short
+returns-clause-short c = logs-short
 
 pub returns-clause-receivers : goal.returns-clause-receivers
 returns-clause-receivers c = logs-receivers

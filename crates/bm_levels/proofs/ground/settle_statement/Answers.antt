@@ -24,7 +24,6 @@ returns-clause-statements g c =
       processor = w.goes.keeps.0.processor;
       periods = w.periods;
       mail = w.mail;
-      supplied = w.supplied;
     }))
 
 pub returns-clause-sound : goal.returns-clause-sound

@@ -83,7 +83,6 @@ returns-in-Ok-create c =
       parcels = no-parcels-told pool slots begun;
       numbers = no-numbers pool slots begun;
       words = no-words pool slots begun;
-      pages = ap (λ (x : Stock). x.classes) (v.pool ∙ ap (λ (x : Stock). (filling c.args.classes.now x).pool) first);
       planned = left-is s m fresh ∙ ap (planned_for 0) same;
       running = r.running;
       inside = refl;

@@ -6,7 +6,7 @@ use Rattle.bm_law_order.specs.Orders.{IsLaid, Order, shared_over}
 use Rattle.bm_law_order.specs.Shared.{fresh}
 use Rattle.bm_law_order.specs.Whole.{whole}
 use Rattle.bm_run.specs.JournalLaid.{named_turns}
-use Rattle.bm_run.proofs.Laid.{whole-one}
+use Rattle.bm_run.proofs.Laid.{laid-whole, whole-one}
 use Rattle.bm_lawful.specs.Lawful.{LawfulLog}
 use Rattle.bm_lawful.specs.Short.{JournalShort}
 use Rattle.bm_lawful.proofs.Told.{one-log}
@@ -37,7 +37,7 @@ returns-clause-lawful c =
         logs = subst (λ logs. (p : ℕ) (log : Log) → slice_get logs p ≡ Some log → LawfulLog s p log) one (one-log s c.args.log c.requires.lawful);
         graphs = search rules;
         totals = search rules;
-        short = subst (JournalShort s.pages) one c.requires.short;
+        short = subst (JournalShort s.pages) one (c.journal_law.ensures.short 1 s.pages (c.args.log ∷ []) (whole [] (c.args.log ∷ [])) (c.whole_law.ensures [] (c.args.log ∷ [])) (laid-whole [] s.pages c.args.log c.requires.laid));
       };
       lives = subst WholeLives one c.requires.lives;
       returns = subst ReturnsLaw one c.requires.returns;
@@ -50,7 +50,7 @@ returns-clause-laid c =
     let logs : List Log = log ∷ [] in
     let order = whole (named_turns s.turns) logs in
     let of-logs = c.whole_law.ensures (named_turns s.turns) logs in
-    let one : IsLaid 1 s.pages order = subst (λ (o : Order). IsLaid 1 s.pages o) (sym (whole-one (named_turns s.turns) log)) c.requires.laid in
+    let one = laid-whole (named_turns s.turns) s.pages log c.requires.laid in
     let idle : (d : Domain) → (of d (shared_over order (fresh 1 s.pages)).numbers).driver ≡ None = λ d. subst (λ (o : Order). (of d (shared_over o (fresh 1 s.pages)).numbers).driver ≡ None) (sym (whole-one (named_turns s.turns) log)) (c.requires.idle d) in
     let laws = c.journal_law.ensures in
     let now = sym c.in_ok-logs.ensures in

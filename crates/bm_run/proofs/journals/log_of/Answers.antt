@@ -21,7 +21,7 @@ use Rattle.bm_run.specs.Lines.{lines_cost}
 use Rattle.bm_run.proofs.Declared.{all-declared, few-left, room-all, room-for}
 use Rattle.bm_run.proofs.Lines.{down-when, few-when}
 use Rattle.bm_run.proofs.Laid.{led-idle, tied-led}
-use Rattle.bm_run.proofs.LogLaw.{RunLeft, alone-sends, lawful-run, lived-run, short-run, unused-rows}
+use Rattle.bm_run.proofs.LogLaw.{RunLeft, alone-sends, lawful-run, lived-run, unused-rows}
 use Rattle.bm_run.proofs.OpenedList.{opened-ascend, opened-few}
 use Rattle.bm_run.proofs.Results.{both-if-ok, if-ok, not-err}
 use Rattle.bm_run.proofs.journals.log_of.Given.{Over}
@@ -104,11 +104,6 @@ pub returns-clause-lawful : goal.returns-clause-lawful
 returns-clause-lawful g c = if-ok c.close.result _ _ c.close.ensures.closed (λ final x.
     let r = run-left g c final x in
     lawful-run c.args.scenario.now r.0 c.in_ok-own.own c.run_lines.new.own c.begin_closing.new.own final c.handled_law.ensures.periods c.handled_law.ensures.rows c.handled_law.ensures.null c.sweeps_law.ensures c.parcels_law.ensures r.1)
-
-pub returns-clause-short : goal.returns-clause-short
-returns-clause-short g c = if-ok c.close.result _ _ c.close.ensures.closed (λ final x.
-    let r = run-left g c final x in
-    short-run c.args.scenario.now r.0 c.in_ok-own.own c.run_lines.new.own c.begin_closing.new.own final c.handled_law.ensures.periods r.1)
 
 lived-log : (g : Over) (c : goal.After-close g) → IfOk c.close.result (λ final. WholeLives (final ∷ []) × FreedAsGiven final)
 lived-log g c = if-ok c.close.result _ _ c.close.ensures.closed (λ final x.

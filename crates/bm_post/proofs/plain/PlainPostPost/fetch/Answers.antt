@@ -1,5 +1,4 @@
-use Rattle.bm_post.proofs.Posts.{post-fetch, fetches}
-use Rattle.bm_post.proofs.Pages.{fetch-brings, stocks-of}
+use Rattle.bm_post.proofs.Posts.{post-fetch, fetches, posts-of}
 use Rattle.bm_post.proofs.plain.PlainPostPost.fetch.Goals as goal
 
 pub invariant_of-self : goal.invariant_of-self
@@ -17,10 +16,4 @@ returns-clause-ok c =
 pub returns-clause-known : goal.returns-clause-known
 returns-clause-known c =
     let inside = c.self.inside in
-    rw (← c.self.view_is) (stocks-of inside.pool c.fetch.new.self inside.processors inside.processor inside.inboxes.items)
-
-pub returns-clause-pages : goal.returns-clause-pages
-returns-clause-pages c =
-    let inside = c.self.inside in
-    let said = c.fetch.ensures in
-    rw (← c.self.view_is) (fetch-brings c.fetch.result c.args.class c.args.want inside.pool c.fetch.new.self c.args.out.now.items c.fetch.new.out.items said.count said.units said.pool said.fewer)
+    rw (← c.self.view_is) (posts-of inside.pool c.fetch.new.self inside.processors inside.processor inside.inboxes.items)

@@ -2,8 +2,7 @@ use Rattle.std.proofs.Common.{sym, subst}
 use Rattle.std.specs.List.{All}
 use Rattle.bm_post.specs.Rights.{Holds, MayLeave}
 use Rattle.bm_post.specs.PostState.{PostState, rights_in}
-use Rattle.bm_post.proofs.Posts.{post-back, back-loses}
-use Rattle.bm_post.proofs.Pages.{back-spares, stocks-of}
+use Rattle.bm_post.proofs.Posts.{post-back, back-loses, posts-of}
 use Rattle.bm_post.proofs.plain.PlainPostPost.put_back.Goals as goal
 
 pub invariant_of-self : goal.invariant_of-self
@@ -20,9 +19,4 @@ returns-clause-back c =
 pub returns-clause-known : goal.returns-clause-known
 returns-clause-known c =
     let inside = c.self.inside in
-    rw (← c.self.view_is) (stocks-of inside.pool c.put_all_back.new.pool inside.processors inside.processor inside.inboxes.items)
-
-pub returns-clause-pages : goal.returns-clause-pages
-returns-clause-pages c =
-    let inside = c.self.inside in
-    rw (← c.self.view_is) (back-spares c.args.units.items inside.pool c.put_all_back.new.pool c.put_all_back.ensures)
+    rw (← c.self.view_is) (posts-of inside.pool c.put_all_back.new.pool inside.processors inside.processor inside.inboxes.items)
