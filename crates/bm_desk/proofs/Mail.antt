@@ -93,7 +93,7 @@ module _ {H R W : Type 0} (log : R → Option Log) (faces : H → Face) (waits :
       let r = appends-whole log l (entry.Receive c) ns us (holds h) (holds k) v in
       let gx : Goes faces waits stays h x = record { face = p.face; pending = omega (arith, p.pending); keeps = p.stays } in
       let gk : Goes faces waits stays x k = record { face = d.face; pending = omega (arith, d.pending); keeps = d.stays } in
-      works-entry log faces waits stays holds (λ z. known (shared z)) h k e us tt (goes-join join gx gk) (ap K d.shared_is ∙ p.known_is) r v.processor v.after (received-active l c ns us (shown (holds h))) refl (delivered-one l (faces h).processors n e (B (shared h)) (B (shared k)) a b (subst M (sym (ap B d.shared_is)) m) tt (Records-one l e a b r))
+      works-entry log faces waits stays holds (λ z. known (shared z)) h k e us (goes-join join gx gk) (ap K d.shared_is ∙ p.known_is) r v.processor v.after (received-active l c ns us (shown (holds h))) refl (delivered-one l (faces h).processors n e (B (shared h)) (B (shared k)) a b (subst M (sym (ap B d.shared_is)) m) tt (Records-one l e a b r))
 
   -- the post took a parcel, and that was recorded
   pub mail-sent : (a w x y : H) (i to : ℕ) (ms ns : List ℕ) → to < (faces a).processors → shared w ≡ shared a → shared y ≡ shared x → ms ≡ ns → Carries (known (shared w)).grace.processor (entry.Send i to (Whole ms)) (known (shared w)).parcels (known (shared x)).parcels → Appends (log (holds a).recorder) (faces a).level (entry.Send i to (Whole ns)) (log (holds y).recorder) → Delivered (faces a).level (faces a).processors (known (shared a)).grace.processor (known (shared a)).parcels (known (shared y)).parcels (log (holds a).recorder) (log (holds y).recorder)
@@ -120,4 +120,4 @@ module _ {H R W : Type 0} (log : R → Option Log) (faces : H → Face) (waits :
       let r = appends-whole log l (entry.Fetch c want) ns us (holds h) (holds k) v in
       let gx : Goes faces waits stays h x = record { face = p.face; pending = omega (arith, p.pending); keeps = p.stays } in
       let gk : Goes faces waits stays x k = record { face = d.face; pending = omega (arith, d.pending); keeps = d.stays } in
-      works-entry log faces waits stays holds (λ z. known (shared z)) h k e us tt (goes-join join gx gk) (ap K d.shared_is ∙ p.known_is) r v.processor v.after (λ i. refl) refl (delivered-records l (faces h).processors n (e ∷ []) (B (shared h)) (B (shared k)) a b (tt, tt) (ap B d.shared_is ∙ m) (Records-one l e a b r))
+      works-entry log faces waits stays holds (λ z. known (shared z)) h k e us (goes-join join gx gk) (ap K d.shared_is ∙ p.known_is) r v.processor v.after (λ i. refl) refl (delivered-records l (faces h).processors n (e ∷ []) (B (shared h)) (B (shared k)) a b (tt, tt) (ap B d.shared_is ∙ m) (Records-one l e a b r))

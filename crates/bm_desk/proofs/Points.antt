@@ -15,7 +15,7 @@ use Rattle.bm_cache.specs.declared.caches.Caches.{Caches}
 use Rattle.bm_cache.proofs.Flags.{raises-none-point}
 use Rattle.bm_deferred.specs.Parts.{Part, Stand}
 use Rattle.bm_deferred.specs.Begun.{begun_by}
-use Rattle.bm_deferred.proofs.Begun.{IsIdle, IsStill, StillPart, progressed-grew, progressed-records, still-idle}
+use Rattle.bm_deferred.proofs.Begun.{IsStill, StillPart}
 use Rattle.bm_deferred.proofs.Each.{part-map}
 use Rattle.bm_deferred.proofs.Inboxes.{IsQuiet, delivered-grew, delivered-records, still-quiet}
 use Rattle.bm_work.specs.Grown.{GrewBy}
@@ -63,7 +63,6 @@ module _ {H R : Type 0} (log : R → Option Log) (tests : H → Tests) (faces : 
         plain_begins = omega (arith, n.begins Plain);
         tracing_begins = omega (arith, n.begins Tracing);
         same_side = n.processor;
-        periods = λ d. progressed-records l d [] (begun_by (side d (known h)).number) (begun_by (side d (known k)).number) a b (ap begun_by (n.number d)) r;
         mail = delivered-records l (faces h).processors (known h).grace.processor [] (known h).parcels (known k).parcels a b tt n.parcels r;
       }
 
@@ -83,7 +82,6 @@ module _ {H R : Type 0} (log : R → Option Log) (counts : R → Counts) (sound 
         plain_begins = omega (arith, n.begins Plain);
         tracing_begins = omega (arith, n.begins Tracing);
         same_side = n.processor;
-        periods = λ d. progressed-grew l d (P l) (seen number_of (shown (holds h))) (begun_by (side d (known h)).number) (begun_by (side d (known k)).number) (log (holds h).recorder) (log (holds k).recorder) (part-map IsStill IsIdle still-idle l (P l) (e l)) (ap begun_by (n.number d)) g;
         mail = delivered-grew l (faces h).processors (known h).grace.processor (P l) (seen number_of (shown (holds h))) (known h).parcels (known k).parcels (log (holds h).recorder) (log (holds k).recorder) (part-map IsStill IsQuiet still-quiet l (P l) (e l)) n.parcels g;
       }
 

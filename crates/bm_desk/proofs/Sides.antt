@@ -19,10 +19,8 @@ use Rattle.bm_cache.proofs.Unbroken.{unbroken-join, unbroken-same}
 use Rattle.bm_journal.specs.declared.entry.Entry.{Entry}
 use Rattle.bm_law.specs.Spans.{own_entries}
 use Rattle.bm_law.proofs.Spans.{from-append, own-append}
-use Rattle.bm_deferred.specs.Begun.{Progressed, begun_by}
 use Rattle.bm_deferred.specs.Inboxes.{Delivered}
 use Rattle.bm_deferred.specs.Parts.{Part, Nothing, Say, Stand, Then}
-use Rattle.bm_deferred.proofs.Begun.{progressed-join, progressed-none}
 use Rattle.bm_deferred.proofs.Inboxes.{delivered-join, delivered-none}
 use Rattle.bm_work.specs.Grown.{GrewBy}
 use Rattle.bm_work.proofs.Grown.{grew-map, grew-none, grew-parts}
@@ -79,15 +77,6 @@ module _ {H R : Type 0} (log : R → Option Log) (counts : R → Counts) (sound 
         dated = subst D (sym p) (dated-on (tests h) (tests k) (shown (holds h)) o s.dated);
       }
 
--- the side has those periods in progress that the entries tell
-abbrev pub Follows : {H R : Type 0} → (R → Option Log) → (H → Face) → (H → Caches R) → (H → Known) → H → H → Type 0
-Follows log faces holds known a b = (d : Domain) → Progressed (faces a).level d (begun_by (side d (known a)).number) (begun_by (side d (known b)).number) (log (holds a).recorder) (log (holds b).recorder)
-
--- where what is known of grace periods is as it was, so is each side
-pub same-numbers : (a b : Known) → b.grace ≡ a.grace → (d : Domain) → (side d b).number ≡ (side d a).number
-same-numbers a b e Plain = ap (λ (s : Sides). s.plain.number) e
-same-numbers a b e Tracing = ap (λ (s : Sides). s.tracing.number) e
-
 -- the parcels are as they were
 abbrev pub StaysPut : Known → Known → Type 0
 StaysPut before now = now.parcels ≡ before.parcels
@@ -110,24 +99,6 @@ module _ {H R : Type 0} (log : R → Option Log) (faces : H → Face) (holds : H
       let M : Caches R → Type 0 = λ x. Delivered l n p (known a).parcels (known b).parcels (log (holds a).recorder) (log x.recorder) in
       subst M (sym e) (delivered-none l n p (known a).parcels (known b).parcels (log (holds a).recorder) s)
 
-  -- periods over two stretches, and where the side is called that keeps them
-  pub periods-join : (a b c : H) → faces b ≡ faces a → Follows log faces holds known a b → Follows log faces holds known b c → Follows log faces holds known a c
-  periods-join a b c e v w d =
-      let l = (faces a).level in
-      let x = begun_by (side d (known a)).number in
-      let y = begun_by (side d (known b)).number in
-      let z = begun_by (side d (known c)).number in
-      let M : Face → Type 0 = λ f. Progressed f.level d y z (log (holds b).recorder) (log (holds c).recorder) in
-      progressed-join l d x y z (log (holds a).recorder) (log (holds b).recorder) (log (holds c).recorder) (v d) (subst M e (w d))
-
-  pub periods-same : (a b : H) → holds b ≡ holds a → ((d : Domain) → (side d (known b)).number ≡ (side d (known a)).number) → Follows log faces holds known a b
-  periods-same a b e n d =
-      let l = (faces a).level in
-      let x = begun_by (side d (known a)).number in
-      let y = begun_by (side d (known b)).number in
-      let M : Caches R → Type 0 = λ z. Progressed l d x y (log (holds a).recorder) (log z.recorder) in
-      subst M (sym e) (progressed-none l d x y (log (holds a).recorder) (ap begun_by (n d)))
-
 module _ {H R : Type 0} (log : R → Option Log) (counts : R → Counts) (faces : H → Face) (waits : H → ℕ) (stays : H → H → Type 0) (holds : H → Caches R) (known : H → Known) (join : (a b c : H) → stays a b → stays b c → stays a c) where
   -- two calls, one after the other, from these lists
   pub works-join-at : (p t p' t' : ℕ) (P Q W : ℕ → Part) (a b c : H) → ((l : ℕ) (one two : Log) → P l (seen number_of (shown (holds a))) one → Q l (after (seen number_of (shown (holds a))) one) two → W l (seen number_of (shown (holds a))) (one ++ two)) → Placed log counts (holds a) → Placed log counts (holds b) → Works log faces waits stays holds known p t P a b → Works log faces waits stays holds known p' t' Q b c → Works log faces waits stays holds known (p + p') (t + t') W a c
@@ -145,7 +116,6 @@ module _ {H R : Type 0} (log : R → Option Log) (counts : R → Counts) (faces 
         plain_begins = omega (arith, v.plain_begins, w.plain_begins);
         tracing_begins = omega (arith, v.tracing_begins, w.tracing_begins);
         same_side = w.same_side ∙ v.same_side;
-        periods = periods-join log faces holds known a b c v.goes.face v.periods w.periods;
         mail = mail-join log faces holds known a b c v.goes.face v.same_side v.mail w.mail;
       }
 
@@ -173,13 +143,12 @@ module _ {H R : Type 0} (log : R → Option Log) (counts : R → Counts) (faces 
         plain_begins = c.plain_begins;
         tracing_begins = c.tracing_begins;
         same_side = c.same_side;
-        periods = periods-same log faces holds known a b e c.numbers;
         mail = mail-same log faces holds known a b e c.parcels;
       }
 
   -- more periods may have begun
   pub works-at-most : (p t p' t' : ℕ) (P : ℕ → Part) (a b : H) → p ≤ p' → t ≤ t' → Works log faces waits stays holds known p t P a b → Works log faces waits stays holds known p' t' P a b
-  works-at-most p t p' t' P a b h k w = record { phrase = w.phrase; goes = w.goes; alone = w.alone; flags = w.flags; processor = w.processor; active = w.active; plain_begins = omega (arith, w.plain_begins, h); tracing_begins = omega (arith, w.tracing_begins, k); same_side = w.same_side; periods = w.periods; mail = w.mail }
+  works-at-most p t p' t' P a b h k w = record { phrase = w.phrase; goes = w.goes; alone = w.alone; flags = w.flags; processor = w.processor; active = w.active; plain_begins = omega (arith, w.plain_begins, h); tracing_begins = omega (arith, w.tracing_begins, k); same_side = w.same_side; mail = w.mail }
 
 -- a call, and then one that stops for want of memory
 pub works-stopped : {H R : Type 0} (log : R → Option Log) (counts : R → Counts) (faces : H → Face) (waits : H → ℕ) (stays : H → H → Type 0) (holds : H → Caches R) (known : H → Known) (p t : ℕ) (P Q W : ℕ → Part) (a b c : H) → ((l : ℕ) (s : State ℕ) (one two : Log) → P l s one → Q l (after s one) two → W l s (one ++ two)) → Placed log counts (holds a) → Placed log counts (holds b) → Works log faces waits stays holds known p t P a b → Stopped log counts faces holds Q b c → Stopped log counts faces holds W a c
@@ -213,21 +182,21 @@ pub works-map-at : {H R : Type 0} (log : R → Option Log) (faces : H → Face) 
 works-map-at log faces waits stays holds known p t P Q a b f w =
     let l = (faces a).level in
     let s = seen number_of (shown (holds a)) in
-    record { phrase = grew-map (P l) (Q l) s (log (holds a).recorder) (log (holds b).recorder) (f l) w.phrase; goes = w.goes; alone = w.alone; flags = w.flags; processor = w.processor; active = w.active; plain_begins = w.plain_begins; tracing_begins = w.tracing_begins; same_side = w.same_side; periods = w.periods; mail = w.mail }
+    record { phrase = grew-map (P l) (Q l) s (log (holds a).recorder) (log (holds b).recorder) (f l) w.phrase; goes = w.goes; alone = w.alone; flags = w.flags; processor = w.processor; active = w.active; plain_begins = w.plain_begins; tracing_begins = w.tracing_begins; same_side = w.same_side; mail = w.mail }
 
 -- a part that is another one too, from these lists and at the desk's level
 pub works-map-here : {H R : Type 0} (log : R → Option Log) (faces : H → Face) (waits : H → ℕ) (stays : H → H → Type 0) (holds : H → Caches R) (known : H → Known) (p t : ℕ) (P Q : ℕ → Part) (a b : H) → ((part : Log) → P (faces a).level (seen number_of (shown (holds a))) part → Q (faces a).level (seen number_of (shown (holds a))) part) → Works log faces waits stays holds known p t P a b → Works log faces waits stays holds known p t Q a b
 works-map-here log faces waits stays holds known p t P Q a b f w =
     let l = (faces a).level in
     let s = seen number_of (shown (holds a)) in
-    record { phrase = grew-map (P l) (Q l) s (log (holds a).recorder) (log (holds b).recorder) f w.phrase; goes = w.goes; alone = w.alone; flags = w.flags; processor = w.processor; active = w.active; plain_begins = w.plain_begins; tracing_begins = w.tracing_begins; same_side = w.same_side; periods = w.periods; mail = w.mail }
+    record { phrase = grew-map (P l) (Q l) s (log (holds a).recorder) (log (holds b).recorder) f w.phrase; goes = w.goes; alone = w.alone; flags = w.flags; processor = w.processor; active = w.active; plain_begins = w.plain_begins; tracing_begins = w.tracing_begins; same_side = w.same_side; mail = w.mail }
 
 -- a part that is another one too
 pub works-map : {H R : Type 0} (log : R → Option Log) (faces : H → Face) (waits : H → ℕ) (stays : H → H → Type 0) (holds : H → Caches R) (known : H → Known) (p t : ℕ) (P Q : ℕ → Part) (a b : H) → ((l : ℕ) (s : State ℕ) (part : Log) → P l s part → Q l s part) → Works log faces waits stays holds known p t P a b → Works log faces waits stays holds known p t Q a b
 works-map log faces waits stays holds known p t P Q a b f w =
     let l = (faces a).level in
     let s = seen number_of (shown (holds a)) in
-    record { phrase = grew-map (P l) (Q l) s (log (holds a).recorder) (log (holds b).recorder) (f l s) w.phrase; goes = w.goes; alone = w.alone; flags = w.flags; processor = w.processor; active = w.active; plain_begins = w.plain_begins; tracing_begins = w.tracing_begins; same_side = w.same_side; periods = w.periods; mail = w.mail }
+    record { phrase = grew-map (P l) (Q l) s (log (holds a).recorder) (log (holds b).recorder) (f l s) w.phrase; goes = w.goes; alone = w.alone; flags = w.flags; processor = w.processor; active = w.active; plain_begins = w.plain_begins; tracing_begins = w.tracing_begins; same_side = w.same_side; mail = w.mail }
 
 -- nothing was done, where that is such a part
 pub works-still : {H R : Type 0} (log : R → Option Log) (faces : H → Face) (waits : H → ℕ) (stays : H → H → Type 0) (holds : H → Caches R) (known : H → Known) (P : ℕ → Part) (a : H) → stays a a → ((l : ℕ) → P l (seen number_of (shown (holds a))) []) → Works log faces waits stays holds known 0 0 P a a
@@ -241,7 +210,6 @@ works-still log faces waits stays holds known P a k h = record {
   plain_begins = omega (arith);
   tracing_begins = omega (arith);
   same_side = refl;
-  periods = periods-same log faces holds known a a refl (λ d. refl);
   mail = mail-same log faces holds known a a refl refl;
 }
 
@@ -257,7 +225,6 @@ works-still-here log faces waits stays holds known P a k h = record {
   plain_begins = omega (arith);
   tracing_begins = omega (arith);
   same_side = refl;
-  periods = periods-same log faces holds known a a refl (λ d. refl);
   mail = mail-same log faces holds known a a refl refl;
 }
 
@@ -301,7 +268,6 @@ module _ {H R : Type 0} (log : R → Option Log) (counts : R → Counts) (faces 
         plain_begins = omega (arith, ap (λ (z : Sides). z.plain.begins) h.known_is);
         tracing_begins = omega (arith, ap (λ (z : Sides). z.tracing.begins) h.known_is);
         same_side = ap (λ (z : Sides). z.processor) h.known_is;
-        periods = periods-same log faces holds known a b e (same-numbers (known a) (known b) h.known_is);
         mail = mail-same log faces holds known a b e m;
       }
 
@@ -309,7 +275,7 @@ module _ {H R : Type 0} (log : R → Option Log) (counts : R → Counts) (faces 
   pub posted-works : (gone : List ℕ) (p t : ℕ) (Q : ℕ → Part) (a b c : H) → Placed log counts (holds a) → Placed log counts (holds b) → StaysPut (known a) (known b) → Posted faces waits stays holds known tests gone a b → Works log faces waits stays holds known p t Q b c → Works log faces waits stays holds known p t Q a c
   posted-works gone p t Q a b c x y m h w =
       let r = works-join log counts faces waits stays holds known join 0 0 p t (λ l. Nothing) Q Q a b c (λ l s one two i k. nothing-first (Q l) s one two i k) x y (works-kept gone a b m h) w in
-      record { phrase = r.phrase; goes = r.goes; alone = r.alone; flags = r.flags; processor = r.processor; active = r.active; plain_begins = omega (arith, r.plain_begins); tracing_begins = omega (arith, r.tracing_begins); same_side = r.same_side; periods = r.periods; mail = r.mail }
+      record { phrase = r.phrase; goes = r.goes; alone = r.alone; flags = r.flags; processor = r.processor; active = r.active; plain_begins = omega (arith, r.plain_begins); tracing_begins = omega (arith, r.tracing_begins); same_side = r.same_side; mail = r.mail }
 
   -- another call, and then such a one of the post
   pub works-posted : (gone : List ℕ) (p t : ℕ) (P : ℕ → Part) (a b c : H) → Works log faces waits stays holds known p t P a b → StaysPut (known b) (known c) → Posted faces waits stays holds known tests gone b c → Works log faces waits stays holds known p t P a c
@@ -328,7 +294,6 @@ module _ {H R : Type 0} (log : R → Option Log) (counts : R → Counts) (faces 
         plain_begins = omega (arith, w.plain_begins, ap (λ (z : Sides). z.plain.begins) h.known_is);
         tracing_begins = omega (arith, w.tracing_begins, ap (λ (z : Sides). z.tracing.begins) h.known_is);
         same_side = ap (λ (z : Sides). z.processor) h.known_is ∙ w.same_side;
-        periods = periods-join log faces holds known a b c w.goes.face w.periods (periods-same log faces holds known b c e (same-numbers (known b) (known c) h.known_is));
         mail = mail-join log faces holds known a b c w.goes.face w.same_side w.mail (mail-same log faces holds known b c e m);
       }
 

@@ -31,19 +31,6 @@ use Rattle.bm_desk.specs.Works.{Called, Handled, Turned, Works}
 
 -- ---- the numbers of both sides after a call
 
-begun-suc : (n : ℕ) → begun_by (n + 1) ≡ Some (n + 1)
-begun-suc n =
-    let e : suc n ≡ n + 1 = omega arith in
-    let F : ℕ → Type 0 = λ k. begun_by k ≡ Some k in
-    subst F e refl
-
--- a period began, as its entry says
-pub begun-won : (t : Bool) (d b : Domain) (even : ℕ) (k : Known) → begun_by (side d (began t b Won even k)).number ≡ begun_after d (begun_by (side d k).number) (entry.Begin b (even + 1))
-begun-won t Plain Plain even k = begun-suc even
-begun-won t Plain Tracing even k = refl
-begun-won t Tracing Plain even k = refl
-begun-won t Tracing Tracing even k = begun-suc even
-
 -- none began
 pub numbers-moved : (t : Bool) (d b : Domain) (n even : ℕ) (k : Known) → (side d (began t b (Moved n) even k)).number ≡ (side d k).number
 numbers-moved t Plain Plain n even k = refl
@@ -51,19 +38,12 @@ numbers-moved t Plain Tracing n even k = refl
 numbers-moved t Tracing Plain n even k = refl
 numbers-moved t Tracing Tracing n even k = refl
 
--- one ended
-pub ended-by : (t : Bool) (d b : Domain) (k : Known) (p : Period) → p.domain ≡ b → begun_by (side d (finished t b k)).number ≡ begun_after d (begun_by (side d k).number) (entry.Finish p)
-ended-by t Plain Plain k p e = rw e refl
-ended-by t Plain Tracing k p e = rw e refl
-ended-by t Tracing Plain k p e = rw e refl
-ended-by t Tracing Tracing k p e = rw e refl
-
 -- ---- a call, and its entry
 
 module _ {H R W : Type 0} (log : R → Option Log) (faces : H → Face) (waits : H → ℕ) (stays : H → H → Type 0) (holds : H → Caches R) (shared : H → W) (known : W → Known) (rights : H → Rights) (tests : H → Tests) (join : (a b c : H) → stays a b → stays b c → stays a c) where
-  -- the side was called, and then an entry was recorded that says what periods are in progress now
-  pub works-turned : (p t : ℕ) (e : Entry) (a b c : H) → IsQuiet e → Turned faces waits stays holds (λ h. known (shared h)) rights p t a b → Appends (log (holds b).recorder) (faces b).level e (log (holds c).recorder) → shown (holds c) ≡ shown (holds b) → (holds c).processor ≡ (holds b).processor → Handled faces waits stays shared tests b c → ((d : Domain) → begun_by (side d (known (shared b))).number ≡ begun_after d (begun_by (side d (known (shared a))).number) e) → Works log faces waits stays holds (λ h. known (shared h)) p t (λ l. Say l (IsOne e)) a c
-  works-turned p t e a b c z u r v w h n =
+  -- the side was called, and then an entry was recorded
+  pub works-turned : (p t : ℕ) (e : Entry) (a b c : H) → IsQuiet e → Turned faces waits stays holds (λ h. known (shared h)) rights p t a b → Appends (log (holds b).recorder) (faces b).level e (log (holds c).recorder) → shown (holds c) ≡ shown (holds b) → (holds c).processor ≡ (holds b).processor → Handled faces waits stays shared tests b c → Works log faces waits stays holds (λ h. known (shared h)) p t (λ l. Say l (IsOne e)) a c
+  works-turned p t e a b c z u r v w h =
       let l = (faces a).level in
       let x = log (holds a).recorder in
       let y = log (holds c).recorder in
@@ -86,7 +66,6 @@ module _ {H R W : Type 0} (log : R → Option Log) (faces : H → Face) (waits :
         plain_begins = omega (arith, u.plain_begins, ap (λ k. (K k).plain.begins) h.shared_is);
         tracing_begins = omega (arith, u.tracing_begins, ap (λ k. (K k).tracing.begins) h.shared_is);
         same_side = ap (λ k. (K k).processor) h.shared_is ∙ u.same_side;
-        periods = λ d. progressed-records l d (e ∷ []) (begun_by (side d (known (shared a))).number) (begun_by (side d (known (shared c))).number) x y (ap (λ k. begun_by (side d (known k)).number) h.shared_is ∙ n d) m;
         mail = delivered-records l (faces a).processors (known (shared a)).grace.processor (e ∷ []) (B (shared a)) (B (shared c)) x y (z, tt) (ap B h.shared_is ∙ u.parcels) m;
       }
 

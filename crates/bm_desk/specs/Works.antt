@@ -13,7 +13,6 @@ use Rattle.bm_cache.specs.Shown.{shown}
 use Rattle.bm_cache.specs.Placed.{Placed}
 use Rattle.bm_cache.specs.Span.{Face, Fine, Goes, RaisesNone, Unbroken}
 use Rattle.bm_cache.specs.declared.caches.Caches.{Caches}
-use Rattle.bm_deferred.specs.Begun.{Progressed, begun_by}
 use Rattle.bm_deferred.specs.Inboxes.{Delivered}
 use Rattle.bm_deferred.specs.Parts.{Part}
 use Rattle.bm_work.specs.Grown.{GrewBy}
@@ -76,8 +75,7 @@ pub record Posted {H R : Type 0} (faces : H → Face) (waits : H → ℕ) (keeps
 
 -- A call was made: the log has grown by exactly this part at the desk's level, with whatever handlers between; the desk goes
 -- on; where no handler ran there are entries of its own level alone, and no flag was raised; each active number is as it was;
--- at most so many plain and tracing periods have begun, and the side has those in progress that the entries tell; and of the
--- parcels that are told, each that came was the oldest one, each that went goes to one of the processors, nothing was swept,
+-- at most so many plain and tracing periods have begun; and of the parcels that are told, each that came was the oldest one, each that went goes to one of the processors, nothing was swept,
 -- and those that are left are what the entries tell.
 pub record Works {H R : Type 0} (log : R → Option Log) (faces : H → Face) (waits : H → ℕ) (stays : H → H → Type 0) (holds : H → Caches R) (known : H → Known) (plain tracing : ℕ) (part : ℕ → Part) (before now : H) : Type 0 where
   pub phrase : GrewBy (part (faces before).level) (seen number_of (shown (holds before))) (log (holds before).recorder) (log (holds now).recorder)
@@ -89,7 +87,6 @@ pub record Works {H R : Type 0} (log : R → Option Log) (faces : H → Face) (w
   pub plain_begins : (known before).grace.plain.begins ≤ (known now).grace.plain.begins + plain
   pub tracing_begins : (known before).grace.tracing.begins ≤ (known now).grace.tracing.begins + tracing
   pub same_side : (known now).grace.processor ≡ (known before).grace.processor
-  pub periods : (d : Domain) → Progressed (faces before).level d (begun_by (side d (known before)).number) (begun_by (side d (known now)).number) (log (holds before).recorder) (log (holds now).recorder)
   pub mail : Delivered (faces before).level (faces before).processors (known before).grace.processor (known before).parcels (known now).parcels (log (holds before).recorder) (log (holds now).recorder)
 
 -- A call stopped for want of memory: the log has grown by this part, and the caches are placed.

@@ -111,20 +111,3 @@ null-handled s p log last stand done i leaves = record {
     at_level : (l : ℕ) → RepliesFit Nothing (own_entries l log)
     at_level zero = ordinary-replies s p log i
     at_level (suc l) = (replies-handled s p log stand done (suc l) (omega arith)).replies
-
--- ---- periods
-
-handler-idle : (d : Domain) (begun : Option ℕ) (e : Entry) → IsOfHandler e → begun_after d begun e ≡ begun
-handler-idle d begun (entry.Begin x n) h = absurd h
-handler-idle d begun (entry.Finish period) h = absurd h
-handler-idle d begun _ h = refl
-
-progress : (d : Domain) (begun : Option ℕ) (log : Log) → AllAbove IsOfHandler log → in_progress d begun log ≡ begun_over d begun (own_entries 0 log)
-progress d begun [] h = refl
-progress d begun (e ∷ es) h = elim (eqb_tells e.0 0) [
-  | inl y ↦ rw y.0 (progress d (begun_after d begun e.1) es h.1)
-  | inr y ↦ rw y.0 (ap (λ b. in_progress d b es) (handler-idle d begun e.1 (h.0 (above-zero e.0 y.1))) ∙ progress d begun es h.1)
-]
-
-pub periods-handled : (s : Parts) (p : ℕ) (log : Log) → HandlersStand s p log → HandlersDone s log → (d : Domain) → in_progress d None log ≡ begun_over d None (own_entries 0 log)
-periods-handled s p log stand done d = progress d None log (handlers-above s p log stand done)

@@ -1,16 +1,13 @@
 //! Laws of the front of a log.
 
-ghost use Rattle.std.specs.Prelude.{◌≡◌, ◌<◌, ℕ, None, false};
+ghost use Rattle.std.specs.Prelude.{◌≡◌, ◌<◌, ℕ, false};
 ghost use Rattle.std.specs.List.{list_any};
-ghost use Rattle.bm_journal.specs.declared.ids.Domain.{Domain};
 ghost use Rattle.bm_lang.specs.declared.scenario.Parts.{Parts};
 ghost use Rattle.bm_law.specs.Lists.{Leaves, Log, after};
 ghost use Rattle.bm_law.specs.Null.{NullLaw};
 ghost use Rattle.bm_law.specs.Spans.{own_entries};
 ghost use Rattle.bm_law.specs.State.{State, opening};
-ghost use Rattle.bm_deferred.specs.Begun.{begun_over};
 ghost use Rattle.bm_due.specs.Standing.{HandlersStand};
-ghost use Rattle.bm_lawful.specs.Closing.{in_progress};
 ghost use Rattle.bm_lawful.specs.Grammar.{Front, IsLog};
 ghost use Rattle.bm_lawful.specs.Handlers.{HandlersDone};
 ghost use Rattle.bm_lawful.specs.Opened.{uses_class};
@@ -18,7 +15,7 @@ ghost use Rattle.bm_front.specs.Owed.{AllReplied};
 
 /// A log with handlers, where each of those stands where it is due and left its phrase. In a front the cache of a class that no
 /// type uses stays as it was. At each level above ordinary code each reply stands where an allocation calls for it, with none
-/// owed at the end; so a whole log that names what is there meets the null law. No handler begins a period or ends one.
+/// owed at the end; so a whole log that names what is there meets the null law.
 pub fn handled_law()
     ensures rows { (s : Parts) (p : ℕ) (front : Log) → HandlersStand s p front → HandlersDone s front →
         Front s p (opening p) front → (c : ℕ) → list_any (uses_class c) s.types ≡ false →
@@ -27,6 +24,4 @@ pub fn handled_law()
         (l : ℕ) → 0 < l → AllReplied (own_entries l log) }
     ensures null { (s : Parts) (p : ℕ) (log : Log) (last : State ℕ) → HandlersStand s p log → HandlersDone s log →
         IsLog s p log → Leaves p log last → NullLaw p log }
-    ensures periods { (s : Parts) (p : ℕ) (log : Log) → HandlersStand s p log → HandlersDone s log →
-        (d : Domain) → in_progress d None log ≡ begun_over d None (own_entries 0 log) }
 {}

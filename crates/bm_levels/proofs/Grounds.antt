@@ -13,7 +13,7 @@ use Rattle.bm_law.specs.Spans.{Records}
 use Rattle.bm_cache.specs.Shown.{shown}
 use Rattle.bm_cache.specs.Tokens.{Token}
 use Rattle.bm_deferred.specs.Begun.{begun_by}
-use Rattle.bm_deferred.proofs.Begun.{AllStill, IsIdle, IsStill, over-idle, progressed-records, still-idle}
+use Rattle.bm_deferred.proofs.Begun.{AllStill, IsStill}
 use Rattle.bm_deferred.proofs.Each.{of-map}
 use Rattle.bm_deferred.proofs.Inboxes.{IsQuiet, delivered-records, still-quiet}
 use Rattle.bm_desk.specs.Dated.{Dated}
@@ -36,7 +36,7 @@ pub both-ok : {X E : Type 0} (r : Result X E) (A B : Type 0) → OnOk r A → On
 both-ok (Ok x) A B a b = (a, b)
 both-ok (Err e) A B a b = tt
 
--- entries of its own that have nothing to do with parcels and periods, of which the side knows what it knew
+-- entries of its own that have nothing to do with parcels, of which the side knows what it knew
 ordinary-still : (own : List Entry) (a b : Processor) → GoesOn (known_of a) (known_of b) → Records 0 own (log_of a) (log_of b) → AllStill own → Ordinary a b
 ordinary-still own a b g r q =
     let k = known_of a in
@@ -44,7 +44,6 @@ ordinary-still own a b g r q =
     record {
       processors = g.processors;
       processor = g.processor;
-      periods = λ d. progressed-records 0 d own (begun_by (side d k).number) (begun_by (side d n).number) (log_of a) (log_of b) (ap begun_by (g.number d) ∙ sym (over-idle d (begun_by (side d k).number) own (of-map IsStill IsIdle still-idle own q))) r;
       mail = delivered-records 0 k.grace.processors k.grace.processor own k.parcels n.parcels (log_of a) (log_of b) (of-map IsStill IsQuiet still-quiet own q) g.parcels r;
     }
 

@@ -3,9 +3,7 @@ use Rattle.std.specs.Prelude.{ℕ}
 use Rattle.std.proofs.Common.{refl, ◌∙◌, subst, arith}
 use Rattle.bm_journal.specs.declared.ids.Domain.TheVariants.{Plain}
 use Rattle.bm_grace.specs.Known.{side}
-use Rattle.bm_deferred.specs.Begun.{begun_by}
 use Rattle.bm_deferred.specs.Inboxes.{Delivered}
-use Rattle.bm_deferred.proofs.Begun.{progressed-join, progressed-none}
 use Rattle.bm_deferred.proofs.Inboxes.{delivered-join, delivered-none}
 use Rattle.bm_levels.specs.AtProcessor.{log_of}
 use Rattle.bm_levels.specs.Ordinary.{Ordinary, Statements}
@@ -18,7 +16,6 @@ ordinary-same m =
     record {
       processors = refl;
       processor = refl;
-      periods = λ d. progressed-none 0 d (begun_by (side d k).number) (begun_by (side d k).number) (log_of m) refl;
       mail = delivered-none 0 k.grace.processors k.grace.processor k.parcels k.parcels (log_of m) refl;
     }
 
@@ -33,7 +30,6 @@ ordinary-joined a b c x y =
     record {
       processors = y.processors ∙ x.processors;
       processor = y.processor ∙ x.processor;
-      periods = λ d. progressed-join 0 d (begun_by (side d i).number) (begun_by (side d j).number) (begun_by (side d k).number) (log_of a) (log_of b) (log_of c) (x.periods d) (y.periods d);
       mail = delivered-join 0 i.grace.processors i.grace.processor i.parcels j.parcels k.parcels (log_of a) (log_of b) (log_of c) x.mail mail;
     }
 

@@ -8,3 +8,4 @@ pub mod Results
 pub mod Sections
 pub mod Written
 pub mod Laid
+pub mod Progress

@@ -24,11 +24,10 @@ use Rattle.bm_law.proofs.Spans.{own-append}
 use Rattle.bm_cache.specs.Opening.{Fills, fill_log, named}
 use Rattle.bm_cache.specs.Shown.{shown}
 use Rattle.bm_cache.specs.Tokens.{Token, number_of}
-use Rattle.bm_deferred.specs.Begun.{Progressed, Progresses, begun_by, begun_over}
+use Rattle.bm_deferred.specs.Begun.{begun_by}
 use Rattle.bm_deferred.specs.Grown.{GrewBy, GrewPart}
 use Rattle.bm_deferred.specs.Inboxes.{Delivered, Delivers, Inboxes}
 use Rattle.bm_deferred.specs.Parts.{Part, Say, Stand, Then}
-use Rattle.bm_deferred.proofs.Begun.{IsIdle, begun-append, over-idle}
 use Rattle.bm_deferred.proofs.Each.{AllOf}
 use Rattle.bm_lawful.specs.Closing.{AreSweeps, EndsPeriods, in_progress}
 use Rattle.bm_lawful.specs.Fills.{AreFills, fresh_stock, prefill}
@@ -53,6 +52,7 @@ use Rattle.bm_returns.specs.Units.{FreedAsGiven}
 use Rattle.bm_exec.specs.Living.{home_of, lived_in}
 use Rattle.bm_exec.proofs.Said.{Silent, silent-log}
 use Rattle.bm_levels.specs.AtProcessor.{lists_of, log_of}
+use Rattle.bm_levels.specs.AtTie.{TiedAt}
 use Rattle.bm_levels.specs.Here.{position_of}
 use Rattle.bm_levels.specs.Logged.{IsLived, Tells}
 use Rattle.bm_levels.specs.Ready.{known_of}
@@ -63,9 +63,13 @@ use Rattle.bm_plan.specs.Position.{Position, StandsAt}
 use Rattle.bm_plan.proofs.Positions.{whole}
 use Rattle.bm_world.specs.LivingState.{LivingState, lives_of}
 use Rattle.bm_opening.specs.Filling.{filling}
-use Rattle.bm_opening.specs.Opened.{IsOpen}
+use Rattle.bm_opening.specs.Opened.{IsOpen, outset}
 use Rattle.bm_run.specs.Closed.{Closed}
 use Rattle.bm_run.specs.Lines.{Wrote}
+use Rattle.bm_law_order.specs.Tie.{TiedBy, whatever}
+use Rattle.bm_world.specs.ToldLiving.{LivingDoes}
+use Rattle.bm_run.proofs.Laid.{tied-led}
+use Rattle.bm_run.proofs.Progress.{led-progress}
 use Rattle.bm_run.proofs.Closes.{LawfulSoFar, closing-is, ends-are, late-goes-on, rest-late, rest-silent}
 use Rattle.bm_run.proofs.OpenedList.{opened-has, opened-none}
 use Rattle.bm_run.proofs.Sections.{runs-none}
@@ -84,10 +88,6 @@ fill-level (f ∷ fs) = ap (λ l. (0, entry.Fill f.0 (named f.1)) ∷ l) (fill-l
 are-fills : (cs : List ℕ) (pool : Stock) → AreFills cs pool (fill_entries (filling cs pool).fills)
 are-fills [] pool = refl
 are-fills (c ∷ cs) pool = let f = fetched c (prefill c) pool in (fill_entries (filling cs f.pool).fills, refl, are-fills cs f.pool)
-
-fills-idle : (fs : Fills) → AllOf IsIdle (fill_entries fs)
-fills-idle [] = tt
-fills-idle (f ∷ fs) = (tt, fills-idle fs)
 
 fills-silent : (fs : Fills) → Silent (fill_entries fs)
 fills-silent [] = tt
@@ -134,9 +134,6 @@ fills-said cs pool fills e =
     let fs : Fills = (filling cs pool).fills in
     (fill_entries fs, are-fills cs pool, subst (λ (l : Log). Stand 0 (fill_entries fs) (opening 0) l) (sym (e ∙ fill-level fs)) (record { from = level-from 0 (fill_entries fs); own_is = level-own 0 (fill_entries fs) }))
 
-fills-begin : (fs : Fills) (fills : Log) → fills ≡ fill_log fs → (d : Domain) → begun_over d None (own_entries 0 fills) ≡ None
-fills-begin fs fills e d = ap (λ (l : Log). begun_over d None (own_entries 0 l)) (e ∙ fill-level fs) ∙ (ap (begun_over d None) (level-own 0 (fill_entries fs)) ∙ over-idle d None (fill_entries fs) (fills-idle fs))
-
 fills-leave : (p : Program) (m : Processor) (fills : Log) → Sound p m → log_of m ≡ Some fills → lists_of m ≡ after (opening 0) fills
 fills-leave p m fills sound told = (let l = subst (λ (x : Option Log). IfSome x (λ es. Leaves 0 es (lists_of m))) told (told-of p m sound) in sym l.lists)
 
@@ -161,21 +158,6 @@ stands-here p m log s h = subst (λ n. HandlersStand p.scenario.now n log) s.at.
 closing-live : (l : Lived) (closing : Log) → AllAt 0 closing → Silent (own_entries 0 closing) → LivesOn 0 l l closing
 closing-live l closing at silent = lifeless 0 l l closing (subst IsLifeless (sym (at-own 0 closing at)) (silent-log 0 (own_entries 0 closing) silent)) (λ u. refl) (λ u. refl)
 
--- Of a log with handlers: the periods that it leaves in progress are those of ordinary code.
-abbrev pub OwnPeriods : Type 0
-OwnPeriods = (s : Parts) (p : ℕ) (log : Log) → HandlersStand s p log → HandlersDone s log → (d : Domain) → in_progress d None log ≡ begun_over d None (own_entries 0 log)
-
--- the periods in progress behind the scripts
-begun-told : (d : Domain) (m0 m2 : Processor) (fills scripts log2 : Log) → (side d (known_of m0)).number ≡ 0 → log_of m0 ≡ Some fills → log_of m2 ≡ Some log2 → log2 ≡ fills ++ scripts → begun_over d None (own_entries 0 fills) ≡ None →
-    Progressed 0 d (begun_by (side d (known_of m0)).number) (begun_by (side d (known_of m2)).number) (log_of m0) (log_of m2) → begun_by (side d (known_of m2)).number ≡ begun_over d None (own_entries 0 (fills ++ scripts))
-begun-told d m0 m2 fills scripts log2 zero-first told0 told2 is none p =
-    let x : Option ℕ = begun_by (side d (known_of m2)).number in
-    let q : Progresses 0 d (begun_by (side d (known_of m0)).number) x (log_of m0) log2 = subst (Progressed 0 d (begun_by (side d (known_of m0)).number) x (log_of m0)) told2 p in
-    let added : q.added ≡ scripts = same-added (log_of m0) q.log fills q.added scripts log2 q.told told0 q.now_is is in
-    let start : begun_by (side d (known_of m0)).number ≡ None = ap begun_by zero-first in
-    q.left ∙ ap (λ o. begun_over d o (own_entries 0 q.added)) start ∙ ap (λ (l : Log). begun_over d None (own_entries 0 l)) added
-    ∙ ap (λ o. begun_over d o (own_entries 0 scripts)) (sym none) ∙ sym (begun-append d None (own_entries 0 fills) (own_entries 0 scripts)) ∙ ap (begun_over d None) (sym (own-append 0 fills scripts))
-
 -- What a run left: the processor as it was opened, behind its scripts, and once its closing has begun; and its log.
 pub record RunLeft (s : Parts) (p : Program) (m0 m2 m3 : Processor) (final : Log) : Type 0 where
   pub program : p.scenario.now ≡ s
@@ -183,6 +165,7 @@ pub record RunLeft (s : Parts) (p : Program) (m0 m2 m3 : Processor) (final : Log
   pub scripts : Wrote (AreScripts s (lines_of 0 s.runs)) m0 m2
   pub lives : (u : ℕ) → lives_of m2.side.slots u ≡ None
   pub sound : Sound p m2
+  pub tied : TiedAt [] (outset s.pages) m2
   pub ends : Wrote (Stand 0 (entry.Ended ∷ entry.Close ∷ [])) m2 m3
   pub ended : m3.handlers.planned.ended ≡ true
   pub same : m3.side ≡ m2.side
@@ -190,8 +173,8 @@ pub record RunLeft (s : Parts) (p : Program) (m0 m2 m3 : Processor) (final : Log
   pub sound_ended : Sound p m3
   pub closed : Closed (opened_classes s.types) m3 final
 
-pub told-run : (s : Parts) (p : Program) (m0 m2 m3 : Processor) (final : Log) → OwnPeriods → RunLeft s p m0 m2 m3 final → (t : Told s final) × (t.before ≡ lists_of m2)
-told-run s p m0 m2 m3 final periods r =
+pub told-run : (s : Parts) (p : Program) (m0 m2 m3 : Processor) (final : Log) → RunLeft s p m0 m2 m3 final → (t : Told s final) × (t.before ≡ lists_of m2)
+told-run s p m0 m2 m3 final r =
     let classes : List ℕ = opened_classes s.types in
     let o = r.opens in
     let w = r.scripts in
@@ -218,7 +201,8 @@ told-run s p m0 m2 m3 final periods r =
     let goes : LawfulSoFar (here p m3) p.scenario.now (z.log ++ rest) = late-goes-on (here p m3) p.scenario.now z.log rest (runs-none p m3 r.sound_ended) r.ended at_rest late here3.0 in
     let front_stands : HandlersStand s 0 front = subst (λ x. HandlersStand x 0 front) r.program (stands-here p m2 front r.sound here2.0.stands) in
     let front_done : HandlersDone s front = subst (λ x. HandlersDone x front) r.program here2.0.done in
-    let begun : (d : Domain) → begun_by (side d (known_of m2)).number ≡ in_progress d None front = λ d. begun-told d m0 m2 fills scripts e'.log (o.numbers d) told0 e'.told w'.now_is (fills-begin (filling classes (fresh_stock s.pages)).fills fills logged d) (w.ordinary.periods d) ∙ sym (periods s 0 front front_stands front_done d) in
+    let tied = subst (λ (o : Option Log). TiedBy whatever LivingDoes [] (outset s.pages) 0 [] [] o m2.side) told2 r.tied in
+    let begun : (d : Domain) → begun_by (side d (known_of m2)).number ≡ in_progress d None front = led-progress s.pages front m2.side r.sound.at.ready.first (tied-led s.pages front m2.side tied) in
     let ends : EndsBegun (known_of m3) ≡ EndsPeriods front = ends-are (known_of m3) front (λ d. rw r.same (begun d)) in
     let leaves : Leaves 0 z.log (lists_of m3) = subst (λ (x : Option Log). IfSome x (λ es. Leaves 0 es (lists_of m3))) z.told (told-of p m3 r.sound_ended) in
     let state : lists_of m3 ≡ after (after (opening 0) front) e'.added = sym leaves.lists ∙ ap (after (opening 0)) middle ∙ after-append (opening 0) front e'.added in
@@ -363,9 +347,9 @@ abbrev pub MailLaw : Type 0
 MailLaw = (s : Parts) (fills scripts closing : Log) (boxes : Inboxes) → HandlersStand s 0 ((fills ++ scripts) ++ closing) → HandlersDone s ((fills ++ scripts) ++ closing) → Say 0 (AreFills (opened_classes s.types) (fresh_stock s.pages)) (opening 0) fills → AreScripts s (lines_of 0 s.runs) (after (opening 0) fills) scripts →
     Delivers 0 1 0 (Some no_parcels) boxes (Some fills) (fills ++ scripts) → ClosingTold 0 (opened_classes s.types) (fills ++ scripts) boxes (after (opening 0) (fills ++ scripts)) closing → ParcelLaw 0 ((fills ++ scripts) ++ closing)
 
-pub lawful-run : (s : Parts) (p : Program) (m0 m2 m3 : Processor) (final : Log) → OwnPeriods → RowsKept → NullKept → ToldSweeps → MailLaw → RunLeft s p m0 m2 m3 final → LawfulLog s 0 final
-lawful-run s p m0 m2 m3 final periods kept null sweeps mail r =
-    let k = told-run s p m0 m2 m3 final periods r in
+pub lawful-run : (s : Parts) (p : Program) (m0 m2 m3 : Processor) (final : Log) → RowsKept → NullKept → ToldSweeps → MailLaw → RunLeft s p m0 m2 m3 final → LawfulLog s 0 final
+lawful-run s p m0 m2 m3 final kept null sweeps mail r =
+    let k = told-run s p m0 m2 m3 final r in
     let t : Told s final = k.0 in
     let leaves : Leaves 0 (t.fills ++ t.scripts) (lists_of m2) = subst (Leaves 0 (t.fills ++ t.scripts)) k.1 t.leaves in
     lawful-log s final t r.closed.last null (sweeps (opened_classes s.types) t.boxes) (mail s t.fills t.scripts t.closing t.boxes t.stands t.done t.are_fills t.are_scripts t.mail t.closes)
@@ -388,9 +372,9 @@ AllFreed = (a : Lived) (logs : List Log) → AreLived a logs → ((u : ℕ) → 
 one-freed : (log : Log) → ((u : ℕ) → times_in u (named_all freed_units (log ∷ [])) ≡ times_in u (named_all given_units (log ∷ []))) → FreedAsGiven log
 one-freed log h u = ap (times_in u) (sym (append-nil (named_in freed_units log))) ∙ h u ∙ ap (times_in u) (append-nil (named_in given_units log))
 
-pub lived-run : (s : Parts) (p : Program) (m0 m2 m3 : Processor) (final : Log) → OwnPeriods → OneLived → AllLived → AllFreed → RunLeft s p m0 m2 m3 final → WholeLives (final ∷ []) × FreedAsGiven final
-lived-run s p m0 m2 m3 final periods one all freed r =
-    let t : Told s final = (told-run s p m0 m2 m3 final periods r).0 in
+pub lived-run : (s : Parts) (p : Program) (m0 m2 m3 : Processor) (final : Log) → OneLived → AllLived → AllFreed → RunLeft s p m0 m2 m3 final → WholeLives (final ∷ []) × FreedAsGiven final
+lived-run s p m0 m2 m3 final one all freed r =
+    let t : Told s final = (told-run s p m0 m2 m3 final r).0 in
     let lived : AreLived t.lived (final ∷ []) = one t.lived final (subst (LivesOn 0 no_lives t.lived) (sym t.final_is) t.lives) in
     (all t.lived (final ∷ []) lived t.none, one-freed final (freed t.lived (final ∷ []) lived t.none))
 

@@ -49,15 +49,10 @@ pub begins-moved : (kind : StepKind) (k : Known) (d : Domain) → (side d (moved
 begins-moved kind k Plain = refl
 begins-moved kind k Tracing = refl
 
-pub number-moved : (kind : StepKind) (k : Known) (d : Domain) → (side d (moved kind false Plain k)).number ≡ (side d k).number
-number-moved kind k Plain = refl
-number-moved kind k Tracing = refl
-
 pub unmoved-by : (kind : StepKind) (a b : Processor) → known_of b ≡ moved kind false Plain (known_of a) → Unmoved a b
 unmoved-by kind a b k = record {
   processors = ap (λ (x : Known). x.grace.processors) k;
   processor = ap (λ (x : Known). x.grace.processor) k;
-  number = λ d. ap (λ (x : Known). (side d x).number) k ∙ number-moved kind (known_of a) d;
   parcels = ap (λ (x : Known). x.parcels) k;
 }
 

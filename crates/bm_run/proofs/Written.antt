@@ -10,7 +10,7 @@ use Rattle.bm_law.specs.State.{State}
 use Rattle.bm_law.proofs.Spans.{Records-one, from-append, own-append}
 use Rattle.bm_deferred.specs.Begun.{begun_by}
 use Rattle.bm_deferred.specs.Parts.{Part, Stand, Then}
-use Rattle.bm_deferred.proofs.Begun.{IsStill, over-idle, progressed-records, still-idle}
+use Rattle.bm_deferred.proofs.Begun.{IsStill}
 use Rattle.bm_deferred.proofs.Grown.{grew-join, grew-map, grew-stand}
 use Rattle.bm_deferred.proofs.Inboxes.{delivered-records, still-quiet}
 use Rattle.bm_plan.specs.declared.handlers.Handlers.{Handlers}
@@ -63,17 +63,13 @@ stand-join v w s t one two f g = record {
 pub wrote-stands : (v w : List Entry) (a b c : Processor) → FineAt 0 a → FineAt 0 b → b.caches.processor ≡ a.caches.processor → Wrote (Stand 0 v) a b → Wrote (Stand 0 w) b c → Wrote (Stand 0 (v ++ w)) a c
 wrote-stands v w a b c = wrote-joined (Stand 0 v) (Stand 0 w) (Stand 0 (v ++ w)) a b c (λ one two f g. stand-join v w (lists_of a) (after (lists_of a) one) one two f g)
 
--- ---- an entry that has nothing to do with parcels and periods
+-- ---- an entry that has nothing to do with parcels
 
--- what it leaves of the side: the processors, the numbers of periods, and the parcels
+-- what it leaves of the side: the processors and the parcels
 pub record Unmoved (a b : Processor) : Type 0 where
   pub processors : (known_of b).grace.processors ≡ (known_of a).grace.processors
   pub processor : (known_of b).grace.processor ≡ (known_of a).grace.processor
-  pub number : (d : Domain) → (side d (known_of b)).number ≡ (side d (known_of a)).number
   pub parcels : (known_of b).parcels ≡ (known_of a).parcels
-
-begun-still : (d : Domain) (a b : Processor) (e : Entry) → IsStill e → Unmoved a b → begun_by (side d (known_of b)).number ≡ Rattle.bm_deferred.specs.Begun.begun_over d (begun_by (side d (known_of a)).number) (e ∷ [])
-begun-still d a b e q h = ap begun_by (h.number d) ∙ sym (over-idle d (begun_by (side d (known_of a)).number) (e ∷ []) (still-idle e q, tt))
 
 pub wrote-still : (a b : Processor) (e : Entry) → Appends (log_of a) 0 e (log_of b) → IsStill e → Unmoved a b → Wrote (Stand 0 (e ∷ [])) a b
 wrote-still a b e h q k =
@@ -83,7 +79,6 @@ wrote-still a b e h q k =
       ordinary = record {
         processors = k.processors;
         processor = k.processor;
-        periods = λ d. progressed-records 0 d (e ∷ []) (begun_by (side d (known_of a)).number) (begun_by (side d (known_of b)).number) (log_of a) (log_of b) (begun-still d a b e q k) one;
         mail = delivered-records 0 (known_of a).grace.processors (known_of a).grace.processor (e ∷ []) (known_of a).parcels (known_of b).parcels (log_of a) (log_of b) (still-quiet e q, tt) k.parcels one;
       };
     }
@@ -95,7 +90,6 @@ wrote-before a h b u = record {
   ordinary = record {
     processors = u.ordinary.processors;
     processor = u.ordinary.processor;
-    periods = u.ordinary.periods;
     mail = u.ordinary.mail;
   };
 }

@@ -14,7 +14,7 @@ use Rattle.bm_deferred.specs.Parts.{Nothing, Part, Say}
 use Rattle.bm_deferred.specs.WorkPhrases.{IsOne}
 use Rattle.bm_desk.specs.Works.{plain_of, tracing_of}
 use Rattle.bm_desk.proofs.Sides.{works-at-most, works-called, works-join, works-map, say-join}
-use Rattle.bm_desk.proofs.Turning.{begun-won, called-turned, numbers-moved, works-turned}
+use Rattle.bm_desk.proofs.Turning.{called-turned, numbers-moved, works-turned}
 use Rattle.bm_law_order.specs.Act as act
 use Rattle.bm_law_order.specs.Chunk as chunk
 use Rattle.bm_law_order.specs.Act.{Act}
@@ -38,8 +38,7 @@ returns-in-Won-clause-works g c =
     let N = g.H.W.Knows.known in
     let won : c.try_begin.result ≡ Won = c.in-Won.is in
     let k : N (g.H.Desk.shared b) ≡ began g.H.W.Knows.tells d Won c.args.even (N (g.H.Desk.shared a)) = c.try_begin.ensures.known ∙ ap (λ (z : Began). began g.H.W.Knows.tells d z c.args.even (N (g.H.Desk.shared a))) won in
-    let m : (e : Domain) → begun_by (side e (N (g.H.Desk.shared b))).number ≡ begun_after e (begun_by (side e (N (g.H.Desk.shared a))).number) (entry.Begin d n) = λ e. ap (λ (z : Known). begun_by (side e z).number) k ∙ begun-won g.H.W.Knows.tells e d c.args.even (N (g.H.Desk.shared a)) in
-    let v = works-turned g.R.Recorder.log g.H.Host.face g.H.Host.pending g.H.Desk.stays g.H.Host.held g.H.Desk.shared N (λ h. g.H.W.Knows.rights (g.H.Desk.shared h)) g.H.Host.tests j (plain_of d) (tracing_of d) (entry.Begin d n) a b x tt c.try_begin.ensures.turned c.note_begun.ensures.step c.note_begun.ensures.lists c.note_begun.ensures.processor c.note_begun.ensures.handled m in
+    let v = works-turned g.R.Recorder.log g.H.Host.face g.H.Host.pending g.H.Desk.stays g.H.Host.held g.H.Desk.shared N (λ h. g.H.W.Knows.rights (g.H.Desk.shared h)) g.H.Host.tests j (plain_of d) (tracing_of d) (entry.Begin d n) a b x tt c.try_begin.ensures.turned c.note_begun.ensures.step c.note_begun.ensures.lists c.note_begun.ensures.processor c.note_begun.ensures.handled in
     let t = works-join g.R.Recorder.log g.R.Recorder.counts g.H.Host.face g.H.Host.pending g.H.Desk.stays g.H.Host.held (λ h. N (g.H.Desk.shared h)) j (plain_of d) (tracing_of d) 0 0 P Q W a x y (λ l s one two. say-join l (IsOne (entry.Begin d n)) (MayFinish d) (MayBegin d) s _ one two f) c.requires.stands.fine.placed c.note_begun.ensures.stands.fine.placed v c.finish_if_all.ensures.works in
     works-at-most g.R.Recorder.log g.R.Recorder.counts g.H.Host.face g.H.Host.pending g.H.Desk.stays g.H.Host.held (λ h. N (g.H.Desk.shared h)) (λ h. g.H.W.Knows.rights (g.H.Desk.shared h)) (plain_of d + 0) (tracing_of d + 0) (plain_of d) (tracing_of d) W a y (omega (arith)) (omega (arith)) t
 

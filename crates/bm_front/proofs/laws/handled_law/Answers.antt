@@ -1,4 +1,4 @@
-use Rattle.bm_front.proofs.Handled.{null-handled, periods-handled, replies-handled, rows-handled}
+use Rattle.bm_front.proofs.Handled.{null-handled, replies-handled, rows-handled}
 use Rattle.bm_front.proofs.laws.handled_law.Goals as goal
 
 pub returns-clause-rows : goal.returns-clause-rows
@@ -9,6 +9,3 @@ returns-clause-replies c = replies-handled
 
 pub returns-clause-null : goal.returns-clause-null
 returns-clause-null c = null-handled
-
-pub returns-clause-periods : goal.returns-clause-periods
-returns-clause-periods c = periods-handled

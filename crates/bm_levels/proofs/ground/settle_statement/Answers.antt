@@ -22,7 +22,6 @@ returns-clause-statements g c =
     subst (Statements m) (sym lent) (statements-worked c.args.program.now m k w.goes.keeps.0 w.goes.pending record {
       processors = w.goes.keeps.0.processors;
       processor = w.goes.keeps.0.processor;
-      periods = w.periods;
       mail = w.mail;
     }))
 

@@ -83,7 +83,8 @@ run-left g c final x =
     let o = rw c.requires.opened at c.in_ok-own.ensures in
     let wrote = rw c.parts-parts.ensures.value at (not-err c.run_lines.result _ e c.run_lines.ensures.wrote) in
     let sound = not-err c.run_lines.result _ e c.run_lines.ensures.sound in
-    let lives = not-err c.run_lines.result _ e c.run_lines.ensures.lives in (
+    let lives = not-err c.run_lines.result _ e c.run_lines.ensures.lives in
+    let tied = not-err c.run_lines.result _ e c.run_lines.ensures.tied in (
       _,
       record {
         program = c.parts-parts.ensures.value;
@@ -91,6 +92,7 @@ run-left g c final x =
         scripts = wrote;
         lives = λ u. ap (λ (f : Lives). f u) lives ∙ o.none u;
         sound = sound;
+        tied = subst (λ l. TiedAt l (outset c.args.scenario.now.pages) c.run_lines.new.own) c.requires.since (subst (λ w. TiedAt g.B.Since.since w c.run_lines.new.own) c.requires.start tied);
         ends = c.begin_closing.ensures.wrote;
         ended = c.begin_closing.ensures.ended;
         same = c.begin_closing.ensures.side;
@@ -103,12 +105,12 @@ run-left g c final x =
 pub returns-clause-lawful : goal.returns-clause-lawful
 returns-clause-lawful g c = if-ok c.close.result _ _ c.close.ensures.closed (λ final x.
     let r = run-left g c final x in
-    lawful-run c.args.scenario.now r.0 c.in_ok-own.own c.run_lines.new.own c.begin_closing.new.own final c.handled_law.ensures.periods c.handled_law.ensures.rows c.handled_law.ensures.null c.sweeps_law.ensures c.parcels_law.ensures r.1)
+    lawful-run c.args.scenario.now r.0 c.in_ok-own.own c.run_lines.new.own c.begin_closing.new.own final c.handled_law.ensures.rows c.handled_law.ensures.null c.sweeps_law.ensures c.parcels_law.ensures r.1)
 
 lived-log : (g : Over) (c : goal.After-close g) → IfOk c.close.result (λ final. WholeLives (final ∷ []) × FreedAsGiven final)
 lived-log g c = if-ok c.close.result _ _ c.close.ensures.closed (λ final x.
     let r = run-left g c final x in
-    lived-run c.args.scenario.now r.0 c.in_ok-own.own c.run_lines.new.own c.begin_closing.new.own final c.handled_law.ensures.periods c.lives_law.ensures.one c.lives_law.ensures.whole c.lives_law.ensures.freed r.1)
+    lived-run c.args.scenario.now r.0 c.in_ok-own.own c.run_lines.new.own c.begin_closing.new.own final c.lives_law.ensures.one c.lives_law.ensures.whole c.lives_law.ensures.freed r.1)
 
 pub returns-clause-lives : goal.returns-clause-lives
 returns-clause-lives g c = if-ok c.close.result _ _ (lived-log g c) (λ final h. h.0)

@@ -18,7 +18,7 @@ pub returns-clause-wrote : goal.returns-clause-wrote
 returns-clause-wrote c =
     let m : Processor = c.args.own.now in
     let n = rw c.ordinary.ensures at c.note.ensures.step in
-    wrote-still m (record m { caches = c.note.new.self }) c.args.entry n.records c.requires.still (record { processors = refl; processor = refl; number = λ d. refl; parcels = refl })
+    wrote-still m (record m { caches = c.note.new.self }) c.args.entry n.records c.requires.still (record { processors = refl; processor = refl; parcels = refl })
 
 pub returns-clause-tied : goal.returns-clause-tied
 returns-clause-tied c q since start t =
