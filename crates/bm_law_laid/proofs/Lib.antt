@@ -17,3 +17,4 @@ pub mod PeriodsAlong
 pub mod GraceOver
 pub mod StampsAlong
 pub mod PagesNamed
+pub mod SectionsSaid

@@ -4,6 +4,7 @@ ghost use Rattle.std.specs.Prelude.{◌≡◌, ◌<◌, ◌≤◌, ℕ, ◌+◌,
 ghost use Rattle.bm_journal.specs.declared.entry.Entry.{Entry};
 ghost use Rattle.bm_journal.specs.declared.ids.Domain.{Domain};
 ghost use Rattle.bm_law.specs.Lists.{Log};
+ghost use Rattle.bm_lawful.specs.SectionWords.{SectionWords};
 ghost use Rattle.bm_lawful.specs.Short.{JournalShort};
 ghost use Rattle.bm_lives.specs.Together.{AreOnce, Each, EachLog, named, times};
 ghost use Rattle.bm_lives.specs.GraceLaw.{AllEnded, GraceLaw, NumbersFit};
@@ -35,8 +36,8 @@ pub fn named_law()
 /// Logs of which an order is laid: periods begin with 1, 3, .. and end with 2, 4, .., each number once; a unit is given the
 /// lives 1, 2, .., each once; it is returned as often as it is taken, once less if it is out at last; fewer units come than
 /// were wanted only where each page gave one; and each parcel goes to a processor that there is. A stamp waits for each number that its log named before, and no number is seen above the
-/// last one that a period can end with. Of at most eight logs the law of grace periods holds as a whole; and where no period
-/// of a domain is in progress at last, each that began has ended.
+/// last one that a period can end with. Of at most eight logs the law of grace periods holds as a whole, and the sections of
+/// each have the words 1, 2, ..; and where no period of a domain is in progress at last, each that began has ended.
 pub fn journal_law()
     ensures numbers { (d : Domain) (processors pages : ℕ) (logs : List Log) (o : Order) →
         IsOrderOf logs o → IsLaid processors pages o → NumbersFit d logs }
@@ -57,6 +58,8 @@ pub fn journal_law()
         IsOrderOf logs o → IsLaid processors pages o → SeenFit d logs }
     ensures grace { (pages : ℕ) (logs : List Log) (o : Order) → length logs ≤ 8 →
         IsOrderOf logs o → IsLaid (length logs) pages o → GraceLaw logs }
+    ensures words { (pages : ℕ) (logs : List Log) (o : Order) → length logs ≤ 8 →
+        IsOrderOf logs o → IsLaid (length logs) pages o → EachLog (λ p log. SectionWords log) logs }
     ensures ended { (d : Domain) (processors pages : ℕ) (logs : List Log) (o : Order) →
         IsOrderOf logs o → IsLaid processors pages o →
         (of d (shared_over o (fresh processors pages)).numbers).driver ≡ None → AllEnded d logs }

@@ -1,7 +1,6 @@
-//! Laws of handlers, and of the sections of a log.
+//! Laws of handlers.
 
 ghost use Rattle.std.specs.Prelude.{◌≡◌, ◌<◌, ◌∷◌, ◌++◌, [], ℕ, List, true};
-ghost use Rattle.bm_journal.specs.declared.ids.Domain.{Domain};
 ghost use Rattle.bm_journal.specs.declared.ids.Domain.TheVariants.{Plain};
 ghost use Rattle.bm_journal.specs.declared.entry.Entry.{Entry};
 ghost use Rattle.bm_journal.specs.declared.entry.Entry.TheVariants as entry;
@@ -14,7 +13,7 @@ ghost use Rattle.bm_due.specs.Due.{planned_for};
 ghost use Rattle.bm_due.specs.Standing.{HandlersStand};
 ghost use Rattle.bm_lawful.specs.CallEntries.{IsOfHandler};
 ghost use Rattle.bm_lawful.specs.Handlers.{AreHandlers, HandlerPhrase, HandlersDone, all_within};
-ghost use Rattle.bm_lawful.specs.SectionWords.{SectionWords, word_after, word_fits, word_next};
+ghost use Rattle.bm_lawful.specs.SectionWords.{word_after};
 
 /// The handlers of a log that have gone back left their phrases: so it is before the first entry, behind each entry that ends
 /// no handler, and where one goes back that left its phrase; and so it was at each time before. Where handlers stand where they
@@ -35,17 +34,6 @@ pub fn handlers_law()
         (l : ℕ) → 0 < l → AllOf IsOfHandler (own_entries l log) }
     ensures closing { (s : Parts) (p : ℕ) (front closing : Log) (rest : List Entry) → HandlersStand s p (front ++ closing) →
         own_entries 0 closing ≡ entry.Ended ∷ rest → HandlersStand s p front × AllAt 0 closing }
-{}
-
-/// The words of sections, entry by entry: a section begins by the next word where the last one is even, and ends by the next
-/// one where it is odd.
-pub fn words_law()
-    ensures none { SectionWords [] }
-    ensures goes_on { (log : Log) (l : ℕ) (e : Entry) → SectionWords log →
-        ((d : Domain) → word_fits d (word_after d log) e ≡ true) → SectionWords (log ++ (l, e) ∷ []) }
-    ensures before { (one two : Log) → SectionWords (one ++ two) → SectionWords one }
-    ensures last { (d : Domain) (log : Log) (l : ℕ) (e : Entry) →
-        word_after d (log ++ (l, e) ∷ []) ≡ word_next d (word_after d log) e }
 {}
 
 /// Where no handler is planned for a processor, its log is of ordinary code alone; and a log of ordinary code that begins and

@@ -58,7 +58,6 @@ tells-begun s w u (Some es) home next none there counted t =
     let p : ℕ = (known_living w).grace.processor in
     record {
       done = t.done;
-      words = t.words;
       last = λ d. t.last d ∙ sym (same-words (known_living w) (known_living (with_begun u w)) refl d);
       lives = lived-begun p w u es home there counted (t.lives (ap (λ k. k + 1) next, ap (λ (o : Option UnitState). home_of (living_of o)) none));
     }
@@ -85,7 +84,7 @@ at-asked l p m w e room s =
   where
     same : (o : Option Log) → IfSome o (Tells (IsLived (known_of m)) p.scenario.now (known_of m)) → IfSome o (Tells (IsLived (known_living (with_asked m.side))) p.scenario.now (known_living (with_asked m.side)))
     same None t = tt
-    same (Some es) t = record { done = t.done; words = t.words; last = λ d. t.last d ∙ sym (same-words (known_of m) (known_living (with_asked m.side)) refl d); lives = t.lives }
+    same (Some es) t = record { done = t.done; last = λ d. t.last d ∙ sym (same-words (known_of m) (known_living (with_asked m.side)) refl d); lives = t.lives }
 
 -- ---- a drop
 
@@ -122,7 +121,6 @@ at-freeing l p m y z w n life home e now at ends x r s =
         let b = tells-inner Any Any p.scenario.now k (es ++ (l, entry.Drop n life) ∷ []) l entry.Last tt (λ h. tt) a in
         record {
           done = b.done;
-          words = b.words;
           last = λ d. b.last d ∙ sym (same-words k (known_living (with_ended n m.side)) refl d);
           lives = lived-freeing k.grace.processor l (lived_in k.objects) (lived_in (known_living (with_ended n m.side)).objects) es n life home now at (λ u. refl)
               (λ u. ap (λ (ls : Lives). home_of (ls u)) q ∙ Rattle.bm_exec.proofs.Said.lives-at n u None None (lives_of m.side.slots) refl) t.lives;

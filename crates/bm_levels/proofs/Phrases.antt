@@ -32,7 +32,7 @@ use Rattle.bm_exec.specs.Running.{RanScript}
 use Rattle.bm_exec.specs.Seen.{has_name}
 use Rattle.bm_exec.specs.declared.names.NameTable.{NameTable}
 use Rattle.bm_levels.specs.Ready.{BindsAll}
-use Rattle.bm_levels.proofs.Words.{inside-odd, outside-even}
+use Rattle.bm_lawful.proofs.Words.{inside-odd, outside-even}
 
 -- ---- by the entries of its level
 

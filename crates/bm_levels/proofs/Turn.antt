@@ -11,7 +11,7 @@ use Rattle.bm_grace.specs.Known.{Known}
 use Rattle.bm_law.specs.Lists.{Log}
 use Rattle.bm_lawful.specs.Handlers.{HandlersDone}
 use Rattle.bm_lawful.proofs.GoneBack.{done-back}
-use Rattle.bm_lawful.proofs.Words.{word-append, words-grow}
+use Rattle.bm_lawful.proofs.Words.{word-append}
 use Rattle.bm_plan.specs.Position.{AboutTo, Position, StandsAt, level_in, names_in}
 use Rattle.bm_plan.proofs.Positions.{returns-here}
 use Rattle.bm_levels.specs.AtProcessor.{HasPhrase, IsAt, IsDue, log_of}
@@ -84,7 +84,6 @@ tells-back s known log l name t h =
     let G : Log → Type 0 = λ es. HandlersDone s es in
     record {
       done = subst F (sym h.log_is) (done-back s h.front h.part l name (subst G h.log_is t.done) h.phrase);
-      words = words-grow log l (entry.Back name) t.words (λ d. refl);
       last = λ d. word-append d 0 log ((l, entry.Back name) ∷ []) ∙ t.last d;
       lives = lived-silent known log l (entry.Back name) tt t.lives;
     }

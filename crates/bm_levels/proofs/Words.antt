@@ -17,9 +17,9 @@ use Rattle.bm_cache.specs.Span.{Came}
 use Rattle.bm_cache.specs.Tests.{Tests}
 use Rattle.bm_due.specs.Standing as standing
 use Rattle.bm_due.specs.Standing.{kind_of}
-use Rattle.bm_lawful.specs.SectionWords.{is_outside, word_after, word_fits, word_next}
+use Rattle.bm_lawful.specs.SectionWords.{word_after, word_next}
 use Rattle.bm_lawful.proofs.GoneBack.{done-grow}
-use Rattle.bm_lawful.proofs.Words.{word-append, words-grow}
+use Rattle.bm_lawful.proofs.Words.{word-append}
 use Rattle.bm_lived.specs.Lifeless.{SaysNoLife}
 use Rattle.bm_desk.specs.DeskTests.{tests_by}
 use Rattle.bm_plan.specs.Position.{StandsAt}
@@ -34,23 +34,6 @@ use Rattle.bm_levels.specs.declared.processor.Processor.{Processor}
 use Rattle.bm_levels.specs.declared.program.Program.{Program}
 use Rattle.bm_levels.proofs.Noted.{came-noted}
 
--- ---- words
-
-not-twice : (b : Bool) → not (not b) ≡ b
-not-twice true = refl
-not-twice false = refl
-
--- an even word is outside, an odd one inside
-pub outside-even : (w : ℕ) → w % 2 ≡ 0 → is_outside w ≡ true
-outside-even zero h = refl
-outside-even (suc zero) h = absurd (omega (arith, h))
-outside-even (suc (suc w)) h = not-twice (is_outside w) ∙ outside-even w (omega (arith, h))
-
-pub inside-odd : (w : ℕ) → w % 2 ≡ 1 → is_outside w ≡ false
-inside-odd zero h = absurd (omega (arith, h))
-inside-odd (suc zero) h = refl
-inside-odd (suc (suc w)) h = not-twice (is_outside w) ∙ inside-odd w (omega (arith, h))
-
 -- ---- an entry that begins or ends a section
 
 -- It names the next word of the plain domain.
@@ -58,36 +41,26 @@ pub record NamesWord (w : ℕ) (e : Entry) : Type 0 where
   pub kind : kind_of e ≡ standing.Stays
   pub silent : SaysNoLife e
   pub no_back : (name : List ℕ) → e ≡ entry.Back name → ⊥
-  pub fits : word_fits Plain w e ≡ true
   pub next : word_next Plain w e ≡ w + 1
-  pub fits_other : (v : ℕ) → word_fits Tracing v e ≡ true
   pub next_other : (v : ℕ) → word_next Tracing v e ≡ v
 
-pub names-in : (w : ℕ) → w % 2 ≡ 0 → NamesWord w (entry.In Plain (w + 1))
-names-in w h = record {
+pub names-in : (w : ℕ) → NamesWord w (entry.In Plain (w + 1))
+names-in w = record {
   kind = refl;
   silent = tt;
   no_back = λ name e. cc;
-  fits = and_from (is_outside w) (nat_eq (w + 1) (w + 1)) (outside-even w h) (eq-eqb (w + 1) (w + 1) refl);
   next = refl;
-  fits_other = λ v. refl;
   next_other = λ v. refl;
 }
 
-pub names-out : (w : ℕ) → w % 2 ≡ 1 → NamesWord w (entry.Out Plain (w + 1))
-names-out w h = record {
+pub names-out : (w : ℕ) → NamesWord w (entry.Out Plain (w + 1))
+names-out w = record {
   kind = refl;
   silent = tt;
   no_back = λ name e. cc;
-  fits = and_from (not (is_outside w)) (nat_eq (w + 1) (w + 1)) (ap not (inside-odd w h)) (eq-eqb (w + 1) (w + 1) refl);
   next = refl;
-  fits_other = λ v. refl;
   next_other = λ v. refl;
 }
-
-fits-each : (w v : ℕ) (e : Entry) → NamesWord w e → (d : Domain) (x : ℕ) → (d ≡ Plain → x ≡ w) → word_fits d x e ≡ true
-fits-each w v e n Plain x h = subst (λ y. word_fits Plain y e ≡ true) (sym (h refl)) n.fits
-fits-each w v e n Tracing x h = n.fits_other x
 
 -- ---- the side's plain word moved
 
@@ -97,7 +70,6 @@ tells-moved kind s k n log l e q names t =
     let F : Known → Type 0 = λ x. Tells (IsLived x) s x (log ++ (l, e) ∷ []) in
     subst F (sym q) (record {
       done = done-grow s log l e names.no_back t.done;
-      words = words-grow log l e t.words (λ d. fits-each (side Plain k).word 0 e names d (word_after d log) (λ p. (let W : Domain → Type 0 = λ x. word_after x log ≡ (side x k).word in subst (λ x. word_after x log ≡ (side Plain k).word) (sym p) (t.last Plain))));
       last = last;
       lives = lived-silent k log l e names.silent t.lives;
     })

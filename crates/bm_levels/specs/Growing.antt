@@ -9,9 +9,9 @@ use Rattle.bm_grace.specs.Known.{Known}
 use Rattle.bm_law.specs.Lists.{Log}
 use Rattle.bm_law.specs.Phrases.{given}
 use Rattle.bm_cache.specs.Steps.{is_free, is_reply, is_step}
-use Rattle.bm_lawful.specs.SectionWords.{word_after, word_fits, word_next}
+use Rattle.bm_lawful.specs.SectionWords.{word_after, word_next}
 use Rattle.bm_lawful.proofs.GoneBack.{done-grow}
-use Rattle.bm_lawful.proofs.Words.{word-append, words-grow}
+use Rattle.bm_lawful.proofs.Words.{word-append}
 use Rattle.bm_lived.specs.Lifeless.{SaysNoLife}
 use Rattle.bm_lived.specs.Lived.{BeginsNext, Lived, no_lives, with_given}
 use Rattle.bm_lived.specs.Told.{LivesOn}
@@ -71,12 +71,6 @@ lifeless-reply _ h = tt
 pub no-back : (e : Entry) → IsInner e → (name : _) → e ≡ entry.Back name → ⊥
 no-back e i name q = subst IsInner q i
 
-pub inner-fits : (d : Domain) (w : ℕ) (e : Entry) → IsInner e → word_fits d w e ≡ true
-inner-fits d w (entry.Back name) i = absurd i
-inner-fits d w (entry.In k n) i = absurd i
-inner-fits d w (entry.Out k n) i = absurd i
-inner-fits d w _ i = refl
-
 inner-next : (d : Domain) (w : ℕ) (e : Entry) → IsInner e → word_next d w e ≡ w
 inner-next d w (entry.Back name) i = absurd i
 inner-next d w (entry.In k n) i = absurd i
@@ -90,7 +84,6 @@ word-inner d log l e i = word-append d 0 log ((l, e) ∷ []) ∙ inner-next d (w
 pub tells-inner : (L M : Log → Type 0) (s : Parts) (known : Known) (log : Log) (l : ℕ) (e : Entry) → IsInner e → (L log → M (log ++ (l, e) ∷ [])) → Tells L s known log → Tells M s known (log ++ (l, e) ∷ [])
 tells-inner L M s known log l e i f t = record {
   done = done-grow s log l e (no-back e i) t.done;
-  words = words-grow log l e t.words (λ d. inner-fits d (word_after d log) e i);
   last = λ d. word-inner d log l e i ∙ t.last d;
   lives = f t.lives;
 }

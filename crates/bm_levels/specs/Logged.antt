@@ -7,16 +7,15 @@ use Rattle.bm_grace.specs.Known.{Known, side}
 use Rattle.bm_law.specs.Lists.{Log}
 use Rattle.bm_cache.specs.Steps.{is_free}
 use Rattle.bm_lawful.specs.Handlers.{HandlersDone}
-use Rattle.bm_lawful.specs.SectionWords.{SectionWords, word_after}
+use Rattle.bm_lawful.specs.SectionWords.{word_after}
 use Rattle.bm_lived.specs.Lived.{BeginsNext, no_lives, with_given}
 use Rattle.bm_lived.specs.Told.{LivesOn}
 use Rattle.bm_exec.specs.Living.{lived_in}
 
--- Each handler that has gone back left its phrase; the log has the words of sections, the last of which are those that the side
--- knows; and it tells of lives what L says.
+-- Each handler that has gone back left its phrase; the last words of sections that the log names are those that the side knows;
+-- and it tells of lives what L says.
 pub record Tells (L : Log → Type 0) (s : Parts) (known : Known) (log : Log) : Type 0 where
   pub done : HandlersDone s log
-  pub words : SectionWords log
   pub last : (d : Domain) → word_after d log ≡ (side d known).word
   pub lives : L log
 

@@ -1,6 +1,6 @@
 //! Laws of all logs of a journal together: lives of units, what goes out of the stock and comes back, grace periods over all
 //! processors, and stamps; and when a whole journal is lawful. They are definitions, computed on worked journals; nothing in this
-//! crate runs. No run is proved to meet the laws of grace periods and of stamps by now.
+//! crate runs. What a run is proved to meet of the last two, bm_run says.
 #![tactic(auto)]
 
 mod worked;

@@ -34,7 +34,6 @@ stands-filled names lines fs =
 tells-none : (s : Parts) (known : Known) → ((d : Domain) → (side d known).word ≡ 0) → ((u : ℕ) → known.objects.begun u ≡ 0) → ((u : ℕ) → known.objects.lives u ≡ None) → Tells (IsLived known) s known []
 tells-none s known words begun lives = record {
   done = done-none s;
-  words = λ d. refl;
   last = λ d. sym (words d);
   lives = lifeless known.grace.processor no_lives (lived_in known.objects) [] tt begun (λ u. ap home_of (lives u));
 }

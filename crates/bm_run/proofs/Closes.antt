@@ -26,14 +26,12 @@ use Rattle.bm_due.specs.Plan.{Plan, due_of}
 use Rattle.bm_due.specs.Standing.{Stays, Steps, kind_of, step_or_not}
 use Rattle.bm_lawful.specs.Closing.{AreSweeps, Closing, EndsOne, EndsPeriods, SweepOf, SweepWhere, in_progress}
 use Rattle.bm_lawful.specs.Handlers.{HandlersDone}
-use Rattle.bm_lawful.specs.SectionWords.{SectionWords, word_after}
 use Rattle.bm_lawful.proofs.GoneBack.{done-grow}
-use Rattle.bm_lawful.proofs.Words.{words-grow}
 use Rattle.bm_plan.specs.Position.{Position, StandsAt, level_in}
 use Rattle.bm_plan.proofs.Positions.{asks-none, stays-here, steps-here}
 use Rattle.bm_mail.specs.SweepsTold.{ClosingTold, SweepsTold}
 use Rattle.bm_lived.specs.Lifeless.{SaysNoLife}
-use Rattle.bm_levels.specs.Growing.{IsInner, inner-fits, no-back}
+use Rattle.bm_levels.specs.Growing.{IsInner, no-back}
 use Rattle.bm_closing.specs.EndsBegun.{EndsBegun}
 use Rattle.bm_exec.proofs.Said.{Silent}
 
@@ -91,11 +89,10 @@ rest-silent known classes boxes s part h = of-map IsCalm SaysNoLife (λ e k. k.1
 
 -- ---- how the log goes on then
 
--- The log stands at this position; each handler that has gone back left its phrase; and it has the words of sections.
+-- The log stands at this position, and each handler that has gone back left its phrase.
 pub record LawfulSoFar (x : Position) (s : Parts) (log : Log) : Type 0 where
   pub stands : StandsAt x log
   pub done : HandlersDone s log
-  pub words : SectionWords log
 
 late-inner : (e : Entry) → IsLate e → IsInner e
 late-inner (entry.Handler name) h = absurd h
@@ -133,7 +130,6 @@ late-one x s log e none ended late h =
     record {
       stands = late-stands x log e none ended late h.stands;
       done = done-grow s log 0 e (no-back e inner) h.done;
-      words = words-grow log 0 e h.words (λ d. inner-fits d (word_after d log) e inner);
     }
 
 late-all : (x : Position) (s : Parts) (log : Log) (es : List Entry) → x.running ≡ [] → x.plan.ended ≡ true → AllOf IsLate es → LawfulSoFar x s log → LawfulSoFar x s (log ++ at_level 0 es)

@@ -103,7 +103,6 @@ pub record Told (s : Parts) (final : Log) : Type 0 where
   pub final_is : final ≡ (fills ++ scripts) ++ closing
   pub stands : HandlersStand s 0 ((fills ++ scripts) ++ closing)
   pub done : HandlersDone s ((fills ++ scripts) ++ closing)
-  pub words : SectionWords ((fills ++ scripts) ++ closing)
   pub front_stands : HandlersStand s 0 (fills ++ scripts)
   pub front_done : HandlersDone s (fills ++ scripts)
   pub are_fills : Say 0 (AreFills (opened_classes s.types) (fresh_stock s.pages)) (opening 0) fills
@@ -150,7 +149,7 @@ tells-here : (p : Program) (m : Processor) (log : Log) → Sound p m → log_of 
 tells-here p m log s told =
     let at : StandsAt (here p m) log = subst (λ (x : Option Log). IfSome x (StandsAt (here p m))) told s.at.at.at in
     let t : Tells (IsLived (known_of m)) p.scenario.now (known_of m) log = subst (λ (x : Option Log). IfSome x (Tells (IsLived (known_of m)) p.scenario.now (known_of m))) told s.at.tells in
-    (record { stands = at; done = t.done; words = t.words }, subst (λ n. LivesOn n no_lives (lived_in (known_of m).objects) log) s.at.ready.first t.lives)
+    (record { stands = at; done = t.done }, subst (λ n. LivesOn n no_lives (lived_in (known_of m).objects) log) s.at.ready.first t.lives)
 
 stands-here : (p : Program) (m : Processor) (log : Log) → Sound p m → StandsAt (here p m) log → HandlersStand p.scenario.now 0 log
 stands-here p m log s h = subst (λ n. HandlersStand p.scenario.now n log) s.at.ready.first (whole (here p m) log (runs-none p m s) h)
@@ -226,7 +225,6 @@ told-run s p m0 m2 m3 final r =
         final_is = z.now_is ∙ all;
         stands = subst (HandlersStand s 0) all (subst (λ x. HandlersStand x 0 (z.log ++ rest)) r.program (stands-here p m3 (z.log ++ rest) r.sound_ended goes.stands));
         done = subst (HandlersDone s) all (subst (λ x. HandlersDone x (z.log ++ rest)) r.program goes.done);
-        words = subst SectionWords all goes.words;
         front_stands = front_stands;
         front_done = front_done;
         are_fills = fills-said classes (fresh_stock s.pages) fills logged;
@@ -306,8 +304,8 @@ NullKept = (s : Parts) (p : ℕ) (log : Log) (last : State ℕ) → HandlersStan
 
 pub lawful-log : (s : Parts) (final : Log) (t : Told s final) (last : State Token) → NullKept →
     ((u : State ℕ) (more : Log) → SweepsTold (opened_classes s.types) t.boxes u more → AreSweeps (opened_classes s.types) u more) → ParcelLaw 0 ((t.fills ++ t.scripts) ++ t.closing) →
-    Leaves 0 final (seen number_of last) → ((c : ℕ) → seven_lists ((seen number_of last).rows c) ≡ []) → ((l : ℕ) → ((seen number_of last).sides l).hand ≡ []) → ((c : ℕ) → ((seen number_of last).rows c).active ≡ 0) → LawfulLog s 0 final
-lawful-log s final t last null sweeps mail leaves empty hands active =
+    Leaves 0 final (seen number_of last) → ((c : ℕ) → seven_lists ((seen number_of last).rows c) ≡ []) → ((l : ℕ) → ((seen number_of last).sides l).hand ≡ []) → ((c : ℕ) → ((seen number_of last).rows c).active ≡ 0) → SectionWords final → LawfulLog s 0 final
+lawful-log s final t last null sweeps mail leaves empty hands active words =
     let classes : List ℕ = opened_classes s.types in
     let front : Log = t.fills ++ t.scripts in
     let back : front ++ t.closing ≡ final = sym t.final_is in
@@ -323,7 +321,7 @@ lawful-log s final t last null sweeps mail leaves empty hands active =
     record {
       handlers = stands;
       phrases = done;
-      words = subst SectionWords back t.words;
+      words = words;
       is_log = is_log;
       last = seen number_of last;
       lists = leaves;
@@ -347,8 +345,8 @@ abbrev pub MailLaw : Type 0
 MailLaw = (s : Parts) (fills scripts closing : Log) (boxes : Inboxes) → HandlersStand s 0 ((fills ++ scripts) ++ closing) → HandlersDone s ((fills ++ scripts) ++ closing) → Say 0 (AreFills (opened_classes s.types) (fresh_stock s.pages)) (opening 0) fills → AreScripts s (lines_of 0 s.runs) (after (opening 0) fills) scripts →
     Delivers 0 1 0 (Some no_parcels) boxes (Some fills) (fills ++ scripts) → ClosingTold 0 (opened_classes s.types) (fills ++ scripts) boxes (after (opening 0) (fills ++ scripts)) closing → ParcelLaw 0 ((fills ++ scripts) ++ closing)
 
-pub lawful-run : (s : Parts) (p : Program) (m0 m2 m3 : Processor) (final : Log) → RowsKept → NullKept → ToldSweeps → MailLaw → RunLeft s p m0 m2 m3 final → LawfulLog s 0 final
-lawful-run s p m0 m2 m3 final kept null sweeps mail r =
+pub lawful-run : (s : Parts) (p : Program) (m0 m2 m3 : Processor) (final : Log) → RowsKept → NullKept → ToldSweeps → MailLaw → RunLeft s p m0 m2 m3 final → SectionWords final → LawfulLog s 0 final
+lawful-run s p m0 m2 m3 final kept null sweeps mail r words =
     let k = told-run s p m0 m2 m3 final r in
     let t : Told s final = k.0 in
     let leaves : Leaves 0 (t.fills ++ t.scripts) (lists_of m2) = subst (Leaves 0 (t.fills ++ t.scripts)) k.1 t.leaves in
@@ -357,6 +355,7 @@ lawful-run s p m0 m2 m3 final kept null sweeps mail r =
     (λ c. lists-end s c r.closed.last (list_any (uses_class c) s.types) refl (λ used. r.closed.empty c (opened-has s.types c used)) (λ never. ended-row s m2 m3 final t r.closed kept leaves r.lists c never))
     (λ l. ap (λ (h : Side Token). map number_of h.hand) (r.closed.ready.sides l (omega arith)))
     (λ c. (let h = r.closed.ready.active c in omega (arith, h)))
+    words
 
 -- ---- lives over the whole log
 

@@ -207,6 +207,8 @@ fn log_of<B: Since>(
     ensures returns { IfOk result (λ log. ReturnsLaw (log ∷ [])) }
     ensures whole { IfOk result (λ log. IsTrue (is_whole_log log)) }
 {
+    whole_law();
+    journal_law();
     handled_law();
     parcels_law();
     sweeps_law();

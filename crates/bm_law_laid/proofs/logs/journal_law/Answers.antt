@@ -1,6 +1,7 @@
 use Rattle.bm_law_laid.proofs.GraceOver.{logs-grace}
 use Rattle.bm_law_laid.proofs.OverLogs.{logs-ended, logs-lives, logs-numbers, logs-receivers, logs-returns}
 use Rattle.bm_law_laid.proofs.PagesNamed.{logs-short}
+use Rattle.bm_law_laid.proofs.SectionsSaid.{logs-words}
 use Rattle.bm_law_laid.proofs.StampsAlong.{logs-seen, logs-stamps}
 use Rattle.bm_law_laid.proofs.logs.journal_law.Goals as goal
 
@@ -30,3 +31,6 @@ returns-clause-seen c = logs-seen
 
 pub returns-clause-ended : goal.returns-clause-ended
 returns-clause-ended c = logs-ended
+
+pub returns-clause-words : goal.returns-clause-words
+returns-clause-words c = logs-words

@@ -20,7 +20,7 @@ returns-clause-at c p at room =
     let word : word_of Plain k ≡ word_of Plain m + 1 = ap (λ (x : Known). (side Plain x).word) known in
     let before = c.requires.outside in
     let odd : word_of Plain k % 2 ≡ 1 = omega (arith, word, before) in
-    at-moved Enter c.args.level p m k (entry.In Plain (word_of Plain m + 1)) known refl odd (names-in (word_of Plain m) before) (rw c.enter-word.ensures.word at c.note.ensures.step.records) room at
+    at-moved Enter c.args.level p m k (entry.In Plain (word_of Plain m + 1)) known refl odd (names-in (word_of Plain m)) (rw c.enter-word.ensures.word at c.note.ensures.step.records) room at
 
 pub returns-clause-came : goal.returns-clause-came
 returns-clause-came c =

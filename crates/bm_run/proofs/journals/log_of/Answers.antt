@@ -1,4 +1,4 @@
-use Rattle.std.proofs.Common.{◌≡◌, ◌≤◌, ◌%◌, ℕ, [], ◌∷◌, IfOk, ap, sym, subst, ◌∙◌, arith}
+use Rattle.std.proofs.Common.{◌≡◌, ◌≤◌, ◌%◌, ℕ, [], ◌∷◌, IfOk, ap, lit≤, sym, subst, ◌∙◌, arith}
 use Rattle.bm_grace.specs.Known.{Lives, side}
 use Rattle.bm_law.specs.Lists.{Log}
 use Rattle.bm_lives.specs.Lives.{WholeLives}
@@ -6,6 +6,7 @@ use Rattle.bm_returns.specs.Units.{FreedAsGiven}
 use Rattle.bm_world.specs.LivingState.{LivingState, known_living}
 use Rattle.bm_exec.specs.Lists.{Behind}
 use Rattle.bm_law_order.specs.Orders.{IsLaid, by}
+use Rattle.bm_law_order.specs.Whole.{whole}
 use Rattle.bm_law_order.specs.Tie.{Tied, whatever}
 use Rattle.bm_world.specs.ToldLiving.{LivingDoes}
 use Rattle.bm_opening.specs.Opened.{outset}
@@ -20,7 +21,7 @@ use Rattle.bm_run.specs.JournalLaid.{IsIdleAfter}
 use Rattle.bm_run.specs.Lines.{lines_cost}
 use Rattle.bm_run.proofs.Declared.{all-declared, few-left, room-all, room-for}
 use Rattle.bm_run.proofs.Lines.{down-when, few-when}
-use Rattle.bm_run.proofs.Laid.{led-idle, tied-led}
+use Rattle.bm_run.proofs.Laid.{laid-whole, led-idle, tied-led}
 use Rattle.bm_run.proofs.LogLaw.{RunLeft, alone-sends, lawful-run, lived-run, unused-rows}
 use Rattle.bm_run.proofs.OpenedList.{opened-ascend, opened-few}
 use Rattle.bm_run.proofs.Results.{both-if-ok, if-ok, not-err}
@@ -102,10 +103,19 @@ run-left g c final x =
       },
     )
 
+-- the log leads from the outset to a world in which nobody has a period in progress
+led-log : (g : Over) (c : goal.After-close g) → IfOk c.close.result (λ final. IsLaid 1 c.args.scenario.now.pages (by 0 final) × IsIdleAfter c.args.scenario.now.pages final)
+led-log g c = if-ok c.close.result _ _ c.close.ensures.tied (λ final t.
+    let pages = c.args.scenario.now.pages in
+    let tied = subst (λ l. Tied whatever LivingDoes l (outset pages) 0 [] [] final t.0) c.requires.since (subst (λ w. Tied whatever LivingDoes g.B.Since.since w 0 [] [] final t.0) c.requires.start t.1.0) in
+    let led = tied-led pages final t.0 tied in (led.fit, led-idle pages final t.0 led t.1.1))
+
 pub returns-clause-lawful : goal.returns-clause-lawful
-returns-clause-lawful g c = if-ok c.close.result _ _ c.close.ensures.closed (λ final x.
+returns-clause-lawful g c = both-if-ok c.close.result _ _ _ c.close.ensures.closed (led-log g c) (λ final x h.
+    let pages = c.args.scenario.now.pages in
     let r = run-left g c final x in
-    lawful-run c.args.scenario.now r.0 c.in_ok-own.own c.run_lines.new.own c.begin_closing.new.own final c.handled_law.ensures.rows c.handled_law.ensures.null c.sweeps_law.ensures c.parcels_law.ensures r.1)
+    let words = c.journal_law.ensures.words pages (final ∷ []) (whole [] (final ∷ [])) (lit≤ tt) (c.whole_law.ensures [] (final ∷ [])) (laid-whole [] pages final h.0) in
+    lawful-run c.args.scenario.now r.0 c.in_ok-own.own c.run_lines.new.own c.begin_closing.new.own final c.handled_law.ensures.rows c.handled_law.ensures.null c.sweeps_law.ensures c.parcels_law.ensures r.1 words.0)
 
 lived-log : (g : Over) (c : goal.After-close g) → IfOk c.close.result (λ final. WholeLives (final ∷ []) × FreedAsGiven final)
 lived-log g c = if-ok c.close.result _ _ c.close.ensures.closed (λ final x.
@@ -127,13 +137,6 @@ run_lines-requires-clause-tied g c =
 pub close-requires-clause-tied : goal.close-requires-clause-tied
 close-requires-clause-tied g c =
     c.begin_closing.ensures.tied g.B.Since.since g.B.Since.start (not-err c.run_lines.result _ c.if-is_err.ensures.value c.run_lines.ensures.tied)
-
--- the log leads from the outset to a world in which nobody has a period in progress
-led-log : (g : Over) (c : goal.After-close g) → IfOk c.close.result (λ final. IsLaid 1 c.args.scenario.now.pages (by 0 final) × IsIdleAfter c.args.scenario.now.pages final)
-led-log g c = if-ok c.close.result _ _ c.close.ensures.tied (λ final t.
-    let pages = c.args.scenario.now.pages in
-    let tied = subst (λ l. Tied whatever LivingDoes l (outset pages) 0 [] [] final t.0) c.requires.since (subst (λ w. Tied whatever LivingDoes g.B.Since.since w 0 [] [] final t.0) c.requires.start t.1.0) in
-    let led = tied-led pages final t.0 tied in (led.fit, led-idle pages final t.0 led t.1.1))
 
 pub returns-clause-laid : goal.returns-clause-laid
 returns-clause-laid g c = if-ok c.close.result _ _ (led-log g c) (λ final h. h.0)
