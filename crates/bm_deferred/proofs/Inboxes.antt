@@ -1,5 +1,5 @@
 -- How parcels come and leave over stretches of a log.
-use Rattle.std.proofs.Common.{◌≡◌, ℕ, Bool, true, false, ◌++◌, List, [], ◌∷◌, Option, Some, None, refl, sym, ◌∙◌, ap, subst, arith, append_assoc, inl, inr}
+use Rattle.std.proofs.Common.{◌≡◌, ℕ, ◌++◌, List, [], ◌∷◌, Option, Some, None, refl, sym, ◌∙◌, ap, subst, arith, append_assoc, inl, inr}
 use Rattle.std.proofs.lemmas.Grind.{common_steps}
 use Rattle.bm_journal.specs.declared.ids.Domain.{Domain}
 use Rattle.bm_journal.specs.declared.entry.Entry.{Entry}
@@ -11,7 +11,7 @@ use Rattle.bm_law.specs.SweepPhrases.{MayBegin, MayFinish, PollPhrase}
 use Rattle.bm_law.proofs.Spans.{own-append}
 use Rattle.bm_deferred.specs.Parts.{Part}
 use Rattle.bm_deferred.specs.Grown.{GrewBy}
-use Rattle.bm_deferred.proofs.Begun.{IsStill}
+use Rattle.bm_deferred.proofs.Still.{IsStill}
 use Rattle.bm_deferred.proofs.Each.{AllOf, PartOf, of-append}
 use Rattle.bm_deferred.specs.Inboxes.{Inboxes, inboxes_after, inboxes_over, TakesOldest, AllOldest, IsWithin, AllWithin, Carries, Delivers, Delivered}
 

@@ -1,9 +1,9 @@
 -- What points leave.
-use Rattle.std.proofs.Common.{◌≡◌, ◌+◌, ℕ, suc, List, [], Option, refl, sym, ◌∙◌, ap, subst, arith}
+use Rattle.std.proofs.Common.{◌≡◌, ◌+◌, ℕ, suc, List, [], Option, refl, sym, ◌∙◌, subst, arith}
 use Rattle.std.specs.List.{All}
 use Rattle.bm_journal.specs.declared.counts.Counts.{Counts}
 use Rattle.bm_journal.specs.declared.ids.Domain.TheVariants.{Plain, Tracing}
-use Rattle.bm_grace.specs.Known.{Known, side}
+use Rattle.bm_grace.specs.Known.{Known}
 use Rattle.bm_law.specs.State.{State, Deferred, seen}
 use Rattle.bm_law.specs.Lists.{Log}
 use Rattle.bm_law.proofs.Spans.{Records-points}
@@ -14,8 +14,7 @@ use Rattle.bm_cache.specs.Span.{Face, Fine, Came, Goes, RaisesNone, Unbroken}
 use Rattle.bm_cache.specs.declared.caches.Caches.{Caches}
 use Rattle.bm_cache.proofs.Flags.{raises-none-point}
 use Rattle.bm_deferred.specs.Parts.{Part, Stand}
-use Rattle.bm_deferred.specs.Begun.{begun_by}
-use Rattle.bm_deferred.proofs.Begun.{IsStill, StillPart}
+use Rattle.bm_deferred.proofs.Still.{IsStill, StillPart}
 use Rattle.bm_deferred.proofs.Each.{part-map}
 use Rattle.bm_deferred.proofs.Inboxes.{IsQuiet, delivered-grew, delivered-records, still-quiet}
 use Rattle.bm_work.specs.Grown.{GrewBy}

@@ -1,9 +1,7 @@
 -- Calls of the side, and what is made of calls.
 use Rattle.std.proofs.Common.{Result, Ok, Err, OnOk, OnErr, ◌≡◌, ◌≤◌, Bool, true, false, ℕ, ◌+◌, ◌++◌, List, [], Option, refl, sym, ◌∙◌, ap, subst, arith}
 use Rattle.bm_journal.specs.declared.counts.Counts.{Counts}
-use Rattle.bm_journal.specs.declared.ids.Domain.{Domain}
-use Rattle.bm_journal.specs.declared.ids.Domain.TheVariants.{Plain, Tracing}
-use Rattle.bm_grace.specs.Known.{Known, Sides, side}
+use Rattle.bm_grace.specs.Known.{Known, Sides}
 use Rattle.bm_grace.specs.Rights.{Rights, Ages}
 use Rattle.bm_law.specs.Lists.{Log, after}
 use Rattle.bm_law.specs.State.{State, seen}

@@ -9,7 +9,7 @@ use Rattle.bm_journal.specs.declared.entry.Entry.{Entry}
 use Rattle.bm_journal.specs.declared.entry.Entry.TheVariants as entry
 use Rattle.bm_journal.specs.Recording.{Appends}
 use Rattle.bm_journal.specs.declared.ids.Domain.{Domain}
-use Rattle.bm_grace.specs.Known.{Known, Sides, side}
+use Rattle.bm_grace.specs.Known.{Known, Sides}
 use Rattle.bm_law.specs.State.{Row, State, Deferred, seen, with_row}
 use Rattle.bm_law.specs.Effect.{effect}
 use Rattle.bm_law.specs.Kept.{Ready}
@@ -28,11 +28,10 @@ use Rattle.bm_cache.specs.declared.caches.Caches.{Caches}
 use Rattle.bm_cache.proofs.Each.{each-effect}
 use Rattle.bm_cache.proofs.Flags.{raised-effect, raises}
 use Rattle.bm_cache.proofs.Stretch.{ready-effect, targets-effect}
-use Rattle.bm_deferred.specs.Begun.{begun_by}
 use Rattle.bm_deferred.specs.Inboxes.{Delivered}
 use Rattle.bm_deferred.specs.Parts.{Say}
 use Rattle.bm_deferred.specs.WorkPhrases.{IsOne}
-use Rattle.bm_deferred.proofs.Begun.{IsStill}
+use Rattle.bm_deferred.proofs.Still.{IsStill}
 use Rattle.bm_deferred.proofs.Inboxes.{delivered-records, still-quiet}
 use Rattle.bm_work.proofs.Grown.{grew-say}
 use Rattle.bm_work.proofs.Lists.{whole-appends}

@@ -3,7 +3,7 @@ use Rattle.std.proofs.Common.{ℕ, zero, suc, List, [], ◌∷◌, sym, subst}
 use Rattle.bm_journal.specs.declared.entry.Entry.TheVariants as entry
 use Rattle.bm_deferred.specs.Parts.{Part, Say, Then, When}
 use Rattle.bm_deferred.specs.WorkPhrases.{Brings, IsBatch, IsGathering, IsLeave, IsSecond, IsTakeExtra, Unloads, may_batch, may_begin}
-use Rattle.bm_deferred.proofs.Begun.{AllStill, IsStill, StillPart, still-add, still-brings, unloads-still}
+use Rattle.bm_deferred.proofs.Still.{AllStill, IsStill, StillPart, still-add, still-brings, unloads-still}
 use Rattle.bm_deferred.proofs.Each.{part-nothing, part-say, part-stand, part-then, part-when}
 use Rattle.bm_work.specs.FromLists.{FromBy, FromLists}
 use Rattle.bm_desk.specs.Periods.{AddsFirst}

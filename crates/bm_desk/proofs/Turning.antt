@@ -1,15 +1,13 @@
 -- Periods that begin and end, and the entries that say so.
-use Rattle.std.proofs.Common.{◌≡◌, ◌+◌, ℕ, suc, Bool, true, List, [], ◌∷◌, Option, Some, refl, ◌∙◌, ap, subst, arith}
+use Rattle.std.proofs.Common.{◌≡◌, ◌+◌, ℕ, Bool, true, [], ◌∷◌, Option, refl, ◌∙◌, ap, subst, arith}
 use Rattle.bm_journal.specs.Recording.{Appends}
 use Rattle.bm_journal.specs.declared.ids.Domain.{Domain}
 use Rattle.bm_journal.specs.declared.ids.Domain.TheVariants.{Plain, Tracing}
 use Rattle.bm_journal.specs.declared.entry.Entry.{Entry}
-use Rattle.bm_journal.specs.declared.entry.Entry.TheVariants as entry
-use Rattle.bm_journal.specs.declared.period.Period.{Period}
-use Rattle.bm_grace.specs.Calls.{began, finished}
+use Rattle.bm_grace.specs.Calls.{began}
 use Rattle.bm_grace.specs.Known.{Known, Sides, side}
 use Rattle.bm_grace.specs.Rights.{Rights}
-use Rattle.bm_grace.specs.declared.answer.Began.TheVariants.{Won, Moved}
+use Rattle.bm_grace.specs.declared.answer.Began.TheVariants.{Moved}
 use Rattle.bm_law.specs.Lists.{Log}
 use Rattle.bm_law.specs.State.{State, seen}
 use Rattle.bm_law.proofs.Spans.{Records-one}
@@ -20,11 +18,9 @@ use Rattle.bm_cache.specs.Tests.{Tests}
 use Rattle.bm_cache.specs.Tokens.{Token, number_of}
 use Rattle.bm_cache.specs.declared.caches.Caches.{Caches}
 use Rattle.bm_cache.proofs.Moments.{goes-join}
-use Rattle.bm_deferred.specs.Begun.{begun_after, begun_by}
 use Rattle.bm_deferred.specs.Inboxes.{Inboxes}
 use Rattle.bm_deferred.specs.Parts.{Say}
 use Rattle.bm_deferred.specs.WorkPhrases.{IsOne}
-use Rattle.bm_deferred.proofs.Begun.{progressed-records}
 use Rattle.bm_deferred.proofs.Inboxes.{IsQuiet, delivered-records}
 use Rattle.bm_work.proofs.Grown.{grew-say}
 use Rattle.bm_desk.specs.Works.{Called, Handled, Turned, Works}

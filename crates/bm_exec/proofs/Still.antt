@@ -5,7 +5,7 @@ use Rattle.bm_class.specs.Watermarks.{low_of_size, high_of_size}
 use Rattle.bm_journal.specs.declared.entry.Entry.{Entry}
 use Rattle.bm_journal.specs.declared.entry.Entry.TheVariants as entry
 use Rattle.bm_law.specs.Phrases.{given, raise_below, overtaken, FreePhrase}
-use Rattle.bm_deferred.proofs.Begun.{AllStill, IsStill}
+use Rattle.bm_deferred.proofs.Still.{AllStill, IsStill}
 use Rattle.bm_deferred.proofs.Each.{of-append}
 use Rattle.bm_journal.specs.declared.ids.ObjId.{ObjId}
 use Rattle.bm_law.specs.Lists.{Log}

@@ -1,9 +1,8 @@
 -- Fronts and whole logs with handlers.
-use Rattle.std.proofs.Common.{◌≡◌, ◌<◌, ℕ, zero, suc, true, false, List, [], ◌∷◌, ◌++◌, Option, None, refl, sym, ap, subst, ◌∙◌, inl, inr, arith}
+use Rattle.std.proofs.Common.{◌≡◌, ◌<◌, ℕ, zero, suc, true, false, List, [], ◌∷◌, ◌++◌, refl, sym, ap, subst, ◌∙◌, inl, inr, arith}
 use Rattle.std.specs.List.{list_any}
 use Rattle.std.proofs.lemmas.Bool.{and_from}
 use Rattle.std.proofs.lemmas.Bool.Decides.{eqb_tells}
-use Rattle.bm_journal.specs.declared.ids.Domain.{Domain}
 use Rattle.bm_journal.specs.declared.entry.Entry.{Entry}
 use Rattle.bm_journal.specs.declared.entry.Entry.TheVariants as entry
 use Rattle.bm_lang.specs.declared.scenario.Parts.{Parts}
@@ -13,15 +12,12 @@ use Rattle.bm_law.specs.Spans.{own_entries}
 use Rattle.bm_law.specs.State.{State, opening}
 use Rattle.bm_law.proofs.Null.{apart-answers, pops-fit, replies-append}
 use Rattle.bm_law.proofs.Spans.{own-append}
-use Rattle.bm_deferred.specs.Begun.{begun_after, begun_over}
 use Rattle.bm_deferred.proofs.Each.{AllOf}
 use Rattle.bm_due.specs.Standing.{HandlersStand}
-use Rattle.bm_lawful.specs.CallEntries.{IsOfHandler}
-use Rattle.bm_lawful.specs.Closing.{in_progress}
 use Rattle.bm_lawful.specs.Grammar.{Front, IsLog}
 use Rattle.bm_lawful.specs.Handlers.{HandlersDone}
 use Rattle.bm_lawful.specs.Opened.{opened_classes, uses_class}
-use Rattle.bm_lawful.proofs.EachLevel.{AllAbove, Framed, each-above, handlers-above, handlers-have}
+use Rattle.bm_lawful.proofs.EachLevel.{AllAbove, Framed, each-above, handlers-have}
 use Rattle.bm_lawful.proofs.Levels.{levels}
 use Rattle.bm_lawful.proofs.Spares.{AllSpare, Spares}
 use Rattle.bm_front.specs.ClosingEntries.{IsOfClosing}

@@ -1,6 +1,6 @@
 -- Logs of which an order is laid name the words of their sections.
 use Rattle.std.specs.Prelude.{◌%◌, ◌&&◌, nat_eq}
-use Rattle.std.proofs.Common.{◌≡◌, ◌≤◌, ◌+◌, ℕ, true, not, List, [], ◌∷◌, length, refl, ap, subst, sym, arith, eq-eqb}
+use Rattle.std.proofs.Common.{◌≡◌, ◌≤◌, ◌+◌, ℕ, true, not, List, [], ◌∷◌, length, refl, ap, subst, arith, eq-eqb}
 use Rattle.std.proofs.lemmas.Bool.{and_from}
 use Rattle.bm_journal.specs.declared.ids.Domain.{Domain}
 use Rattle.bm_journal.specs.declared.ids.Domain.TheVariants.{Plain, Tracing}

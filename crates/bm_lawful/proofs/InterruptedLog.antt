@@ -16,7 +16,6 @@ use Rattle.bm_law.specs.Worked.{Emptied}
 use Rattle.bm_law.proofs.Agree.{leaves-lists}
 use Rattle.bm_law.proofs.Null.{pops-fit}
 use Rattle.bm_law.proofs.Spans.{own-append}
-use Rattle.bm_deferred.specs.Parts.{Part}
 use Rattle.bm_deferred.specs.Parts as part
 use Rattle.bm_deferred.proofs.Parts.{ordinary-say, ordinary-stand, then-of}
 use Rattle.bm_lawful.specs.Held.{no_names}

@@ -1,5 +1,5 @@
 -- What ordinary code leaves of its processor, statement by statement.
-use Rattle.std.proofs.Common.{◌≡◌, ◌∙◌, ◌≤◌, ◌+◌, ◌*◌, ℕ, false, List, Result, Ok, Err, OnOk, sym, ap, subst, arith}
+use Rattle.std.proofs.Common.{◌≡◌, ◌∙◌, ◌≤◌, ◌+◌, ◌*◌, ℕ, false, List, Result, Ok, Err, OnOk, sym, subst, arith}
 use Rattle.std.specs.Prelude.{length}
 use Rattle.std.proofs.lemmas.Nat.{mul-le}
 use Rattle.bm_journal.specs.declared.entry.Entry.{Entry}
@@ -12,8 +12,7 @@ use Rattle.bm_law.specs.Lists.{is_unstamped}
 use Rattle.bm_law.specs.Spans.{Records}
 use Rattle.bm_cache.specs.Shown.{shown}
 use Rattle.bm_cache.specs.Tokens.{Token}
-use Rattle.bm_deferred.specs.Begun.{begun_by}
-use Rattle.bm_deferred.proofs.Begun.{AllStill, IsStill}
+use Rattle.bm_deferred.proofs.Still.{AllStill, IsStill}
 use Rattle.bm_deferred.proofs.Each.{of-map}
 use Rattle.bm_deferred.proofs.Inboxes.{IsQuiet, delivered-records, still-quiet}
 use Rattle.bm_desk.specs.Dated.{Dated}

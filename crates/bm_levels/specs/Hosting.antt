@@ -143,7 +143,6 @@ tells-sided s k n (Some es) a h =
     let F : ℕ → Objects → Type 0 = λ p o. LivesOn p no_lives (lived_in o) es in
     record {
       done = h.done;
-      words = h.words;
       last = λ d. h.last d ∙ sym (a.words d);
       lives = subst (λ p. F p n.objects) (sym a.processor) (subst (F k.grace.processor) (sym a.objects) h.lives);
     }

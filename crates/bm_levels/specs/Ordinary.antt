@@ -2,7 +2,6 @@
 use Rattle.std.specs.Prelude.{◌≡◌, ◌≤◌, ◌+◌, ◌*◌, ◌%◌, length}
 use Rattle.bm_journal.specs.declared.ids.Domain.{Domain}
 use Rattle.bm_journal.specs.declared.ids.Domain.TheVariants.{Plain}
-use Rattle.bm_grace.specs.Known.{side}
 use Rattle.bm_deferred.specs.Inboxes.{Delivered}
 use Rattle.bm_levels.specs.AtProcessor.{log_of}
 use Rattle.bm_levels.specs.Ready.{known_of, left_of, word_of}

@@ -2,7 +2,6 @@
 use Rattle.std.specs.Prelude.{ℕ}
 use Rattle.std.proofs.Common.{refl, ◌∙◌, subst, arith}
 use Rattle.bm_journal.specs.declared.ids.Domain.TheVariants.{Plain}
-use Rattle.bm_grace.specs.Known.{side}
 use Rattle.bm_deferred.specs.Inboxes.{Delivered}
 use Rattle.bm_deferred.proofs.Inboxes.{delivered-join, delivered-none}
 use Rattle.bm_levels.specs.AtProcessor.{log_of}

@@ -15,7 +15,7 @@ use Rattle.bm_law.specs.Phrases.{given, raise_below, overtaken, AddPhrase, FreeP
 use Rattle.bm_law.specs.SweepPhrases.{PollPhrase}
 use Rattle.bm_deferred.specs.Parts.{Part, Say}
 use Rattle.bm_deferred.specs.WorkPhrases.{AddAll, Brings, Fetches, IsOne, Refill, RefillBy, Unloads}
-use Rattle.bm_deferred.proofs.Begun.{IsStill, still-add, still-brings, unloads-still}
+use Rattle.bm_deferred.proofs.Still.{IsStill, still-add, still-brings, unloads-still}
 use Rattle.bm_deferred.proofs.Each.{of-append, of-map, part-map, part-nothing, part-say, part-then}
 use Rattle.bm_deferred.proofs.Inboxes.{AllQuiet, IsQuiet, QuietPart, poll-quiet, still-quiet}
 use Rattle.bm_lawful.specs.Held.{Names}

@@ -1,6 +1,6 @@
 -- The log of a run is laid, and no period is in progress after it.
 use Rattle.std.specs.Prelude.{◌≢◌, ◌⊎◌, None, not}
-use Rattle.std.proofs.Common.{◌≡◌, arith, inl, ◌++◌, ◌∷◌, [], ℕ, zero, suc, Bool, true, false, if◌then◌else◌, List, map, get_or, set, drop, refl, sym, ◌∙◌, ap, subst, append-nil, append_assoc, lit<, lit≤}
+use Rattle.std.proofs.Common.{◌≡◌, arith, inl, ◌++◌, ◌∷◌, [], ℕ, zero, suc, Bool, true, false, if◌then◌else◌, List, refl, sym, ◌∙◌, ap, subst, append-nil, append_assoc, lit<, lit≤}
 use Rattle.bm_journal.specs.declared.ids.Domain.{Domain}
 use Rattle.bm_journal.specs.declared.ids.Domain.TheVariants.{Plain, Tracing}
 use Rattle.bm_law.specs.Lists.{Log}
@@ -10,7 +10,7 @@ use Rattle.bm_law_order.specs.Orders.{IsLaid, Leads, Order, by}
 use Rattle.bm_law_order.specs.Shared.{Shared, fresh}
 use Rattle.bm_law_order.specs.Story.{Steady, plainly}
 use Rattle.bm_law_order.specs.Tie.{Tied, whatever}
-use Rattle.bm_law_order.specs.Whole.{before_first, behind_first, closing_of, cut_behind, from_first, given_up, in_turns, is_ended, is_fill, is_finish_or_sweep, is_sweep, is_yield, joined, opening_of, periods_ended, rest_of, run_of, scripts_of, swept, through_first, turns_of, whole, with_front}
+use Rattle.bm_law_order.specs.Whole.{before_first, behind_first, closing_of, cut_behind, from_first, given_up, in_turns, is_ended, is_fill, is_finish_or_sweep, is_sweep, is_yield, joined, opening_of, periods_ended, run_of, scripts_of, swept, through_first, turns_of, whole, with_front}
 use Rattle.bm_law_order.proofs.Along.{by-append}
 use Rattle.bm_law_order.proofs.TiesLead.{tied-leads}
 use Rattle.bm_world.specs.LivingState.{LivingState}

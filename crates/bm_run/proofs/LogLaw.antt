@@ -1,8 +1,8 @@
 -- The log of a run is lawful.
-use Rattle.std.proofs.Common.{◌≡◌, ℕ, suc, zero, Bool, true, false, List, [], ◌∷◌, ◌++◌, map, refl, sym, ap, subst, ◌∙◌, append_assoc, append-nil, Option, Some, None, IfSome, IsSome, replicate, arith}
+use Rattle.std.proofs.Common.{◌≡◌, ℕ, Bool, true, false, List, [], ◌∷◌, ◌++◌, map, refl, sym, ap, subst, ◌∙◌, append_assoc, append-nil, Option, Some, None, IfSome, IsSome, arith}
 use Rattle.std.specs.Prelude.{◌||◌, nat_eq, not}
 use Rattle.std.specs.List.{list_any}
-use Rattle.std.proofs.lemmas.List.{append_cancel_left, length-replicate}
+use Rattle.std.proofs.lemmas.List.{append_cancel_left}
 use Rattle.bm_journal.specs.declared.ids.Domain.{Domain}
 use Rattle.bm_journal.specs.declared.entry.Entry.{Entry}
 use Rattle.bm_journal.specs.declared.entry.Entry.TheVariants as entry
@@ -10,7 +10,6 @@ use Rattle.bm_lang.specs.declared.scenario.Parts.{Parts}
 use Rattle.bm_page.specs.Stock.{Stock, fetched}
 use Rattle.bm_grace.specs.Known.{side}
 use Rattle.bm_post.specs.PostState.{told_in}
-use Rattle.bm_post.specs.Rights.{numbers}
 use Rattle.bm_law.specs.Alone.{AllAt, GrewAt, at_level}
 use Rattle.bm_law.specs.Lists.{Leaves, Log, after}
 use Rattle.bm_law.specs.Null.{NullLaw}
@@ -20,7 +19,6 @@ use Rattle.bm_law.specs.State.{Side, State, opening, seen, seen_row, seven_lists
 use Rattle.bm_law.proofs.Alone.{at-own, level-from, level-own}
 use Rattle.bm_law.proofs.Folds.{after-append}
 use Rattle.bm_law.proofs.Seen.{map-seven}
-use Rattle.bm_law.proofs.Spans.{own-append}
 use Rattle.bm_cache.specs.Opening.{Fills, fill_log, named}
 use Rattle.bm_cache.specs.Shown.{shown}
 use Rattle.bm_cache.specs.Tokens.{Token, number_of}
@@ -28,7 +26,6 @@ use Rattle.bm_deferred.specs.Begun.{begun_by}
 use Rattle.bm_deferred.specs.Grown.{GrewBy, GrewPart}
 use Rattle.bm_deferred.specs.Inboxes.{Delivered, Delivers, Inboxes}
 use Rattle.bm_deferred.specs.Parts.{Part, Say, Stand, Then}
-use Rattle.bm_deferred.proofs.Each.{AllOf}
 use Rattle.bm_lawful.specs.Closing.{AreSweeps, EndsPeriods, in_progress}
 use Rattle.bm_lawful.specs.Fills.{AreFills, fresh_stock, prefill}
 use Rattle.bm_due.specs.Standing.{HandlersStand}

@@ -1,16 +1,13 @@
 -- Stretches of a run, one after the other.
 use Rattle.std.proofs.Common.{◌≡◌, ◌<◌, ℕ, ◌∷◌, [], ◌++◌, List, refl, sym, ap, subst, ◌∙◌, arith, IfSome}
-use Rattle.bm_journal.specs.declared.ids.Domain.{Domain}
 use Rattle.bm_journal.specs.declared.entry.Entry.{Entry}
 use Rattle.bm_journal.specs.Recording.{Appends}
-use Rattle.bm_grace.specs.Known.{side}
 use Rattle.bm_law.specs.Lists.{Leaves, Log, after}
 use Rattle.bm_law.specs.Spans.{own_entries}
 use Rattle.bm_law.specs.State.{State}
 use Rattle.bm_law.proofs.Spans.{Records-one, from-append, own-append}
-use Rattle.bm_deferred.specs.Begun.{begun_by}
 use Rattle.bm_deferred.specs.Parts.{Part, Stand, Then}
-use Rattle.bm_deferred.proofs.Begun.{IsStill}
+use Rattle.bm_deferred.proofs.Still.{IsStill}
 use Rattle.bm_deferred.proofs.Grown.{grew-join, grew-map, grew-stand}
 use Rattle.bm_deferred.proofs.Inboxes.{delivered-records, still-quiet}
 use Rattle.bm_plan.specs.declared.handlers.Handlers.{Handlers}

@@ -11,7 +11,7 @@ use Rattle.bm_law.specs.Alone as alone
 use Rattle.bm_law.specs.Lists.{Log}
 use Rattle.bm_law_order.specs.Act.{Act}
 use Rattle.bm_law_order.specs.Act as act
-use Rattle.bm_law_order.specs.Chunk.{Shows, acts_of, entries_of}
+use Rattle.bm_law_order.specs.Chunk.{Shows, acts_of}
 use Rattle.bm_law_order.specs.Chunk as chunk
 use Rattle.bm_law_order.specs.Quiet.{is_quiet}
 use Rattle.bm_law_order.specs.Story.{AllJudged, Story, Told, at_level, deeds, lines, lines_of}

@@ -8,7 +8,7 @@ ghost use Rattle.bm_grace.specs.Calls.{entered, left};
 ghost use Rattle.bm_cache.specs.Shown.{shown};
 ghost use Rattle.bm_cache.specs.Steps.{is_note};
 ghost use Rattle.bm_deferred.specs.Parts.{Stand};
-ghost use Rattle.bm_deferred.proofs.Begun.{IsStill};
+ghost use Rattle.bm_deferred.proofs.Still.{IsStill};
 ghost use Rattle.bm_due.specs.Standing.{Stays as StaysKind, kind_of};
 ghost use Rattle.bm_exec.specs.Lists.{Behind, behind_of};
 ghost use Rattle.bm_lived.specs.Lifeless.{SaysNoLife};

@@ -26,7 +26,6 @@ use Rattle.bm_desk.proofs.Gone.{returned-apart, returned-once}
 use Rattle.bm_desk.proofs.Owing.{owes-called, shows, units-sealed}
 use Rattle.bm_desk.proofs.Sides.{tests-shared}
 use Rattle.bm_closing.specs.SentBack.{SentBack}
-use Rattle.bm_closing.proofs.Owed.{at-end-with}
 use Rattle.bm_closing.proofs.Returning.{at-end-returned, second-held, sent-back}
 use Rattle.bm_closing.proofs.closing.send_back.Goals as goal
 

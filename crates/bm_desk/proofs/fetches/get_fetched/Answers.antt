@@ -1,4 +1,4 @@
-use Rattle.std.proofs.Common.{◌≡◌, ◌≤◌, ◌+◌, ◌∷◌, ◌++◌, [], drop, ◌∙◌, ap, refl, ℕ, List, arith, length, map, sym, subst}
+use Rattle.std.proofs.Common.{◌≡◌, ◌≤◌, ◌+◌, ◌∷◌, ◌++◌, [], drop, ◌∙◌, refl, ℕ, List, arith, length, map, sym, subst}
 use Rattle.std.specs.List.{All}
 use Rattle.bm_law.specs.Stands.{stands, times}
 use Rattle.bm_law.specs.State.{seen}
@@ -10,9 +10,7 @@ use Rattle.bm_post.specs.Rights.{numbers}
 use Rattle.bm_desk.proofs.Alike.{alike-posts}
 use Rattle.bm_desk.proofs.Came.{fetched-all, gains-fresh, gains-onward, same-onward, takes-reusable}
 use Rattle.bm_desk.proofs.Sides.{passes-shared, proper-shared, stands-posted}
-use Rattle.bm_law_order.specs.Act.{Act}
 use Rattle.bm_law_order.specs.Act as act
-use Rattle.bm_grace.specs.Known.{Known}
 use Rattle.bm_desk.proofs.Owing.{owes-called}
 use Rattle.bm_desk.proofs.fetches.get_fetched.Goals as goal
 

@@ -2,7 +2,7 @@ use Rattle.bm_journal.specs.declared.entry.Entry.TheVariants as entry
 use Rattle.bm_deferred.specs.Parts.{Say}
 use Rattle.bm_deferred.specs.WorkPhrases.{IsOne}
 use Rattle.bm_desk.proofs.Points.{stands-host, works-host}
-use Rattle.bm_deferred.proofs.Begun.{still-one}
+use Rattle.bm_deferred.proofs.Still.{still-one}
 use Rattle.bm_desk.proofs.lists.read_free.Goals as goal
 
 pub returns-clause-works : goal.returns-clause-works

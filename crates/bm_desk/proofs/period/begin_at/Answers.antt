@@ -7,7 +7,6 @@ use Rattle.bm_grace.specs.Known.{Known, side}
 use Rattle.bm_grace.specs.declared.answer.Began.{Began}
 use Rattle.bm_grace.specs.declared.answer.Began.TheVariants.{Moved, Won}
 use Rattle.bm_law.specs.SweepPhrases.{MayBegin, MayFinish}
-use Rattle.bm_deferred.specs.Begun.{begun_after, begun_by}
 use Rattle.bm_law.specs.Lists.{Log}
 use Rattle.bm_law.specs.State.{State}
 use Rattle.bm_deferred.specs.Parts.{Nothing, Part, Say}
@@ -17,7 +16,6 @@ use Rattle.bm_desk.proofs.Sides.{works-at-most, works-called, works-join, works-
 use Rattle.bm_desk.proofs.Turning.{called-turned, numbers-moved, works-turned}
 use Rattle.bm_law_order.specs.Act as act
 use Rattle.bm_law_order.specs.Chunk as chunk
-use Rattle.bm_law_order.specs.Act.{Act}
 use Rattle.bm_grace.specs.Begins.{begin_act}
 use Rattle.bm_desk.proofs.Owing.{begun-sound, shows, stands-with}
 use Rattle.bm_desk.proofs.period.begin_at.Goals as goal

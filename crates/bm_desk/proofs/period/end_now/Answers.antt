@@ -5,7 +5,6 @@ use Rattle.bm_journal.specs.declared.ids.Domain.TheVariants.{Plain, Tracing}
 use Rattle.bm_grace.specs.Calls.{finished}
 use Rattle.bm_journal.specs.declared.entry.Entry.TheVariants as entry
 use Rattle.bm_grace.specs.Known.{Known, side}
-use Rattle.bm_deferred.specs.Begun.{begun_after, begun_by}
 use Rattle.bm_deferred.specs.Parts.{Say}
 use Rattle.bm_deferred.specs.WorkPhrases.{IsOne}
 use Rattle.bm_desk.specs.Periods.{Ends}

@@ -22,7 +22,6 @@ use Rattle.bm_desk.specs.Onward.{Onward}
 use Rattle.bm_desk.proofs.Gone.{holds-reusable, leave-reusable, returned-apart, returned-once, stands-returned}
 use Rattle.bm_desk.proofs.Sides.{works-map}
 use Rattle.bm_desk.proofs.Steps.{returned-active, works-entry}
-use Rattle.bm_law_order.specs.Act as act
 use Rattle.bm_law_order.specs.Act.{sealed}
 use Rattle.bm_desk.proofs.Owing.{units-sealed}
 use Rattle.bm_desk.proofs.returns.return_now.Goals as goal

@@ -26,7 +26,6 @@ use Rattle.bm_desk.proofs.Gone.{hand-deferred, hand-side, holds-fit, sends-hand,
 use Rattle.bm_desk.proofs.Sides.{works-map}
 use Rattle.bm_desk.proofs.Mail.{hand-target, mail-sent}
 use Rattle.bm_desk.proofs.Steps.{works-entry}
-use Rattle.bm_law_order.specs.Act as act
 use Rattle.bm_law_order.specs.Act.{sealed}
 use Rattle.bm_desk.proofs.Owing.{units-sealed}
 use Rattle.bm_desk.proofs.sends.send_hand_now.Goals as goal

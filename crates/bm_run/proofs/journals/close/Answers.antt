@@ -51,4 +51,4 @@ returns-clause-tied g c =
     let rest = not-err c.close-swept.result _ c.if-is_err.ensures.value c.close-swept.ensures.rest in
     rw c.ok_or.ensures.value (if-told c.into_log.result _ _ (λ l q.
     let told : n.caches.recorder.told ≡ Some l = ap (λ (k : Recorded). k.told) (sym c.finish.ensures) ∙ (sym c.into_log.ensures.told ∙ q) in
-    (n.side, subst (λ (o : Option Log). Ends g.B.Since.since g.B.Since.start [] [] o n.side) told end.sound, λ d. (rest d).1.0.no_driver (rest d).1.1)))
+    (n.side, (subst (λ (o : Option Log). Ends g.B.Since.since g.B.Since.start [] [] o n.side) told end.sound, λ d. (rest d).1.0.no_driver (rest d).1.1))))
