@@ -13,4 +13,3 @@ pub mod Still
 pub mod Sounds
 pub mod Lives
 mod Starting
-pub mod Said

@@ -6,12 +6,10 @@ use Rattle.bm_journal.specs.declared.ids.ObjId.{ObjId}
 use Rattle.bm_lang.specs.declared.scenario.TypeDeclaration.{TypeDeclaration}
 use Rattle.bm_lang.specs.declared.scenario.TypeId.{TypeId}
 pub use Rattle.bm_grace.specs.Known.{Living, Lives}
-use Rattle.bm_grace.specs.Known.{Objects}
 use Rattle.bm_law.specs.Lists.{Log}
 use Rattle.bm_law.specs.Phrases.{FreePhrase}
 use Rattle.bm_law.specs.Spans.{Records}
 use Rattle.bm_lawful.specs.Held.{Names, Object}
-use Rattle.bm_lived.specs.Lived.{Lived}
 use Rattle.bm_lawful.specs.Opened.{OfClass}
 use Rattle.bm_lawful.specs.Calls.{Allocates}
 
@@ -23,13 +21,10 @@ pub record LivesAs (lives : Lives) (c u n : ℕ) : Type 0 where
   pub home : ℕ
   pub is : lives u ≡ Some (record { class = c; life = n; home = home })
 
--- what is known of the lives of units: how many each has begun, and the home of the one that lives
+-- the home of the life that a unit has
 abbrev pub home_of : Option Living → Option ℕ
 home_of None = None
 home_of (Some l) = Some l.home
-
-abbrev pub lived_in : Objects → Lived
-lived_in objects = record { begun = objects.begun; homes = λ u. home_of (objects.lives u) }
 
 abbrev pub reply_of : Option ObjId → Option (ℕ × ℕ)
 reply_of None = None

@@ -17,7 +17,6 @@ use Rattle.bm_plan.specs.Takes.{Takes}
 use Rattle.bm_plan.specs.declared.handlers.Handlers.{Handlers}
 use Rattle.bm_levels.specs.AtProcessor.{Between, FineAt, IsAt, IsBegun, IsDue, log_of}
 use Rattle.bm_levels.specs.Here.{position_of}
-use Rattle.bm_levels.specs.Logged.{IsLived}
 use Rattle.bm_levels.specs.Ready.{IsHandlerLine, IsReady, known_of, left_cost, left_of}
 use Rattle.bm_levels.specs.declared.processor.Processor.{Processor}
 use Rattle.bm_levels.specs.declared.program.Program.{Program}
@@ -115,7 +114,7 @@ abbrev pub BegunHere : ℕ → ℕ → Plan → Plan → Option Due → Type 0
 BegunHere l step plan later o = (p : Position) (log : Log) (name : List ℕ) → AboutTo p log → p.plan ≡ plan → level_in p.running ≡ l → step ≡ next_number (steps_in log) → IfSome o (λ due. slice_get p.names due.script.0 ≡ Some name → StandsAt (within due later p) (log ++ (due.level, entry.Handler name) ∷ []))
 
 module _ (l : ℕ) (p : Program) (m : Processor) (step : ℕ) where
-  some-due : (h : Handlers) (due : Due) → IsAt AboutTo IsLived l p m → IfSome (log_of m) (λ es. step ≡ next_number (steps_in es)) → BegunHere l step m.handlers.planned h.planned (Some due) → l < due.level → due.level ≤ 3 → Takes due (left_of m) h.planned.left → h.scripts ≡ m.handlers.scripts → IsDue l p due (with_handlers m h)
+  some-due : (h : Handlers) (due : Due) → IsAt AboutTo l p m → IfSome (log_of m) (λ es. step ≡ next_number (steps_in es)) → BegunHere l step m.handlers.planned h.planned (Some due) → l < due.level → due.level ≤ 3 → Takes due (left_of m) h.planned.left → h.scripts ≡ m.handlers.scripts → IsDue l p due (with_handlers m h)
   some-due h due a n f above highest t same =
       let x : Position = position_of (known_of m).grace.processor p.scenario.now m.handlers.planned m.running.items in
       let At : Log → List ℕ → Position → Type 0 = λ es name y. StandsAt y (es ++ (due.level, entry.Handler name) ∷ []) in
@@ -140,7 +139,7 @@ module _ (l : ℕ) (p : Program) (m : Processor) (step : ℕ) where
       }
 
   -- one is due, and begins
-  begun-one : (h : Handlers) (due : Due) → IsAt AboutTo IsLived l p m → IfSome (log_of m) (λ es. step ≡ next_number (steps_in es)) → BegunHere l step m.handlers.planned h.planned (Some due) → l < due.level → due.level ≤ 3 → Takes due (left_of m) h.planned.left → h.scripts ≡ m.handlers.scripts → IsBegun l p due m (with_handlers m h)
+  begun-one : (h : Handlers) (due : Due) → IsAt AboutTo l p m → IfSome (log_of m) (λ es. step ≡ next_number (steps_in es)) → BegunHere l step m.handlers.planned h.planned (Some due) → l < due.level → due.level ≤ 3 → Takes due (left_of m) h.planned.left → h.scripts ≡ m.handlers.scripts → IsBegun l p due m (with_handlers m h)
   begun-one h due a n f above highest t same =
       let fewer = taken-fewer due (left_of m) h.planned.left t in
       let cost = taken-cost p.scenario.now due (left_of m) h.planned.left t in
@@ -152,7 +151,7 @@ module _ (l : ℕ) (p : Program) (m : Processor) (step : ℕ) where
       }
 
   -- the same of what the store answered
-  pub begun-here : (h : Handlers) (o : Option Due) → IsAt AboutTo IsLived l p m → IfSome (log_of m) (λ es. step ≡ next_number (steps_in es)) → BegunHere l step m.handlers.planned h.planned o → IfSome o (λ due. l < due.level) → IfSome o (λ due. due.level ≤ 3) → IfSome o (λ due. Takes due (left_of m) h.planned.left) → h.scripts ≡ m.handlers.scripts → IfSome o (λ due. IsBegun l p due m (with_handlers m h))
+  pub begun-here : (h : Handlers) (o : Option Due) → IsAt AboutTo l p m → IfSome (log_of m) (λ es. step ≡ next_number (steps_in es)) → BegunHere l step m.handlers.planned h.planned o → IfSome o (λ due. l < due.level) → IfSome o (λ due. due.level ≤ 3) → IfSome o (λ due. Takes due (left_of m) h.planned.left) → h.scripts ≡ m.handlers.scripts → IfSome o (λ due. IsBegun l p due m (with_handlers m h))
   begun-here h None a n f above highest t same = tt
   begun-here h (Some due) a n f above highest t same = begun-one h due a n f above highest t same
 

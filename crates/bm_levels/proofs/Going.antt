@@ -6,7 +6,6 @@ use Rattle.bm_desk.specs.Still.{goes-still}
 use Rattle.bm_due.specs.declared.planned.Due.{Due}
 use Rattle.bm_levels.specs.AtProcessor.{Between, FineAt, IsAt, IsBegun, SameLives, Stays, due_cost}
 use Rattle.bm_levels.specs.Hosting.{goes-joined, stays-same}
-use Rattle.bm_levels.specs.Logged.{IsLived}
 use Rattle.bm_journal.specs.declared.ids.Domain.TheVariants.{Plain}
 use Rattle.bm_levels.specs.Ready.{known_of, left_of, word_of}
 use Rattle.bm_levels.specs.declared.processor.Processor.{Processor}
@@ -53,17 +52,17 @@ between-turn l k p due a b c d x y g z = record {
 
 -- Some have run, of all that are due before a step of code of level l.
 pub record Going (l : ℕ) (p : Program) (a b : Processor) : Type 0 where
-  pub at : IsAt AboutTo IsLived l p b
+  pub at : IsAt AboutTo l p b
   pub between : Between 0 0 (l + 1) p a b
   pub lives : SameLives a b
   pub quiet : length (left_of b) ≡ length (left_of a) → b ≡ a
 
 module _ (l : ℕ) (p : Program) where
-  pub going-none : (a : Processor) → IsAt AboutTo IsLived l p a → FineAt (l + 1) a → Going l p a a
+  pub going-none : (a : Processor) → IsAt AboutTo l p a → FineAt (l + 1) a → Going l p a a
   going-none a x f = record { at = x; between = between-none (l + 1) p a f; lives = refl; quiet = λ _. refl }
 
   -- one more handler
-  pub going-more : (due : Due) (a b c d : Processor) → Going l p a b → Between 0 0 (l + 1) p b c → SameLives b c → IsBegun l p due b c → IsAt AboutTo IsLived l p d → Between (due_cost p due) 2 (l + 1) p c d → SameLives c d → Going l p a d
+  pub going-more : (due : Due) (a b c d : Processor) → Going l p a b → Between 0 0 (l + 1) p b c → SameLives b c → IsBegun l p due b c → IsAt AboutTo l p d → Between (due_cost p due) 2 (l + 1) p c d → SameLives c d → Going l p a d
   going-more due a b c d g y s h x z t =
       let m = g.between.fewer in
       let n = h.fewer in

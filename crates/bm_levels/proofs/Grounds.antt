@@ -20,7 +20,6 @@ use Rattle.bm_desk.specs.Goes.{GoesOn}
 use Rattle.bm_desk.proofs.Points.{dated-kept}
 use Rattle.bm_plan.specs.Position.{StandsAt}
 use Rattle.bm_levels.specs.AtProcessor.{Between, FineAt, IsAt, Stays, log_of, tests_of}
-use Rattle.bm_levels.specs.Logged.{IsLived}
 use Rattle.bm_levels.specs.Ordinary.{Ordinary, Statements}
 use Rattle.bm_levels.specs.Ready.{known_of, left_of}
 use Rattle.bm_levels.specs.Sound.{Sound}
@@ -59,7 +58,7 @@ statements-still asks p own a b x r q = record {
 }
 
 -- and ordinary code runs on it again
-pub sound-still : (asks : ℕ) (p : Program) (a b : Processor) → Between asks 0 0 p a b → IsAt StandsAt IsLived 0 p b → Sound p a → Sound p b
+pub sound-still : (asks : ℕ) (p : Program) (a b : Processor) → Between asks 0 0 p a b → IsAt StandsAt 0 p b → Sound p a → Sound p b
 sound-still asks p a b x at s = record {
   at = at;
   fine = x.fine;
@@ -94,7 +93,7 @@ pub begun-few : (classes n : ℕ) → classes ≤ 11 → (classes + 1) * n ≤ 1
 begun-few classes n few = mul-le (classes + 1) n 12 n (omega (arith, few)) (omega arith)
 
 -- and ordinary code runs on it again
-pub sound-worked : (p : Program) (a b : Processor) (n : ℕ) → n + 12 * length (left_of b) ≤ 23 + 12 * length (left_of a) → b.settled ≡ a.settled + 1 → IsAt StandsAt IsLived 0 p b → FineAt 1 b → Ready 0 (shown b.caches) → Dated (tests_of b) (shown b.caches) → ((c : ℕ) → is_unstamped ((shown b.caches).rows c).deferred.plain ≡ false) →
+pub sound-worked : (p : Program) (a b : Processor) (n : ℕ) → n + 12 * length (left_of b) ≤ 23 + 12 * length (left_of a) → b.settled ≡ a.settled + 1 → IsAt StandsAt 0 p b → FineAt 1 b → Ready 0 (shown b.caches) → Dated (tests_of b) (shown b.caches) → ((c : ℕ) → is_unstamped ((shown b.caches).rows c).deferred.plain ≡ false) →
     (known_of a).grace.plain.begins ≤ (known_of b).grace.plain.begins + n → (known_of a).grace.tracing.begins ≤ (known_of b).grace.tracing.begins + n → Sound p a → Sound p b
 sound-worked p a b n few counted at fine quiet dated stamped plain tracing s = record {
   at = at;

@@ -20,7 +20,7 @@ use Rattle.bm_lawful.specs.Handlers.{HandlerPhrase}
 use Rattle.bm_lawful.specs.SectionWords.{word_after}
 use Rattle.bm_levels.specs.AtProcessor.{Between, CameAt, FineAt, HasPhrase, Stays, due_cost}
 use Rattle.bm_levels.specs.Hosting.{goes-joined}
-use Rattle.bm_levels.specs.Logged.{IsLived, Tells}
+use Rattle.bm_levels.specs.Logged.{Tells}
 use Rattle.bm_levels.specs.Ready.{asked_of, known_of, left_of, word_of}
 use Rattle.bm_levels.specs.declared.processor.Processor.{Processor}
 use Rattle.bm_levels.specs.declared.program.Program.{Program}
@@ -33,13 +33,13 @@ cost-is p due x f = ap (λ (o : Option Script). 2 * script_cost o) f
 
 -- ---- its phrase
 
-pub has-phrase : (j l : ℕ) (s : Parts) (name : List ℕ) (k : Known) (w : ℕ) (lists : State ℕ) (before mid now : Option Log) → l ≡ j → w ≡ (side Plain k).word → IfSome before (Tells (IsLived k) s k) → Appends before l (entry.Handler name) mid → GrewBy (Say j (HandlerPhrase s name w)) lists mid now → IfSome now (HasPhrase l s name)
+pub has-phrase : (j l : ℕ) (s : Parts) (name : List ℕ) (k : Known) (w : ℕ) (lists : State ℕ) (before mid now : Option Log) → l ≡ j → w ≡ (side Plain k).word → IfSome before (Tells s k) → Appends before l (entry.Handler name) mid → GrewBy (Say j (HandlerPhrase s name w)) lists mid now → IfSome now (HasPhrase l s name)
 has-phrase j l s name k w lists before mid None q e t a g = tt
 has-phrase j l s name k w lists before mid (Some es) q e t a g =
     let A : Option Log → Type 0 = λ o. Appends before l (entry.Handler name) o in
-    let T : Option Log → Type 0 = λ o. IfSome o (Tells (IsLived k) s k) in
+    let T : Option Log → Type 0 = λ o. IfSome o (Tells s k) in
     let h : Gains before l (entry.Handler name) g.log = subst A g.told a in
-    let u : Tells (IsLived k) s k h.log = subst T h.told t in
+    let u : Tells s k h.log = subst T h.told t in
     let word : w ≡ word_after Plain h.log = e ∙ sym (u.last Plain) in
     let own : own_entries l g.added ≡ g.is_part.0 = ap (λ n. own_entries n g.added) q ∙ g.is_part.2.own_is in
     let P : ℕ → List Entry → Type 0 = λ n own. HandlerPhrase s name n own in

@@ -15,9 +15,9 @@ use Rattle.bm_lawful.proofs.Words.{word-append}
 use Rattle.bm_plan.specs.Position.{AboutTo, Position, StandsAt, level_in, names_in}
 use Rattle.bm_plan.proofs.Positions.{returns-here}
 use Rattle.bm_levels.specs.AtProcessor.{HasPhrase, IsAt, IsDue, log_of}
-use Rattle.bm_levels.specs.Growing.{lived-silent, tells-inner}
+use Rattle.bm_levels.specs.Growing.{tells-inner}
 use Rattle.bm_levels.specs.Here.{position_of}
-use Rattle.bm_levels.specs.Logged.{IsLived, Tells}
+use Rattle.bm_levels.specs.Logged.{Tells}
 use Rattle.bm_levels.specs.Ready.{BindsAll, IsReady, known_of}
 use Rattle.bm_levels.specs.Turns.{told-more}
 use Rattle.bm_levels.specs.declared.processor.Processor.{Processor}
@@ -51,7 +51,7 @@ name-of (y ∷ ys) zero x h = cc
 name-of (y ∷ ys) (suc i) x h = name-of ys i x h
 
 -- the handler has begun, and its code goes on
-pub entered : (k : ℕ) (p : Program) (due : Due) (x : Script) (m : Processor) (b : Processor) → IsDue k p due m → slice_get p.scenario.now.scripts due.script.0 ≡ Some x → Appends (log_of m) due.level (entry.Handler x.name) (log_of b) → b.running.items ≡ m.running.items ++ due ∷ [] → vec_capacity m.running ≤ vec_capacity b.running → length b.tables.items + 1 ≡ length m.tables.items → vec_capacity b.tables ≡ vec_capacity m.tables → All (BindsAll p.scenario.now.scripts) b.tables.items → IsAt StandsAt IsLived due.level p (turned m b)
+pub entered : (k : ℕ) (p : Program) (due : Due) (x : Script) (m : Processor) (b : Processor) → IsDue k p due m → slice_get p.scenario.now.scripts due.script.0 ≡ Some x → Appends (log_of m) due.level (entry.Handler x.name) (log_of b) → b.running.items ≡ m.running.items ++ due ∷ [] → vec_capacity m.running ≤ vec_capacity b.running → length b.tables.items + 1 ≡ length m.tables.items → vec_capacity b.tables ≡ vec_capacity m.tables → All (BindsAll p.scenario.now.scripts) b.tables.items → IsAt StandsAt due.level p (turned m b)
 entered k p due x m b d i a e v n w f =
     let s : Parts = p.scenario.now in
     let known : Known = known_of m in
@@ -59,7 +59,7 @@ entered k p due x m b d i a e v n w f =
     let inner : Position = position_of known.grace.processor s m.handlers.planned dues in
     let At : List Due → Type 0 = λ y. IfSome (log_of b) (StandsAt (position_of known.grace.processor s m.handlers.planned y)) in
     let here : At dues = told-more (λ es. (name : List ℕ) → slice_get (names_in s.scripts) due.script.0 ≡ Some name → StandsAt inner (es ++ (due.level, entry.Handler name) ∷ [])) (StandsAt inner) (log_of m) (log_of b) due.level (entry.Handler x.name) (λ es f. f x.name (name-of s.scripts due.script.0 x i)) a d.begins in
-    let T : Log → Type 0 = Tells (IsLived known) s known in
+    let T : Log → Type 0 = Tells s known in
     let long = ap (λ (y : List Due). length y) e in
     let more = one-longer m.running.items due in
     let all = d.ready.tables in
@@ -73,23 +73,22 @@ entered k p due x m b d i a e v n w f =
         level = ap (λ (y : List Due). level_in (reverse y)) e ∙ ap level_in (innermost-first m.running.items due);
         deep = omega (arith, long, more, above, deep);
       };
-      tells = told-more T T (log_of m) (log_of b) due.level (entry.Handler x.name) (λ es h. tells-inner (IsLived known) (IsLived known) s known es due.level (entry.Handler x.name) tt (lived-silent known es due.level (entry.Handler x.name) tt) h) a d.tells;
+      tells = told-more T T (log_of m) (log_of b) due.level (entry.Handler x.name) (λ es h. tells-inner s known es due.level (entry.Handler x.name) tt h) a d.tells;
       ready = ready-turned p m b (omega (arith, long, more, all, n)) (omega (arith, v, room)) (omega (arith, w, room')) f d.ready;
     }
 
 -- behind the end of a handler that left its phrase
-tells-back : (s : Parts) (known : Known) (log : Log) (l : ℕ) (name : List ℕ) → Tells (IsLived known) s known log → HasPhrase l s name log → Tells (IsLived known) s known (log ++ (l, entry.Back name) ∷ [])
+tells-back : (s : Parts) (known : Known) (log : Log) (l : ℕ) (name : List ℕ) → Tells s known log → HasPhrase l s name log → Tells s known (log ++ (l, entry.Back name) ∷ [])
 tells-back s known log l name t h =
     let F : Log → Type 0 = λ es. HandlersDone s (es ++ (l, entry.Back name) ∷ []) in
     let G : Log → Type 0 = λ es. HandlersDone s es in
     record {
       done = subst F (sym h.log_is) (done-back s h.front h.part l name (subst G h.log_is t.done) h.phrase);
       last = λ d. word-append d 0 log ((l, entry.Back name) ∷ []) ∙ t.last d;
-      lives = lived-silent known log l (entry.Back name) tt t.lives;
     }
 
 -- the handler has gone back, and what it interrupted goes on
-pub left : (k : ℕ) (p : Program) (due : Due) (x : Script) (was m : Processor) (b : Processor) → IsDue k p due was → slice_get p.scenario.now.scripts due.script.0 ≡ Some x → IsAt StandsAt IsLived due.level p m → IfSome (log_of m) (HasPhrase due.level p.scenario.now x.name) → Appends (log_of m) due.level (entry.Back x.name) (log_of b) → m.running.items ≡ was.running.items ++ due ∷ [] → b.running.items ≡ was.running.items → vec_capacity b.running ≡ vec_capacity m.running → length b.tables.items ≡ length m.tables.items + 1 → vec_capacity m.tables ≤ vec_capacity b.tables → All (BindsAll p.scenario.now.scripts) b.tables.items → IsAt AboutTo IsLived k p (turned m b)
+pub left : (k : ℕ) (p : Program) (due : Due) (x : Script) (was m : Processor) (b : Processor) → IsDue k p due was → slice_get p.scenario.now.scripts due.script.0 ≡ Some x → IsAt StandsAt due.level p m → IfSome (log_of m) (HasPhrase due.level p.scenario.now x.name) → Appends (log_of m) due.level (entry.Back x.name) (log_of b) → m.running.items ≡ was.running.items ++ due ∷ [] → b.running.items ≡ was.running.items → vec_capacity b.running ≡ vec_capacity m.running → length b.tables.items ≡ length m.tables.items + 1 → vec_capacity m.tables ≤ vec_capacity b.tables → All (BindsAll p.scenario.now.scripts) b.tables.items → IsAt AboutTo k p (turned m b)
 left k p due x was m b d i g f a e q v n w h =
     let s : Parts = p.scenario.now in
     let known : Known = known_of m in
@@ -99,7 +98,7 @@ left k p due x was m b d i g f a e q v n w h =
     let outer : Position = position_of known.grace.processor s m.handlers.planned dues in
     let runs : inner.running ≡ due ∷ reverse dues = ap (λ (y : List Due). reverse y) e ∙ innermost-first dues due in
     let here : At dues = told-more (StandsAt inner) (AboutTo outer) (log_of m) (log_of b) due.level (entry.Back x.name) (λ es u. returns-here inner es due (reverse dues) x.name runs (name-of s.scripts due.script.0 x i) u) a g.at.at in
-    let T : Log → Type 0 = Tells (IsLived known) s known in
+    let T : Log → Type 0 = Tells s known in
     let P : Log → Type 0 = λ es. T es × HasPhrase due.level s x.name es in
     let said : IfSome (log_of m) P = both (log_of m) (λ es u h. (u, h)) g.tells f in
     let long = ap (λ (y : List Due). length y) e in

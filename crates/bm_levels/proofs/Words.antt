@@ -19,14 +19,12 @@ use Rattle.bm_due.specs.Standing.{kind_of}
 use Rattle.bm_lawful.specs.SectionWords.{word_after, word_next}
 use Rattle.bm_lawful.proofs.GoneBack.{done-grow}
 use Rattle.bm_lawful.proofs.Words.{word-append}
-use Rattle.bm_lived.specs.Lifeless.{SaysNoLife}
 use Rattle.bm_desk.specs.DeskTests.{tests_by}
 use Rattle.bm_plan.specs.Position.{StandsAt}
 use Rattle.bm_world.specs.LivingState.{LivingState, rights_living}
 use Rattle.bm_levels.specs.AtProcessor.{CameAt, IsAt, log_of, tests_of}
-use Rattle.bm_levels.specs.Growing.{lived-silent}
 use Rattle.bm_levels.specs.Here.{Running}
-use Rattle.bm_levels.specs.Logged.{IsLived, Tells}
+use Rattle.bm_levels.specs.Logged.{Tells}
 use Rattle.bm_levels.specs.Ready.{known_of, left_of, word_of}
 use Rattle.bm_levels.specs.Turns.{stands-say, told-more}
 use Rattle.bm_levels.specs.declared.processor.Processor.{Processor}
@@ -38,7 +36,6 @@ use Rattle.bm_levels.proofs.Noted.{came-noted}
 -- It names the next word of the plain domain.
 pub record NamesWord (w : ℕ) (e : Entry) : Type 0 where
   pub kind : kind_of e ≡ standing.Stays
-  pub silent : SaysNoLife e
   pub no_back : (name : List ℕ) → e ≡ entry.Back name → ⊥
   pub next : word_next Plain w e ≡ w + 1
   pub next_other : (v : ℕ) → word_next Tracing v e ≡ v
@@ -46,7 +43,6 @@ pub record NamesWord (w : ℕ) (e : Entry) : Type 0 where
 pub names-in : (w : ℕ) → NamesWord w (entry.In Plain (w + 1))
 names-in w = record {
   kind = refl;
-  silent = tt;
   no_back = λ name e. cc;
   next = refl;
   next_other = λ v. refl;
@@ -55,7 +51,6 @@ names-in w = record {
 pub names-out : (w : ℕ) → NamesWord w (entry.Out Plain (w + 1))
 names-out w = record {
   kind = refl;
-  silent = tt;
   no_back = λ name e. cc;
   next = refl;
   next_other = λ v. refl;
@@ -64,13 +59,12 @@ names-out w = record {
 -- ---- the side's plain word moved
 
 -- what the log tells, where the side's plain word moved and the entry names it
-pub tells-moved : (kind : StepKind) (s : Parts) (k n : Known) (log : Log) (l : ℕ) (e : Entry) → n ≡ moved kind false Plain k → NamesWord (side Plain k).word e → Tells (IsLived k) s k log → Tells (IsLived n) s n (log ++ (l, e) ∷ [])
+pub tells-moved : (kind : StepKind) (s : Parts) (k n : Known) (log : Log) (l : ℕ) (e : Entry) → n ≡ moved kind false Plain k → NamesWord (side Plain k).word e → Tells s k log → Tells s n (log ++ (l, e) ∷ [])
 tells-moved kind s k n log l e q names t =
-    let F : Known → Type 0 = λ x. Tells (IsLived x) s x (log ++ (l, e) ∷ []) in
+    let F : Known → Type 0 = λ x. Tells s x (log ++ (l, e) ∷ []) in
     subst F (sym q) (record {
       done = done-grow s log l e names.no_back t.done;
       last = last;
-      lives = lived-silent k log l e names.silent t.lives;
     })
   where
     last : (d : Domain) → word_after d (log ++ (l, e) ∷ []) ≡ (side d (moved kind false Plain k)).word
@@ -79,10 +73,10 @@ tells-moved kind s k n log l e q names t =
 
 -- ---- the processor
 
-pub at-moved : (kind : StepKind) (l : ℕ) (p : Program) (m k : Processor) (e : Entry) → known_of k ≡ moved kind false Plain (known_of m) → k ≡ record m { caches = k.caches; side = k.side; inside = k.inside } → word_of Plain k % 2 ≡ (if k.inside then 1 else 0) → NamesWord (word_of Plain m) e → Appends (log_of m) l e (log_of k) → word_of Plain m + 2 * length (left_of m) + 1 < 2 ^ 28 → IsAt StandsAt IsLived l p m → IsAt StandsAt IsLived l p k
+pub at-moved : (kind : StepKind) (l : ℕ) (p : Program) (m k : Processor) (e : Entry) → known_of k ≡ moved kind false Plain (known_of m) → k ≡ record m { caches = k.caches; side = k.side; inside = k.inside } → word_of Plain k % 2 ≡ (if k.inside then 1 else 0) → NamesWord (word_of Plain m) e → Appends (log_of m) l e (log_of k) → word_of Plain m + 2 * length (left_of m) + 1 < 2 ^ 28 → IsAt StandsAt l p m → IsAt StandsAt l p k
 at-moved kind l p m k e q same inside names a room s =
     let n : Known = known_of m in
-    let F : Processor → Type 0 = λ x. IsAt StandsAt IsLived l p x in
+    let F : Processor → Type 0 = λ x. IsAt StandsAt l p x in
     let proc : (known_of k).grace.processor ≡ n.grace.processor = ap (λ (x : Known). x.grace.processor) q in
     let many : (known_of k).grace.processors ≡ n.grace.processors = ap (λ (x : Known). x.grace.processors) q in
     let objects : (known_of k).objects ≡ n.objects = ap (λ (x : Known). x.objects) q in
@@ -90,7 +84,7 @@ at-moved kind l p m k e q same inside names a room s =
     let R : ℕ → Type 0 = λ x. Running StandsAt l x p.scenario.now m.handlers.planned m.running.items (log_of k) in
     subst F (sym same) (record {
       at = subst R (sym proc) (stands-say l n.grace.processor p.scenario.now m.handlers.planned m.running.items (log_of m) (log_of k) e names.kind a s.at);
-      tells = told-more (Tells (IsLived n) p.scenario.now n) (Tells (IsLived (known_of k)) p.scenario.now (known_of k)) (log_of m) (log_of k) l e (λ es t. tells-moved kind p.scenario.now n (known_of k) es l e q names t) a s.tells;
+      tells = told-more (Tells p.scenario.now n) (Tells p.scenario.now (known_of k)) (log_of m) (log_of k) l e (λ es t. tells-moved kind p.scenario.now n (known_of k) es l e q names t) a s.tells;
       ready = record {
         fits = s.ready.fits;
         one = many ∙ s.ready.one;

@@ -7,7 +7,6 @@ use Rattle.bm_journal.specs.Recording.{Kept as Recorded}
 use Rattle.bm_lang.specs.declared.scenario.Script.{Script}
 use Rattle.bm_lang.specs.declared.scenario.ScriptKind.TheVariants as kind
 use Rattle.bm_lang.specs.Limits.{script_cost}
-use Rattle.bm_grace.specs.Known.{Known}
 use Rattle.bm_law.specs.Lists.{Log}
 use Rattle.bm_law.specs.Spans.{own_entries}
 use Rattle.bm_law.specs.State.{State, seen}
@@ -24,7 +23,7 @@ use Rattle.bm_desk.specs.Goes.{GoesOn}
 use Rattle.bm_plan.specs.Position.{Position, StandsAt, level_in, names_in}
 use Rattle.bm_world.specs.LivingState.{rights_living}
 use Rattle.bm_levels.specs.Here.{Running, position_of}
-use Rattle.bm_levels.specs.Logged.{IsLived, Tells}
+use Rattle.bm_levels.specs.Logged.{Tells}
 use Rattle.bm_levels.specs.Ready.{IsReady, asked_of, known_of, left_of, word_of}
 use Rattle.bm_levels.specs.declared.processor.Processor.{Processor}
 use Rattle.bm_levels.specs.declared.program.Program.{Program}
@@ -41,10 +40,10 @@ lists_of m = seen number_of (shown m.caches)
 abbrev pub tests_of : Processor → Tests
 tests_of m = tests_by (rights_living m.side)
 
--- Code of level l runs on it, and is there in its log, which tells so much of lives; and planned handlers can run.
-pub record IsAt (P : Position → Log → Type 0) (L : Known → Log → Type 0) (l : ℕ) (p : Program) (m : Processor) : Type 0 where
+-- Code of level l runs on it, and is there in its log; and planned handlers can run.
+pub record IsAt (P : Position → Log → Type 0) (l : ℕ) (p : Program) (m : Processor) : Type 0 where
   pub at : Running P l (known_of m).grace.processor p.scenario.now m.handlers.planned m.running.items (log_of m)
-  pub tells : IfSome (log_of m) (Tells (L (known_of m)) p.scenario.now (known_of m))
+  pub tells : IfSome (log_of m) (Tells p.scenario.now (known_of m))
   pub ready : IsReady p m
 
 -- what the script of a handler may ask for: two objects and works for each statement that it runs at most
@@ -54,7 +53,7 @@ due_cost p due = 2 * script_cost (slice_get p.scenario.now.scripts due.script.0)
 -- A handler is due before a step of code of level l, and begins with the entry that stands next.
 pub record IsDue (l : ℕ) (p : Program) (due : Due) (m : Processor) : Type 0 where
   pub begins : IfSome (log_of m) (λ es. (name : List ℕ) → slice_get (names_in p.scenario.now.scripts) due.script.0 ≡ Some name → StandsAt (position_of (known_of m).grace.processor p.scenario.now m.handlers.planned (m.running.items ++ due ∷ [])) (es ++ (due.level, entry.Handler name) ∷ []))
-  pub tells : IfSome (log_of m) (Tells (IsLived (known_of m)) p.scenario.now (known_of m))
+  pub tells : IfSome (log_of m) (Tells p.scenario.now (known_of m))
   pub level : level_in (reverse m.running.items) ≡ l
   pub deep : length m.running.items ≤ l
   pub above : l + 1 ≤ due.level

@@ -12,12 +12,7 @@ use Rattle.bm_cache.specs.Steps.{is_free, is_reply, is_step}
 use Rattle.bm_lawful.specs.SectionWords.{word_after, word_next}
 use Rattle.bm_lawful.proofs.GoneBack.{done-grow}
 use Rattle.bm_lawful.proofs.Words.{word-append}
-use Rattle.bm_lived.specs.Lifeless.{SaysNoLife}
-use Rattle.bm_lived.specs.Lived.{BeginsNext, Lived, no_lives, with_given}
-use Rattle.bm_lived.specs.Told.{LivesOn}
-use Rattle.bm_lived.proofs.Stretches as stretch
-use Rattle.bm_exec.specs.Living.{lived_in}
-use Rattle.bm_levels.specs.Logged.{IsGiven, IsLived, Tells}
+use Rattle.bm_levels.specs.Logged.{Tells}
 
 -- It ends no handler, and begins and ends no section.
 abbrev pub IsInner : Entry → Type 0
@@ -50,22 +45,6 @@ inner-free u home (entry.In d w) h = absurd (cc)
 inner-free u home (entry.Out d w) h = absurd (cc)
 inner-free u home _ h = tt
 
-pub lifeless-step : (e : Entry) → is_step e ≡ true → SaysNoLife e
-lifeless-step (entry.Given u life) h = absurd (cc)
-lifeless-step (entry.GivenAfter u life stamp seen) h = absurd (cc)
-lifeless-step (entry.Drop u life) h = absurd (cc)
-lifeless-step (entry.Free u home) h = absurd (cc)
-lifeless-step (entry.Delay u home) h = absurd (cc)
-lifeless-step _ h = tt
-
-pub lifeless-reply : (e : Entry) → is_reply e ≡ true → SaysNoLife e
-lifeless-reply (entry.Given u life) h = absurd (cc)
-lifeless-reply (entry.GivenAfter u life stamp seen) h = absurd (cc)
-lifeless-reply (entry.Drop u life) h = absurd (cc)
-lifeless-reply (entry.Free u home) h = absurd (cc)
-lifeless-reply (entry.Delay u home) h = absurd (cc)
-lifeless-reply _ h = tt
-
 -- ---- behind one more entry
 
 pub no-back : (e : Entry) → IsInner e → (name : _) → e ≡ entry.Back name → ⊥
@@ -81,28 +60,5 @@ inner-next d w _ i = refl
 pub word-inner : (d : Domain) (log : Log) (l : ℕ) (e : Entry) → IsInner e → word_after d (log ++ (l, e) ∷ []) ≡ word_after d log
 word-inner d log l e i = word-append d 0 log ((l, e) ∷ []) ∙ inner-next d (word_after d log) e i
 
-pub tells-inner : (L M : Log → Type 0) (s : Parts) (known : Known) (log : Log) (l : ℕ) (e : Entry) → IsInner e → (L log → M (log ++ (l, e) ∷ [])) → Tells L s known log → Tells M s known (log ++ (l, e) ∷ [])
-tells-inner L M s known log l e i f t = record {
-  done = done-grow s log l e (no-back e i) t.done;
-  last = λ d. word-inner d log l e i ∙ t.last d;
-  lives = f t.lives;
-}
-
--- the same units live
-pub lived-silent : (known : Known) (log : Log) (l : ℕ) (e : Entry) → SaysNoLife e → IsLived known log → IsLived known (log ++ (l, e) ∷ [])
-lived-silent known log l e q h =
-    let a : Lived = lived_in known.objects in
-    let p : ℕ = known.grace.processor in
-    stretch.lives-join p no_lives a a log ((l, e) ∷ []) h (stretch.lifeless p a a ((l, e) ∷ []) (q, tt) (λ u. refl) (λ u. refl))
-
-given-on : (p l : ℕ) (a b : Lived) (u life : ℕ) (seal : Option (ℕ × ℕ)) → BeginsNext a u life → ((v : ℕ) → b.begun v ≡ (with_given p u a).begun v) → ((v : ℕ) → b.homes v ≡ (with_given p u a).homes v) → LivesOn p a b ((l, given u life seal) ∷ [])
-given-on p l a b u life None n f g = stretch.given p l a b [] u life tt n f g
-given-on p l a b u life (Some s) n f g = stretch.given-sealed p l a b [] u life s.0 s.1 tt n f g
-
--- a unit is given
-pub lived-given : (known : Known) (log : Log) (l u life : ℕ) (seal : Option (ℕ × ℕ)) → IsLived known log → IsGiven u life known (log ++ (l, given u life seal) ∷ [])
-lived-given known log l u life seal h n =
-    let a : Lived = lived_in known.objects in
-    let p : ℕ = known.grace.processor in
-    let b : Lived = with_given p u a in
-    stretch.lives-join p no_lives a b log ((l, given u life seal) ∷ []) h (given-on p l a b u life seal n (λ v. refl) (λ v. refl))
+pub tells-inner : (s : Parts) (known : Known) (log : Log) (l : ℕ) (e : Entry) → IsInner e → Tells s known log → Tells s known (log ++ (l, e) ∷ [])
+tells-inner s known log l e i t = record { done = done-grow s log l e (no-back e i) t.done; last = λ d. word-inner d log l e i ∙ t.last d }

@@ -9,9 +9,6 @@ use Rattle.bm_due.specs.Standing as standing
 use Rattle.bm_due.specs.Standing.{kind_of}
 use Rattle.bm_grace.specs.Known.{Known, Objects}
 use Rattle.bm_lang.specs.declared.scenario.Parts.{Parts}
-use Rattle.bm_lived.specs.Lived.{no_lives}
-use Rattle.bm_lived.specs.Told.{LivesOn}
-use Rattle.bm_exec.specs.Living.{lived_in}
 use Rattle.bm_law.specs.Lists.{Log}
 use Rattle.bm_law.specs.Phrases.{given}
 use Rattle.bm_cache.specs.Steps.{is_free, is_reply, is_step}
@@ -20,9 +17,9 @@ use Rattle.bm_desk.specs.Goes.{Alike, GoesOn}
 use Rattle.bm_plan.specs.Position.{AskedAt, Position, StandsAt}
 use Rattle.bm_world.specs.LivingState.{LivingState, known_living}
 use Rattle.bm_levels.specs.AtProcessor.{IsAt, Stays, log_of}
-use Rattle.bm_levels.specs.Growing.{inner-free, inner-given, inner-reply, inner-step, IsInner, lifeless-reply, lifeless-step, lived-given, lived-silent, tells-inner}
+use Rattle.bm_levels.specs.Growing.{inner-free, inner-given, inner-reply, inner-step, IsInner, tells-inner}
 use Rattle.bm_levels.specs.Here.{Running}
-use Rattle.bm_levels.specs.Logged.{IsFreeing, IsGiven, IsLived, Tells}
+use Rattle.bm_levels.specs.Logged.{Tells}
 use Rattle.bm_levels.specs.Ready.{IsReady, asked_of, known_of, left_cost, left_of, word_of}
 use Rattle.bm_levels.specs.Turns.{a-free, a-given, a-reply, running-same, stands-say, stands-step, told-more}
 use Rattle.bm_levels.specs.declared.processor.Processor.{Processor}
@@ -53,9 +50,9 @@ ready-caches p m c r = record {
   inside = r.inside;
 }
 
-pub at-same : (P : Position → Log → Type 0) (l : ℕ) (p : Program) (m : Processor) (c : Caches Recorded) → c.recorder.told ≡ log_of m → IsAt P IsLived l p m → IsAt P IsLived l p (with_caches m c)
+pub at-same : (P : Position → Log → Type 0) (l : ℕ) (p : Program) (m : Processor) (c : Caches Recorded) → c.recorder.told ≡ log_of m → IsAt P l p m → IsAt P l p (with_caches m c)
 at-same P l p m c e s =
-    let F : Option Log → Type 0 = λ o. IfSome o (Tells (IsLived (known_of m)) p.scenario.now (known_of m)) in
+    let F : Option Log → Type 0 = λ o. IfSome o (Tells p.scenario.now (known_of m)) in
     record {
       at = running-same P l _ _ _ _ _ _ e s.at;
       tells = subst F (sym e) s.tells;
@@ -63,34 +60,34 @@ at-same P l p m c e s =
     }
 
 -- a step that was asked for
-pub at-stepped : (l : ℕ) (p : Program) (m : Processor) (c : Caches Recorded) (e : Entry) → is_step e ≡ true → Appends (log_of m) l e c.recorder.told → IsAt AskedAt IsLived l p m → IsAt StandsAt IsLived l p (with_caches m c)
+pub at-stepped : (l : ℕ) (p : Program) (m : Processor) (c : Caches Recorded) (e : Entry) → is_step e ≡ true → Appends (log_of m) l e c.recorder.told → IsAt AskedAt l p m → IsAt StandsAt l p (with_caches m c)
 at-stepped l p m c e i a s =
     let k : Known = known_of m in
-    let T : Log → Type 0 = Tells (IsLived k) p.scenario.now k in
+    let T : Log → Type 0 = Tells p.scenario.now k in
     record {
       at = stands-step l _ _ _ _ _ _ e i a s.at;
-      tells = told-more T T (log_of m) c.recorder.told l e (λ es h. tells-inner (IsLived k) (IsLived k) p.scenario.now k es l e (inner-step e i) (lived-silent k es l e (lifeless-step e i)) h) a s.tells;
+      tells = told-more T T (log_of m) c.recorder.told l e (λ es h. tells-inner p.scenario.now k es l e (inner-step e i) h) a s.tells;
       ready = ready-caches p m c s.ready;
     }
 
 -- an entry that is no step
-pub at-say : (L M : Known → Log → Type 0) (l : ℕ) (p : Program) (m : Processor) (c : Caches Recorded) (e : Entry) → kind_of e ≡ standing.Stays → IsInner e → ((es : Log) → L (known_of m) es → M (known_of m) (es ++ (l, e) ∷ [])) → Appends (log_of m) l e c.recorder.told → IsAt StandsAt L l p m → IsAt StandsAt M l p (with_caches m c)
-at-say L M l p m c e k i f a s =
+pub at-say : (l : ℕ) (p : Program) (m : Processor) (c : Caches Recorded) (e : Entry) → kind_of e ≡ standing.Stays → IsInner e → Appends (log_of m) l e c.recorder.told → IsAt StandsAt l p m → IsAt StandsAt l p (with_caches m c)
+at-say l p m c e k i a s =
     let n : Known = known_of m in
     record {
       at = stands-say l _ _ _ _ _ _ e k a s.at;
-      tells = told-more (Tells (L n) p.scenario.now n) (Tells (M n) p.scenario.now n) (log_of m) c.recorder.told l e (λ es h. tells-inner (L n) (M n) p.scenario.now n es l e i (f es) h) a s.tells;
+      tells = told-more (Tells p.scenario.now n) (Tells p.scenario.now n) (log_of m) c.recorder.told l e (λ es h. tells-inner p.scenario.now n es l e i h) a s.tells;
       ready = ready-caches p m c s.ready;
     }
 
-pub at-said : (l : ℕ) (p : Program) (m : Processor) (c : Caches Recorded) (e : Entry) → is_reply e ≡ true → Appends (log_of m) l e c.recorder.told → IsAt StandsAt IsLived l p m → IsAt StandsAt IsLived l p (with_caches m c)
-at-said l p m c e i = at-say IsLived IsLived l p m c e (a-reply e i) (inner-reply e i) (λ es. lived-silent (known_of m) es l e (lifeless-reply e i))
+pub at-said : (l : ℕ) (p : Program) (m : Processor) (c : Caches Recorded) (e : Entry) → is_reply e ≡ true → Appends (log_of m) l e c.recorder.told → IsAt StandsAt l p m → IsAt StandsAt l p (with_caches m c)
+at-said l p m c e i = at-say l p m c e (a-reply e i) (inner-reply e i)
 
-pub at-gave : (l : ℕ) (p : Program) (m : Processor) (c : Caches Recorded) (u life : ℕ) (seal : Option (ℕ × ℕ)) → Appends (log_of m) l (given u life seal) c.recorder.told → IsAt StandsAt IsLived l p m → IsAt StandsAt (IsGiven u life) l p (with_caches m c)
-at-gave l p m c u life seal = at-say IsLived (IsGiven u life) l p m c (given u life seal) (a-given u life seal) (inner-given u life seal) (λ es. lived-given (known_of m) es l u life seal)
+pub at-gave : (l : ℕ) (p : Program) (m : Processor) (c : Caches Recorded) (u life : ℕ) (seal : Option (ℕ × ℕ)) → Appends (log_of m) l (given u life seal) c.recorder.told → IsAt StandsAt l p m → IsAt StandsAt l p (with_caches m c)
+at-gave l p m c u life seal = at-say l p m c (given u life seal) (a-given u life seal) (inner-given u life seal)
 
-pub at-freed : (l : ℕ) (p : Program) (m : Processor) (c : Caches Recorded) (e : Entry) (u home : ℕ) → is_free u home e ≡ true → Appends (log_of m) l e c.recorder.told → IsAt StandsAt (IsFreeing l u home) l p m → IsAt StandsAt IsLived l p (with_caches m c)
-at-freed l p m c e u home i = at-say (IsFreeing l u home) IsLived l p m c e (a-free u home e i) (inner-free u home e i) (λ es h. h e i)
+pub at-freed : (l : ℕ) (p : Program) (m : Processor) (c : Caches Recorded) (e : Entry) (u home : ℕ) → is_free u home e ≡ true → Appends (log_of m) l e c.recorder.told → IsAt StandsAt l p m → IsAt StandsAt l p (with_caches m c)
+at-freed l p m c e u home i = at-say l p m c e (a-free u home e i) (inner-free u home e i)
 
 pub stays-caches : (p : Program) (m : Processor) (c : Caches Recorded) → Stays 0 0 p m (with_caches m c)
 stays-caches p m c = record {
@@ -137,17 +134,11 @@ ready-sided p m w a r =
       inside = ap (λ k. k % 2) n ∙ r.inside;
     }
 
-tells-sided : (s : Parts) (k n : Known) (o : Option Log) → Alike k n → IfSome o (Tells (IsLived k) s k) → IfSome o (Tells (IsLived n) s n)
+tells-sided : (s : Parts) (k n : Known) (o : Option Log) → Alike k n → IfSome o (Tells s k) → IfSome o (Tells s n)
 tells-sided s k n None a h = tt
-tells-sided s k n (Some es) a h =
-    let F : ℕ → Objects → Type 0 = λ p o. LivesOn p no_lives (lived_in o) es in
-    record {
-      done = h.done;
-      last = λ d. h.last d ∙ sym (a.words d);
-      lives = subst (λ p. F p n.objects) (sym a.processor) (subst (F k.grace.processor) (sym a.objects) h.lives);
-    }
+tells-sided s k n (Some es) a h = record { done = h.done; last = λ d. h.last d ∙ sym (a.words d) }
 
-pub at-sided : (P : Position → Log → Type 0) (l : ℕ) (p : Program) (m : Processor) (w : LivingState) → Alike (known_of m) (known_living w) → IsAt P IsLived l p m → IsAt P IsLived l p (with_side m w)
+pub at-sided : (P : Position → Log → Type 0) (l : ℕ) (p : Program) (m : Processor) (w : LivingState) → Alike (known_of m) (known_living w) → IsAt P l p m → IsAt P l p (with_side m w)
 at-sided P l p m w a s =
     let F : ℕ → Type 0 = λ n. Running P l n p.scenario.now m.handlers.planned m.running.items (log_of m) in
     record {

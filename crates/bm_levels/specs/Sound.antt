@@ -7,7 +7,6 @@ use Rattle.bm_cache.specs.Shown.{shown}
 use Rattle.bm_desk.specs.Dated.{Dated}
 use Rattle.bm_plan.specs.Position.{StandsAt}
 use Rattle.bm_levels.specs.AtProcessor.{FineAt, IsAt, tests_of}
-use Rattle.bm_levels.specs.Logged.{IsLived}
 use Rattle.bm_levels.specs.Ready.{known_of, left_of}
 use Rattle.bm_levels.specs.declared.processor.Processor.{Processor}
 use Rattle.bm_levels.specs.declared.program.Program.{Program}
@@ -18,7 +17,7 @@ use Rattle.bm_levels.specs.declared.program.Program.{Program}
 -- most eleven classes have one behind a script, and as many again and one more are done, and so many for each handler that runs
 -- meanwhile.
 pub record Sound (p : Program) (m : Processor) : Type 0 where
-  pub at : IsAt StandsAt IsLived 0 p m
+  pub at : IsAt StandsAt 0 p m
   pub fine : FineAt 0 m
   pub dated : Dated (tests_of m) (shown m.caches)
   pub stamped : (c : ℕ) → is_unstamped ((shown m.caches).rows c).deferred.plain ≡ false

@@ -9,7 +9,6 @@ ghost use Rattle.bm_cache.specs.Tests.{Reusable};
 ghost use Rattle.bm_exec.specs.Living.{Created, Disposed, LivesAs};
 ghost use Rattle.bm_levels.specs.AtProcessor.{Between, FineAt, IsAt, SameLives, lists_of, log_of, tests_of};
 ghost use Rattle.bm_levels.specs.AtTie.{FreesAt, GaveAt, TiedAt};
-ghost use Rattle.bm_levels.specs.Logged.{IsFreeing, IsGiven, IsLived};
 ghost use Rattle.bm_levels.specs.Ready.{asked_of, known_of, left_of};
 ghost use Rattle.bm_levels.specs.declared.processor.Processor.{Processor as ProcessorValue};
 ghost use Rattle.bm_plan.specs.Position.{StandsAt};
@@ -32,13 +31,13 @@ fn allocate<'s, B: Since, L: Rank>(
     program: &'s Program<'s>,
     class: Class,
 ) -> Given
-    requires at { IsAt StandsAt IsLived L.number program.now own.old }
+    requires at { IsAt StandsAt L.number program.now own.old }
     requires tied { TiedAt B.since B.start own.old }
     requires fine { FineAt L.number own.old }
     ensures answer { Allocated own.old.caches.processor L.number class (log_of own.old) (log_of own.new) (shown own.old.caches) (shown own.new.caches) result }
     ensures gone { Gone (tests_of own.new) (shown own.new.caches) result }
     ensures class { IsOfClass class result }
-    ensures sound { SoundBy (λ (m : ProcessorValue). IsAt StandsAt IsLived L.number program.now m × TiedAt B.since B.start m) (λ u life m. IsAt StandsAt (IsGiven u life) L.number program.now m × GaveAt B.since B.start L.number u life m) own.new result }
+    ensures sound { SoundBy (λ (m : ProcessorValue). IsAt StandsAt L.number program.now m × TiedAt B.since B.start m) (λ u life m. IsAt StandsAt L.number program.now m × GaveAt B.since B.start L.number u life m) own.new result }
     ensures between { Between 0 0 L.number program.now own.old own.new }
     ensures lives { SameLives own.old own.new }
 {
@@ -60,7 +59,7 @@ fn allocate<'s, B: Since, L: Rank>(
 
 // Frees a unit at a level.
 fn release<'s, B: Since, L: Rank>(own: &mut Processor, program: &'s Program<'s>, unit: Unit)
-    requires at { IsAt StandsAt (IsFreeing L.number unit.number unit.home) L.number program.now own.old }
+    requires at { IsAt StandsAt L.number program.now own.old }
     requires tied { FreesAt B.since B.start L.number unit.number unit.home own.old }
     requires fine { FineAt L.number own.old }
     requires fresh { stands unit.number (lists_of own.old) ≡ 0 }
@@ -68,7 +67,7 @@ fn release<'s, B: Since, L: Rank>(own: &mut Processor, program: &'s Program<'s>,
     requires home { unit.home < (known_of own.old).grace.processors }
     requires suits { Reusable (tests_of own.old) unit }
     ensures freed { Freed L.number unit (entry.Free unit.number unit.home) (RestFreed (length (left_of own.old) - length (left_of own.new)) unit.class unit.number) (log_of own.old) (log_of own.new) (shown own.old.caches) (shown own.new.caches) }
-    ensures at { IsAt StandsAt IsLived L.number program.now own.new }
+    ensures at { IsAt StandsAt L.number program.now own.new }
     ensures tied { TiedAt B.since B.start own.new }
     ensures between { Between 0 0 L.number program.now own.old own.new }
     ensures lives { SameLives own.old own.new }
@@ -97,12 +96,12 @@ pub(crate) fn make<'s, B: Since, L: Rank>(
     name: Name,
     values: Values,
 ) -> Option<ObjId>
-    requires at { IsAt StandsAt IsLived L.number program.now own.old }
+    requires at { IsAt StandsAt L.number program.now own.old }
     requires tied { TiedAt B.since B.start own.old }
     requires fine { FineAt L.number own.old }
     requires room { asked_of program.now.scenario.now own.old + 1 < 2 ^ 22 }
     ensures created { Created L.number class name values (log_of own.old) (log_of own.new) (known_of own.old).objects.lives (known_of own.new).objects.lives result }
-    ensures at { IsAt StandsAt IsLived L.number program.now own.new }
+    ensures at { IsAt StandsAt L.number program.now own.new }
     ensures tied { TiedAt B.since B.start own.new }
     ensures between { Between 1 0 L.number program.now own.old own.new }
 {
@@ -126,13 +125,13 @@ pub(crate) fn give_up<'s, B: Since, L: Rank>(
     program: &'s Program<'s>,
     object: ObjId,
 )
-    requires at { IsAt StandsAt IsLived L.number program.now own.old }
+    requires at { IsAt StandsAt L.number program.now own.old }
     requires tied { TiedAt B.since B.start own.old }
     requires fine { FineAt L.number own.old }
     requires living { (c : ℕ) × LivesAs (known_of own.old).objects.lives c object.unit object.life }
     ensures disposed { (c : ℕ) → LivesAs (known_of own.old).objects.lives c object.unit object.life →
         Disposed L.number c object (log_of own.old) (log_of own.new) (known_of own.old).objects.lives (known_of own.new).objects.lives }
-    ensures at { IsAt StandsAt IsLived L.number program.now own.new }
+    ensures at { IsAt StandsAt L.number program.now own.new }
     ensures tied { TiedAt B.since B.start own.new }
     ensures between { Between 0 0 L.number program.now own.old own.new }
 {

@@ -15,7 +15,6 @@ impl<'a, 's, B: Since, L: Rank> Machine for At<'a, 's, B, L> {
     ghost use Rattle.bm_plan.specs.Position.{StandsAt};
     ghost use Rattle.bm_levels.specs.AtProcessor.{FineAt, IsAt, lists_of, log_of};
     ghost use Rattle.bm_levels.specs.AtTie.{TiedAt};
-    ghost use Rattle.bm_levels.specs.Logged.{IsLived};
     ghost use Rattle.bm_levels.specs.Ready.{asked_of, known_of};
     ghost use Rattle.bm_levels.specs.RunsOn.{RunsOn, runs-joined, runs-same};
 
@@ -35,7 +34,7 @@ impl<'a, 's, B: Since, L: Rank> Machine for At<'a, 's, B, L> {
 
     ghost through = { λ m. m.own.ghost_name };
 
-    ghost sound = { λ m. IsAt StandsAt IsLived L.number m.program.now m.own.now × FineAt L.number m.own.now × TiedAt B.since B.start m.own.now };
+    ghost sound = { λ m. IsAt StandsAt L.number m.program.now m.own.now × FineAt L.number m.own.now × TiedAt B.since B.start m.own.now };
 
     ghost keeps = { λ a b. RunsOn L.number a.program.now a.own.now b.own.now × (b.program.now ≡ a.program.now) };
 

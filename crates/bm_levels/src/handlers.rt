@@ -6,7 +6,6 @@ ghost use Rattle.bm_journal.specs.Recording.{Appends};
 ghost use Rattle.bm_due.specs.declared.planned.Due.{Due as DueValue};
 ghost use Rattle.bm_levels.specs.AtProcessor.{Between, CameAt, FineAt, HasPhrase, IsAt, IsBegun, IsDue, SameLives, due_cost, log_of};
 ghost use Rattle.bm_levels.specs.AtTie.{TiedAt};
-ghost use Rattle.bm_levels.specs.Logged.{IsLived};
 ghost use Rattle.bm_levels.specs.Ready.{BindsAll, left_of};
 ghost use Rattle.bm_levels.specs.declared.processor.Processor.{Processor as ProcessorValue};
 ghost use Rattle.bm_plan.specs.Position.{AboutTo, AskedAt, StandsAt};
@@ -23,10 +22,10 @@ use bm_lang::Script;
 
 // The handler that is due before the next step of code of this level, and begins; None, and nothing changes, where none is due.
 fn begin_due<'s>(own: &mut Processor, program: &'s Program<'s>, level: Level) -> Option<Due>
-    requires at { IsAt AboutTo IsLived level program.now own.old }
+    requires at { IsAt AboutTo level program.now own.old }
     requires fine { FineAt (level + 1) own.old }
     ensures none { IfNone result (own.new ≡ own.old) }
-    ensures asked { IfNone result (IsAt AskedAt IsLived level program.now own.old) }
+    ensures asked { IfNone result (IsAt AskedAt level program.now own.old) }
     ensures begun { IfSome result (λ due. IsBegun level program.now due own.old own.new) }
     ensures between { Between 0 0 (level + 1) program.now own.old own.new }
     ensures lives { SameLives own.old own.new }
@@ -39,10 +38,10 @@ fn begin_due<'s>(own: &mut Processor, program: &'s Program<'s>, level: Level) ->
 /// All handlers that are due before the next step of code of a level run, the highest level first, then in the order of the text,
 /// and the step's number is read anew after each. Where none is due nothing changes. It takes no memory but the recorder's.
 pub(crate) fn run_due<'s, B: Since, L: Rank>(own: &mut Processor, program: &'s Program<'s>)
-    requires at { IsAt AboutTo IsLived L.number program.now own.old }
+    requires at { IsAt AboutTo L.number program.now own.old }
     requires tied { TiedAt B.since B.start own.old }
     requires fine { FineAt (L.number + 1) own.old }
-    ensures asked { IsAt AskedAt IsLived L.number program.now own.new }
+    ensures asked { IsAt AskedAt L.number program.now own.new }
     ensures tied { TiedAt B.since B.start own.new }
     ensures between { Between 0 0 (L.number + 1) program.now own.old own.new }
     ensures lives { SameLives own.old own.new }
@@ -71,7 +70,7 @@ fn begin_handler<'s>(
     requires due { (k : ℕ) × IsDue k program.now due.now own.old }
     requires found { slice_get program.now.scenario.now.scripts due.now.script.0 ≡ Some script.now }
     requires fine { FineAt due.now.level own.old }
-    ensures at { IsAt StandsAt IsLived due.now.level program.now own.new }
+    ensures at { IsAt StandsAt due.now.level program.now own.new }
     ensures said { Appends (log_of own.old) due.now.level (entry.Handler script.now.name) (log_of own.new) }
     ensures fine { FineAt due.now.level own.new }
     ensures came { CameAt due.now.level own.old own.new }
@@ -100,13 +99,13 @@ fn end_handler<'s>(
     script: &'s Script,
     table: NameTable,
 )
-    requires at { IsAt StandsAt IsLived due.now.level program.now own.old }
+    requires at { IsAt StandsAt due.now.level program.now own.old }
     requires found { slice_get program.now.scenario.now.scripts due.now.script.0 ≡ Some script.now }
     requires phrase { IfSome (log_of own.old) (HasPhrase due.now.level program.now.scenario.now script.now.name) }
     requires fine { FineAt due.now.level own.old }
     requires runs { (dues : List DueValue) × (own.old.running.items ≡ dues ++ due.now ∷ []) }
     requires bound { BindsAll program.now.scenario.now.scripts table }
-    ensures at { (was : ProcessorValue) (k : ℕ) → IsDue k program.now due.now was → own.old.running.items ≡ was.running.items ++ due.now ∷ [] → IsAt AboutTo IsLived k program.now own.new }
+    ensures at { (was : ProcessorValue) (k : ℕ) → IsDue k program.now due.now was → own.old.running.items ≡ was.running.items ++ due.now ∷ [] → IsAt AboutTo k program.now own.new }
     ensures said { Appends (log_of own.old) due.now.level (entry.Back script.now.name) (log_of own.new) }
     ensures fine { FineAt due.now.level own.new }
     ensures came { CameAt due.now.level own.old own.new }
@@ -133,7 +132,7 @@ pub(crate) fn run_one<'s, B: Since, L: Rank>(
     requires level { due.now.level ≡ L.number }
     requires tied { TiedAt B.since B.start own.old }
     requires fine { FineAt due.now.level own.old }
-    ensures at { (k : ℕ) → IsDue k program.now due.now own.old → IsAt AboutTo IsLived k program.now own.new }
+    ensures at { (k : ℕ) → IsDue k program.now due.now own.old → IsAt AboutTo k program.now own.new }
     ensures tied { TiedAt B.since B.start own.new }
     ensures between { Between (due_cost program.now due.now) 2 due.now.level program.now own.old own.new }
     ensures lives { SameLives own.old own.new }

@@ -31,7 +31,6 @@ impl<'a, 's, B: Since, L: Rank> Host<Keep> for At<'a, 's, B, L> {
     ghost use Rattle.bm_law_order.specs.Quiet.{is_quiet};
     ghost use Rattle.std.proofs.lemmas.Bool.{and_parts};
     ghost use Rattle.bm_levels.specs.AtTie.{FreesAt, GaveAt, TiedAt, tied-freed, tied-gave, tied-quiet, tied-same};
-    ghost use Rattle.bm_levels.specs.Logged.{IsFreeing, IsGiven, IsLived};
     ghost use Rattle.bm_levels.specs.Ready.{known_of, left_of};
 
     ghost held = { λ m. m.own.now.caches };
@@ -44,13 +43,13 @@ impl<'a, 's, B: Since, L: Rank> Host<Keep> for At<'a, 's, B, L> {
 
     ghost tests = { λ m. tests_of m.own.now };
 
-    ghost sound = { λ m. IsAt StandsAt IsLived L.number m.program.now m.own.now × TiedAt B.since B.start m.own.now };
+    ghost sound = { λ m. IsAt StandsAt L.number m.program.now m.own.now × TiedAt B.since B.start m.own.now };
 
-    ghost asked = { λ m. IsAt AskedAt IsLived L.number m.program.now m.own.now × TiedAt B.since B.start m.own.now };
+    ghost asked = { λ m. IsAt AskedAt L.number m.program.now m.own.now × TiedAt B.since B.start m.own.now };
 
-    ghost gave = { λ u life m. IsAt StandsAt (IsGiven u life) L.number m.program.now m.own.now × GaveAt B.since B.start L.number u life m.own.now };
+    ghost gave = { λ u life m. IsAt StandsAt L.number m.program.now m.own.now × GaveAt B.since B.start L.number u life m.own.now };
 
-    ghost frees = { λ u home m. IsAt StandsAt (IsFreeing L.number u home) L.number m.program.now m.own.now × FreesAt B.since B.start L.number u home m.own.now };
+    ghost frees = { λ u home m. IsAt StandsAt L.number m.program.now m.own.now × FreesAt B.since B.start L.number u home m.own.now };
 
     ghost keeps = { λ a b. Stays 0 0 a.program.now a.own.now b.own.now × SameLives a.own.now b.own.now × GoesOn (known_of a.own.now) (known_of b.own.now) × (b.program.now ≡ a.program.now) };
 
@@ -110,7 +109,6 @@ impl<'a, 's, B: Since, L: Rank> Desk<Keep> for At<'a, 's, B, L> {
     ghost use Rattle.bm_world.specs.LivingState.{known_living};
     ghost use Rattle.bm_law_order.specs.Act as act;
     ghost use Rattle.std.specs.Prelude.{◌∷◌};
-    ghost use Rattle.bm_levels.specs.Logged.{IsLived};
     ghost use Rattle.bm_grace.specs.Known.{Objects};
     ghost use Rattle.bm_levels.specs.Hosting.{at-said, at-sided, at-stepped, stays-joined, stays-sided, with_caches, with_side};
 
@@ -122,13 +120,13 @@ impl<'a, 's, B: Since, L: Rank> Desk<Keep> for At<'a, 's, B, L> {
 
     ghost stays = { λ a b. Stays 0 0 a.program.now a.own.now b.own.now × SameLives a.own.now b.own.now × (b.program.now ≡ a.program.now) };
 
-    ghost owes = { λ done es m. IsAt StandsAt IsLived L.number m.program.now m.own.now × OwesAt B.since B.start L.number done es m.own.now };
+    ghost owes = { λ done es m. IsAt StandsAt L.number m.program.now m.own.now × OwesAt B.since B.start L.number done es m.own.now };
 
-    ghost asked_owes = { λ done m. IsAt AskedAt IsLived L.number m.program.now m.own.now × OwesAt B.since B.start L.number done [] m.own.now };
+    ghost asked_owes = { λ done m. IsAt AskedAt L.number m.program.now m.own.now × OwesAt B.since B.start L.number done [] m.own.now };
 
-    ghost rested = { λ d x m. IsAt StandsAt IsLived L.number m.program.now m.own.now × RestsBy B.since B.start L.number d x (log_of m.own.now) m.own.now.side };
+    ghost rested = { λ d x m. IsAt StandsAt L.number m.program.now m.own.now × RestsBy B.since B.start L.number d x (log_of m.own.now) m.own.now.side };
 
-    ghost asked_rested = { λ d x done m. IsAt AskedAt IsLived L.number m.program.now m.own.now × RestedBy B.since B.start L.number d x done (log_of m.own.now) m.own.now.side };
+    ghost asked_rested = { λ d x done m. IsAt AskedAt L.number m.program.now m.own.now × RestedBy B.since B.start L.number d x done (log_of m.own.now) m.own.now.side };
 
     fn world(&mut self) -> &mut LivingSide {
         let own = &mut *self.own;
@@ -185,7 +183,7 @@ impl<'a, 's, B: Since, L: Rank> Desk<Keep> for At<'a, 's, B, L> {
 
     ghost rested_whole = { λ h d x n ws p q b o. (o.0, rests-by B.since B.start L.number d x (act.Begins d n ∷ act.Looks d ws ∷ act.Finishes p ∷ []) (entry.Begin d n ∷ entry.Finish p ∷ []) (log_of h.own.now) h.own.now.side (idle.Ended n ws p q b) o.1) };
 
-    ghost rested_lent = { λ h w d x e r. subst (λ v. IsAt StandsAt IsLived L.number h.program.now (with_side h.own.now v) × RestsBy B.since B.start L.number d x (log_of h.own.now) v) (sym e) r };
+    ghost rested_lent = { λ h w d x e r. subst (λ v. IsAt StandsAt L.number h.program.now (with_side h.own.now v) × RestsBy B.since B.start L.number d x (log_of h.own.now) v) (sym e) r };
 
     ghost rested_kept = { λ a b d x k m s r. (s.0, law-kept B.since B.start L.number d x (log_of a.own.now) (log_of b.own.now) a.own.now.side b.own.now.side m (tied-open B.since B.start L.number b.own.now s.1) r.1) };
 

@@ -10,7 +10,6 @@ ghost use Rattle.bm_lang.specs.declared.scenario.ScriptKind.TheVariants as kind;
 ghost use Rattle.bm_lawful.specs.Handlers.{HandlerPhrase};
 ghost use Rattle.bm_levels.specs.AtProcessor.{Between, FineAt, IsAt, SameLives, lists_of, log_of};
 ghost use Rattle.bm_levels.specs.AtTie.{TiedAt};
-ghost use Rattle.bm_levels.specs.Logged.{IsLived};
 ghost use Rattle.bm_levels.specs.Ready.{BindsAll, asked_of, left_of, word_of};
 ghost use Rattle.bm_plan.specs.Position.{StandsAt};
 
@@ -31,14 +30,14 @@ fn run_code<'s, B: Since, L: Rank>(
     script: &'s Script,
     table: &mut NameTable,
 )
-    requires at { IsAt StandsAt IsLived L.number program.now own.old }
+    requires at { IsAt StandsAt L.number program.now own.old }
     requires tied { TiedAt B.since B.start own.old }
     requires fine { FineAt L.number own.old }
     requires found { (i : ℕ) × (slice_get program.now.scenario.now.scripts i ≡ Some script.now) }
     requires asks { asked_of program.now.scenario.now own.old + 2 * script_cost (Some script.now) < 2 ^ 22 }
     requires bound { BindsAll program.now.scenario.now.scripts table.old }
     ensures ran { RanScript program.now.types.declared.now L.number None (lists_of own.old) script.now (log_of own.old) (log_of own.new) }
-    ensures at { IsAt StandsAt IsLived L.number program.now own.new }
+    ensures at { IsAt StandsAt L.number program.now own.new }
     ensures tied { TiedAt B.since B.start own.new }
     ensures between { Between (2 * script_cost (Some script.now)) 0 L.number program.now own.old own.new }
     ensures lives { SameLives own.old own.new }
@@ -67,7 +66,7 @@ pub(crate) fn run_inside<'s, B: Since, L: Rank>(
     script: &'s Script,
     table: &mut NameTable,
 )
-    requires at { IsAt StandsAt IsLived L.number program.now own.old }
+    requires at { IsAt StandsAt L.number program.now own.old }
     requires tied { TiedAt B.since B.start own.old }
     requires fine { FineAt L.number own.old }
     requires found { (i : ℕ) × (slice_get program.now.scenario.now.scripts i ≡ Some script.now) }
@@ -76,7 +75,7 @@ pub(crate) fn run_inside<'s, B: Since, L: Rank>(
     requires words { word_of Plain own.old + 2 * length (left_of own.old) + 2 < 2 ^ 28 }
     requires bound { BindsAll program.now.scenario.now.scripts table.old }
     ensures phrase { GrewBy (Say L.number (HandlerPhrase program.now.scenario.now script.now.name (word_of Plain own.old))) (lists_of own.old) (log_of own.old) (log_of own.new) }
-    ensures at { IsAt StandsAt IsLived L.number program.now own.new }
+    ensures at { IsAt StandsAt L.number program.now own.new }
     ensures tied { TiedAt B.since B.start own.new }
     ensures between { Between (2 * script_cost (Some script.now)) 2 L.number program.now own.old own.new }
     ensures lives { SameLives own.old own.new }

@@ -3,7 +3,6 @@
 ghost use Rattle.std.specs.Prelude.{◌≡◌, ◌+◌, ◌<◌, ◌≤◌, ℕ};
 ghost use Rattle.bm_levels.specs.AtProcessor.{Between, FineAt, IsAt, IsDue, SameLives, due_cost};
 ghost use Rattle.bm_levels.specs.AtTie.{TiedAt};
-ghost use Rattle.bm_levels.specs.Logged.{IsLived};
 ghost use Rattle.bm_plan.specs.Position.{AboutTo};
 
 use crate::handlers::run_one;
@@ -29,7 +28,7 @@ pub trait Rank {
         requires due { number < 3 → IsDue number program.now due.now own.old }
         requires tied { TiedAt B.since B.start own.old }
         requires fine { FineAt (number + 1) own.old }
-        ensures at { number < 3 → IsAt AboutTo IsLived number program.now own.new }
+        ensures at { number < 3 → IsAt AboutTo number program.now own.new }
         ensures tied { TiedAt B.since B.start own.new }
         ensures between { number < 3 → Between (due_cost program.now due.now) 2 (number + 1) program.now own.old own.new }
         ensures lives { SameLives own.old own.new };

@@ -9,7 +9,6 @@ ghost use Rattle.bm_cache.specs.Shown.{shown};
 ghost use Rattle.bm_levels.specs.AtProcessor.{CameAt, FineAt, IsAt, log_of};
 ghost use Rattle.bm_levels.specs.AtTie.{TiedAt};
 ghost use Rattle.bm_law.specs.Lists.{Log};
-ghost use Rattle.bm_levels.specs.Logged.{IsLived};
 ghost use Rattle.bm_levels.specs.Ready.{known_of, left_of, word_of};
 ghost use Rattle.bm_levels.specs.declared.program.Program.{Program as ProgramValue};
 ghost use Rattle.bm_plan.specs.Position.{StandsAt};
@@ -26,7 +25,7 @@ pub fn enter_section(own: &mut Processor, level: Level)
     requires outside { word_of Plain own.old % 2 ≡ 0 }
     requires room { word_of Plain own.old + 1 < 2 ^ 28 }
     ensures said { Appends (log_of own.old) level (entry.In Plain (word_of Plain own.old + 1)) (log_of own.new) }
-    ensures at { (p : ProgramValue) → IsAt StandsAt IsLived level p own.old → word_of Plain own.old + 2 * length (left_of own.old) + 1 < 2 ^ 28 → IsAt StandsAt IsLived level p own.new }
+    ensures at { (p : ProgramValue) → IsAt StandsAt level p own.old → word_of Plain own.old + 2 * length (left_of own.old) + 1 < 2 ^ 28 → IsAt StandsAt level p own.new }
     ensures tied { (since : Log) (start : LivingState) → TiedAt since start own.old → TiedAt since start own.new }
     ensures fine { FineAt level own.new }
     ensures came { CameAt level own.old own.new }
@@ -46,7 +45,7 @@ pub fn leave_section(own: &mut Processor, level: Level)
     requires fine { FineAt level own.old }
     requires inside { word_of Plain own.old % 2 ≡ 1 }
     ensures said { Appends (log_of own.old) level (entry.Out Plain (word_of Plain own.old + 1)) (log_of own.new) }
-    ensures at { (p : ProgramValue) → IsAt StandsAt IsLived level p own.old → word_of Plain own.old + 2 * length (left_of own.old) + 1 < 2 ^ 28 → IsAt StandsAt IsLived level p own.new }
+    ensures at { (p : ProgramValue) → IsAt StandsAt level p own.old → word_of Plain own.old + 2 * length (left_of own.old) + 1 < 2 ^ 28 → IsAt StandsAt level p own.new }
     ensures tied { (since : Log) (start : LivingState) → TiedAt since start own.old → TiedAt since start own.new }
     ensures fine { FineAt level own.new }
     ensures came { CameAt level own.old own.new }

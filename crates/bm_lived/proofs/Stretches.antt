@@ -1,10 +1,8 @@
 -- How what stretches of a log say of lives joins, and what such stretches are.
-use Rattle.std.proofs.Common.{◌≡◌, ℕ, ◌+◌, true, List, [], ◌∷◌, ◌++◌, Option, Some, None, refl, sym, ◌∙◌, ap, ap₂, subst, eq-eqb, append_assoc, append-nil}
+use Rattle.std.proofs.Common.{◌≡◌, ℕ, ◌+◌, true, List, [], ◌∷◌, ◌++◌, Option, Some, refl, sym, ◌∙◌, ap, ap₂, subst, eq-eqb}
 use Rattle.std.proofs.Math.Path.{fun_ext}
-use Rattle.std.proofs.lemmas.List.{append_cancel_left}
 use Rattle.bm_journal.specs.declared.entry.Entry.{Entry}
 use Rattle.bm_journal.specs.declared.entry.Entry.TheVariants as entry
-use Rattle.bm_law.specs.Alone.{at_level, Adds}
 use Rattle.bm_law.specs.Lists.{Log}
 use Rattle.bm_law.specs.Spans.{own_entries}
 use Rattle.bm_law.proofs.Spans.{own-append}
@@ -13,7 +11,7 @@ use Rattle.bm_lives.specs.Lives.{ends_life, RestFits, ReplyFits}
 use Rattle.bm_lived.specs.Units.{freed_units, dropped_units}
 use Rattle.bm_lived.specs.Lived.{Lived, with_given, with_dropped, lived_after, lived_over, BeginsNext, EndsNow, LifeFits, LivesFit}
 use Rattle.bm_lived.specs.Lifeless.{SaysNoLife, IsLifeless}
-use Rattle.bm_lived.specs.Told.{LivesOn, LivesGrown, LivesTold}
+use Rattle.bm_lived.specs.Told.{LivesOn}
 use Rattle.bm_lived.proofs.Counts.{times-named}
 
 -- what is known of each unit is all that is known
@@ -74,40 +72,6 @@ lives-join p a b c xs ys f g =
       homes = λ u. g.homes u ∙ ap (λ (z : Lived). z.homes u) over;
       freed = λ u. times-named freed_units u xs ys ∙ ap₂ (λ x y. x + y) (f.freed u) (g.freed u) ∙ sym (times-named dropped_units u xs ys);
     }
-
-pub told-none : (p : ℕ) (a : Lived) (log : Option Log) → LivesTold p a a log log
-told-none p a None = tt
-told-none p a (Some log) = record { log = log; told = refl; added = []; now_is = sym (append-nil log); on = lives-none p a }
-
-pub told-join : (p : ℕ) (a b c : Lived) (x y z : Option Log) → LivesTold p a b x y → LivesTold p b c y z → LivesTold p a c x z
-told-join p a b c x y None f g = tt
-told-join p a b c x y (Some now) f g =
-    let P : Option Log → Type 0 = λ o. LivesTold p a b x o in
-    let h : LivesGrown p a b x g.log = subst P g.told f in
-    record {
-      log = h.log;
-      told = h.told;
-      added = h.added ++ g.added;
-      now_is = g.now_is ∙ ap (λ v. v ++ g.added) h.now_is ∙ append_assoc h.log h.added g.added;
-      on = lives-join p a b c h.added g.added h.on g.on;
-    }
-
--- a log that was told, and the stretch by which it has grown
-same : {A : Type 0} (a b : A) → Some a ≡ Some b → a ≡ b
-same a b e = cc
-
-pub told-from : (p : ℕ) (a b : Lived) (log added : Log) → LivesOn p a b added → LivesTold p a b (Some log) (Some (log ++ added))
-told-from p a b log added h = record { log = log; told = refl; added = added; now_is = refl; on = h }
-
-pub told-added : (p : ℕ) (a b : Lived) (log added : Log) → LivesTold p a b (Some log) (Some (log ++ added)) → LivesOn p a b added
-told-added p a b log added h =
-    let e : log ++ h.added ≡ log ++ added = ap (λ v. v ++ h.added) (same log h.log h.told) ∙ sym h.now_is in
-    subst (LivesOn p a b) (append_cancel_left log h.added added e) h.on
-
--- exactly these entries were added
-pub told-adds : (p l : ℕ) (own : List Entry) (a b : Lived) (x y : Option Log) → Adds l own x y → LivesOn p a b (at_level l own) → LivesTold p a b x y
-told-adds p l own a b x None h o = tt
-told-adds p l own a b x (Some now) h o = record { log = h.log; told = h.told; added = at_level l own; now_is = h.now_is; on = o }
 
 -- ---- stretches that say nothing of lives
 

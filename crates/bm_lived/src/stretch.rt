@@ -3,24 +3,17 @@
 ghost use Rattle.std.specs.Prelude.{ℕ, ◌≡◌, Option, Some, None, List, [], ◌∷◌, ◌++◌};
 ghost use Rattle.bm_journal.specs.declared.entry.Entry.{Entry};
 ghost use Rattle.bm_journal.specs.declared.entry.Entry.TheVariants as entry;
-ghost use Rattle.bm_law.specs.Alone.{Adds, at_level};
 ghost use Rattle.bm_law.specs.Lists.{Log};
 ghost use Rattle.bm_lived.specs.Lived.{BeginsNext, Lived, with_dropped, with_given};
 ghost use Rattle.bm_lived.specs.Lifeless.{IsLifeless};
-ghost use Rattle.bm_lived.specs.Told.{LivesOn, LivesTold};
+ghost use Rattle.bm_lived.specs.Told.{LivesOn};
 
-/// A stretch of no entries says nothing of lives; two stretches say what both say; and so do told logs, which say what the
-/// stretch says by which they have grown. Entries that give, drop and free no unit leave what is known as it is. A unit that is
+/// A stretch of no entries says nothing of lives; two stretches say what both say. Entries that give, drop and free no unit leave what is known as it is. A unit that is
 /// given behind such entries begins its next life. A unit that is dropped and freed to its home, plainly or with delay, has no
 /// life then.
 pub fn stretches_law()
     ensures none { (p : ℕ) (a : Lived) → LivesOn p a a [] }
     ensures join { (p : ℕ) (a b c : Lived) (xs ys : Log) → LivesOn p a b xs → LivesOn p b c ys → LivesOn p a c (xs ++ ys) }
-    ensures told_none { (p : ℕ) (a : Lived) (log : Option Log) → LivesTold p a a log log }
-    ensures told_join { (p : ℕ) (a b c : Lived) (x y z : Option Log) → LivesTold p a b x y → LivesTold p b c y z → LivesTold p a c x z }
-    ensures told_from { (p : ℕ) (a b : Lived) (log added : Log) → LivesOn p a b added → LivesTold p a b (Some log) (Some (log ++ added)) }
-    ensures told_added { (p : ℕ) (a b : Lived) (log added : Log) → LivesTold p a b (Some log) (Some (log ++ added)) → LivesOn p a b added }
-    ensures told_adds { (p l : ℕ) (own : List Entry) (a b : Lived) (x y : Option Log) → Adds l own x y → LivesOn p a b (at_level l own) → LivesTold p a b x y }
     ensures lifeless { (p : ℕ) (a b : Lived) (log : Log) → IsLifeless log → ((u : ℕ) → b.begun u ≡ a.begun u) → ((u : ℕ) → b.homes u ≡ a.homes u) → LivesOn p a b log }
     ensures given { (p l : ℕ) (a b : Lived) (before : Log) (u life : ℕ) → IsLifeless before → BeginsNext a u life →
         ((v : ℕ) → b.begun v ≡ (with_given p u a).begun v) → ((v : ℕ) → b.homes v ≡ (with_given p u a).homes v) →

@@ -15,7 +15,7 @@ use Rattle.bm_plan.specs.Position.{StandsAt, names_in}
 use Rattle.bm_exec.specs.Runnable.{Classes}
 use Rattle.bm_levels.specs.AtProcessor.{IsAt, log_of}
 use Rattle.bm_levels.specs.Here.{Running, position_of}
-use Rattle.bm_levels.specs.Logged.{IsLived, Tells}
+use Rattle.bm_levels.specs.Logged.{Tells}
 use Rattle.bm_levels.specs.Ready.{BindsAll, IsHandlerLine, IsProgram, IsReady, known_of, left_cost, left_of, word_of}
 use Rattle.bm_levels.specs.declared.processor.Processor.{Processor}
 use Rattle.bm_levels.specs.declared.program.Program.{Program}
@@ -80,10 +80,10 @@ ready p m fits fine within f =
       inside = outside (word_of Plain m) m.inside word f.inside;
     }
 
-pub fresh-at : (p : Program) (m : Processor) (fs : Fills) → IsProgram p → HasConditions p.scenario.now → Within p.scenario.now → IsFresh p.scenario.now m → IfSome (log_of m) (λ es. es ≡ fill_log fs) → IsAt StandsAt IsLived 0 p m
+pub fresh-at : (p : Program) (m : Processor) (fs : Fills) → IsProgram p → HasConditions p.scenario.now → Within p.scenario.now → IsFresh p.scenario.now m → IfSome (log_of m) (λ es. es ≡ fill_log fs) → IsAt StandsAt 0 p m
 fresh-at p m fs fits fine within f told = record {
   at = stands (known_of m).grace.processor p.scenario.now m.handlers.planned m.running.items (log_of m) fs f.first f.planned f.running told;
-  tells = where-told (Tells (IsLived (known_of m)) p.scenario.now (known_of m)) (log_of m) (fill_log fs) told (tells-filled p.scenario.now (known_of m) fs f.words f.begun f.lives);
+  tells = where-told (Tells p.scenario.now (known_of m)) (log_of m) (fill_log fs) told (tells-filled p.scenario.now (known_of m) fs f.words);
   ready = ready p m fits fine within f;
 }
 

@@ -20,7 +20,7 @@ use Rattle.bm_cache.specs.Steps.{steps_in}
 use Rattle.bm_deferred.specs.Begun.{begun_by}
 use Rattle.bm_deferred.specs.Inboxes.{Inboxes, on_inbox}
 use Rattle.bm_deferred.specs.Parts.{Then}
-use Rattle.bm_deferred.proofs.Each.{AllOf, PartOf, of-append, of-map, part-nothing, part-say, part-then}
+use Rattle.bm_deferred.proofs.Each.{AllOf, PartOf, of-append, part-nothing, part-say, part-then}
 use Rattle.bm_due.specs.Due.{due_handler}
 use Rattle.bm_due.specs.Plan.{Plan, due_of}
 use Rattle.bm_due.specs.Standing.{Stays, Steps, kind_of, step_or_not}
@@ -30,10 +30,8 @@ use Rattle.bm_lawful.proofs.GoneBack.{done-grow}
 use Rattle.bm_plan.specs.Position.{Position, StandsAt, level_in}
 use Rattle.bm_plan.proofs.Positions.{asks-none, stays-here, steps-here}
 use Rattle.bm_mail.specs.SweepsTold.{ClosingTold, SweepsTold}
-use Rattle.bm_lived.specs.Lifeless.{SaysNoLife}
 use Rattle.bm_levels.specs.Growing.{IsInner, no-back}
 use Rattle.bm_closing.specs.EndsBegun.{EndsBegun}
-use Rattle.bm_exec.proofs.Said.{Silent}
 
 -- ---- behind its begin
 
@@ -43,49 +41,39 @@ IsLate (entry.Handler name) = ⊥
 IsLate entry.Ended = ⊥
 IsLate e = IsInner e
 
--- it says nothing of lives
-abbrev IsCalm : Entry → Type 0
-IsCalm e = IsLate e × SaysNoLife e
+finish-late : (d : Domain) (own : List Entry) → MayFinish d own → AllOf IsLate own
+finish-late d own (inl e) = subst (AllOf IsLate) (sym e) tt
+finish-late d own (inr x) = subst (AllOf IsLate) (sym x.1) (subst (λ (e : Entry). AllOf IsLate (e ∷ [])) (sym x.2.2) (tt, tt))
 
-finish-calm : (d : Domain) (own : List Entry) → MayFinish d own → AllOf IsCalm own
-finish-calm d own (inl e) = subst (AllOf IsCalm) (sym e) tt
-finish-calm d own (inr x) = subst (AllOf IsCalm) (sym x.1) (subst (λ (e : Entry). AllOf IsCalm (e ∷ [])) (sym x.2.2) ((tt, tt), tt))
+begin-late : (d : Domain) (own : List Entry) → MayBegin d own → AllOf IsLate own
+begin-late d own (inl e) = subst (AllOf IsLate) (sym e) tt
+begin-late d own (inr x) = subst (AllOf IsLate) (sym x.2) (tt, finish-late d x.1 x.3)
 
-begin-calm : (d : Domain) (own : List Entry) → MayBegin d own → AllOf IsCalm own
-begin-calm d own (inl e) = subst (AllOf IsCalm) (sym e) tt
-begin-calm d own (inr x) = subst (AllOf IsCalm) (sym x.2) ((tt, tt), finish-calm d x.1 x.3)
+poll-late : (c : ℕ) (own : List Entry) → PollPhrase c Tracing own → AllOf IsLate own
+poll-late c own p = subst (AllOf IsLate) (sym p.own_is) (of-append IsLate p.ended (p.begun ++ entry.Pass c Tracing p.seen ∷ []) (finish-late Tracing p.ended p.may_finish) (of-append IsLate p.begun (entry.Pass c Tracing p.seen ∷ []) (begin-late Tracing p.begun p.may_begin) (tt, tt)))
 
-poll-calm : (c : ℕ) (own : List Entry) → PollPhrase c Tracing own → AllOf IsCalm own
-poll-calm c own p = subst (AllOf IsCalm) (sym p.own_is) (of-append IsCalm p.ended (p.begun ++ entry.Pass c Tracing p.seen ∷ []) (finish-calm Tracing p.ended p.may_finish) (of-append IsCalm p.begun (entry.Pass c Tracing p.seen ∷ []) (begin-calm Tracing p.begun p.may_begin) ((tt, tt), tt)))
+sweep-late : (c : ℕ) (own : List Entry) → SweepPhrase c own → AllOf IsLate own
+sweep-late c own p = subst (AllOf IsLate) (sym p.own_is) (tt, (tt, of-append IsLate p.poll (entry.Return c (Whole p.returned) ∷ []) (poll-late c p.poll p.polls) (tt, tt)))
 
-sweep-calm : (c : ℕ) (own : List Entry) → SweepPhrase c own → AllOf IsCalm own
-sweep-calm c own p = subst (AllOf IsCalm) (sym p.own_is) ((tt, tt), ((tt, tt), of-append IsCalm p.poll (entry.Return c (Whole p.returned) ∷ []) (poll-calm c p.poll p.polls) ((tt, tt), tt)))
+ends-late : (d : Domain) (begun : Option ℕ) → PartOf IsLate 0 (EndsOne d begun)
+ends-late d None = part-nothing IsLate 0
+ends-late d (Some n) = part-say IsLate 0 _ (λ own h. subst (AllOf IsLate) (sym h.3) (tt, tt))
 
-ends-calm : (d : Domain) (begun : Option ℕ) → PartOf IsCalm 0 (EndsOne d begun)
-ends-calm d None = part-nothing IsCalm 0
-ends-calm d (Some n) = part-say IsCalm 0 _ (λ own h. subst (AllOf IsCalm) (sym h.3) ((tt, tt), tt))
+where-late : (c : ℕ) (us : List ℕ) → PartOf IsLate 0 (SweepWhere c us)
+where-late c [] = part-nothing IsLate 0
+where-late c (u ∷ us) = part-say IsLate 0 (SweepOf c (u ∷ us)) (λ own h. sweep-late c own h.phrase)
 
-where-calm : (c : ℕ) (us : List ℕ) → PartOf IsCalm 0 (SweepWhere c us)
-where-calm c [] = part-nothing IsCalm 0
-where-calm c (u ∷ us) = part-say IsCalm 0 (SweepOf c (u ∷ us)) (λ own h. sweep-calm c own h.phrase)
-
-sweeps-calm : (cs : List ℕ) (boxes : Inboxes) → PartOf IsCalm 0 (SweepsTold cs boxes)
-sweeps-calm [] boxes s part h = part-nothing IsCalm 0 s part h
-sweeps-calm (c ∷ cs) boxes s part h = part-then IsCalm 0 (SweepWhere c (seven_lists (s.rows c) ++ concat (boxes c))) (SweepsTold cs (on_inbox c (λ parcels. []) boxes)) (where-calm c (seven_lists (s.rows c) ++ concat (boxes c))) (sweeps-calm cs (on_inbox c (λ parcels. []) boxes)) s part h.1
+sweeps-late : (cs : List ℕ) (boxes : Inboxes) → PartOf IsLate 0 (SweepsTold cs boxes)
+sweeps-late [] boxes s part h = part-nothing IsLate 0 s part h
+sweeps-late (c ∷ cs) boxes s part h = part-then IsLate 0 (SweepWhere c (seven_lists (s.rows c) ++ concat (boxes c))) (SweepsTold cs (on_inbox c (λ parcels. []) boxes)) (where-late c (seven_lists (s.rows c) ++ concat (boxes c))) (sweeps-late cs (on_inbox c (λ parcels. []) boxes)) s part h.1
 
 -- the ends of the periods in progress, and the sweeps
-rest-calm : (known : Known) (classes : List ℕ) (boxes : Inboxes) → PartOf IsCalm 0 (Then (EndsBegun known) (SweepsTold classes boxes))
-rest-calm known classes boxes =
+pub rest-late : (known : Known) (classes : List ℕ) (boxes : Inboxes) → PartOf IsLate 0 (Then (EndsBegun known) (SweepsTold classes boxes))
+rest-late known classes boxes =
     let plain : Option ℕ = begun_by (side Plain known).number in
     let tracing : Option ℕ = begun_by (side Tracing known).number in
-    let ends : PartOf IsCalm 0 (EndsBegun known) = part-then IsCalm 0 (EndsOne Plain plain) (EndsOne Tracing tracing) (ends-calm Plain plain) (ends-calm Tracing tracing) in
-    part-then IsCalm 0 (EndsBegun known) (SweepsTold classes boxes) ends (sweeps-calm classes boxes)
-
-pub rest-late : (known : Known) (classes : List ℕ) (boxes : Inboxes) (s : State ℕ) (part : Log) → Then (EndsBegun known) (SweepsTold classes boxes) s part → AllOf IsLate (own_entries 0 part)
-rest-late known classes boxes s part h = of-map IsCalm IsLate (λ e k. k.0) (own_entries 0 part) (rest-calm known classes boxes s part h)
-
-pub rest-silent : (known : Known) (classes : List ℕ) (boxes : Inboxes) (s : State ℕ) (part : Log) → Then (EndsBegun known) (SweepsTold classes boxes) s part → Silent (own_entries 0 part)
-rest-silent known classes boxes s part h = of-map IsCalm SaysNoLife (λ e k. k.1) (own_entries 0 part) (rest-calm known classes boxes s part h)
+    let ends : PartOf IsLate 0 (EndsBegun known) = part-then IsLate 0 (EndsOne Plain plain) (EndsOne Tracing tracing) (ends-late Plain plain) (ends-late Tracing tracing) in
+    part-then IsLate 0 (EndsBegun known) (SweepsTold classes boxes) ends (sweeps-late classes boxes)
 
 -- ---- how the log goes on then
 

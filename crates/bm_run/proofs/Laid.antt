@@ -21,7 +21,7 @@ use Rattle.bm_opening.proofs.FreshTold.{outset-told}
 use Rattle.bm_run.specs.ClosingTie.{IsIdle}
 use Rattle.bm_run.specs.JournalLaid.{IsIdleAfter}
 
-outset-side : (pages : ℕ) → IsSideOf 0 (outset pages).side
+pub outset-side : (pages : ℕ) → IsSideOf 0 (outset pages).side
 outset-side pages = record { post_is = refl; grace_is = refl; agree = refl; turn = lit< tt; most = lit≤ tt; boxes = refl; plain_words = refl; tracing_words = refl }
 
 fresh-steady : (pages : ℕ) → Steady (fresh 1 pages)

@@ -9,3 +9,4 @@ pub mod Sections
 pub mod Written
 pub mod Laid
 pub mod Progress
+pub mod LivesTold

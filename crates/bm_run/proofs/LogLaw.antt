@@ -13,10 +13,9 @@ use Rattle.bm_post.specs.PostState.{told_in}
 use Rattle.bm_law.specs.Alone.{AllAt, GrewAt, at_level}
 use Rattle.bm_law.specs.Lists.{Leaves, Log, after}
 use Rattle.bm_law.specs.Null.{NullLaw}
-use Rattle.bm_law.specs.Spans.{own_entries}
 use Rattle.bm_law.specs.Stands.{times}
 use Rattle.bm_law.specs.State.{Side, State, opening, seen, seen_row, seven_lists}
-use Rattle.bm_law.proofs.Alone.{at-own, level-from, level-own}
+use Rattle.bm_law.proofs.Alone.{level-from, level-own}
 use Rattle.bm_law.proofs.Folds.{after-append}
 use Rattle.bm_law.proofs.Seen.{map-seven}
 use Rattle.bm_cache.specs.Opening.{Fills, fill_log, named}
@@ -40,18 +39,14 @@ use Rattle.bm_closing.specs.EndsBegun.{EndsBegun}
 use Rattle.bm_lives.specs.Together.{named as named_all, named_in, times as times_in}
 use Rattle.bm_lives.specs.Lives.{WholeLives}
 use Rattle.bm_lived.specs.AreLived.{AreLived}
-use Rattle.bm_lived.specs.Lifeless.{IsLifeless}
 use Rattle.bm_lived.specs.Lived.{Lived, no_lives}
 use Rattle.bm_lived.specs.Told.{LivesOn}
 use Rattle.bm_lived.specs.Units.{freed_units, given_units}
-use Rattle.bm_lived.proofs.Stretches.{lifeless, lives-join}
 use Rattle.bm_returns.specs.Units.{FreedAsGiven}
-use Rattle.bm_exec.specs.Living.{home_of, lived_in}
-use Rattle.bm_exec.proofs.Said.{Silent, silent-log}
 use Rattle.bm_levels.specs.AtProcessor.{lists_of, log_of}
 use Rattle.bm_levels.specs.AtTie.{TiedAt}
 use Rattle.bm_levels.specs.Here.{position_of}
-use Rattle.bm_levels.specs.Logged.{IsLived, Tells}
+use Rattle.bm_levels.specs.Logged.{Tells}
 use Rattle.bm_levels.specs.Ready.{known_of}
 use Rattle.bm_levels.specs.Sound.{Sound}
 use Rattle.bm_levels.specs.declared.processor.Processor.{Processor}
@@ -67,7 +62,7 @@ use Rattle.bm_law_order.specs.Tie.{TiedBy, whatever}
 use Rattle.bm_world.specs.ToldLiving.{LivingDoes}
 use Rattle.bm_run.proofs.Laid.{tied-led}
 use Rattle.bm_run.proofs.Progress.{led-progress}
-use Rattle.bm_run.proofs.Closes.{LawfulSoFar, closing-is, ends-are, late-goes-on, rest-late, rest-silent}
+use Rattle.bm_run.proofs.Closes.{LawfulSoFar, closing-is, ends-are, late-goes-on, rest-late}
 use Rattle.bm_run.proofs.OpenedList.{opened-has, opened-none}
 use Rattle.bm_run.proofs.Sections.{runs-none}
 use Rattle.bm_run.proofs.Written.{told-of}
@@ -86,10 +81,6 @@ are-fills : (cs : List ℕ) (pool : Stock) → AreFills cs pool (fill_entries (f
 are-fills [] pool = refl
 are-fills (c ∷ cs) pool = let f = fetched c (prefill c) pool in (fill_entries (filling cs f.pool).fills, refl, are-fills cs f.pool)
 
-fills-silent : (fs : Fills) → Silent (fill_entries fs)
-fills-silent [] = tt
-fills-silent (f ∷ fs) = (tt, fills-silent fs)
-
 -- ---- what a run leaves, by its logs
 
 pub record Told (s : Parts) (final : Log) : Type 0 where
@@ -106,9 +97,6 @@ pub record Told (s : Parts) (final : Log) : Type 0 where
   pub are_scripts : AreScripts s (lines_of 0 s.runs) (after (opening 0) fills) scripts
   pub mail : Delivers 0 1 0 (Some no_parcels) boxes (Some fills) (fills ++ scripts)
   pub closes : ClosingTold 0 (opened_classes s.types) (fills ++ scripts) boxes (after (opening 0) (fills ++ scripts)) closing
-  pub lived : Lived
-  pub lives : LivesOn 0 no_lives lived ((fills ++ scripts) ++ closing)
-  pub none : (u : ℕ) → lived.homes u ≡ None
   pub before : State ℕ
   pub leaves : Leaves 0 (fills ++ scripts) before
 
@@ -142,17 +130,14 @@ fills-logged cs pool p m fills o told = subst (λ (x : Option Log). IfSome x (λ
 abbrev here : Program → Processor → Position
 here p m = position_of (known_of m).grace.processor p.scenario.now m.handlers.planned m.running.items
 
-tells-here : (p : Program) (m : Processor) (log : Log) → Sound p m → log_of m ≡ Some log → LawfulSoFar (here p m) p.scenario.now log × LivesOn 0 no_lives (lived_in (known_of m).objects) log
+tells-here : (p : Program) (m : Processor) (log : Log) → Sound p m → log_of m ≡ Some log → LawfulSoFar (here p m) p.scenario.now log
 tells-here p m log s told =
     let at : StandsAt (here p m) log = subst (λ (x : Option Log). IfSome x (StandsAt (here p m))) told s.at.at.at in
-    let t : Tells (IsLived (known_of m)) p.scenario.now (known_of m) log = subst (λ (x : Option Log). IfSome x (Tells (IsLived (known_of m)) p.scenario.now (known_of m))) told s.at.tells in
-    (record { stands = at; done = t.done }, subst (λ n. LivesOn n no_lives (lived_in (known_of m).objects) log) s.at.ready.first t.lives)
+    let t : Tells p.scenario.now (known_of m) log = subst (λ (x : Option Log). IfSome x (Tells p.scenario.now (known_of m))) told s.at.tells in
+    record { stands = at; done = t.done }
 
 stands-here : (p : Program) (m : Processor) (log : Log) → Sound p m → StandsAt (here p m) log → HandlersStand p.scenario.now 0 log
 stands-here p m log s h = subst (λ n. HandlersStand p.scenario.now n log) s.at.ready.first (whole (here p m) log (runs-none p m s) h)
-
-closing-live : (l : Lived) (closing : Log) → AllAt 0 closing → Silent (own_entries 0 closing) → LivesOn 0 l l closing
-closing-live l closing at silent = lifeless 0 l l closing (subst IsLifeless (sym (at-own 0 closing at)) (silent-log 0 (own_entries 0 closing) silent)) (λ u. refl) (λ u. refl)
 
 -- What a run left: the processor as it was opened, behind its scripts, and once its closing has begun; and its log.
 pub record RunLeft (s : Parts) (p : Program) (m0 m2 m3 : Processor) (final : Log) : Type 0 where
@@ -194,9 +179,9 @@ told-run s p m0 m2 m3 final r =
     let here2 = tells-here p m2 front r.sound told2 in
     let here3 = tells-here p m3 z.log r.sound_ended z.told in
     let late = rest-late (known_of m3) classes (told_in m3.side.side.post) (lists_of m3) rest z.is_part in
-    let goes : LawfulSoFar (here p m3) p.scenario.now (z.log ++ rest) = late-goes-on (here p m3) p.scenario.now z.log rest (runs-none p m3 r.sound_ended) r.ended at_rest late here3.0 in
-    let front_stands : HandlersStand s 0 front = subst (λ x. HandlersStand x 0 front) r.program (stands-here p m2 front r.sound here2.0.stands) in
-    let front_done : HandlersDone s front = subst (λ x. HandlersDone x front) r.program here2.0.done in
+    let goes : LawfulSoFar (here p m3) p.scenario.now (z.log ++ rest) = late-goes-on (here p m3) p.scenario.now z.log rest (runs-none p m3 r.sound_ended) r.ended at_rest late here3 in
+    let front_stands : HandlersStand s 0 front = subst (λ x. HandlersStand x 0 front) r.program (stands-here p m2 front r.sound here2.stands) in
+    let front_done : HandlersDone s front = subst (λ x. HandlersDone x front) r.program here2.done in
     let tied = subst (λ (o : Option Log). TiedBy whatever LivingDoes [] (outset s.pages) 0 [] [] o m2.side) told2 r.tied in
     let begun : (d : Domain) → begun_by (side d (known_of m2)).number ≡ in_progress d None front = led-progress s.pages front m2.side r.sound.at.ready.first (tied-led s.pages front m2.side tied) in
     let ends : EndsBegun (known_of m3) ≡ EndsPeriods front = ends-are (known_of m3) front (λ d. rw r.same (begun d)) in
@@ -210,9 +195,6 @@ told-run s p m0 m2 m3 final r =
     let one-mail : D 1 0 = subst (λ n. D n 0) o.sound.at.ready.one (subst (D (known_of m0).grace.processors) o.sound.at.ready.first w.ordinary.mail) in
     let mail : M (known_of m0).parcels (log_of m0) e'.log = subst (Delivered 0 1 0 (known_of m0).parcels (Some boxes) (log_of m0)) e'.told one-mail in
     let closes : ClosingTold 0 classes front boxes (after (opening 0) front) (e'.added ++ rest) = record { one = e'.added; two = rest; part_is = refl; is_first = record { from = e'.is_part.from; own_is = e'.is_part.own_is }; is_second = sweeps } in
-    let lived : Lived = lived_in (known_of m3).objects in
-    let lives : LivesOn 0 no_lives lived (z.log ++ rest) = lives-join 0 no_lives lived lived z.log rest here3.1 (closing-live lived rest at_rest (rest-silent (known_of m3) classes (told_in m3.side.side.post) (lists_of m3) rest z.is_part)) in
-    let empty : (u : ℕ) → lives_of m3.side.slots u ≡ None = λ u. ap (λ (x : LivingState). lives_of x.slots u) r.same ∙ r.lives u in
     let front2 : Leaves 0 front (lists_of m2) = subst (λ (x : Option Log). IfSome x (λ es. Leaves 0 es (lists_of m2))) told2 (told-of p m2 r.sound) in (
       record {
         fills = fills;
@@ -228,9 +210,6 @@ told-run s p m0 m2 m3 final r =
         are_scripts = subst (λ (t : State ℕ). Scripts t scripts) (fills-leave p m0 fills o.sound told0) w'.is_part;
         mail = subst (λ n. M (Some no_parcels) (Some fills) n) w'.now_is (subst (λ l. M (Some no_parcels) l e'.log) told0 (subst (λ b. M b (log_of m0) e'.log) o.parcels mail));
         closes = closes;
-        lived = lived;
-        lives = subst (LivesOn 0 no_lives lived) all lives;
-        none = λ u. ap home_of (empty u);
         before = lists_of m2;
         leaves = front2;
       },
@@ -279,8 +258,8 @@ unused-rows s p m0 m2 m3 program kept o w sound2 e same some c none =
     let classes : List ℕ = opened_classes s.types in
     let logged : fills ≡ fill_log (filling classes (fresh_stock s.pages)).fills = fills-logged classes (fresh_stock s.pages) p m0 fills o told0 in
     let here2 = tells-here p m2 front sound2 told2 in
-    let stands : HandlersStand s 0 front = subst (λ x. HandlersStand x 0 front) program (stands-here p m2 front sound2 here2.0.stands) in
-    let done : HandlersDone s front = subst (λ x. HandlersDone x front) program here2.0.done in
+    let stands : HandlersStand s 0 front = subst (λ x. HandlersStand x 0 front) program (stands-here p m2 front sound2 here2.stands) in
+    let done : HandlersDone s front = subst (λ x. HandlersDone x front) program here2.done in
     let is : Front s 0 (opening 0) front = front-of s fills scripts (fills-said classes (fresh_stock s.pages) fills logged) (subst (λ (x : State ℕ). Scripts x scripts) (fills-leave p m0 fills o.sound told0) w'.is_part) in
     let leaves : Leaves 0 front (lists_of m2) = subst (λ (x : Option Log). IfSome x (λ es. Leaves 0 es (lists_of m2))) told2 (told-of p m2 sound2) in
     let empty : seven_lists ((lists_of m2).rows c) ≡ [] = row-empty s front m2 c kept stands done is leaves (never-used s c none (list_any (uses_class c) s.types) refl) in
@@ -368,11 +347,11 @@ AllFreed = (a : Lived) (logs : List Log) → AreLived a logs → ((u : ℕ) → 
 one-freed : (log : Log) → ((u : ℕ) → times_in u (named_all freed_units (log ∷ [])) ≡ times_in u (named_all given_units (log ∷ []))) → FreedAsGiven log
 one-freed log h u = ap (times_in u) (sym (append-nil (named_in freed_units log))) ∙ h u ∙ ap (times_in u) (append-nil (named_in given_units log))
 
-pub lived-run : (s : Parts) (p : Program) (m0 m2 m3 : Processor) (final : Log) → OneLived → AllLived → AllFreed → RunLeft s p m0 m2 m3 final → WholeLives (final ∷ []) × FreedAsGiven final
-lived-run s p m0 m2 m3 final one all freed r =
-    let t : Told s final = (told-run s p m0 m2 m3 final r).0 in
-    let lived : AreLived t.lived (final ∷ []) = one t.lived final (subst (LivesOn 0 no_lives t.lived) (sym t.final_is) t.lives) in
-    (all t.lived (final ∷ []) lived t.none, one-freed final (freed t.lived (final ∷ []) lived t.none))
+-- a log that tells of no life at its end
+pub lived-run : (final : Log) (lived : Lived) → OneLived → AllLived → AllFreed → LivesOn 0 no_lives lived final → ((u : ℕ) → lived.homes u ≡ None) → WholeLives (final ∷ []) × FreedAsGiven final
+lived-run final lived one all freed lives none =
+    let are : AreLived lived (final ∷ []) = one lived final lives in
+    (all lived (final ∷ []) are none, one-freed final (freed lived (final ∷ []) are none))
 
 or-right : (a b : Bool) → b ≡ true → (a || b) ≡ true
 or-right true b e = refl

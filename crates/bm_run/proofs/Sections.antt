@@ -25,16 +25,15 @@ use Rattle.bm_due.specs.Standing as standing
 use Rattle.bm_due.specs.Standing.{kind_of}
 use Rattle.bm_due.specs.declared.planned.Due.{Due}
 use Rattle.bm_lang.specs.declared.scenario.Parts.{Parts}
-use Rattle.bm_lived.specs.Lifeless.{SaysNoLife}
 use Rattle.bm_plan.specs.Position.{StandsAt}
 use Rattle.bm_plan.specs.declared.handlers.Handlers.{Handlers}
 use Rattle.bm_plan.proofs.Positions.{ends-here}
 use Rattle.bm_world.specs.LivingState.{rights_living}
 use Rattle.bm_levels.specs.AtProcessor.{FineAt, IsAt, log_of, tests_of}
-use Rattle.bm_levels.specs.Growing.{IsInner, lived-silent, tells-inner}
+use Rattle.bm_levels.specs.Growing.{IsInner, tells-inner}
 use Rattle.bm_levels.specs.Here.{Running, position_of}
 use Rattle.bm_levels.specs.Hosting.{at-say}
-use Rattle.bm_levels.specs.Logged.{IsLived, Tells}
+use Rattle.bm_levels.specs.Logged.{Tells}
 use Rattle.bm_levels.specs.Ready.{IsReady, known_of, left_of, word_of}
 use Rattle.bm_levels.specs.Sound.{Sound}
 use Rattle.bm_levels.specs.Turns.{told-more}
@@ -66,7 +65,7 @@ dated-same a b r e h =
     subst (λ x. F x (shown b.caches)) (sym r) (subst (λ t. F (rights_living a.side) t) (sym e) h)
 
 -- the plain section word moved
-pub sound-moved : (kind : StepKind) (p : Program) (a b : Processor) → rights_living b.side ≡ rights_living a.side → shown b.caches ≡ shown a.caches → known_of b ≡ moved kind false Plain (known_of a) → left_of b ≡ left_of a → b.settled ≡ a.settled → IsAt StandsAt IsLived 0 p b → FineAt 0 b → Sound p a → Sound p b
+pub sound-moved : (kind : StepKind) (p : Program) (a b : Processor) → rights_living b.side ≡ rights_living a.side → shown b.caches ≡ shown a.caches → known_of b ≡ moved kind false Plain (known_of a) → left_of b ≡ left_of a → b.settled ≡ a.settled → IsAt StandsAt 0 p b → FineAt 0 b → Sound p a → Sound p b
 sound-moved kind p a b r e k l n at fine s = record {
   at = at;
   fine = fine;
@@ -77,9 +76,9 @@ sound-moved kind p a b r e k l n at fine s = record {
 
 -- ---- an entry that moves nothing
 
-pub sound-noted : (p : Program) (m : Processor) (c : Caches Recorded) (e : Entry) → kind_of e ≡ standing.Stays → IsInner e → SaysNoLife e → shown c ≡ shown m.caches → Appends (log_of m) 0 e c.recorder.told → FineAt 0 (record m { caches = c }) → Sound p m → Sound p (record m { caches = c })
-sound-noted p m c e k i q same a fine s = record {
-  at = at-say IsLived IsLived 0 p m c e k i (λ es. lived-silent (known_of m) es 0 e q) a s.at;
+pub sound-noted : (p : Program) (m : Processor) (c : Caches Recorded) (e : Entry) → kind_of e ≡ standing.Stays → IsInner e → shown c ≡ shown m.caches → Appends (log_of m) 0 e c.recorder.told → FineAt 0 (record m { caches = c }) → Sound p m → Sound p (record m { caches = c })
+sound-noted p m c e k i same a fine s = record {
+  at = at-say 0 p m c e k i a s.at;
   fine = fine;
   dated = dated-same m (record m { caches = c }) refl same s.dated;
   stamped = stamped-same (shown m.caches) (shown c) same s.stamped;
@@ -132,11 +131,11 @@ ended-with : (p : Program) (m : Processor) (c : Caches Recorded) (h : Handlers) 
 ended-with p m c h e n same a fine s =
     let k : Known = known_of m in
     let left : h.planned.left ≡ left_of m = ap (λ (x : Plan). x.left) e in
-    let T : Log → Type 0 = Tells (IsLived k) p.scenario.now k in
+    let T : Log → Type 0 = Tells p.scenario.now k in
     record {
       at = record {
         at = subst (λ plan. Running StandsAt 0 k.grace.processor p.scenario.now plan m.running.items c.recorder.told) (sym e) (ended-at k.grace.processor p.scenario.now m.handlers.planned m.running.items (log_of m) c.recorder.told (runs-none p m s) a s.at.at);
-        tells = told-more T T (log_of m) c.recorder.told 0 entry.Ended (λ es t. tells-inner (IsLived k) (IsLived k) p.scenario.now k es 0 entry.Ended tt (lived-silent k es 0 entry.Ended tt) t) a s.at.tells;
+        tells = told-more T T (log_of m) c.recorder.told 0 entry.Ended (λ es t. tells-inner p.scenario.now k es 0 entry.Ended tt t) a s.at.tells;
         ready = ready-ended p m c h e n s.at.ready;
       };
       fine = fine;

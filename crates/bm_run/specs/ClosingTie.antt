@@ -20,7 +20,8 @@ use Rattle.bm_law_order.proofs.Ties.{law-closed, law-done, law-quiet, law-said, 
 use Rattle.bm_grace.specs.PlainState.{domain_in}
 use Rattle.bm_closing.specs.Told.{at_once, passed_at_once}
 use Rattle.bm_levels.specs.AtTie.{as-judged, unjudged}
-use Rattle.bm_world.specs.LivingState.{LivingState}
+use Rattle.bm_levels.specs.declared.processor.Processor.{Processor}
+use Rattle.bm_world.specs.LivingState.{LivingState, known_living}
 use Rattle.bm_world.specs.ToldLiving.{LivingDoes, living-join, living-same}
 
 -- tied since then, with these acts and entries that aren't told of yet
@@ -31,9 +32,12 @@ Ends since start done es told side = TiedBy whatever LivingDoes since start 0 do
 abbrev pub IsIdle : LivingState → Type 0
 IsIdle world = (d : Domain) → (domain_in d world.side.grace).driver ≡ None
 
--- a log that is tied since then to some world in which no period is in progress
-abbrev pub IsTiedLog : Log → LivingState → Log → Type 0
-IsTiedLog since start log = (world : LivingState) × (Tied whatever LivingDoes since start 0 [] [] log world × IsIdle world)
+-- A log that is tied since then to some world: no period is in progress there, and those objects live that lived on the processor.
+pub record IsTiedLog (since : Log) (start : LivingState) (own : Processor) (log : Log) : Type 0 where
+  pub world : LivingState
+  pub tied : Tied whatever LivingDoes since start 0 [] [] log world
+  pub idle : IsIdle world
+  pub objects : (known_living world).objects ≡ (known_living own.side).objects
 
 pub ends-back : (since : Log) (start : LivingState) (now before : Option Log) (side : LivingState) → now ≡ before → Ends since start [] [] before side → Ends since start [] [] now side
 ends-back since start now before side e t = subst (λ o. Ends since start [] [] o side) (sym e) t

@@ -146,7 +146,7 @@ fn close<B: Since>(alloc: Global, own: Processor, classes: &[Class]) -> Result<L
     requires outside { (d : DomainValue) → word_of d own % 2 ≡ 0 }
     requires unused { IsSome own.caches.recorder.told → (c : ℕ) → times c classes.now ≡ 0 → seven_lists ((shown own.caches).rows c) ≡ [] }
     ensures closed { IfOk result (Closed classes.now own) }
-    ensures tied { IfOk result (IsTiedLog B.since B.start) }
+    ensures tied { IfOk result (IsTiedLog B.since B.start own) }
     ensures whole { IfOk result (λ log. IsTrue (is_whole_log log)) }
 {
     own.side.one_at_rest();

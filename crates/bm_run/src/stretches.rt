@@ -11,7 +11,6 @@ ghost use Rattle.bm_deferred.specs.Parts.{Stand};
 ghost use Rattle.bm_deferred.proofs.Still.{IsStill};
 ghost use Rattle.bm_due.specs.Standing.{Stays as StaysKind, kind_of};
 ghost use Rattle.bm_exec.specs.Lists.{Behind, behind_of};
-ghost use Rattle.bm_lived.specs.Lifeless.{SaysNoLife};
 ghost use Rattle.bm_levels.specs.AtProcessor.{FineAt, SameLives, lists_of, log_of};
 ghost use Rattle.bm_law.specs.Lists.{Log};
 ghost use Rattle.bm_law_order.specs.Quiet.{is_quiet};
@@ -40,7 +39,7 @@ fn note(own: &mut Processor, entry: Entry)
     ensures same { own.new ≡ record own.old { caches = own.new.caches } }
     ensures fine { FineAt 0 own.new }
     ensures tied { IsTrue (is_quiet entry) → (since : Log) (start : LivingState) → TiedAt since start own.old → TiedAt since start own.new }
-    ensures sound { (p : ProgramValue) → kind_of entry ≡ StaysKind → IsInner entry → SaysNoLife entry → Sound p own.old → Sound p own.new }
+    ensures sound { (p : ProgramValue) → kind_of entry ≡ StaysKind → IsInner entry → Sound p own.old → Sound p own.new }
 {
     own.caches.note(Level::ordinary(), entry);
 }

@@ -8,17 +8,15 @@ use Rattle.bm_world.specs.ToldLiving.{LivingDoes}
 use Rattle.bm_grace.specs.Known.{Living}
 use Rattle.bm_law.specs.Stands.{stands}
 use Rattle.bm_desk.specs.DeskTests.{tests_by}
-use Rattle.bm_plan.specs.Position.{StandsAt}
 use Rattle.bm_world.specs.Slots.{unit_at}
 use Rattle.bm_world.specs.LivingState.{LivingState, lives_of, living_of, rights_living, with_ended}
 use Rattle.bm_world.proofs.SlotLemmas.{at-same, within}
 use Rattle.bm_exec.specs.Living.{home_of, with_life}
 use Rattle.bm_exec.proofs.Lives.{lives-set, living-now}
 use Rattle.bm_exec.proofs.Sounds.{times-self}
-use Rattle.bm_levels.specs.AtProcessor.{IsAt, lists_of, tests_of}
+use Rattle.bm_levels.specs.AtProcessor.{lists_of, tests_of}
 use Rattle.bm_levels.specs.AtTie.{FreesAt, tied-freeing}
 use Rattle.bm_levels.specs.Hosting.{with_caches, with_side}
-use Rattle.bm_levels.specs.Logged.{IsFreeing}
 use Rattle.bm_levels.specs.declared.processor.Processor.{Processor}
 use Rattle.bm_levels.proofs.Begun.{at-freeing}
 use Rattle.bm_levels.proofs.Lifetimes.{ended-tests}
@@ -41,20 +39,10 @@ some-class u c n h e = ap (class_in u.class) e
 pub release-requires-clause-at : goal.release-requires-clause-at
 release-requires-clause-at g c =
     let l = g.L.Rank.number in
-    let p = c.args.program.now in
     let n = rw c.level-level.ensures.number at c.note.ensures.step in
     let n' = rw c.level-level.ensures.number at c.note-2.ensures.step in
-    let m : Processor = c.args.own.now in
     let o : ObjId = c.args.object in
-    let z = c.note-2.new.self in
-    let w : LivingState = c.end_life-unit.new.self in
-    let u : UnitState = c.end_life-unit.result in
-    let e = c.end_life-unit.ensures in
-    let alive = c.requires.living in
-    let now : o.life ≡ _ = sym (living-now o.unit o.life alive.0 u m.side.slots e.unit alive.1) ∙ e.last in
-    let home : home_of (lives_of m.side.slots o.unit) ≡ Some u.home = ap (λ (x : Option UnitState). home_of (living_of x)) e.unit in
-    let F : ℕ → Type 0 = λ k. IsAt StandsAt (IsFreeing l k u.home) l p (record m { caches = z; side = w }) in
-    subst F (sym e.number) (at-freeing l p m c.note.new.self z w o.unit o.life u.home e.state now home (ends-life w m.side o.unit u e.state e.unit) n.records n'.records c.requires.at)
+    at-freeing l c.args.program.now c.args.own.now c.note.new.self c.note-2.new.self c.end_life-unit.new.self o.unit o.life c.end_life-unit.ensures.state n.records n'.records c.requires.at
 
 pub release-requires-clause-fine : goal.release-requires-clause-fine
 release-requires-clause-fine g c =

@@ -15,8 +15,6 @@ use Rattle.bm_exec.specs.Living.{with_life}
 use Rattle.bm_exec.proofs.Lives.{begun-lives}
 use Rattle.bm_levels.specs.AtProcessor.{CameAt, FineAt, log_of, tests_of}
 use Rattle.bm_levels.specs.Hosting.{at-say, with_caches, with_side}
-use Rattle.bm_levels.specs.Growing.{lived-silent}
-use Rattle.bm_levels.specs.Logged.{IsLived}
 use Rattle.bm_levels.specs.AtTie.{tied-begun, tied-did, tied-quiet}
 use Rattle.bm_levels.specs.Ready.{asked_of, known_of}
 use Rattle.bm_levels.specs.declared.processor.Processor.{Processor}
@@ -31,7 +29,7 @@ allocate-requires-clause-at g c =
     let n = rw c.level.ensures.number at c.note.ensures.step in
     let m = c.args.own.now in
     let e = entry.New c.args.name c.args.values in
-    at-say IsLived IsLived g.L.Rank.number c.args.program.now m c.note.new.self e refl tt (λ es. lived-silent (known_of m) es g.L.Rank.number e tt) n.records c.requires.at
+    at-say g.L.Rank.number c.args.program.now m c.note.new.self e refl tt n.records c.requires.at
 
 pub returns-in-Unit-clause-created : goal.returns-in-Unit-clause-created
 returns-in-Unit-clause-created g c =
@@ -50,18 +48,11 @@ returns-in-Unit-clause-created g c =
 -- no more were asked for than before the allocation
 pub returns-in-Unit-clause-at : goal.returns-in-Unit-clause-at
 returns-in-Unit-clause-at g c =
-    let m : Processor = c.args.own.now in
     let k : Processor = c.allocate.new.own in
-    let u : UnitState = c.in-Unit.unit in
-    let b = c.begin_life.ensures in
-    let x = c.allocate.ensures.between in
-    let a = c.in-Unit.ensures.answer in
-    let s = c.in-Unit.ensures.sound.0 in
-    let most = x.stays.asks_most in
+    let most = c.allocate.ensures.between.stays.asks_most in
     let room = c.requires.room in
     let asks : asked_of c.args.program.now.scenario.now k + 1 < 2 ^ 22 = omega (arith, most, room) in
-    let home : u.home ≡ (known_of k).grace.processor = ap (λ (t : Token). t.home) a.7 ∙ (sym x.came.processor ∙ caches-home g.L.Rank.number c.args.program.now k x.fine s.ready) in
-    at-begun g.L.Rank.number c.args.program.now k c.begin_life.new.self u b.state home b.next b.none b.lives b.counted asks s
+    at-begun g.L.Rank.number c.args.program.now k c.begin_life.new.self c.in-Unit.unit c.begin_life.ensures.state asks c.in-Unit.ensures.sound.0
 
 pub returns-in-Unit-clause-between : goal.returns-in-Unit-clause-between
 returns-in-Unit-clause-between g c =

@@ -3,7 +3,6 @@ use Rattle.std.specs.Prelude.{◌-◌, length}
 use Rattle.bm_cache.specs.Span.{Face}
 use Rattle.bm_plan.specs.Position.{StandsAt}
 use Rattle.bm_levels.specs.AtProcessor.{IsAt}
-use Rattle.bm_levels.specs.Logged.{IsLived}
 use Rattle.bm_levels.specs.Ordinary.{Statements}
 use Rattle.bm_levels.specs.Ready.{asked_of, left_of}
 use Rattle.bm_levels.specs.Sound.{Sound}
@@ -41,7 +40,7 @@ returns-clause-sound g c =
     let lent : c.own-2-1.given.0 ≡ k = search (rules, through) in
     let fewer = w.goes.pending in
     let most = begun-few classes (length (left_of m) - length (left_of k) + 1) c.requires.few in
-    let at : IsAt StandsAt IsLived 0 p k = subst (λ (q : Program). IsAt StandsAt IsLived 0 q k) w.goes.keeps.2 t.stands.sound.0 in
+    let at : IsAt StandsAt 0 p k = subst (λ (q : Program). IsAt StandsAt 0 q k) w.goes.keeps.2 t.stands.sound.0 in
     subst (Sound p) (sym lent) (sound-worked p m k n (omega (arith, fewer, most)) w.goes.keeps.0.settled
     at t.stands.fine t.quiet t.stands.dated t.stamped w.plain_begins w.tracing_begins c.requires.sound))
 

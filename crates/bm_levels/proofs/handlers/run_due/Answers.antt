@@ -1,7 +1,6 @@
 use Rattle.std.proofs.Common.{ℕ, ◌+◌, ◌<◌, ◌≤◌, arith, subst, sym}
 use Rattle.bm_plan.specs.Position.{AboutTo}
 use Rattle.bm_levels.specs.AtProcessor.{FineAt, IsAt}
-use Rattle.bm_levels.specs.Logged.{IsLived}
 use Rattle.bm_levels.proofs.Going.{begun-at, between-at, going-more, going-none, going-same}
 use Rattle.bm_levels.proofs.handlers.run_due.Goals as goal
 
@@ -14,7 +13,7 @@ loop-due-init g c = record { going = going-none g.L.Rank.number c.args.program.n
 
 pub begin_due-requires-clause-at : goal.begin_due-requires-clause-at
 begin_due-requires-clause-at g c =
-    let F : ℕ → Type 0 = λ n. IsAt AboutTo IsLived n c.args.program.now c.loop-due.own in
+    let F : ℕ → Type 0 = λ n. IsAt AboutTo n c.args.program.now c.loop-due.own in
     subst F (sym c.level.ensures.number) c.loop-due.invariant.going.at
 
 pub begin_due-requires-clause-fine : goal.begin_due-requires-clause-fine

@@ -4,7 +4,6 @@ use Rattle.bm_grace.specs.declared.step.StepKind.TheVariants.{Enter, Leave}
 use Rattle.bm_journal.specs.declared.ids.Domain.TheVariants.{Plain}
 use Rattle.bm_lang.specs.Limits.{script_cost}
 use Rattle.bm_levels.specs.AtProcessor.{CameAt, FineAt, IsAt, lists_of, log_of}
-use Rattle.bm_levels.specs.Logged.{IsLived}
 use Rattle.bm_levels.specs.Ready.{left_of, word_of}
 use Rattle.bm_plan.specs.Position.{StandsAt}
 use Rattle.bm_levels.specs.declared.processor.Processor.{Processor}
@@ -59,7 +58,7 @@ returns-else-own-clause-between g c =
     let fewer = r.between.fewer in
     let left-b : length (left_of b) ≡ length (left_of m) = ap (λ (y : Processor). length (left_of y)) e.same in
     let room : word_of Plain z + 2 * length (left_of z) + 1 < 2 ^ 28 = omega (arith, kept, words, fewer, left-b) in
-    let at-z : IsAt StandsAt IsLived c.level-level.result p z = rw n r.at in
+    let at-z : IsAt StandsAt c.level-level.result p z = rw n r.at in
     let now = f.at p at-z room in
     let parity : word_of Plain d % 2 ≡ word_of Plain m % 2 = omega (arith, ended) in
     let same : d.inside ≡ m.inside = same-inside d.inside m.inside (word_of Plain d % 2) now.ready.inside (parity ∙ ready.inside) in

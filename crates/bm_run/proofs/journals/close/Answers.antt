@@ -47,8 +47,16 @@ returns-clause-closed g c =
 pub returns-clause-tied : goal.returns-clause-tied
 returns-clause-tied g c =
     let n = c.close-swept.new.host in
-    let end = not-err c.close-swept.result _ c.if-is_err.ensures.value c.close-swept.ensures.at_end in
-    let rest = not-err c.close-swept.result _ c.if-is_err.ensures.value c.close-swept.ensures.rest in
+    let e = c.if-is_err.ensures.value in
+    let done = c.close-swept.ensures in
+    let end = not-err c.close-swept.result _ e done.at_end in
+    let rest = not-err c.close-swept.result _ e done.rest in
+    let alike = not-err c.close-swept.result _ e done.alike in
     rw c.ok_or.ensures.value (if-told c.into_log.result _ _ (λ l q.
     let told : n.caches.recorder.told ≡ Some l = ap (λ (k : Recorded). k.told) (sym c.finish.ensures) ∙ (sym c.into_log.ensures.told ∙ q) in
-    (n.side, (subst (λ (o : Option Log). Ends g.B.Since.since g.B.Since.start [] [] o n.side) told end.sound, λ d. (rest d).1.0.no_driver (rest d).1.1))))
+    record {
+      world = n.side;
+      tied = subst (λ (o : Option Log). Ends g.B.Since.since g.B.Since.start [] [] o n.side) told end.sound;
+      idle = λ d. (rest d).1.0.no_driver (rest d).1.1;
+      objects = alike.objects;
+    }))

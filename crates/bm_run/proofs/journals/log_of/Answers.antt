@@ -1,10 +1,12 @@
+use Rattle.std.specs.Prelude.{None}
 use Rattle.std.proofs.Common.{◌≡◌, ◌≤◌, ◌%◌, ℕ, [], ◌∷◌, IfOk, ap, lit≤, sym, subst, ◌∙◌, arith}
-use Rattle.bm_grace.specs.Known.{Lives, side}
+use Rattle.bm_grace.specs.Known.{Lives, Objects, side}
 use Rattle.bm_law.specs.Lists.{Log}
 use Rattle.bm_lives.specs.Lives.{WholeLives}
 use Rattle.bm_returns.specs.Units.{FreedAsGiven}
-use Rattle.bm_world.specs.LivingState.{LivingState, known_living}
+use Rattle.bm_world.specs.LivingState.{LivingState, known_living, lives_of}
 use Rattle.bm_exec.specs.Lists.{Behind}
+use Rattle.bm_exec.specs.Living.{home_of}
 use Rattle.bm_law_order.specs.Orders.{IsLaid, by}
 use Rattle.bm_law_order.specs.Whole.{whole}
 use Rattle.bm_law_order.specs.Tie.{Tied, whatever}
@@ -21,6 +23,7 @@ use Rattle.bm_run.specs.JournalLaid.{IsIdleAfter}
 use Rattle.bm_run.specs.Lines.{lines_cost}
 use Rattle.bm_run.proofs.Declared.{all-declared, few-left, room-all, room-for}
 use Rattle.bm_run.proofs.Lines.{down-when, few-when}
+use Rattle.bm_run.proofs.LivesTold.{lived_in, tied-lives}
 use Rattle.bm_run.proofs.Laid.{laid-whole, led-idle, tied-led}
 use Rattle.bm_run.proofs.LogLaw.{RunLeft, alone-sends, lawful-run, lived-run, unused-rows}
 use Rattle.bm_run.proofs.OpenedList.{opened-ascend, opened-few}
@@ -103,12 +106,15 @@ run-left g c final x =
       },
     )
 
--- the log leads from the outset to a world in which nobody has a period in progress
+-- the log is tied since the outset, and leads from there to a world in which nobody has a period in progress
+since-outset : (g : Over) (c : goal.After-close g) (final : Log) (world : LivingState) → Tied whatever LivingDoes g.B.Since.since g.B.Since.start 0 [] [] final world → Tied whatever LivingDoes [] (outset c.args.scenario.now.pages) 0 [] [] final world
+since-outset g c final world t =
+    subst (λ l. Tied whatever LivingDoes l (outset c.args.scenario.now.pages) 0 [] [] final world) c.requires.since (subst (λ w. Tied whatever LivingDoes g.B.Since.since w 0 [] [] final world) c.requires.start t)
+
 led-log : (g : Over) (c : goal.After-close g) → IfOk c.close.result (λ final. IsLaid 1 c.args.scenario.now.pages (by 0 final) × IsIdleAfter c.args.scenario.now.pages final)
 led-log g c = if-ok c.close.result _ _ c.close.ensures.tied (λ final t.
     let pages = c.args.scenario.now.pages in
-    let tied = subst (λ l. Tied whatever LivingDoes l (outset pages) 0 [] [] final t.0) c.requires.since (subst (λ w. Tied whatever LivingDoes g.B.Since.since w 0 [] [] final t.0) c.requires.start t.1.0) in
-    let led = tied-led pages final t.0 tied in (led.fit, led-idle pages final t.0 led t.1.1))
+    let led = tied-led pages final t.world (since-outset g c final t.world t.tied) in (led.fit, led-idle pages final t.world led t.idle))
 
 pub returns-clause-lawful : goal.returns-clause-lawful
 returns-clause-lawful g c = both-if-ok c.close.result _ _ _ c.close.ensures.closed (led-log g c) (λ final x h.
@@ -118,9 +124,12 @@ returns-clause-lawful g c = both-if-ok c.close.result _ _ _ c.close.ensures.clos
     lawful-run c.args.scenario.now r.0 c.in_ok-own.own c.run_lines.new.own c.begin_closing.new.own final c.handled_law.ensures.rows c.handled_law.ensures.null c.sweeps_law.ensures c.parcels_law.ensures r.1 words.0)
 
 lived-log : (g : Over) (c : goal.After-close g) → IfOk c.close.result (λ final. WholeLives (final ∷ []) × FreedAsGiven final)
-lived-log g c = if-ok c.close.result _ _ c.close.ensures.closed (λ final x.
+lived-log g c = both-if-ok c.close.result _ _ _ c.close.ensures.closed c.close.ensures.tied (λ final x t.
     let r = run-left g c final x in
-    lived-run c.args.scenario.now r.0 c.in_ok-own.own c.run_lines.new.own c.begin_closing.new.own final c.lives_law.ensures.one c.lives_law.ensures.whole c.lives_law.ensures.freed r.1)
+    let objects = (known_living t.world).objects in
+    let none : (u : ℕ) → objects.lives u ≡ None = λ u. ap (λ (o : Objects). o.lives u) t.objects ∙ (ap (λ (w : LivingState). lives_of w.slots u) r.1.same ∙ r.1.lives u) in
+    let law = c.lives_law.ensures in
+    lived-run final (lived_in objects) law.one law.whole law.freed (tied-lives c.args.scenario.now.pages final t.world (since-outset g c final t.world t.tied)) (λ u. ap home_of (none u)))
 
 pub returns-clause-lives : goal.returns-clause-lives
 returns-clause-lives g c = if-ok c.close.result _ _ (lived-log g c) (λ final h. h.0)

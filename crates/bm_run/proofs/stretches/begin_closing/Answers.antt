@@ -16,4 +16,4 @@ pub returns-clause-sound : goal.returns-clause-sound
 returns-clause-sound c p s =
     let m : Processor = c.args.own.now in
     let n : Processor = c.note.new.own in
-    c.note-2.ensures.sound p refl tt tt (sound-ended p m n c.end.new.self c.end.ensures.planned c.end.ensures.scripts c.note.ensures.same c.note.ensures.lists c.note.ensures.said c.note.ensures.fine s)
+    c.note-2.ensures.sound p refl tt (sound-ended p m n c.end.new.self c.end.ensures.planned c.end.ensures.scripts c.note.ensures.same c.note.ensures.lists c.note.ensures.said c.note.ensures.fine s)

@@ -10,9 +10,9 @@ pub returns-clause-fine : goal.returns-clause-fine
 returns-clause-fine c = fine-noted 0 c.args.own.now c.note.new.self c.note.ensures.same c.note.ensures.step.processor c.note.ensures.placed c.requires.fine
 
 pub returns-clause-sound : goal.returns-clause-sound
-returns-clause-sound c p k i q s =
+returns-clause-sound c p k i s =
     let n = rw c.ordinary.ensures at c.note.ensures.step in
-    sound-noted p c.args.own.now c.note.new.self c.args.entry k i q c.note.ensures.same n.records (fine-noted 0 c.args.own.now c.note.new.self c.note.ensures.same c.note.ensures.step.processor c.note.ensures.placed c.requires.fine) s
+    sound-noted p c.args.own.now c.note.new.self c.args.entry k i c.note.ensures.same n.records (fine-noted 0 c.args.own.now c.note.new.self c.note.ensures.same c.note.ensures.step.processor c.note.ensures.placed c.requires.fine) s
 
 pub returns-clause-wrote : goal.returns-clause-wrote
 returns-clause-wrote c =
