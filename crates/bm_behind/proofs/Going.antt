@@ -92,10 +92,10 @@ module _ {H R : Type 0} (log : R → Option Log) (counts : R → Counts) (sound 
   }
 
   -- the flags were looked at
-  pub going-asked : (a b c : H) → (known c).parcels ≡ (known b).parcels → Posted faces waits stays holds known tests [] b c → Going log faces waits stays holds known classes a b → Going log faces waits stays holds known classes a c
-  going-asked a b c m p g = record {
+  pub going-asked : (a b c : H) → Posted faces waits stays holds known tests [] b c → Going log faces waits stays holds known classes a b → Going log faces waits stays holds known classes a c
+  going-asked a b c p g = record {
     done = g.done;
-    works = works-posted log counts faces waits stays holds known tests join [] g.done g.done (λ l. Toward (UntilDown classes) (UntilDown classes)) a b c g.works m p;
+    works = works-posted log counts faces waits stays holds known tests join [] g.done g.done (λ l. Toward (UntilDown classes) (UntilDown classes)) a b c g.works p;
     left = omega (arith, g.left, left-asked log faces waits stays holds known classes tests b c p);
   }
 

@@ -2,7 +2,6 @@ pub mod Rests
 pub mod Tests
 pub mod Onward
 pub mod Alike
-pub mod Still
 pub mod Points
 pub mod Steps
 mod Turning

@@ -14,9 +14,6 @@ use Rattle.bm_cache.specs.Span.{Face, Fine, Came, Goes, RaisesNone, Unbroken}
 use Rattle.bm_cache.specs.declared.caches.Caches.{Caches}
 use Rattle.bm_cache.proofs.Flags.{raises-none-point}
 use Rattle.bm_deferred.specs.Parts.{Part, Stand}
-use Rattle.bm_deferred.proofs.Still.{IsStill, StillPart}
-use Rattle.bm_deferred.proofs.Each.{part-map}
-use Rattle.bm_deferred.proofs.Inboxes.{IsQuiet, delivered-grew, delivered-records, still-quiet}
 use Rattle.bm_work.specs.Grown.{GrewBy}
 use Rattle.bm_work.proofs.Grown.{grew-stand}
 use Rattle.bm_work.proofs.Steps.{unbroken-point}
@@ -62,13 +59,12 @@ module _ {H R : Type 0} (log : R → Option Log) (tests : H → Tests) (faces : 
         plain_begins = omega (arith, n.begins Plain);
         tracing_begins = omega (arith, n.begins Tracing);
         same_side = n.processor;
-        mail = delivered-records l (faces h).processors (known h).grace.processor [] (known h).parcels (known k).parcels a b tt n.parcels r;
       }
 
 module _ {H R : Type 0} (log : R → Option Log) (counts : R → Counts) (sound : H → Type 0) (tests : H → Tests) (faces : H → Face) (waits : H → ℕ) (stays keeps : H → H → Type 0) (holds : H → Caches R) (known : H → Known) (on : (a b : H) → keeps a b → stays a b) (goes-on : (a b : H) → keeps a b → GoesOn (known a) (known b)) where
-  -- a call of the host's, whose part sends and receives nothing and neither begins nor ends a period, as a call of the desk's
-  pub works-host : (P : ℕ → Part) (h k : H) → ((l : ℕ) → StillPart l (P l)) → GrewBy (P (faces h).level) (seen number_of (shown (holds h))) (log (holds h).recorder) (log (holds k).recorder) → Goes faces waits keeps h k → Unbroken faces waits holds log h k → RaisesNone waits holds h k → (holds k).processor ≡ (holds h).processor → ((i : ℕ) → ((shown (holds k)).rows i).active ≡ ((shown (holds h)).rows i).active) → Works log faces waits stays holds known 0 0 P h k
-  works-host P h k e g q u r p a =
+  -- a call of the host's, as a call of the desk's
+  pub works-host : (P : ℕ → Part) (h k : H) → GrewBy (P (faces h).level) (seen number_of (shown (holds h))) (log (holds h).recorder) (log (holds k).recorder) → Goes faces waits keeps h k → Unbroken faces waits holds log h k → RaisesNone waits holds h k → (holds k).processor ≡ (holds h).processor → ((i : ℕ) → ((shown (holds k)).rows i).active ≡ ((shown (holds h)).rows i).active) → Works log faces waits stays holds known 0 0 P h k
+  works-host P h k g q u r p a =
       let n = goes-on h k q.keeps in
       let l = (faces h).level in
       record {
@@ -81,7 +77,6 @@ module _ {H R : Type 0} (log : R → Option Log) (counts : R → Counts) (sound 
         plain_begins = omega (arith, n.begins Plain);
         tracing_begins = omega (arith, n.begins Tracing);
         same_side = n.processor;
-        mail = delivered-grew l (faces h).processors (known h).grace.processor (P l) (seen number_of (shown (holds h))) (known h).parcels (known k).parcels (log (holds h).recorder) (log (holds k).recorder) (part-map IsStill IsQuiet still-quiet l (P l) (e l)) n.parcels g;
       }
 
   -- what a call needs, after one that leaves what deferred work alone writes

@@ -17,9 +17,7 @@ use Rattle.bm_cache.proofs.Unbroken.{unbroken-join, unbroken-same}
 use Rattle.bm_journal.specs.declared.entry.Entry.{Entry}
 use Rattle.bm_law.specs.Spans.{own_entries}
 use Rattle.bm_law.proofs.Spans.{from-append, own-append}
-use Rattle.bm_deferred.specs.Inboxes.{Delivered}
 use Rattle.bm_deferred.specs.Parts.{Part, Nothing, Say, Stand, Then}
-use Rattle.bm_deferred.proofs.Inboxes.{delivered-join, delivered-none}
 use Rattle.bm_work.specs.Grown.{GrewBy}
 use Rattle.bm_work.proofs.Grown.{grew-map, grew-none, grew-parts}
 use Rattle.bm_desk.specs.Dated.{Dated}
@@ -75,28 +73,6 @@ module _ {H R : Type 0} (log : R → Option Log) (counts : R → Counts) (sound 
         dated = subst D (sym p) (dated-on (tests h) (tests k) (shown (holds h)) o s.dated);
       }
 
--- the parcels are as they were
-abbrev pub StaysPut : Known → Known → Type 0
-StaysPut before now = now.parcels ≡ before.parcels
-
-module _ {H R : Type 0} (log : R → Option Log) (faces : H → Face) (holds : H → Caches R) (known : H → Known) where
-  -- parcels over two stretches, and where the side is called that keeps them
-  pub mail-join : (a b c : H) → faces b ≡ faces a → (known b).grace.processor ≡ (known a).grace.processor → Delivered (faces a).level (faces a).processors (known a).grace.processor (known a).parcels (known b).parcels (log (holds a).recorder) (log (holds b).recorder) → Delivered (faces b).level (faces b).processors (known b).grace.processor (known b).parcels (known c).parcels (log (holds b).recorder) (log (holds c).recorder) → Delivered (faces a).level (faces a).processors (known a).grace.processor (known a).parcels (known c).parcels (log (holds a).recorder) (log (holds c).recorder)
-  mail-join a b c e s v w =
-      let l = (faces a).level in
-      let p = (known a).grace.processor in
-      let n = (faces a).processors in
-      let M : Face → ℕ → Type 0 = λ f k. Delivered f.level f.processors k (known b).parcels (known c).parcels (log (holds b).recorder) (log (holds c).recorder) in
-      delivered-join l n p (known a).parcels (known b).parcels (known c).parcels (log (holds a).recorder) (log (holds b).recorder) (log (holds c).recorder) v (subst (λ f. M f p) e (subst (M (faces b)) s w))
-
-  pub mail-same : (a b : H) → holds b ≡ holds a → (known b).parcels ≡ (known a).parcels → Delivered (faces a).level (faces a).processors (known a).grace.processor (known a).parcels (known b).parcels (log (holds a).recorder) (log (holds b).recorder)
-  mail-same a b e s =
-      let l = (faces a).level in
-      let p = (known a).grace.processor in
-      let n = (faces a).processors in
-      let M : Caches R → Type 0 = λ x. Delivered l n p (known a).parcels (known b).parcels (log (holds a).recorder) (log x.recorder) in
-      subst M (sym e) (delivered-none l n p (known a).parcels (known b).parcels (log (holds a).recorder) s)
-
 module _ {H R : Type 0} (log : R → Option Log) (counts : R → Counts) (faces : H → Face) (waits : H → ℕ) (stays : H → H → Type 0) (holds : H → Caches R) (known : H → Known) (join : (a b c : H) → stays a b → stays b c → stays a c) where
   -- two calls, one after the other, from these lists
   pub works-join-at : (p t p' t' : ℕ) (P Q W : ℕ → Part) (a b c : H) → ((l : ℕ) (one two : Log) → P l (seen number_of (shown (holds a))) one → Q l (after (seen number_of (shown (holds a))) one) two → W l (seen number_of (shown (holds a))) (one ++ two)) → Placed log counts (holds a) → Placed log counts (holds b) → Works log faces waits stays holds known p t P a b → Works log faces waits stays holds known p' t' Q b c → Works log faces waits stays holds known (p + p') (t + t') W a c
@@ -114,7 +90,6 @@ module _ {H R : Type 0} (log : R → Option Log) (counts : R → Counts) (faces 
         plain_begins = omega (arith, v.plain_begins, w.plain_begins);
         tracing_begins = omega (arith, v.tracing_begins, w.tracing_begins);
         same_side = w.same_side ∙ v.same_side;
-        mail = mail-join log faces holds known a b c v.goes.face v.same_side v.mail w.mail;
       }
 
   -- two calls, one after the other
@@ -141,12 +116,11 @@ module _ {H R : Type 0} (log : R → Option Log) (counts : R → Counts) (faces 
         plain_begins = c.plain_begins;
         tracing_begins = c.tracing_begins;
         same_side = c.same_side;
-        mail = mail-same log faces holds known a b e c.parcels;
       }
 
   -- more periods may have begun
   pub works-at-most : (p t p' t' : ℕ) (P : ℕ → Part) (a b : H) → p ≤ p' → t ≤ t' → Works log faces waits stays holds known p t P a b → Works log faces waits stays holds known p' t' P a b
-  works-at-most p t p' t' P a b h k w = record { phrase = w.phrase; goes = w.goes; alone = w.alone; flags = w.flags; processor = w.processor; active = w.active; plain_begins = omega (arith, w.plain_begins, h); tracing_begins = omega (arith, w.tracing_begins, k); same_side = w.same_side; mail = w.mail }
+  works-at-most p t p' t' P a b h k w = record { phrase = w.phrase; goes = w.goes; alone = w.alone; flags = w.flags; processor = w.processor; active = w.active; plain_begins = omega (arith, w.plain_begins, h); tracing_begins = omega (arith, w.tracing_begins, k); same_side = w.same_side }
 
 -- a call, and then one that stops for want of memory
 pub works-stopped : {H R : Type 0} (log : R → Option Log) (counts : R → Counts) (faces : H → Face) (waits : H → ℕ) (stays : H → H → Type 0) (holds : H → Caches R) (known : H → Known) (p t : ℕ) (P Q W : ℕ → Part) (a b c : H) → ((l : ℕ) (s : State ℕ) (one two : Log) → P l s one → Q l (after s one) two → W l s (one ++ two)) → Placed log counts (holds a) → Placed log counts (holds b) → Works log faces waits stays holds known p t P a b → Stopped log counts faces holds Q b c → Stopped log counts faces holds W a c
@@ -180,21 +154,21 @@ pub works-map-at : {H R : Type 0} (log : R → Option Log) (faces : H → Face) 
 works-map-at log faces waits stays holds known p t P Q a b f w =
     let l = (faces a).level in
     let s = seen number_of (shown (holds a)) in
-    record { phrase = grew-map (P l) (Q l) s (log (holds a).recorder) (log (holds b).recorder) (f l) w.phrase; goes = w.goes; alone = w.alone; flags = w.flags; processor = w.processor; active = w.active; plain_begins = w.plain_begins; tracing_begins = w.tracing_begins; same_side = w.same_side; mail = w.mail }
+    record { phrase = grew-map (P l) (Q l) s (log (holds a).recorder) (log (holds b).recorder) (f l) w.phrase; goes = w.goes; alone = w.alone; flags = w.flags; processor = w.processor; active = w.active; plain_begins = w.plain_begins; tracing_begins = w.tracing_begins; same_side = w.same_side }
 
 -- a part that is another one too, from these lists and at the desk's level
 pub works-map-here : {H R : Type 0} (log : R → Option Log) (faces : H → Face) (waits : H → ℕ) (stays : H → H → Type 0) (holds : H → Caches R) (known : H → Known) (p t : ℕ) (P Q : ℕ → Part) (a b : H) → ((part : Log) → P (faces a).level (seen number_of (shown (holds a))) part → Q (faces a).level (seen number_of (shown (holds a))) part) → Works log faces waits stays holds known p t P a b → Works log faces waits stays holds known p t Q a b
 works-map-here log faces waits stays holds known p t P Q a b f w =
     let l = (faces a).level in
     let s = seen number_of (shown (holds a)) in
-    record { phrase = grew-map (P l) (Q l) s (log (holds a).recorder) (log (holds b).recorder) f w.phrase; goes = w.goes; alone = w.alone; flags = w.flags; processor = w.processor; active = w.active; plain_begins = w.plain_begins; tracing_begins = w.tracing_begins; same_side = w.same_side; mail = w.mail }
+    record { phrase = grew-map (P l) (Q l) s (log (holds a).recorder) (log (holds b).recorder) f w.phrase; goes = w.goes; alone = w.alone; flags = w.flags; processor = w.processor; active = w.active; plain_begins = w.plain_begins; tracing_begins = w.tracing_begins; same_side = w.same_side }
 
 -- a part that is another one too
 pub works-map : {H R : Type 0} (log : R → Option Log) (faces : H → Face) (waits : H → ℕ) (stays : H → H → Type 0) (holds : H → Caches R) (known : H → Known) (p t : ℕ) (P Q : ℕ → Part) (a b : H) → ((l : ℕ) (s : State ℕ) (part : Log) → P l s part → Q l s part) → Works log faces waits stays holds known p t P a b → Works log faces waits stays holds known p t Q a b
 works-map log faces waits stays holds known p t P Q a b f w =
     let l = (faces a).level in
     let s = seen number_of (shown (holds a)) in
-    record { phrase = grew-map (P l) (Q l) s (log (holds a).recorder) (log (holds b).recorder) (f l s) w.phrase; goes = w.goes; alone = w.alone; flags = w.flags; processor = w.processor; active = w.active; plain_begins = w.plain_begins; tracing_begins = w.tracing_begins; same_side = w.same_side; mail = w.mail }
+    record { phrase = grew-map (P l) (Q l) s (log (holds a).recorder) (log (holds b).recorder) (f l s) w.phrase; goes = w.goes; alone = w.alone; flags = w.flags; processor = w.processor; active = w.active; plain_begins = w.plain_begins; tracing_begins = w.tracing_begins; same_side = w.same_side }
 
 -- nothing was done, where that is such a part
 pub works-still : {H R : Type 0} (log : R → Option Log) (faces : H → Face) (waits : H → ℕ) (stays : H → H → Type 0) (holds : H → Caches R) (known : H → Known) (P : ℕ → Part) (a : H) → stays a a → ((l : ℕ) → P l (seen number_of (shown (holds a))) []) → Works log faces waits stays holds known 0 0 P a a
@@ -208,7 +182,6 @@ works-still log faces waits stays holds known P a k h = record {
   plain_begins = omega (arith);
   tracing_begins = omega (arith);
   same_side = refl;
-  mail = mail-same log faces holds known a a refl refl;
 }
 
 -- the same at the desk's level
@@ -223,12 +196,7 @@ works-still-here log faces waits stays holds known P a k h = record {
   plain_begins = omega (arith);
   tracing_begins = omega (arith);
   same_side = refl;
-  mail = mail-same log faces holds known a a refl refl;
 }
-
--- the caches alone changed, and so the parcels are as they were
-pub handled-mail : {H W : Type 0} {faces : H → Face} {waits : H → ℕ} {keeps : H → H → Type 0} {shared : H → W} {tests : H → Tests} {a b : H} (known : W → Known) → Handled faces waits keeps shared tests a b → StaysPut (known (shared a)) (known (shared b))
-handled-mail {H} {W} {shared = shared} {a = a} {b = b} known h = ap (λ (w : W). (known w).parcels) h.shared_is
 
 -- a flag that is down stays down where no handler ran
 pub flag-down : {H R : Type 0} {waits : H → ℕ} {holds : H → Caches R} {a b : H} (c : ℕ) → RaisesNone waits holds a b → waits b ≡ waits a → ((shown (holds a)).rows c).raised ≡ false → ((shown (holds b)).rows c).raised ≡ false
@@ -250,9 +218,9 @@ module _ {H R : Type 0} (log : R → Option Log) (counts : R → Counts) (faces 
   called-works p t p' t' Q a b c x y h w = works-join log counts faces waits stays holds known join p t p' t' (λ l. Nothing) Q Q a b c (λ l s one two i k. nothing-first (Q l) s one two i k) x y (works-called log counts faces waits stays holds known rights p t a b h) w
 
 module _ {H R : Type 0} (log : R → Option Log) (counts : R → Counts) (faces : H → Face) (waits : H → ℕ) (stays : H → H → Type 0) (holds : H → Caches R) (known : H → Known) (tests : H → Tests) (join : (a b c : H) → stays a b → stays b c → stays a c) where
-  -- a call of the post that keeps the parcels records nothing
-  works-kept : (gone : List ℕ) (a b : H) → StaysPut (known a) (known b) → Posted faces waits stays holds known tests gone a b → Works log faces waits stays holds known 0 0 (λ l. Nothing) a b
-  works-kept gone a b m h =
+  -- a call of the post records nothing
+  works-kept : (gone : List ℕ) (a b : H) → Posted faces waits stays holds known tests gone a b → Works log faces waits stays holds known 0 0 (λ l. Nothing) a b
+  works-kept gone a b h =
       let e = h.held in
       let s = seen number_of (shown (holds a)) in
       let G : Caches R → Type 0 = λ z. GrewBy Nothing s (log (holds a).recorder) (log z.recorder) in
@@ -266,18 +234,17 @@ module _ {H R : Type 0} (log : R → Option Log) (counts : R → Counts) (faces 
         plain_begins = omega (arith, ap (λ (z : Sides). z.plain.begins) h.known_is);
         tracing_begins = omega (arith, ap (λ (z : Sides). z.tracing.begins) h.known_is);
         same_side = ap (λ (z : Sides). z.processor) h.known_is;
-        mail = mail-same log faces holds known a b e m;
       }
 
   -- such a call of the post, and then another call
-  pub posted-works : (gone : List ℕ) (p t : ℕ) (Q : ℕ → Part) (a b c : H) → Placed log counts (holds a) → Placed log counts (holds b) → StaysPut (known a) (known b) → Posted faces waits stays holds known tests gone a b → Works log faces waits stays holds known p t Q b c → Works log faces waits stays holds known p t Q a c
-  posted-works gone p t Q a b c x y m h w =
-      let r = works-join log counts faces waits stays holds known join 0 0 p t (λ l. Nothing) Q Q a b c (λ l s one two i k. nothing-first (Q l) s one two i k) x y (works-kept gone a b m h) w in
-      record { phrase = r.phrase; goes = r.goes; alone = r.alone; flags = r.flags; processor = r.processor; active = r.active; plain_begins = omega (arith, r.plain_begins); tracing_begins = omega (arith, r.tracing_begins); same_side = r.same_side; mail = r.mail }
+  pub posted-works : (gone : List ℕ) (p t : ℕ) (Q : ℕ → Part) (a b c : H) → Placed log counts (holds a) → Placed log counts (holds b) → Posted faces waits stays holds known tests gone a b → Works log faces waits stays holds known p t Q b c → Works log faces waits stays holds known p t Q a c
+  posted-works gone p t Q a b c x y h w =
+      let r = works-join log counts faces waits stays holds known join 0 0 p t (λ l. Nothing) Q Q a b c (λ l s one two i k. nothing-first (Q l) s one two i k) x y (works-kept gone a b h) w in
+      record { phrase = r.phrase; goes = r.goes; alone = r.alone; flags = r.flags; processor = r.processor; active = r.active; plain_begins = omega (arith, r.plain_begins); tracing_begins = omega (arith, r.tracing_begins); same_side = r.same_side }
 
   -- another call, and then such a one of the post
-  pub works-posted : (gone : List ℕ) (p t : ℕ) (P : ℕ → Part) (a b c : H) → Works log faces waits stays holds known p t P a b → StaysPut (known b) (known c) → Posted faces waits stays holds known tests gone b c → Works log faces waits stays holds known p t P a c
-  works-posted gone p t P a b c w m h =
+  pub works-posted : (gone : List ℕ) (p t : ℕ) (P : ℕ → Part) (a b c : H) → Works log faces waits stays holds known p t P a b → Posted faces waits stays holds known tests gone b c → Works log faces waits stays holds known p t P a c
+  works-posted gone p t P a b c w h =
       let e = h.held in
       let l = (faces a).level in
       let G : Caches R → Type 0 = λ z. GrewBy (P l) (seen number_of (shown (holds a))) (log (holds a).recorder) (log z.recorder) in
@@ -292,12 +259,11 @@ module _ {H R : Type 0} (log : R → Option Log) (counts : R → Counts) (faces 
         plain_begins = omega (arith, w.plain_begins, ap (λ (z : Sides). z.plain.begins) h.known_is);
         tracing_begins = omega (arith, w.tracing_begins, ap (λ (z : Sides). z.tracing.begins) h.known_is);
         same_side = ap (λ (z : Sides). z.processor) h.known_is ∙ w.same_side;
-        mail = mail-join log faces holds known a b c w.goes.face w.same_side w.mail (mail-same log faces holds known b c e m);
       }
 
   -- such a call of the post, and then one that stops
-  pub posted-stopped : (gone : List ℕ) (Q : ℕ → Part) (a b c : H) → Placed log counts (holds a) → Placed log counts (holds b) → StaysPut (known a) (known b) → Posted faces waits stays holds known tests gone a b → Stopped log counts faces holds Q b c → Stopped log counts faces holds Q a c
-  posted-stopped gone Q a b c x y m h w = works-stopped log counts faces waits stays holds known 0 0 (λ l. Nothing) Q Q a b c (λ l s one two i k. nothing-first (Q l) s one two i k) x y (works-kept gone a b m h) w
+  pub posted-stopped : (gone : List ℕ) (Q : ℕ → Part) (a b c : H) → Placed log counts (holds a) → Placed log counts (holds b) → Posted faces waits stays holds known tests gone a b → Stopped log counts faces holds Q b c → Stopped log counts faces holds Q a c
+  posted-stopped gone Q a b c x y h w = works-stopped log counts faces waits stays holds known 0 0 (λ l. Nothing) Q Q a b c (λ l s one two i k. nothing-first (Q l) s one two i k) x y (works-kept gone a b h) w
 
 -- entries of one's own, one stretch after the other
 pub stand-join : (l : ℕ) (v w : List Entry) (s t : State ℕ) (one two : Log) → Stand l v s one → Stand l w t two → Stand l (v ++ w) s (one ++ two)

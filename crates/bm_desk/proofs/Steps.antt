@@ -28,11 +28,8 @@ use Rattle.bm_cache.specs.declared.caches.Caches.{Caches}
 use Rattle.bm_cache.proofs.Each.{each-effect}
 use Rattle.bm_cache.proofs.Flags.{raised-effect, raises}
 use Rattle.bm_cache.proofs.Stretch.{ready-effect, targets-effect}
-use Rattle.bm_deferred.specs.Inboxes.{Delivered}
 use Rattle.bm_deferred.specs.Parts.{Say}
 use Rattle.bm_deferred.specs.WorkPhrases.{IsOne}
-use Rattle.bm_deferred.proofs.Still.{IsStill}
-use Rattle.bm_deferred.proofs.Inboxes.{delivered-records, still-quiet}
 use Rattle.bm_work.proofs.Grown.{grew-say}
 use Rattle.bm_work.proofs.Lists.{whole-appends}
 use Rattle.bm_journal.specs.declared.ids.Domain.TheVariants.{Plain, Tracing}
@@ -96,9 +93,9 @@ raises-none-effect waits holds h k l e us r q = record {
 }
 
 module _ {H R : Type 0} (log : R → Option Log) (faces : H → Face) (waits : H → ℕ) (stays : H → H → Type 0) (holds : H → Caches R) (known : H → Known) where
-  -- an entry of the desk's level was recorded, and this became of the parcels
-  pub works-entry : (h k : H) (e : Entry) (us : List Token) → Goes faces waits stays h k → (known k).grace ≡ (known h).grace → Appends (log (holds h).recorder) (faces h).level e (log (holds k).recorder) → (holds k).processor ≡ (holds h).processor → shown (holds k) ≡ effect (faces h).level e us (shown (holds h)) → ((c : ℕ) → ((effect (faces h).level e us (shown (holds h))).rows c).active ≡ ((shown (holds h)).rows c).active) → raises e ≡ false → Delivered (faces h).level (faces h).processors (known h).grace.processor (known h).parcels (known k).parcels (log (holds h).recorder) (log (holds k).recorder) → Works log faces waits stays holds known 0 0 (λ l. Say l (IsOne e)) h k
-  works-entry h k e us g n r q t a f m =
+  -- an entry of the desk's level was recorded
+  pub works-entry : (h k : H) (e : Entry) (us : List Token) → Goes faces waits stays h k → (known k).grace ≡ (known h).grace → Appends (log (holds h).recorder) (faces h).level e (log (holds k).recorder) → (holds k).processor ≡ (holds h).processor → shown (holds k) ≡ effect (faces h).level e us (shown (holds h)) → ((c : ℕ) → ((effect (faces h).level e us (shown (holds h))).rows c).active ≡ ((shown (holds h)).rows c).active) → raises e ≡ false → Works log faces waits stays holds known 0 0 (λ l. Say l (IsOne e)) h k
+  works-entry h k e us g n r q t a f =
       let l = (faces h).level in
       let x = log (holds h).recorder in
       let y = log (holds k).recorder in
@@ -112,16 +109,7 @@ module _ {H R : Type 0} (log : R → Option Log) (faces : H → Face) (waits : H
         plain_begins = omega (arith, ap (λ (s : Sides). s.plain.begins) n);
         tracing_begins = omega (arith, ap (λ (s : Sides). s.tracing.begins) n);
         same_side = ap (λ (s : Sides). s.processor) n;
-        mail = m;
       }
-
-  -- the same, where it neither sends nor takes a parcel
-  pub works-quiet : (h k : H) (e : Entry) (us : List Token) → IsStill e → Goes faces waits stays h k → known k ≡ known h → Appends (log (holds h).recorder) (faces h).level e (log (holds k).recorder) → (holds k).processor ≡ (holds h).processor → shown (holds k) ≡ effect (faces h).level e us (shown (holds h)) → ((c : ℕ) → ((effect (faces h).level e us (shown (holds h))).rows c).active ≡ ((shown (holds h)).rows c).active) → raises e ≡ false → Works log faces waits stays holds known 0 0 (λ l. Say l (IsOne e)) h k
-  works-quiet h k e us z g n r q t a f =
-      let l = (faces h).level in
-      let x = log (holds h).recorder in
-      let y = log (holds k).recorder in
-      works-entry h k e us g (ap (λ (w : Known). w.grace) n) r q t a f (delivered-records l (faces h).processors (known h).grace.processor (e ∷ []) (known h).parcels (known k).parcels x y (still-quiet e z, tt) (ap (λ (w : Known). w.parcels) n) (Records-one l e x y r))
 
 -- where a log is told, a step that names a list names it whole
 pub appends-whole : {R : Type 0} (log : R → Option Log) (l : ℕ) (e : Units → Entry) (xs : List ℕ) (us : List Token) (y z : Caches R) → TookUnits log l e xs us y z → Appends (log y.recorder) l (e (Whole xs)) (log z.recorder)

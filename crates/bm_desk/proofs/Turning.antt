@@ -18,10 +18,8 @@ use Rattle.bm_cache.specs.Tests.{Tests}
 use Rattle.bm_cache.specs.Tokens.{Token, number_of}
 use Rattle.bm_cache.specs.declared.caches.Caches.{Caches}
 use Rattle.bm_cache.proofs.Moments.{goes-join}
-use Rattle.bm_deferred.specs.Inboxes.{Inboxes}
 use Rattle.bm_deferred.specs.Parts.{Say}
 use Rattle.bm_deferred.specs.WorkPhrases.{IsOne}
-use Rattle.bm_deferred.proofs.Inboxes.{IsQuiet, delivered-records}
 use Rattle.bm_work.proofs.Grown.{grew-say}
 use Rattle.bm_desk.specs.Works.{Called, Handled, Turned, Works}
 
@@ -38,8 +36,8 @@ numbers-moved t Tracing Tracing n even k = refl
 
 module _ {H R W : Type 0} (log : R → Option Log) (faces : H → Face) (waits : H → ℕ) (stays : H → H → Type 0) (holds : H → Caches R) (shared : H → W) (known : W → Known) (rights : H → Rights) (tests : H → Tests) (join : (a b c : H) → stays a b → stays b c → stays a c) where
   -- the side was called, and then an entry was recorded
-  pub works-turned : (p t : ℕ) (e : Entry) (a b c : H) → IsQuiet e → Turned faces waits stays holds (λ h. known (shared h)) rights p t a b → Appends (log (holds b).recorder) (faces b).level e (log (holds c).recorder) → shown (holds c) ≡ shown (holds b) → (holds c).processor ≡ (holds b).processor → Handled faces waits stays shared tests b c → Works log faces waits stays holds (λ h. known (shared h)) p t (λ l. Say l (IsOne e)) a c
-  works-turned p t e a b c z u r v w h =
+  pub works-turned : (p t : ℕ) (e : Entry) (a b c : H) → Turned faces waits stays holds (λ h. known (shared h)) rights p t a b → Appends (log (holds b).recorder) (faces b).level e (log (holds c).recorder) → shown (holds c) ≡ shown (holds b) → (holds c).processor ≡ (holds b).processor → Handled faces waits stays shared tests b c → Works log faces waits stays holds (λ h. known (shared h)) p t (λ l. Say l (IsOne e)) a c
+  works-turned p t e a b c u r v w h =
       let l = (faces a).level in
       let x = log (holds a).recorder in
       let y = log (holds c).recorder in
@@ -47,7 +45,6 @@ module _ {H R W : Type 0} (log : R → Option Log) (faces : H → Face) (waits :
       let F : ℕ → Caches R → Type 0 = λ k d. Appends (log d.recorder) k e y in
       let s : Appends x l e y = subst (λ k. F k (holds a)) q (subst (F (faces b).level) u.held r) in
       let m = Records-one l e x y s in
-      let B : W → Option Inboxes = λ k. (known k).parcels in
       let K : W → Sides = λ k. (known k).grace in
       let o : shown (holds c) ≡ shown (holds a) = v ∙ ap (λ (d : Caches R). shown d) u.held in
       let gu : Goes faces waits stays a b = record { face = u.face; pending = omega (arith, u.pending); keeps = u.stays } in
@@ -62,9 +59,8 @@ module _ {H R W : Type 0} (log : R → Option Log) (faces : H → Face) (waits :
         plain_begins = omega (arith, u.plain_begins, ap (λ k. (K k).plain.begins) h.shared_is);
         tracing_begins = omega (arith, u.tracing_begins, ap (λ k. (K k).tracing.begins) h.shared_is);
         same_side = ap (λ k. (K k).processor) h.shared_is ∙ u.same_side;
-        mail = delivered-records l (faces a).processors (known (shared a)).grace.processor (e ∷ []) (B (shared a)) (B (shared c)) x y (z, tt) (ap B h.shared_is ∙ u.parcels) m;
       }
 
   -- none began or ended
   pub called-turned : (p t : ℕ) (a b : H) → Turned faces waits stays holds (λ h. known (shared h)) rights p t a b → ((d : Domain) → (side d (known (shared b))).number ≡ (side d (known (shared a))).number) → Called faces waits stays holds (λ h. known (shared h)) rights p t a b
-  called-turned p t a b u n = record { held = u.held; face = u.face; pending = u.pending; stays = u.stays; ages = u.ages; same_side = u.same_side; parcels = u.parcels; numbers = n; plain_begins = u.plain_begins; tracing_begins = u.tracing_begins }
+  called-turned p t a b u n = record { held = u.held; face = u.face; pending = u.pending; stays = u.stays; ages = u.ages; same_side = u.same_side; numbers = n; plain_begins = u.plain_begins; tracing_begins = u.tracing_begins }

@@ -12,7 +12,8 @@ pub record Alike (before now : Known) : Type 0 where
   pub objects : now.objects ≡ before.objects
 
 -- Handlers begin and finish no period, send, receive, fetch and put back nothing, and leave each section that they entered:
--- what this side has in progress, how many periods it may still begin and the parcels in its own inboxes are as they were, and each of its two section words is odd or even as it was.
+-- what this side has in progress and how many periods it may still begin is as it was, and each of its two section words is odd or
+-- even as it was.
 pub record GoesOn (before now : Known) : Type 0 where
   pub processors : now.grace.processors ≡ before.grace.processors
   pub processor : now.grace.processor ≡ before.grace.processor
@@ -22,4 +23,3 @@ pub record GoesOn (before now : Known) : Type 0 where
   pub later : (d : Domain) → (side d now).later ≡ (side d before).later
   pub begins : (d : Domain) → (side d now).begins ≡ (side d before).begins
   pub seen : (d : Domain) → (side d before).seen ≤ (side d now).seen
-  pub parcels : now.parcels ≡ before.parcels

@@ -13,7 +13,6 @@ goes-still a b e = subst (λ (x : Known). GoesOn a x) (sym e) record {
   later = λ d. refl;
   begins = λ d. refl;
   seen = λ d. omega arith;
-  parcels = refl;
 }
 
 -- and so it is alike

@@ -13,7 +13,6 @@ use Rattle.bm_cache.specs.Shown.{shown}
 use Rattle.bm_cache.specs.Placed.{Placed}
 use Rattle.bm_cache.specs.Span.{Face, Fine, Goes, RaisesNone, Unbroken}
 use Rattle.bm_cache.specs.declared.caches.Caches.{Caches}
-use Rattle.bm_deferred.specs.Inboxes.{Delivered}
 use Rattle.bm_deferred.specs.Parts.{Part}
 use Rattle.bm_work.specs.Grown.{GrewBy}
 use Rattle.bm_desk.specs.Dated.{Dated}
@@ -36,8 +35,8 @@ tracing_of Plain = 0
 tracing_of Tracing = 1
 
 -- The side was called and nothing else: the caches, the face and what waits are as they were, the rights age, the side is the
--- same processor's, with the same parcels and the same periods in progress, and of the periods that
--- may still begin at most so many plain and tracing ones are used up.
+-- same processor's, with the same periods in progress, and of the periods that may still begin at most so many plain and
+-- tracing ones are used up.
 pub record Called {H R : Type 0} (faces : H → Face) (waits : H → ℕ) (keeps : H → H → Type 0) (holds : H → Caches R) (known : H → Known) (rights : H → Rights) (plain tracing : ℕ) (before now : H) : Type 0 where
   pub held : holds now ≡ holds before
   pub face : faces now ≡ faces before
@@ -45,7 +44,6 @@ pub record Called {H R : Type 0} (faces : H → Face) (waits : H → ℕ) (keeps
   pub stays : keeps before now
   pub ages : Ages (rights before) (rights now)
   pub same_side : (known now).grace.processor ≡ (known before).grace.processor
-  pub parcels : (known now).parcels ≡ (known before).parcels
   pub numbers : (d : Domain) → (side d (known now)).number ≡ (side d (known before)).number
   pub plain_begins : (known before).grace.plain.begins ≤ (known now).grace.plain.begins + plain
   pub tracing_begins : (known before).grace.tracing.begins ≤ (known now).grace.tracing.begins + tracing
@@ -58,13 +56,11 @@ pub record Turned {H R : Type 0} (faces : H → Face) (waits : H → ℕ) (keeps
   pub stays : keeps before now
   pub ages : Ages (rights before) (rights now)
   pub same_side : (known now).grace.processor ≡ (known before).grace.processor
-  pub parcels : (known now).parcels ≡ (known before).parcels
   pub plain_begins : (known before).grace.plain.begins ≤ (known now).grace.plain.begins + plain
   pub tracing_begins : (known before).grace.tracing.begins ≤ (known now).grace.tracing.begins + tracing
 
 -- The post was called and nothing else: the caches, the face and what waits are as they were, what was true of units that
--- aren't among these is true, and what is known of grace periods is as it was. What became of parcels
--- is said beside it.
+-- aren't among these is true, and what is known of grace periods is as it was.
 pub record Posted {H R : Type 0} (faces : H → Face) (waits : H → ℕ) (keeps : H → H → Type 0) (holds : H → Caches R) (known : H → Known) (tests : H → Tests) (gone : List ℕ) (before now : H) : Type 0 where
   pub held : holds now ≡ holds before
   pub face : faces now ≡ faces before
@@ -75,8 +71,7 @@ pub record Posted {H R : Type 0} (faces : H → Face) (waits : H → ℕ) (keeps
 
 -- A call was made: the log has grown by exactly this part at the desk's level, with whatever handlers between; the desk goes
 -- on; where no handler ran there are entries of its own level alone, and no flag was raised; each active number is as it was;
--- at most so many plain and tracing periods have begun; and of the parcels that are told, each that came was the oldest one, each that went goes to one of the processors, nothing was swept,
--- and those that are left are what the entries tell.
+-- and at most so many plain and tracing periods have begun.
 pub record Works {H R : Type 0} (log : R → Option Log) (faces : H → Face) (waits : H → ℕ) (stays : H → H → Type 0) (holds : H → Caches R) (known : H → Known) (plain tracing : ℕ) (part : ℕ → Part) (before now : H) : Type 0 where
   pub phrase : GrewBy (part (faces before).level) (seen number_of (shown (holds before))) (log (holds before).recorder) (log (holds now).recorder)
   pub goes : Goes faces waits stays before now
@@ -87,7 +82,6 @@ pub record Works {H R : Type 0} (log : R → Option Log) (faces : H → Face) (w
   pub plain_begins : (known before).grace.plain.begins ≤ (known now).grace.plain.begins + plain
   pub tracing_begins : (known before).grace.tracing.begins ≤ (known now).grace.tracing.begins + tracing
   pub same_side : (known now).grace.processor ≡ (known before).grace.processor
-  pub mail : Delivered (faces before).level (faces before).processors (known before).grace.processor (known before).parcels (known now).parcels (log (holds before).recorder) (log (holds now).recorder)
 
 -- A call stopped for want of memory: the log has grown by this part, and the caches are placed.
 pub record Stopped {H R : Type 0} (log : R → Option Log) (counts : R → Counts) (faces : H → Face) (holds : H → Caches R) (part : ℕ → Part) (before now : H) : Type 0 where

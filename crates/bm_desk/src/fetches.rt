@@ -42,7 +42,6 @@ fn get_fetched<R: Recorder, H: Desk<R>>(
 ) -> Result<Vec<Unit>, NoMemory>
     requires stands { Stands R.log R.counts Whatever H.Host.tests H.Host.face H.Host.held host.old }
     ensures posted { Posted H.Host.face H.Host.pending H.stays H.Host.held (λ h. H.W.Knows.known (H.shared h)) H.Host.tests [] host.old host.new }
-    ensures mail { (H.W.Knows.known (H.shared host.new)).parcels ≡ (H.W.Knows.known (H.shared host.old)).parcels }
     ensures few { IfOk result (λ us. length us.items ≤ want) }
     ensures sit { IfOk result (λ us. All (Sits class) us.items) }
     ensures fresh { IfOk result (λ us. (n : ℕ) → stands n (seen number_of (shown (H.Host.held host.new))) + times n (map number_of us.items) ≤ 1) }

@@ -17,7 +17,6 @@ ghost use Rattle.bm_cache.specs.Lent.{FirstIsLent, HandIsLent, Lends, PutBack, R
 ghost use Rattle.bm_cache.specs.Placed.{Placed};
 ghost use Rattle.bm_cache.specs.Shown.{shown};
 ghost use Rattle.bm_cache.specs.Tokens.{Token, number_of};
-ghost use Rattle.bm_deferred.specs.Inboxes.{Carries};
 ghost use Rattle.bm_desk.specs.Works.{Handled, Posted};
 
 use crate::Desk;
@@ -89,7 +88,6 @@ pub fn give_parcel<R: Recorder, H: Desk<R>>(
     requires mine { Holds (H.W.Knows.rights (H.shared host.old)) units.items }
     requires fit { All (MayLeave (H.W.Knows.rights (H.shared host.old))) units.items }
     ensures posted { Posted H.Host.face H.Host.pending H.stays H.Host.held (λ h. H.W.Knows.known (H.shared h)) H.Host.tests (numbers units.items) host.old host.new }
-    ensures mail { OnOk result (Carries (H.W.Knows.known (H.shared host.old)).grace.processor (entry.Send class to (Whole (numbers units.items))) (H.W.Knows.known (H.shared host.old)).parcels (H.W.Knows.known (H.shared host.new)).parcels) }
     ensures refused { IfErr result (λ back. back.items ≡ units.items) }
     ensures owes { OnOk result ((done : List Act) → H.asked_owes done host.old → H.asked_owes (done ++ act.Sends class to (sealed units.items) ∷ []) host.new) }
 {

@@ -15,7 +15,6 @@ ghost use Rattle.bm_cache.specs.Shown.{shown};
 ghost use Rattle.bm_cache.specs.Tests.{Reusable};
 ghost use Rattle.bm_cache.specs.Tokens.{Token, number_of};
 ghost use Rattle.bm_deferred.specs.Parts.{Say};
-ghost use Rattle.bm_deferred.specs.Inboxes.{Carries};
 ghost use Rattle.bm_deferred.specs.WorkPhrases.{Receive};
 ghost use Rattle.bm_post.specs.Rights.{numbers};
 ghost use Rattle.bm_desk.specs.Periods.{GetsParcel};
@@ -34,7 +33,6 @@ use std::alloc::Global;
 fn get_parcel<R: Recorder, H: Desk<R>>(alloc: Global, host: &mut H, class: Class) -> Vec<Unit>
     requires stands { Stands R.log R.counts Whatever H.Host.tests H.Host.face H.Host.held host.old }
     ensures posted { Posted H.Host.face H.Host.pending H.stays H.Host.held (λ h. H.W.Knows.known (H.shared h)) H.Host.tests [] host.old host.new }
-    ensures mail { Carries (H.W.Knows.known (H.shared host.old)).grace.processor (entry.Receive class (Whole (numbers result.items))) (H.W.Knows.known (H.shared host.old)).parcels (H.W.Knows.known (H.shared host.new)).parcels }
     ensures sit { All (Sits class) result.items }
     ensures fresh { (n : ℕ) → stands n (seen number_of (shown (H.Host.held host.new))) + times n (map number_of result.items) ≤ 1 }
     ensures reusable { All (Reusable (H.Host.tests host.new)) result.items }

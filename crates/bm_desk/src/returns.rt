@@ -47,7 +47,6 @@ fn give_back<R: Recorder, H: Desk<R>>(host: &mut H, units: Vec<Unit>)
     requires mine { Holds (H.W.Knows.rights (H.shared host.old)) units.items }
     requires fit { All (MayLeave (H.W.Knows.rights (H.shared host.old))) units.items }
     ensures posted { Posted H.Host.face H.Host.pending H.stays H.Host.held (λ h. H.W.Knows.known (H.shared h)) H.Host.tests (numbers units.items) host.old host.new }
-    ensures mail { (H.W.Knows.known (H.shared host.new)).parcels ≡ (H.W.Knows.known (H.shared host.old)).parcels }
     ensures owes { (done : List Act) → H.asked_owes done host.old → H.asked_owes (done ++ act.Returns (sealed units.items) ∷ []) host.new }
 {
     host.world().put_back(units);

@@ -9,7 +9,6 @@ mod Results
 mod Objects
 mod Performing
 mod Going
-pub mod Still
 pub mod Sounds
 pub mod Lives
 mod Starting

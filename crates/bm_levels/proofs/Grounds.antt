@@ -1,25 +1,19 @@
 -- What ordinary code leaves of its processor, statement by statement.
-use Rattle.std.proofs.Common.{◌≡◌, ◌∙◌, ◌≤◌, ◌+◌, ◌*◌, ℕ, false, List, Result, Ok, Err, OnOk, sym, subst, arith}
+use Rattle.std.proofs.Common.{◌≡◌, ◌∙◌, ◌≤◌, ◌+◌, ◌*◌, ℕ, false, Result, Ok, Err, OnOk, sym, subst, arith}
 use Rattle.std.specs.Prelude.{length}
 use Rattle.std.proofs.lemmas.Nat.{mul-le}
-use Rattle.bm_journal.specs.declared.entry.Entry.{Entry}
 use Rattle.bm_journal.specs.declared.ids.Domain.{Domain}
 use Rattle.bm_journal.specs.declared.ids.Domain.TheVariants.{Plain, Tracing}
 use Rattle.bm_grace.specs.Known.{Known, side}
 use Rattle.bm_law.specs.Kept.{Ready}
 use Rattle.bm_law.specs.State.{Deferred}
 use Rattle.bm_law.specs.Lists.{is_unstamped}
-use Rattle.bm_law.specs.Spans.{Records}
 use Rattle.bm_cache.specs.Shown.{shown}
 use Rattle.bm_cache.specs.Tokens.{Token}
-use Rattle.bm_deferred.proofs.Still.{AllStill, IsStill}
-use Rattle.bm_deferred.proofs.Each.{of-map}
-use Rattle.bm_deferred.proofs.Inboxes.{IsQuiet, delivered-records, still-quiet}
 use Rattle.bm_desk.specs.Dated.{Dated}
-use Rattle.bm_desk.specs.Goes.{GoesOn}
 use Rattle.bm_desk.proofs.Points.{dated-kept}
 use Rattle.bm_plan.specs.Position.{StandsAt}
-use Rattle.bm_levels.specs.AtProcessor.{Between, FineAt, IsAt, Stays, log_of, tests_of}
+use Rattle.bm_levels.specs.AtProcessor.{Between, FineAt, IsAt, Stays, tests_of}
 use Rattle.bm_levels.specs.Ordinary.{Ordinary, Statements}
 use Rattle.bm_levels.specs.Ready.{known_of, left_of}
 use Rattle.bm_levels.specs.Sound.{Sound}
@@ -34,21 +28,10 @@ pub both-ok : {X E : Type 0} (r : Result X E) (A B : Type 0) → OnOk r A → On
 both-ok (Ok x) A B a b = (a, b)
 both-ok (Err e) A B a b = tt
 
--- entries of its own that have nothing to do with parcels, of which the side knows what it knew
-ordinary-still : (own : List Entry) (a b : Processor) → GoesOn (known_of a) (known_of b) → Records 0 own (log_of a) (log_of b) → AllStill own → Ordinary a b
-ordinary-still own a b g r q =
-    let k = known_of a in
-    let n = known_of b in
-    record {
-      processors = g.processors;
-      processor = g.processor;
-      mail = delivered-records 0 k.grace.processors k.grace.processor own k.parcels n.parcels (log_of a) (log_of b) (of-map IsStill IsQuiet still-quiet own q) g.parcels r;
-    }
-
 -- a call of ordinary code for an object, or to end one, with the handlers between its steps
-pub statements-still : (asks : ℕ) (p : Program) (own : List Entry) (a b : Processor) → Between asks 0 0 p a b → Records 0 own (log_of a) (log_of b) → AllStill own → Statements a b
-statements-still asks p own a b x r q = record {
-  ordinary = ordinary-still own a b x.goes r q;
+pub statements-still : (asks : ℕ) (p : Program) (a b : Processor) → Between asks 0 0 p a b → Statements a b
+statements-still asks p a b x = record {
+  ordinary = record { processors = x.goes.processors; processor = x.goes.processor };
   fewer = x.fewer;
   running = x.stays.running;
   inside = x.stays.inside;

@@ -102,9 +102,9 @@ none-passes r n h (suc (suc k)) life seal = rw h refl
 pub stands-nowhere : (l n : ℕ) (m : Processor) → (rights_living m.side).mine n ≡ false → FineAt l m → stands n (lists_of m) ≡ 0
 stands-nowhere l n m h f = nowhere n (shown m.caches) (failing n (tests_of m) (shown m.caches) (none-passes (rights_living m.side) n h) f.proper)
 
--- what is known of grace periods and parcels is as it was
-goes-graced : (a b : Known) → b.grace ≡ a.grace → b.parcels ≡ a.parcels → GoesOn a b
-goes-graced a b g q =
+-- what is known of grace periods is as it was
+goes-graced : (a b : Known) → b.grace ≡ a.grace → GoesOn a b
+goes-graced a b g =
     let F : Sides → Type 0 = λ x. GoesOn a (record b { grace = x }) in
     subst F (sym g) (record {
       processors = refl;
@@ -115,7 +115,6 @@ goes-graced a b g q =
       later = λ d. same (λ (s : Side). s.later) d;
       begins = λ d. same (λ (s : Side). s.begins) d;
       seen = λ d. (let e = same (λ (s : Side). s.seen) d in omega (arith, e));
-      parcels = q;
     })
   where
     same : {A : Type 0} (f : Side → A) (d : Domain) → f (side d (record b { grace = a.grace })) ≡ f (side d a)
@@ -137,10 +136,10 @@ between-sided n l p m w s a f c =
         asks_most = omega (arith, a);
         words_most = (let e = ap (λ (x : Sides). x.plain.word) g in omega (arith, e));
         inner = λ h. ap (λ (x : Sides). x.plain.word) g;
-        parity = λ d. (goes-graced (known_of m) (known_living w) g (ap (λ (x : SideState). (side_known x).parcels) s)).words d;
+        parity = λ d. (goes-graced (known_of m) (known_living w) g).words d;
         processors = ap (λ (x : Sides). x.processors) g;
         processor = ap (λ (x : Sides). x.processor) g;
       };
-      goes = goes-graced (known_of m) (known_living w) g (ap (λ (x : SideState). (side_known x).parcels) s);
+      goes = goes-graced (known_of m) (known_living w) g;
       fewer = omega arith;
     }

@@ -95,7 +95,6 @@ module _ (i l : ℕ) (p : Program) (step end : StepKind) (m b c d : Processor) (
         let z = x.goes.seen w in
         let y = moved-keeps (λ (s : Side). s.seen) (λ s w. refl) step (known_of m) (known_of b) k w in
         omega (arith, a, z, y));
-    parcels = ap (λ (y : Known). y.parcels) n ∙ x.goes.parcels ∙ ap (λ (y : Known). y.parcels) k;
   }
 
   pub between-section : CameAt l m b → CameAt l c d → FineAt l d → d.inside ≡ m.inside → Between i 2 l p m d

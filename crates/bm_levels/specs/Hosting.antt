@@ -194,5 +194,4 @@ goes-joined a b c x y = record {
   later = λ d. y.later d ∙ x.later d;
   begins = λ d. y.begins d ∙ x.begins d;
   seen = λ d. (let v = x.seen d in let w = y.seen d in omega (arith, v, w));
-  parcels = y.parcels ∙ x.parcels;
 }

@@ -2,17 +2,13 @@
 use Rattle.std.specs.Prelude.{◌≡◌, ◌≤◌, ◌+◌, ◌*◌, ◌%◌, length}
 use Rattle.bm_journal.specs.declared.ids.Domain.{Domain}
 use Rattle.bm_journal.specs.declared.ids.Domain.TheVariants.{Plain}
-use Rattle.bm_deferred.specs.Inboxes.{Delivered}
-use Rattle.bm_levels.specs.AtProcessor.{log_of}
 use Rattle.bm_levels.specs.Ready.{known_of, left_of, word_of}
 use Rattle.bm_levels.specs.declared.processor.Processor.{Processor}
 
--- Of entries of level 0: of the parcels each that came was the oldest
--- one, each that went goes to one of the processors, nothing was swept, and those that are left are what they tell.
+-- It is the same one, of as many.
 pub record Ordinary (before now : Processor) : Type 0 where
   pub processors : (known_of now).grace.processors ≡ (known_of before).grace.processors
   pub processor : (known_of now).grace.processor ≡ (known_of before).grace.processor
-  pub mail : Delivered 0 (known_of before).grace.processors (known_of before).grace.processor (known_of before).parcels (known_of now).parcels (log_of before) (log_of now)
 
 -- Statements of ordinary code, with the handlers that ran between their steps and the deferred work behind them: no handler was
 -- added to those that haven't run, none still runs, and it is in a section or in none as before, in the same one if in one; no

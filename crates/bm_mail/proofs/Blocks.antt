@@ -5,7 +5,7 @@ use Rattle.bm_lang.specs.declared.scenario.Block.{Block, Block', Row_of-Statemen
 use Rattle.bm_lang.specs.declared.scenario.TypeDeclaration.{TypeDeclaration}
 use Rattle.bm_deferred.specs.Parts.{Part}
 use Rattle.bm_deferred.proofs.Each.{part-say}
-use Rattle.bm_deferred.proofs.Inboxes.{IsQuiet}
+use Rattle.bm_mail.proofs.QuietEntries.{IsQuiet}
 use Rattle.bm_lawful.specs.Held.{Held, Nothing, Null, Object, Names}
 use Rattle.bm_lawful.specs.Calls.{RunsNew, RunsDrop}
 use Rattle.bm_lawful.specs.Runs.{Run, Leaving, Done, Followed, Times, Calls, Chosen, RunsAction, RunsElse, RunsBlock, RunsRow}

@@ -4,8 +4,8 @@ use Rattle.std.proofs.lemmas.Bool.Decides.{eqb_tells}
 use Rattle.bm_journal.specs.declared.entry.Entry.{Entry}
 use Rattle.bm_journal.specs.declared.entry.Entry.TheVariants as entry
 use Rattle.bm_journal.specs.EntryText.{unit_list}
-use Rattle.bm_deferred.specs.Inboxes.{Inboxes, on_inbox, inboxes_after, inboxes_over}
-use Rattle.bm_mail.proofs.Sends.{among, SendsOf, AllSendOf}
+use Rattle.bm_deferred.specs.Inboxes.{Inboxes, on_inbox, inboxes_after}
+use Rattle.bm_mail.proofs.Sends.{among, SendsOf}
 
 -- the other classes hold none
 abbrev pub Inside : List ℕ → Inboxes → Type 0
@@ -25,15 +25,11 @@ on-inside cs c f boxes m z k e = elim (eqb_tells k c) [
 less-inside : (cs : List ℕ) (c : ℕ) (f : List (List ℕ) → List (List ℕ)) (boxes : Inboxes) → f [] ≡ [] → Inside cs boxes → Inside cs (on_inbox c f boxes)
 less-inside cs c f boxes n z k e = elim (k == c) as (λ b. (if b then f (boxes k) else boxes k) ≡ []) [ true ↦ ap f (z k e) ∙ n | false ↦ z k e ]
 
-after-inside : (cs : List ℕ) (e : Entry) (boxes : Inboxes) → SendsOf cs e → Inside cs boxes → Inside cs (inboxes_after 0 e boxes)
+pub after-inside : (cs : List ℕ) (e : Entry) (boxes : Inboxes) → SendsOf cs e → Inside cs boxes → Inside cs (inboxes_after 0 e boxes)
 after-inside cs (entry.Send c to us) boxes m z = elim (to == 0) as (λ b. Inside cs (if b then on_inbox c (λ parcels. parcels ++ unit_list us ∷ []) boxes else boxes)) [ true ↦ on-inside cs c (λ parcels. parcels ++ unit_list us ∷ []) boxes m z | false ↦ z ]
 after-inside cs (entry.Receive c us) boxes m z = less-inside cs c (λ parcels. drop 1 parcels) boxes refl z
-after-inside cs (entry.Sweep c us) boxes m z = less-inside cs c (λ parcels. []) boxes refl z
+after-inside cs (entry.Sweep c us) boxes m z = absurd m
 after-inside cs _ boxes m z = z
-
-pub over-inside : (cs : List ℕ) (es : List Entry) (boxes : Inboxes) → AllSendOf cs es → Inside cs boxes → Inside cs (inboxes_over 0 es boxes)
-over-inside cs [] boxes m z = z
-over-inside cs (e ∷ es) boxes m z = over-inside cs es (inboxes_after 0 e boxes) m.1 (after-inside cs e boxes m.0 z)
 
 -- the inbox of the first class is emptied
 pub rest-inside : (c : ℕ) (cs : List ℕ) (boxes : Inboxes) → Inside (c ∷ cs) boxes → Inside cs (on_inbox c (λ parcels. []) boxes)

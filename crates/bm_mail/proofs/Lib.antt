@@ -1,9 +1,10 @@
+pub mod QuietEntries
 pub mod Quiet
 pub mod Sends
 pub mod Blocks
 pub mod Scripts
-pub mod Stretch
 pub mod Fits
 pub mod Inside
+pub mod Front
 pub mod Closed
 pub mod WithHandlers

@@ -14,29 +14,19 @@ use Rattle.bm_law.specs.Lists.{Log}
 use Rattle.bm_law.specs.Phrases.{given, raise_below, overtaken, AddPhrase, FreePhrase}
 use Rattle.bm_law.specs.SweepPhrases.{PollPhrase}
 use Rattle.bm_deferred.specs.Parts.{Part, Say}
-use Rattle.bm_deferred.specs.WorkPhrases.{AddAll, Brings, Fetches, IsOne, Refill, RefillBy, Unloads}
-use Rattle.bm_deferred.proofs.Still.{IsStill, still-add, still-brings, unloads-still}
-use Rattle.bm_deferred.proofs.Each.{of-append, of-map, part-map, part-nothing, part-say, part-then}
-use Rattle.bm_deferred.proofs.Inboxes.{AllQuiet, IsQuiet, QuietPart, poll-quiet, still-quiet}
+use Rattle.bm_deferred.specs.WorkPhrases.{AddAll, Brings, Fetches, IsOne, Refill, RefillBy}
+use Rattle.bm_deferred.proofs.Each.{of-append, part-nothing, part-say, part-then}
 use Rattle.bm_lawful.specs.Held.{Names}
 use Rattle.bm_lawful.specs.Calls.{Allocates, RunsNew, RunsDrop}
 use Rattle.bm_lawful.specs.Fills.{AreFills, prefill}
 use Rattle.bm_lawful.specs.Closing.{close_of, in_progress, EndsOne, EndsPeriods, IsEnd}
+use Rattle.bm_mail.proofs.QuietEntries.{AllQuiet, IsQuiet, QuietPart, poll-quiet, quiet-add, quiet-brings, quiet-one}
 
--- ---- parts of deferred work
-
-pub quiet-one : (l : ℕ) (e : Entry) → IsQuiet e → QuietPart l (Say l (IsOne e))
-quiet-one l e q = part-say IsQuiet l (IsOne e) (λ own h. subst AllQuiet (sym h) (q, tt))
-
-quiet-brings : (l c : ℕ) (e : Entry) (u : ℕ) → IsStill e → QuietPart l (Brings l c e u)
-quiet-brings l c e u q = part-map IsStill IsQuiet still-quiet l (Brings l c e u) (still-brings l c e u q)
+-- ---- additions
 
 quiet-add-all : (l c : ℕ) (us : List ℕ) → QuietPart l (AddAll l c us)
 quiet-add-all l c [] = part-nothing IsQuiet l
-quiet-add-all l c (u ∷ us) = part-then IsQuiet l (Say l (AddPhrase c u)) (AddAll l c us) (part-map IsStill IsQuiet still-quiet l (Say l (AddPhrase c u)) (still-add l c u)) (quiet-add-all l c us)
-
-pub unloads-quiet : (c middle : ℕ) (own : List Entry) → Unloads c middle own → AllQuiet own
-unloads-quiet c middle own h = of-map IsStill IsQuiet still-quiet own (unloads-still c middle own h)
+quiet-add-all l c (u ∷ us) = part-then IsQuiet l (Say l (AddPhrase c u)) (AddAll l c us) (quiet-add l c u) (quiet-add-all l c us)
 
 -- ---- calls
 

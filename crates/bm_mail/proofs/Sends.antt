@@ -15,32 +15,34 @@ use Rattle.bm_law.proofs.Spans.{own-append}
 use Rattle.bm_deferred.specs.Parts.{Part, Nothing, Stand, Say, Then, If, When}
 use Rattle.bm_deferred.specs.WorkPhrases.{AfterParcel, Balance, BalanceAt, Drain, FirstStage, IsBatch, IsGathering, IsLeave, IsOne, IsReturn, IsSecond, IsSend, IsStamp, IsTakeExtra, Passing, Receive, Refill, SecondStage, Unloads, Work, has_hand, may_batch, may_begin, middle_of_class}
 use Rattle.bm_deferred.proofs.Each.{part-nothing, part-say, part-stand, part-then, part-when}
-use Rattle.bm_deferred.proofs.Inboxes.{AllQuiet, IsQuiet, QuietPart, poll-quiet}
+use Rattle.bm_mail.proofs.QuietEntries.{AllQuiet, IsQuiet, QuietPart, poll-quiet, quiet-one, unloads-quiet}
 use Rattle.bm_lawful.specs.Works.{NextWork, UntilDown, WorkBehind, WorkEach, WorksBy, lowest_raised}
-use Rattle.bm_mail.proofs.Quiet.{quiet-one, quiet-refill, unloads-quiet}
+use Rattle.bm_mail.proofs.Quiet.{quiet-refill}
 
 -- whether a class is one of these
 abbrev pub among : ℕ → List ℕ → Bool
 among c cs = list_any (λ d. nat_eq c d) cs
 
--- a parcel that is sent is of one of these classes
+-- a parcel that is sent is of one of these classes, and nothing is swept
 abbrev pub SendsOf : List ℕ → Entry → Type 0
 SendsOf cs (entry.Send c to us) = among c cs ≡ true
+SendsOf cs (entry.Sweep c us) = ⊥
 SendsOf cs _ = Unit {0}
 
 abbrev pub AllSendOf : List ℕ → List Entry → Type 0
 AllSendOf cs [] = Unit {0}
 AllSendOf cs (e ∷ es) = SendsOf cs e × AllSendOf cs es
 
-send-append : (cs : List ℕ) (v w : List Entry) → AllSendOf cs v → AllSendOf cs w → AllSendOf cs (v ++ w)
+pub send-append : (cs : List ℕ) (v w : List Entry) → AllSendOf cs v → AllSendOf cs w → AllSendOf cs (v ++ w)
 send-append cs [] w a b = b
 send-append cs (e ∷ v) w a b = (a.0, send-append cs v w a.1 b)
 
-quiet-sends : (cs : List ℕ) (e : Entry) → IsQuiet e → SendsOf cs e
+pub quiet-sends : (cs : List ℕ) (e : Entry) → IsQuiet e → SendsOf cs e
 quiet-sends cs (entry.Send c to us) q = absurd q
+quiet-sends cs (entry.Sweep c us) q = absurd q
 quiet-sends cs _ q = tt
 
-all-quiet-send : (cs : List ℕ) (es : List Entry) → AllQuiet es → AllSendOf cs es
+pub all-quiet-send : (cs : List ℕ) (es : List Entry) → AllQuiet es → AllSendOf cs es
 all-quiet-send cs [] q = tt
 all-quiet-send cs (e ∷ es) q = (quiet-sends cs e q.0, all-quiet-send cs es q.1)
 

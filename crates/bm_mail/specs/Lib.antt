@@ -1,2 +1,3 @@
+pub mod LeavesParcels
 pub mod SweepsTold
 pub mod WorkedInboxes

@@ -25,16 +25,13 @@ older_first = two_sent ++ ordinary (entry.Receive 10 (Whole (256 ∷ [])) ∷ []
 abbrev pub newer_first : Log
 newer_first = two_sent ++ ordinary (entry.Receive 10 (Whole (512 ∷ [])) ∷ [])
 
--- It sends a parcel to processor 1.
+-- It sends a parcel to processor 1, which there isn't.
 abbrev pub sent_away : Log
 sent_away = ordinary (entry.Send 10 1 (Whole (256 ∷ [])) ∷ [])
 
--- It receives a unit; it receives none; it sweeps the class.
+-- It receives a unit that nobody sent; it receives none, though two parcels wait.
 abbrev pub unit_received : Log
 unit_received = ordinary (entry.Receive 10 (Whole (256 ∷ [])) ∷ [])
 
 abbrev pub none_received : Log
-none_received = ordinary (entry.Receive 10 (Whole []) ∷ [])
-
-abbrev pub swept : Log
-swept = ordinary (entry.Sweep 10 (Whole []) ∷ [])
+none_received = two_sent ++ ordinary (entry.Receive 10 (Whole []) ∷ [])

@@ -1,4 +1,4 @@
-//! Parcels of a journal: what a run knows of them by its deferred work gives the journal's law of parcels. Nothing here
+//! Parcels of a journal: what the order of its entries tells of them gives the law of parcels of its log. Nothing here
 //! runs.
 #![tactic(auto)]
 

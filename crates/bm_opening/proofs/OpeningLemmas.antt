@@ -101,13 +101,6 @@ side-is world pool e z =
 pub none-live : (slots : List (Option UnitState)) → AllEmpty slots → (u : ℕ) → lives_of slots u ≡ None
 none-live slots e u = ap living_of (e u)
 
-pub no-parcels-told : (pool : Stock) (slots : List (Option UnitState)) (begun : List ℕ) → (known_living (living_side pool slots begun)).parcels ≡ Some (λ c. [])
-no-parcels-told pool slots begun = ap Some (fun_ext (λ c. empty c (nat_lt c 11)))
-  where
-    empty : (c : ℕ) (b : Bool) → (if b then map numbers (get_or no_parcels (11 * 0 + c) []) else []) ≡ []
-    empty c true = ap (map numbers) (none-at 88 (11 * 0 + c))
-    empty c false = refl
-
 pub no-numbers : (pool : Stock) (slots : List (Option UnitState)) (begun : List ℕ) (d : Domain) → (side d (known_living (living_side pool slots begun))).number ≡ 0
 no-numbers pool slots begun Plain = refl
 no-numbers pool slots begun Tracing = refl

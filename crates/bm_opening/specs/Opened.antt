@@ -37,10 +37,9 @@ abbrev pub outset : (pages : ℕ) → LivingState
 outset pages = record { side = fresh_side (fresh_stock pages); slots = []; begun = []; asked = 0 }
 
 -- The processor's caches were filled so: the log has a `fill` for each class, no flag is up, no object lives, no life began,
--- none was asked for, no parcel waits, no period is in progress, no section was entered, and a page has a class where these
--- fills left it one; the fills are what was taken from a stock of all units. No handler that the program plans for it has run, none runs, and it is in no section. (bpf_mem_alloc_init
--- and prefill_mem_cache in kernel/bpf/memalloc.c; objects, parcels, periods, sections and planned handlers are this project's
--- own.)
+-- none was asked for, no period is in progress, and no section was entered. No handler that the program plans for it has run, none
+-- runs, and it is in no section. Its log and its side are tied since the outset. (bpf_mem_alloc_init and prefill_mem_cache in
+-- kernel/bpf/memalloc.c; objects, periods, sections and planned handlers are this project's own.)
 pub record IsOpen (p : Program) (f : Filling) (m : Processor) : Type 0 where
   pub sound : Sound p m
   pub told : IfSome m.caches.recorder.told (λ es. es ≡ fill_log f.fills)
@@ -48,7 +47,6 @@ pub record IsOpen (p : Program) (f : Filling) (m : Processor) : Type 0 where
   pub none : (u : ℕ) → lives_of m.side.slots u ≡ None
   pub begun : (u : ℕ) → begun_at m.side.begun u ≡ 0
   pub asked : (known_of m).objects.asked + m.settled ≡ 0
-  pub parcels : (known_of m).parcels ≡ Some (λ c. [])
   pub numbers : (d : Domain) → (side d (known_of m)).number ≡ 0
   pub words : (d : Domain) → (side d (known_of m)).word ≡ 0
   pub planned : left_of m ≡ planned_for 0 p.scenario.now

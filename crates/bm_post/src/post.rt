@@ -29,8 +29,8 @@ pub trait Post: Knows {
     ghost calls: { Self → Option (List PostCall) };
 
     /// Appends up to `want` units of a class from the pool, and answers how many. They weren't mine before, and differ
-    /// from each other. Fewer come only where each page has a class by now, so that it gave a unit that is out. `NoMemory`,
-    /// where `out` can't grow, is the only error and changes nothing.
+    /// from each other. Which come, and when fewer do, is what the act says that it tells; on one thread it is what the
+    /// stock gives. `NoMemory`, where `out` can't grow, is the only error and changes nothing.
     fn fetch(&mut self, class: Class, want: usize, out: &mut Vec<Unit>) -> Result<usize, NoMemory>
         ensures ok { IfOk result (λ n. Fetches class want n out.old.items out.new.items (Self.rights self.old) (Self.rights self.new)) }
         ensures err { OnErr result (out.new.items ≡ out.old.items) }

@@ -10,3 +10,4 @@ pub mod Written
 pub mod Laid
 pub mod Progress
 pub mod LivesTold
+pub mod ParcelsTold

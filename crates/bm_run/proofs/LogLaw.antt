@@ -23,7 +23,7 @@ use Rattle.bm_cache.specs.Shown.{shown}
 use Rattle.bm_cache.specs.Tokens.{Token, number_of}
 use Rattle.bm_deferred.specs.Begun.{begun_by}
 use Rattle.bm_deferred.specs.Grown.{GrewBy, GrewPart}
-use Rattle.bm_deferred.specs.Inboxes.{Delivered, Delivers, Inboxes}
+use Rattle.bm_deferred.specs.Inboxes.{Inboxes}
 use Rattle.bm_deferred.specs.Parts.{Part, Say, Stand, Then}
 use Rattle.bm_lawful.specs.Closing.{AreSweeps, EndsPeriods, in_progress}
 use Rattle.bm_lawful.specs.Fills.{AreFills, fresh_stock, prefill}
@@ -33,7 +33,8 @@ use Rattle.bm_lawful.specs.Handlers.{HandlersDone}
 use Rattle.bm_lawful.specs.SectionWords.{SectionWords}
 use Rattle.bm_lawful.specs.Lawful.{LawfulLog}
 use Rattle.bm_lawful.specs.Opened.{opened_classes, uses_class}
-use Rattle.bm_lawful.specs.Parcels.{ParcelLaw, no_parcels, sends_alone}
+use Rattle.bm_lawful.specs.Parcels.{ParcelLaw, sends_alone}
+use Rattle.bm_mail.specs.LeavesParcels.{LeavesParcels}
 use Rattle.bm_mail.specs.SweepsTold.{ClosingTold, SweepsTold}
 use Rattle.bm_closing.specs.EndsBegun.{EndsBegun}
 use Rattle.bm_lives.specs.Together.{named as named_all, named_in, times as times_in}
@@ -61,6 +62,7 @@ use Rattle.bm_run.specs.Lines.{Wrote}
 use Rattle.bm_law_order.specs.Tie.{TiedBy, whatever}
 use Rattle.bm_world.specs.ToldLiving.{LivingDoes}
 use Rattle.bm_run.proofs.Laid.{tied-led}
+use Rattle.bm_run.proofs.ParcelsTold.{tied-parcels}
 use Rattle.bm_run.proofs.Progress.{led-progress}
 use Rattle.bm_run.proofs.Closes.{LawfulSoFar, closing-is, ends-are, late-goes-on, rest-late}
 use Rattle.bm_run.proofs.OpenedList.{opened-has, opened-none}
@@ -95,7 +97,7 @@ pub record Told (s : Parts) (final : Log) : Type 0 where
   pub front_done : HandlersDone s (fills ++ scripts)
   pub are_fills : Say 0 (AreFills (opened_classes s.types) (fresh_stock s.pages)) (opening 0) fills
   pub are_scripts : AreScripts s (lines_of 0 s.runs) (after (opening 0) fills) scripts
-  pub mail : Delivers 0 1 0 (Some no_parcels) boxes (Some fills) (fills ++ scripts)
+  pub mail : LeavesParcels (fills ++ scripts) boxes
   pub closes : ClosingTold 0 (opened_classes s.types) (fills ++ scripts) boxes (after (opening 0) (fills ++ scripts)) closing
   pub before : State ℕ
   pub leaves : Leaves 0 (fills ++ scripts) before
@@ -190,10 +192,6 @@ told-run s p m0 m2 m3 final r =
     let sweeps : Then (EndsPeriods front) (Sweeps m2.side) (after (after (opening 0) front) e'.added) rest =
     subst (λ (t : State ℕ). Then (EndsPeriods front) (Sweeps m2.side) t rest) state (subst (λ (v : LivingState). Then (EndsPeriods front) (Sweeps v) (lists_of m3) rest) r.same (subst (λ (P : Part). Then P (Sweeps m3.side) (lists_of m3) rest) ends z.is_part)) in
     let boxes : Inboxes = told_in m2.side.side.post in
-    let M : Option Inboxes → Option Log → Log → Type 0 = λ b l n. Delivers 0 1 0 b boxes l n in
-    let D : ℕ → ℕ → Type 0 = λ n k. Delivered 0 n k (known_of m0).parcels (Some boxes) (log_of m0) (log_of m2) in
-    let one-mail : D 1 0 = subst (λ n. D n 0) o.sound.at.ready.one (subst (D (known_of m0).grace.processors) o.sound.at.ready.first w.ordinary.mail) in
-    let mail : M (known_of m0).parcels (log_of m0) e'.log = subst (Delivered 0 1 0 (known_of m0).parcels (Some boxes) (log_of m0)) e'.told one-mail in
     let closes : ClosingTold 0 classes front boxes (after (opening 0) front) (e'.added ++ rest) = record { one = e'.added; two = rest; part_is = refl; is_first = record { from = e'.is_part.from; own_is = e'.is_part.own_is }; is_second = sweeps } in
     let front2 : Leaves 0 front (lists_of m2) = subst (λ (x : Option Log). IfSome x (λ es. Leaves 0 es (lists_of m2))) told2 (told-of p m2 r.sound) in (
       record {
@@ -208,7 +206,7 @@ told-run s p m0 m2 m3 final r =
         front_done = front_done;
         are_fills = fills-said classes (fresh_stock s.pages) fills logged;
         are_scripts = subst (λ (t : State ℕ). Scripts t scripts) (fills-leave p m0 fills o.sound told0) w'.is_part;
-        mail = subst (λ n. M (Some no_parcels) (Some fills) n) w'.now_is (subst (λ l. M (Some no_parcels) l e'.log) told0 (subst (λ b. M b (log_of m0) e'.log) o.parcels mail));
+        mail = tied-parcels s.pages front m2.side tied;
         closes = closes;
         before = lists_of m2;
         leaves = front2;
@@ -319,7 +317,7 @@ ToldSweeps = (classes : List ℕ) (boxes : Inboxes) (t : State ℕ) (part : Log)
 -- Of a log with handlers: which parcels it receives.
 abbrev pub MailLaw : Type 0
 MailLaw = (s : Parts) (fills scripts closing : Log) (boxes : Inboxes) → HandlersStand s 0 ((fills ++ scripts) ++ closing) → HandlersDone s ((fills ++ scripts) ++ closing) → Say 0 (AreFills (opened_classes s.types) (fresh_stock s.pages)) (opening 0) fills → AreScripts s (lines_of 0 s.runs) (after (opening 0) fills) scripts →
-    Delivers 0 1 0 (Some no_parcels) boxes (Some fills) (fills ++ scripts) → ClosingTold 0 (opened_classes s.types) (fills ++ scripts) boxes (after (opening 0) (fills ++ scripts)) closing → ParcelLaw 0 ((fills ++ scripts) ++ closing)
+    LeavesParcels (fills ++ scripts) boxes → ClosingTold 0 (opened_classes s.types) (fills ++ scripts) boxes (after (opening 0) (fills ++ scripts)) closing → ParcelLaw 0 ((fills ++ scripts) ++ closing)
 
 pub lawful-run : (s : Parts) (p : Program) (m0 m2 m3 : Processor) (final : Log) → RowsKept → NullKept → ToldSweeps → MailLaw → RunLeft s p m0 m2 m3 final → SectionWords final → LawfulLog s 0 final
 lawful-run s p m0 m2 m3 final kept null sweeps mail r words =

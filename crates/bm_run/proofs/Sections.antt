@@ -39,7 +39,7 @@ use Rattle.bm_levels.specs.Sound.{Sound}
 use Rattle.bm_levels.specs.Turns.{told-more}
 use Rattle.bm_levels.specs.declared.processor.Processor.{Processor}
 use Rattle.bm_levels.specs.declared.program.Program.{Program}
-use Rattle.bm_run.proofs.Written.{Unmoved}
+use Rattle.bm_levels.specs.Ordinary.{Ordinary}
 
 -- ---- a section word that moved
 
@@ -48,11 +48,10 @@ pub begins-moved : (kind : StepKind) (k : Known) (d : Domain) → (side d (moved
 begins-moved kind k Plain = refl
 begins-moved kind k Tracing = refl
 
-pub unmoved-by : (kind : StepKind) (a b : Processor) → known_of b ≡ moved kind false Plain (known_of a) → Unmoved a b
-unmoved-by kind a b k = record {
+pub ordinary-moved : (kind : StepKind) (a b : Processor) → known_of b ≡ moved kind false Plain (known_of a) → Ordinary a b
+ordinary-moved kind a b k = record {
   processors = ap (λ (x : Known). x.grace.processors) k;
   processor = ap (λ (x : Known). x.grace.processor) k;
-  parcels = ap (λ (x : Known). x.parcels) k;
 }
 
 -- what stands in the lists is as it was, and so is what the side may do

@@ -7,11 +7,10 @@ use Rattle.bm_law.specs.Spans.{own_entries}
 use Rattle.bm_law.specs.State.{State}
 use Rattle.bm_law.proofs.Spans.{Records-one, from-append, own-append}
 use Rattle.bm_deferred.specs.Parts.{Part, Stand, Then}
-use Rattle.bm_deferred.proofs.Still.{IsStill}
 use Rattle.bm_deferred.proofs.Grown.{grew-join, grew-map, grew-stand}
-use Rattle.bm_deferred.proofs.Inboxes.{delivered-records, still-quiet}
 use Rattle.bm_plan.specs.declared.handlers.Handlers.{Handlers}
 use Rattle.bm_levels.specs.AtProcessor.{FineAt, lists_of, log_of}
+use Rattle.bm_levels.specs.Ordinary.{Ordinary}
 use Rattle.bm_levels.specs.Ready.{known_of}
 use Rattle.bm_levels.specs.Sound.{Sound}
 use Rattle.bm_levels.specs.Stated.{ordinary-joined}
@@ -60,25 +59,9 @@ stand-join v w s t one two f g = record {
 pub wrote-stands : (v w : List Entry) (a b c : Processor) → FineAt 0 a → FineAt 0 b → b.caches.processor ≡ a.caches.processor → Wrote (Stand 0 v) a b → Wrote (Stand 0 w) b c → Wrote (Stand 0 (v ++ w)) a c
 wrote-stands v w a b c = wrote-joined (Stand 0 v) (Stand 0 w) (Stand 0 (v ++ w)) a b c (λ one two f g. stand-join v w (lists_of a) (after (lists_of a) one) one two f g)
 
--- ---- an entry that has nothing to do with parcels
-
--- what it leaves of the side: the processors and the parcels
-pub record Unmoved (a b : Processor) : Type 0 where
-  pub processors : (known_of b).grace.processors ≡ (known_of a).grace.processors
-  pub processor : (known_of b).grace.processor ≡ (known_of a).grace.processor
-  pub parcels : (known_of b).parcels ≡ (known_of a).parcels
-
-pub wrote-still : (a b : Processor) (e : Entry) → Appends (log_of a) 0 e (log_of b) → IsStill e → Unmoved a b → Wrote (Stand 0 (e ∷ [])) a b
-wrote-still a b e h q k =
-    let one = Records-one 0 e (log_of a) (log_of b) h in
-    record {
-      grew = grew-stand 0 (e ∷ []) (lists_of a) (log_of a) (log_of b) one;
-      ordinary = record {
-        processors = k.processors;
-        processor = k.processor;
-        mail = delivered-records 0 (known_of a).grace.processors (known_of a).grace.processor (e ∷ []) (known_of a).parcels (known_of b).parcels (log_of a) (log_of b) (still-quiet e q, tt) k.parcels one;
-      };
-    }
+-- one entry
+pub wrote-one : (a b : Processor) (e : Entry) → Appends (log_of a) 0 e (log_of b) → Ordinary a b → Wrote (Stand 0 (e ∷ [])) a b
+wrote-one a b e h o = record { grew = grew-stand 0 (e ∷ []) (lists_of a) (log_of a) (log_of b) (Records-one 0 e (log_of a) (log_of b) h); ordinary = o }
 
 -- its handlers changed before
 pub wrote-before : {P : Part} (a : Processor) (h : Handlers) (b : Processor) → Wrote P (record a { handlers = h }) b → Wrote P a b
@@ -87,6 +70,5 @@ wrote-before a h b u = record {
   ordinary = record {
     processors = u.ordinary.processors;
     processor = u.ordinary.processor;
-    mail = u.ordinary.mail;
   };
 }

@@ -8,7 +8,6 @@ ghost use Rattle.bm_grace.specs.Calls.{entered, left};
 ghost use Rattle.bm_cache.specs.Shown.{shown};
 ghost use Rattle.bm_cache.specs.Steps.{is_note};
 ghost use Rattle.bm_deferred.specs.Parts.{Stand};
-ghost use Rattle.bm_deferred.proofs.Still.{IsStill};
 ghost use Rattle.bm_due.specs.Standing.{Stays as StaysKind, kind_of};
 ghost use Rattle.bm_exec.specs.Lists.{Behind, behind_of};
 ghost use Rattle.bm_levels.specs.AtProcessor.{FineAt, SameLives, lists_of, log_of};
@@ -27,11 +26,10 @@ use bm_journal::{Entry, Level};
 use bm_levels::{Deferred, Processor, Program, Since, enter_section, leave_section, settle_script};
 use bm_word::{Name, NoMemory};
 
-// Records an entry of ordinary code that moves nothing, and has nothing to do with parcels, periods and the stock.
+// Records an entry of ordinary code that moves nothing.
 fn note(own: &mut Processor, entry: Entry)
     requires fine { FineAt 0 own.old }
     requires note { IsTrue (is_note entry) }
-    requires still { IsStill entry }
     ensures wrote { Wrote (Stand 0 (entry ∷ [])) own.old own.new }
     ensures said { Appends (log_of own.old) 0 entry (log_of own.new) }
     ensures lists { shown own.new.caches ≡ shown own.old.caches }

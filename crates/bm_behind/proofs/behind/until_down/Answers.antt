@@ -20,7 +20,7 @@ work_once-requires-clause-begins g c =
     let cs = c.args.classes.now in
     let n = (length cs + 1) * (g.H.Host.pending a + 1) in
     let e = c.lowest_raised.ensures in
-    let going = going-asked g.R.Recorder.log g.R.Recorder.counts g.H.Host.sound g.H.Host.tests g.H.Host.face g.H.Host.pending g.H.Desk.stays g.H.Host.held (λ h. g.H.W.Knows.known (g.H.Desk.shared h)) g.met.H.Desk.stays_join cs a b d e.parcels e.posted c.loop-class.invariant.going in
+    let going = going-asked g.R.Recorder.log g.R.Recorder.counts g.H.Host.sound g.H.Host.tests g.H.Host.face g.H.Host.pending g.H.Desk.stays g.H.Host.held (λ h. g.H.W.Knows.known (g.H.Desk.shared h)) g.met.H.Desk.stays_join cs a b d e.posted c.loop-class.invariant.going in
     going-begins g.R.Recorder.log g.R.Recorder.counts g.H.Host.sound g.H.Host.tests g.H.Host.face g.H.Host.pending g.H.Desk.stays g.H.Host.held (λ h. g.H.W.Knows.known (g.H.Desk.shared h)) g.met.H.Desk.stays_join cs n a d (works-left-most (g.H.Host.pending a) cs (λ k. ((shown (g.H.Host.held a)).rows k).raised)) c.requires.begins going
 
 pub loop-class-smaller : goal.loop-class-smaller
@@ -43,7 +43,7 @@ loop-class-preserved g c =
     let cs = c.args.classes.now in
     let e = c.lowest_raised.ensures in
     let w = c.in_ok-work_once.ensures in
-    let going = going-asked g.R.Recorder.log g.R.Recorder.counts g.H.Host.sound g.H.Host.tests g.H.Host.face g.H.Host.pending g.H.Desk.stays g.H.Host.held (λ h. g.H.W.Knows.known (g.H.Desk.shared h)) g.met.H.Desk.stays_join cs a b d e.parcels e.posted c.loop-class.invariant.going in
+    let going = going-asked g.R.Recorder.log g.R.Recorder.counts g.H.Host.sound g.H.Host.tests g.H.Host.face g.H.Host.pending g.H.Desk.stays g.H.Host.held (λ h. g.H.W.Knows.known (g.H.Desk.shared h)) g.met.H.Desk.stays_join cs a b d e.posted c.loop-class.invariant.going in
     record {
       going = going-more g.R.Recorder.log g.R.Recorder.counts g.H.Host.sound g.H.Host.tests g.H.Host.face g.H.Host.pending g.H.Desk.stays g.H.Host.held (λ h. g.H.W.Knows.known (g.H.Desk.shared h)) g.met.H.Desk.stays_join cs c.in-Some.class a d z c.requires.at_rest e.at_rest c.in-Some.ensures.answer w.works w.lowered going;
       at_rest = w.at_rest;
@@ -59,6 +59,6 @@ returns-clause-works g c =
     let q = g.H.Host.pending d in
     let n = (length cs + 1) * (p - q + 1) in
     let e = c.lowest_raised.ensures in
-    let going = going-asked g.R.Recorder.log g.R.Recorder.counts g.H.Host.sound g.H.Host.tests g.H.Host.face g.H.Host.pending g.H.Desk.stays g.H.Host.held (λ h. g.H.W.Knows.known (g.H.Desk.shared h)) g.met.H.Desk.stays_join cs a b d e.parcels e.posted c.loop-class.invariant.going in
+    let going = going-asked g.R.Recorder.log g.R.Recorder.counts g.H.Host.sound g.H.Host.tests g.H.Host.face g.H.Host.pending g.H.Desk.stays g.H.Host.held (λ h. g.H.W.Knows.known (g.H.Desk.shared h)) g.met.H.Desk.stays_join cs a b d e.posted c.loop-class.invariant.going in
     let le : left_on g.H.Host.pending g.H.Host.held cs a ≤ n + q * (length cs + 1) = works-left-ran p q cs (λ k. ((shown (g.H.Host.held a)).rows k).raised) going.works.goes.pending in
     going-end g.R.Recorder.log g.R.Recorder.counts g.H.Host.sound g.H.Host.tests g.H.Host.face g.H.Host.pending g.H.Desk.stays g.H.Host.held (λ h. g.H.W.Knows.known (g.H.Desk.shared h)) g.met.H.Desk.stays_join cs (λ h. g.H.W.Knows.rights (g.H.Desk.shared h)) n a d (g.met.H.Desk.keeps_stays d d (g.met.H.Host.keeps_same d)) le c.requires.at_rest e.at_rest c.in_default.ensures.answer going

@@ -38,12 +38,12 @@ returns-clause-ok g c =
     let P : ℕ → Part = λ l. Say l (IsOne (entry.Fetch i (suc n) (Whole ns))) in
     let Q : ℕ → Part = λ l. Then (P l) (AddAll l i ns) in
     let few : length ns ≤ suc n = omega (arith, c.in_ok-units.ensures.few, w, length-map us number_of) in
-    let fetched = works-fetched g.R.Recorder.log g.H.Host.face g.H.Host.pending g.H.Desk.stays g.H.Host.held g.H.Desk.shared g.H.W.Knows.known g.H.Host.tests j b x y i c.args.want us c.get_fetched.ensures.posted c.get_fetched.ensures.mail c.note_fetched.ensures.handled c.note_fetched.ensures.step in
+    let fetched = works-fetched g.R.Recorder.log g.H.Host.face g.H.Host.pending g.H.Desk.stays g.H.Host.held g.H.Desk.shared g.H.W.Knows.known g.H.Host.tests j b x y i c.args.want us c.get_fetched.ensures.posted c.note_fetched.ensures.handled c.note_fetched.ensures.step in
     let u = works-then g.R.Recorder.log g.R.Recorder.counts g.H.Host.face g.H.Host.pending g.H.Desk.stays g.H.Host.held (λ h. g.H.W.Knows.known (g.H.Desk.shared h)) j 0 0 0 0 P (λ l. AddAll l i ns) b y z c.pause.ensures.stands.fine.placed c.note_fetched.ensures.stands.fine.placed (subst E (sym w) fetched) (subst N (ap (λ (m : List Token). map number_of m) h) c.add_all.ensures.works) in
     subst V w (works-join g.R.Recorder.log g.R.Recorder.counts g.H.Host.face g.H.Host.pending g.H.Desk.stays g.H.Host.held (λ h. g.H.W.Knows.known (g.H.Desk.shared h)) j 0 0 0 0 (λ l. Stand l []) Q (λ l. Fetched l i (suc n)) a b z (λ l s one two p q. (ns, few, then-after l (IsOne (entry.Fetch i (suc n) (Whole ns))) (AddAll l i ns) s one two p q)) c.requires.stands.fine.placed c.pause.ensures.stands.fine.placed c.pause.ensures.works u)
 
 pub returns-in_err-units-clause-err : goal.returns-in_err-units-clause-err
-returns-in_err-units-clause-err g c = on-err-any c.from_residual.result (works-posted g.R.Recorder.log g.R.Recorder.counts g.H.Host.face g.H.Host.pending g.H.Desk.stays g.H.Host.held (λ h. g.H.W.Knows.known (g.H.Desk.shared h)) g.H.Host.tests g.met.H.Desk.stays_join [] 0 0 (λ l. Stand l []) c.args.host.now c.pause.new.host c.get_fetched.new.host c.pause.ensures.works c.get_fetched.ensures.mail c.get_fetched.ensures.posted)
+returns-in_err-units-clause-err g c = on-err-any c.from_residual.result (works-posted g.R.Recorder.log g.R.Recorder.counts g.H.Host.face g.H.Host.pending g.H.Desk.stays g.H.Host.held (λ h. g.H.W.Knows.known (g.H.Desk.shared h)) g.H.Host.tests g.met.H.Desk.stays_join [] 0 0 (λ l. Stand l []) c.args.host.now c.pause.new.host c.get_fetched.new.host c.pause.ensures.works c.get_fetched.ensures.posted)
 
 pub add_all-requires-clause-stands : goal.add_all-requires-clause-stands
 add_all-requires-clause-stands g c =

@@ -3,7 +3,7 @@ use Rattle.bm_law.specs.Lists.{after}
 use Rattle.bm_deferred.specs.Parts.{Part, Say, Stand}
 use Rattle.bm_deferred.specs.WorkPhrases.{IsSend}
 use Rattle.bm_work.proofs.Grown.{say-after}
-use Rattle.bm_desk.proofs.Sides.{handled-mail, on-ok, posted-works, works-join}
+use Rattle.bm_desk.proofs.Sides.{on-ok, posted-works, works-join}
 use Rattle.bm_desk.proofs.leaving.send_hand.Goals as goal
 
 pub returns-clause-ok : goal.returns-clause-ok
@@ -15,4 +15,4 @@ returns-clause-ok g c =
     let x = c.room_for_hand.new.host in
     let y = c.send_hand_now.new.host in
     let P : ℕ → Part = λ l. Say l (IsSend i) in
-    on-ok c.send_hand_now.result (λ w. works-join g.R.Recorder.log g.R.Recorder.counts g.H.Host.face g.H.Host.pending g.H.Desk.stays g.H.Host.held (λ h. g.H.W.Knows.known (g.H.Desk.shared h)) j 0 0 0 0 (λ l. Stand l []) P P a b y (λ l s one two h k. say-after l (IsSend i) s (after s one) one two h k) c.requires.stands.fine.placed c.pause.ensures.stands.fine.placed c.pause.ensures.works (posted-works g.R.Recorder.log g.R.Recorder.counts g.H.Host.face g.H.Host.pending g.H.Desk.stays g.H.Host.held (λ h. g.H.W.Knows.known (g.H.Desk.shared h)) g.H.Host.tests j [] 0 0 P b x y c.pause.ensures.stands.fine.placed c.room_for_hand.ensures.stands.fine.placed (handled-mail g.H.W.Knows.known c.room_for_hand.ensures.handled) c.room_for_hand.ensures.posted w)) c.send_hand_now.ensures.ok
+    on-ok c.send_hand_now.result (λ w. works-join g.R.Recorder.log g.R.Recorder.counts g.H.Host.face g.H.Host.pending g.H.Desk.stays g.H.Host.held (λ h. g.H.W.Knows.known (g.H.Desk.shared h)) j 0 0 0 0 (λ l. Stand l []) P P a b y (λ l s one two h k. say-after l (IsSend i) s (after s one) one two h k) c.requires.stands.fine.placed c.pause.ensures.stands.fine.placed c.pause.ensures.works (posted-works g.R.Recorder.log g.R.Recorder.counts g.H.Host.face g.H.Host.pending g.H.Desk.stays g.H.Host.held (λ h. g.H.W.Knows.known (g.H.Desk.shared h)) g.H.Host.tests j [] 0 0 P b x y c.pause.ensures.stands.fine.placed c.room_for_hand.ensures.stands.fine.placed c.room_for_hand.ensures.posted w)) c.send_hand_now.ensures.ok

@@ -7,11 +7,10 @@ use Rattle.bm_cache.specs.declared.caches.Caches.{Caches}
 use Rattle.bm_desk.specs.Dated.{Dated}
 use Rattle.bm_desk.proofs.Moved.{dated-begun}
 use Rattle.bm_desk.proofs.Points.{works-host}
-use Rattle.bm_desk.proofs.Still.{still-second}
 use Rattle.bm_desk.proofs.lists.begin_batch.Goals as goal
 
 pub returns-clause-works : goal.returns-clause-works
-returns-clause-works g c = let r = c.begin_second.ensures in let i = c.args.class in works-host g.R.Recorder.log g.R.Recorder.counts g.H.Host.sound g.H.Host.tests g.H.Host.face g.H.Host.pending g.H.Desk.stays g.H.Host.keeps g.H.Host.held (λ h. g.H.W.Knows.known (g.H.Desk.shared h)) g.met.H.Desk.keeps_stays g.met.H.Desk.known_goes (λ l. When (may_begin i) (Say l (IsSecond i))) c.args.host.now c.begin_second.new.host (still-second i) r.phrase r.goes r.alone r.flags r.processor r.active
+returns-clause-works g c = let r = c.begin_second.ensures in let i = c.args.class in works-host g.R.Recorder.log g.R.Recorder.counts g.H.Host.sound g.H.Host.tests g.H.Host.face g.H.Host.pending g.H.Desk.stays g.H.Host.keeps g.H.Host.held (λ h. g.H.W.Knows.known (g.H.Desk.shared h)) g.met.H.Desk.keeps_stays g.met.H.Desk.known_goes (λ l. When (may_begin i) (Say l (IsSecond i))) c.args.host.now c.begin_second.new.host r.phrase r.goes r.alone r.flags r.processor r.active
 
 pub returns-clause-stands : goal.returns-clause-stands
 returns-clause-stands g c = record { sound = c.begin_second.ensures.sound; fine = c.begin_second.ensures.fine; dated = pick c.begin_second.result refl }

@@ -5,11 +5,10 @@ use Rattle.bm_cache.specs.Shown.{shown}
 use Rattle.bm_desk.specs.Dated.{Dated}
 use Rattle.bm_desk.proofs.Moved.{dated-class, dated-gathered}
 use Rattle.bm_desk.proofs.Points.{dated-same, works-host}
-use Rattle.bm_desk.proofs.Still.{still-gather}
 use Rattle.bm_desk.proofs.lists.gather.Goals as goal
 
 pub returns-clause-works : goal.returns-clause-works
-returns-clause-works g c = let r = c.gather_delayed.ensures in let i = c.args.class in works-host g.R.Recorder.log g.R.Recorder.counts g.H.Host.sound g.H.Host.tests g.H.Host.face g.H.Host.pending g.H.Desk.stays g.H.Host.keeps g.H.Host.held (λ h. g.H.W.Knows.known (g.H.Desk.shared h)) g.met.H.Desk.keeps_stays g.met.H.Desk.known_goes (λ l. Then (Say l (IsGathering i)) (Then (When (may_batch i) (Say l (IsBatch i))) (Say l (IsLeave i)))) c.args.host.now c.gather_delayed.new.host (still-gather i) r.phrase r.goes r.alone r.flags r.processor r.active
+returns-clause-works g c = let r = c.gather_delayed.ensures in let i = c.args.class in works-host g.R.Recorder.log g.R.Recorder.counts g.H.Host.sound g.H.Host.tests g.H.Host.face g.H.Host.pending g.H.Desk.stays g.H.Host.keeps g.H.Host.held (λ h. g.H.W.Knows.known (g.H.Desk.shared h)) g.met.H.Desk.keeps_stays g.met.H.Desk.known_goes (λ l. Then (Say l (IsGathering i)) (Then (When (may_batch i) (Say l (IsBatch i))) (Say l (IsLeave i)))) c.args.host.now c.gather_delayed.new.host r.phrase r.goes r.alone r.flags r.processor r.active
 
 pub returns-clause-stands : goal.returns-clause-stands
 returns-clause-stands g c = record { sound = c.gather_delayed.ensures.sound; fine = c.gather_delayed.ensures.fine; dated = pick c.gather_delayed.result refl }

@@ -2,7 +2,6 @@ use Rattle.std.proofs.Common.{[], ◌∷◌, ◌++◌, List, refl, sym, subst, R
 use Rattle.bm_journal.specs.declared.units.Units.TheVariants.{Whole}
 use Rattle.bm_journal.specs.declared.entry.Entry.TheVariants as entry
 use Rattle.bm_post.specs.Rights.{numbers}
-use Rattle.bm_desk.proofs.Mail.{carries-sent, carries-shared}
 use Rattle.bm_desk.proofs.Sides.{on-ok}
 use Rattle.bm_law_order.specs.Act.{Act}
 use Rattle.bm_law_order.specs.Act as act
@@ -10,15 +9,6 @@ use Rattle.bm_law_order.specs.Act.{sealed}
 use Rattle.bm_desk.proofs.Alike.{alike-mails}
 use Rattle.bm_desk.proofs.Owing.{both-ok, owes-called}
 use Rattle.bm_desk.proofs.loans.give_parcel.Goals as goal
-
-pub returns-clause-mail : goal.returns-clause-mail
-returns-clause-mail g c =
-    let h = c.args.host.now in
-    let v = c.world.result.now in
-    let w = c.send.new.self in
-    let known = g.H.W.Knows.known in
-    let us = numbers c.args.units.items in
-    on-ok c.send.result (λ m. carries-shared g.H.Desk.shared g.H.Desk.with_shared known g.met.H.Desk.shared_back (entry.Send c.args.class c.args.to (Whole us)) h v w c.world.ensures.held (carries-sent g.H.W.Knows.tells (known v).grace.processor c.args.class c.args.to us (known v) (known w) m)) c.send.ensures.mails
 
 pub returns-clause-owes : goal.returns-clause-owes
 returns-clause-owes g c =

@@ -9,7 +9,6 @@ use Rattle.bm_cache.specs.declared.caches.Caches.{Caches}
 use Rattle.bm_post.specs.Rights.{numbers}
 use Rattle.bm_desk.proofs.Alike.{alike-mails}
 use Rattle.bm_desk.proofs.Came.{gains-fresh, gains-onward, same-onward, takes-reusable}
-use Rattle.bm_desk.proofs.Mail.{carries-shared, carries-taken}
 use Rattle.bm_desk.proofs.Sides.{passes-shared, proper-shared, stands-posted}
 use Rattle.bm_law_order.specs.Act.{Act}
 use Rattle.bm_law_order.specs.Act as act
@@ -37,25 +36,6 @@ pub returns-in-None-clause-stands : goal.returns-in-None-clause-stands
 returns-in-None-clause-stands g c =
     let e = c.in-None.ensures in
     stands-posted g.R.Recorder.log g.R.Recorder.counts (λ _. Unit {0}) g.H.Host.tests g.H.Host.face g.H.Host.held g.H.Desk.shared g.H.Desk.with_shared g.H.W.Knows.known g.H.W.Knows.rights g.met.H.Desk.shared_back g.met.H.Desk.held_apart g.met.H.Desk.face_apart (λ h w a s. s) g.met.H.Desk.tests_are c.args.host.now c.world.result.now c.receive.new.self c.world.ensures.held (alike-mails _ _ _ _ e.mails) (same-onward (g.H.W.Knows.rights c.world.result.now) (g.H.W.Knows.rights c.receive.new.self) e.none e.lasts) c.requires.stands
-
-pub returns-in-Some-clause-mail : goal.returns-in-Some-clause-mail
-returns-in-Some-clause-mail g c =
-    let h = c.args.host.now in
-    let v = c.world.result.now in
-    let w = c.receive.new.self in
-    let known = g.H.W.Knows.known in
-    let us = numbers c.in-Some.units.items in
-    carries-shared g.H.Desk.shared g.H.Desk.with_shared known g.met.H.Desk.shared_back (entry.Receive c.args.class (Whole us)) h v w c.world.ensures.held (carries-taken g.H.W.Knows.tells (known v).grace.processor c.args.class us us (known v) (known w) refl c.in-Some.ensures.mails c.in-Some.ensures.oldest_told)
-
-pub returns-in-None-clause-mail : goal.returns-in-None-clause-mail
-returns-in-None-clause-mail g c =
-    let h = c.args.host.now in
-    let v = c.world.result.now in
-    let w = c.receive.new.self in
-    let known = g.H.W.Knows.known in
-    let us = numbers c.new.result.items in
-    let e : us ≡ [] = ap numbers c.new.ensures.items in
-    carries-shared g.H.Desk.shared g.H.Desk.with_shared known g.met.H.Desk.shared_back (entry.Receive c.args.class (Whole us)) h v w c.world.ensures.held (carries-taken g.H.W.Knows.tells (known v).grace.processor c.args.class us [] (known v) (known w) e c.in-None.ensures.mails c.in-None.ensures.oldest_told)
 
 pub returns-in-Some-clause-owes : goal.returns-in-Some-clause-owes
 returns-in-Some-clause-owes g c done o =

@@ -36,7 +36,7 @@ returns-in-Won-clause-works g c =
     let N = g.H.W.Knows.known in
     let won : c.try_begin.result ≡ Won = c.in-Won.is in
     let k : N (g.H.Desk.shared b) ≡ began g.H.W.Knows.tells d Won c.args.even (N (g.H.Desk.shared a)) = c.try_begin.ensures.known ∙ ap (λ (z : Began). began g.H.W.Knows.tells d z c.args.even (N (g.H.Desk.shared a))) won in
-    let v = works-turned g.R.Recorder.log g.H.Host.face g.H.Host.pending g.H.Desk.stays g.H.Host.held g.H.Desk.shared N (λ h. g.H.W.Knows.rights (g.H.Desk.shared h)) g.H.Host.tests j (plain_of d) (tracing_of d) (entry.Begin d n) a b x tt c.try_begin.ensures.turned c.note_begun.ensures.step c.note_begun.ensures.lists c.note_begun.ensures.processor c.note_begun.ensures.handled in
+    let v = works-turned g.R.Recorder.log g.H.Host.face g.H.Host.pending g.H.Desk.stays g.H.Host.held g.H.Desk.shared N (λ h. g.H.W.Knows.rights (g.H.Desk.shared h)) g.H.Host.tests j (plain_of d) (tracing_of d) (entry.Begin d n) a b x c.try_begin.ensures.turned c.note_begun.ensures.step c.note_begun.ensures.lists c.note_begun.ensures.processor c.note_begun.ensures.handled in
     let t = works-join g.R.Recorder.log g.R.Recorder.counts g.H.Host.face g.H.Host.pending g.H.Desk.stays g.H.Host.held (λ h. N (g.H.Desk.shared h)) j (plain_of d) (tracing_of d) 0 0 P Q W a x y (λ l s one two. say-join l (IsOne (entry.Begin d n)) (MayFinish d) (MayBegin d) s _ one two f) c.requires.stands.fine.placed c.note_begun.ensures.stands.fine.placed v c.finish_if_all.ensures.works in
     works-at-most g.R.Recorder.log g.R.Recorder.counts g.H.Host.face g.H.Host.pending g.H.Desk.stays g.H.Host.held (λ h. N (g.H.Desk.shared h)) (λ h. g.H.W.Knows.rights (g.H.Desk.shared h)) (plain_of d + 0) (tracing_of d + 0) (plain_of d) (tracing_of d) W a y (omega (arith)) (omega (arith)) t
 

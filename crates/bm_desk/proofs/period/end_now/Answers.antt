@@ -21,7 +21,7 @@ returns-clause-works g c =
     let p = c.finish_now-period.result in
     let is = c.finish_now-period.ensures.domain in
     let N = g.H.W.Knows.known in
-    let v = works-turned g.R.Recorder.log g.H.Host.face g.H.Host.pending g.H.Desk.stays g.H.Host.held g.H.Desk.shared N (λ h. g.H.W.Knows.rights (g.H.Desk.shared h)) g.H.Host.tests g.met.H.Desk.stays_join 0 0 (entry.Finish p) a b x tt c.finish_now-period.ensures.turned c.note_finished.ensures.step c.note_finished.ensures.lists c.note_finished.ensures.processor c.note_finished.ensures.handled in
+    let v = works-turned g.R.Recorder.log g.H.Host.face g.H.Host.pending g.H.Desk.stays g.H.Host.held g.H.Desk.shared N (λ h. g.H.W.Knows.rights (g.H.Desk.shared h)) g.H.Host.tests g.met.H.Desk.stays_join 0 0 (entry.Finish p) a b x c.finish_now-period.ensures.turned c.note_finished.ensures.step c.note_finished.ensures.lists c.note_finished.ensures.processor c.note_finished.ensures.handled in
     works-map g.R.Recorder.log g.H.Host.face g.H.Host.pending g.H.Desk.stays g.H.Host.held (λ h. N (g.H.Desk.shared h)) 0 0 (λ l. Say l (IsOne (entry.Finish p))) (λ l. Say l (Ends d)) a x (λ l s part h. (h.0, (entry.Finish p, h.1, (p, is, refl)), h.2)) v
 
 pub returns-clause-owes : goal.returns-clause-owes

@@ -16,7 +16,6 @@ use Rattle.bm_journal.specs.Recording.{Appends}
 use Rattle.bm_law.proofs.Spans.{Records-one}
 use Rattle.bm_deferred.specs.Parts.{Say}
 use Rattle.bm_deferred.specs.WorkPhrases.{IsOne, IsReturn}
-use Rattle.bm_deferred.proofs.Inboxes.{delivered-records}
 use Rattle.bm_post.specs.Rights.{Holds, MayLeave, numbers}
 use Rattle.bm_desk.specs.Onward.{Onward}
 use Rattle.bm_desk.proofs.Gone.{holds-reusable, leave-reusable, returned-apart, returned-once, stands-returned}
@@ -108,8 +107,5 @@ returns-clause-ok g c =
     let ha : N b ≡ N a = ap g.H.W.Knows.known c.lend_second.ensures.handled.shared_is in
     let hy : N y ≡ N x = ap g.H.W.Knows.known c.end_return.ensures.handled.shared_is in
     let n : (N y).grace ≡ (N a).grace = ap (λ (k : KnownValue). k.grace) hy ∙ p.known_is ∙ ap (λ (k : KnownValue). k.grace) ha in
-    let boxes : (N y).parcels ≡ (N a).parcels = ap (λ (k : KnownValue). k.parcels) hy ∙ c.give_back.ensures.mail ∙ ap (λ (k : KnownValue). k.parcels) ha in
-    let one = Records-one l e (log (g.H.Host.held a).recorder) (log (g.H.Host.held y).recorder) r in
-    let v = works-entry log g.H.Host.face g.H.Host.pending g.H.Desk.stays g.H.Host.held N a y e [] (goes-join j gl (goes-join j gx gy)) n r (st.processor ∙ ap (λ (z : Caches g.row.R.Denot). z.processor) d ∙ m.processor) lists (returned-active l i ns s) refl
-    (delivered-records l (g.H.Host.face a).processors (N a).grace.processor (e ∷ []) (N a).parcels (N y).parcels (log (g.H.Host.held a).recorder) (log (g.H.Host.held y).recorder) (tt, tt) boxes one) in
+    let v = works-entry log g.H.Host.face g.H.Host.pending g.H.Desk.stays g.H.Host.held N a y e [] (goes-join j gl (goes-join j gx gy)) n r (st.processor ∙ ap (λ (z : Caches g.row.R.Denot). z.processor) d ∙ m.processor) lists (returned-active l i ns s) refl in
     works-map log g.H.Host.face g.H.Host.pending g.H.Desk.stays g.H.Host.held N 0 0 (λ l. Say l (IsOne e)) (λ l. Say l (IsReturn i)) a y (λ l s part h. (h.0, (ns, h.1), h.2)) v

@@ -24,7 +24,6 @@ use Rattle.bm_desk.proofs.sends.send_hand_now.Given.{Over}
 use Rattle.bm_desk.specs.Onward.{Onward}
 use Rattle.bm_desk.proofs.Gone.{hand-deferred, hand-side, holds-fit, sends-hand, sent-active, sent-apart, sent-once, stands-sent}
 use Rattle.bm_desk.proofs.Sides.{works-map}
-use Rattle.bm_desk.proofs.Mail.{hand-target, mail-sent}
 use Rattle.bm_desk.proofs.Steps.{works-entry}
 use Rattle.bm_law_order.specs.Act.{sealed}
 use Rattle.bm_desk.proofs.Owing.{units-sealed}
@@ -102,8 +101,7 @@ returns-in-Ok-clause-ok g c =
     let o : shown (g.H.Host.held y) ≡ effect l e [] s = lists-sent g c in
     let r : Appends (log (g.H.Host.held a).recorder) l e (log (g.H.Host.held y).recorder) = subst A m.recorder q in
     let ms : List ℕ = numbers c.in_ok-units.units.items in
-    let k = mail-sent log g.H.Host.face g.H.Host.pending g.H.Desk.stays g.H.Host.held g.H.Desk.shared g.H.W.Knows.known a w x y i to ms ns (hand-target l i (g.H.Host.face a).processors s (shown (g.H.Host.held b)) to m.lists c.target_of-to.ensures.target c.requires.stands.fine.aimed.targets) (c.target_of-to.ensures.handled.shared_is ∙ c.lend_hand.ensures.handled.shared_is) c.end_send.ensures.handled.shared_is (sym c.write_numbers.ensures.items) c.in-Ok.ensures.mail r in
-    let v = works-entry log g.H.Host.face g.H.Host.pending g.H.Desk.stays g.H.Host.held (λ h. g.H.W.Knows.known (g.H.Desk.shared h)) a y e [] (goes-join j gl (goes-join j gw (goes-join j gx gy))) n r (st.processor ∙ ap (λ (z : Caches g.row.R.Denot). z.processor) d ∙ m.processor) o (sent-active l i to ns s) refl k in
+    let v = works-entry log g.H.Host.face g.H.Host.pending g.H.Desk.stays g.H.Host.held (λ h. g.H.W.Knows.known (g.H.Desk.shared h)) a y e [] (goes-join j gl (goes-join j gw (goes-join j gx gy))) n r (st.processor ∙ ap (λ (z : Caches g.row.R.Denot). z.processor) d ∙ m.processor) o (sent-active l i to ns s) refl in
     works-map g.R.Recorder.log g.H.Host.face g.H.Host.pending g.H.Desk.stays g.H.Host.held (λ h. g.H.W.Knows.known (g.H.Desk.shared h)) 0 0 (λ l. Say l (IsOne e)) (λ l. Say l (IsSend i)) a y (λ l s part h. (h.0, (to, ns, h.1), h.2)) v
 
 pub returns-in-Ok-clause-back : goal.returns-in-Ok-clause-back

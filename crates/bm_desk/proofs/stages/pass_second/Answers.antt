@@ -12,7 +12,7 @@ use Rattle.bm_desk.specs.Periods.{Sees}
 use Rattle.bm_desk.specs.Stops.{Missing, PassSecond, SecondStop}
 use Rattle.bm_desk.specs.Works.{Works}
 use Rattle.bm_desk.proofs.Passings.{pass-not, pass-stop, pass-yes}
-use Rattle.bm_desk.proofs.Sides.{handled-mail, on-err, on-ok, posted-stopped, posted-works, works-join-at, works-map-at, works-stopped-at}
+use Rattle.bm_desk.proofs.Sides.{on-err, on-ok, posted-stopped, posted-works, works-join-at, works-map-at, works-stopped-at}
 use Rattle.bm_desk.proofs.stages.pass_second.Goals as goal
 
 pub returns-in-Passed-clause-ok : goal.returns-in-Passed-clause-ok
@@ -30,7 +30,7 @@ returns-in-Passed-clause-ok g c =
     let N : Done → Type 0 = λ o. Works g.R.Recorder.log g.H.Host.face g.H.Host.pending g.H.Desk.stays g.H.Host.held (λ h. g.H.W.Knows.known (g.H.Desk.shared h)) 0 1 (λ l. Say l (Sees i Tracing (number_in o))) b x in
     let A : Done → Type 0 = λ o. Answers o m in
     let h : m ≤ n = subst A c.in-Passed.is c.poll.ensures.answer in
-    on-ok c.return_second.result (λ w. posted-works g.R.Recorder.log g.R.Recorder.counts g.H.Host.face g.H.Host.pending g.H.Desk.stays g.H.Host.held (λ h. g.H.W.Knows.known (g.H.Desk.shared h)) g.H.Host.tests j [] 0 1 W a b y c.requires.stands.fine.placed c.batch_stamp.ensures.stands.fine.placed (handled-mail g.H.W.Knows.known c.batch_stamp.ensures.handled) c.batch_stamp.ensures.posted
+    on-ok c.return_second.result (λ w. posted-works g.R.Recorder.log g.R.Recorder.counts g.H.Host.face g.H.Host.pending g.H.Desk.stays g.H.Host.held (λ h. g.H.W.Knows.known (g.H.Desk.shared h)) g.H.Host.tests j [] 0 1 W a b y c.requires.stands.fine.placed c.batch_stamp.ensures.stands.fine.placed c.batch_stamp.ensures.posted
     (works-join-at g.R.Recorder.log g.R.Recorder.counts g.H.Host.face g.H.Host.pending g.H.Desk.stays g.H.Host.held (λ h. g.H.W.Knows.known (g.H.Desk.shared h)) j 0 1 0 0 (λ l. Say l (Sees i Tracing n)) (λ l. Say l (IsReturn i)) W b x y (λ l one two p q. pass-yes l i Tracing n m (Say l (IsReturn i)) ((shown (g.H.Host.held b)).rows i).deferred.tracing (seen number_of (shown (g.H.Host.held b))) one two qb h p q) c.batch_stamp.ensures.stands.fine.placed c.poll.ensures.stands.fine.placed (subst N c.in-Passed.is c.poll.ensures.works) w)) c.return_second.ensures.ok
 
 pub returns-in-Passed-clause-err : goal.returns-in-Passed-clause-err
@@ -47,7 +47,7 @@ returns-in-Passed-clause-err g c =
     let N : Done → Type 0 = λ o. Works g.R.Recorder.log g.H.Host.face g.H.Host.pending g.H.Desk.stays g.H.Host.held (λ h. g.H.W.Knows.known (g.H.Desk.shared h)) 0 1 (λ l. Say l (Sees i Tracing (number_in o))) b x in
     let A : Done → Type 0 = λ o. Answers o m in
     let h : m ≤ n = subst A c.in-Passed.is c.poll.ensures.answer in
-    on-err c.return_second.result (λ w. posted-stopped g.R.Recorder.log g.R.Recorder.counts g.H.Host.face g.H.Host.pending g.H.Desk.stays g.H.Host.held (λ h. g.H.W.Knows.known (g.H.Desk.shared h)) g.H.Host.tests g.met.H.Desk.stays_join [] W a b y c.requires.stands.fine.placed c.batch_stamp.ensures.stands.fine.placed (handled-mail g.H.W.Knows.known c.batch_stamp.ensures.handled) c.batch_stamp.ensures.posted
+    on-err c.return_second.result (λ w. posted-stopped g.R.Recorder.log g.R.Recorder.counts g.H.Host.face g.H.Host.pending g.H.Desk.stays g.H.Host.held (λ h. g.H.W.Knows.known (g.H.Desk.shared h)) g.H.Host.tests g.met.H.Desk.stays_join [] W a b y c.requires.stands.fine.placed c.batch_stamp.ensures.stands.fine.placed c.batch_stamp.ensures.posted
     (works-stopped-at g.R.Recorder.log g.R.Recorder.counts g.H.Host.face g.H.Host.pending g.H.Desk.stays g.H.Host.held (λ h. g.H.W.Knows.known (g.H.Desk.shared h)) 0 1 (λ l. Say l (Sees i Tracing n)) (λ l. Missing l) W b x y (λ l one two p q. pass-stop l i Tracing n m ((shown (g.H.Host.held b)).rows i).deferred.tracing (seen number_of (shown (g.H.Host.held b))) one two qb h p q) c.batch_stamp.ensures.stands.fine.placed c.poll.ensures.stands.fine.placed (subst N c.in-Passed.is c.poll.ensures.works) w)) c.return_second.ensures.err
 
 pub returns-in-NotYet-clause-ok : goal.returns-in-NotYet-clause-ok
@@ -64,5 +64,5 @@ returns-in-NotYet-clause-ok g c =
     let N : Done → Type 0 = λ o. Works g.R.Recorder.log g.H.Host.face g.H.Host.pending g.H.Desk.stays g.H.Host.held (λ h. g.H.W.Knows.known (g.H.Desk.shared h)) 0 1 (λ l. Say l (Sees i Tracing (number_in o))) b x in
     let A : Done → Type 0 = λ o. Answers o m in
     let h : n < m = subst A c.in-NotYet.is c.poll.ensures.answer in
-    posted-works g.R.Recorder.log g.R.Recorder.counts g.H.Host.face g.H.Host.pending g.H.Desk.stays g.H.Host.held (λ h. g.H.W.Knows.known (g.H.Desk.shared h)) g.H.Host.tests j [] 0 1 W a b x c.requires.stands.fine.placed c.batch_stamp.ensures.stands.fine.placed (handled-mail g.H.W.Knows.known c.batch_stamp.ensures.handled) c.batch_stamp.ensures.posted
+    posted-works g.R.Recorder.log g.R.Recorder.counts g.H.Host.face g.H.Host.pending g.H.Desk.stays g.H.Host.held (λ h. g.H.W.Knows.known (g.H.Desk.shared h)) g.H.Host.tests j [] 0 1 W a b x c.requires.stands.fine.placed c.batch_stamp.ensures.stands.fine.placed c.batch_stamp.ensures.posted
     (works-map-at g.R.Recorder.log g.H.Host.face g.H.Host.pending g.H.Desk.stays g.H.Host.held (λ h. g.H.W.Knows.known (g.H.Desk.shared h)) 0 1 (λ l. Say l (Sees i Tracing n)) W b x (λ l part p. pass-not l i Tracing n m (Say l (IsReturn i)) ((shown (g.H.Host.held b)).rows i).deferred.tracing (seen number_of (shown (g.H.Host.held b))) part qb h p) (subst N c.in-NotYet.is c.poll.ensures.works))

@@ -5,7 +5,7 @@ use Rattle.bm_cache.specs.Span.{Goes}
 use Rattle.bm_cache.specs.declared.caches.Caches.{Caches}
 use Rattle.bm_cache.proofs.Moments.{took-at}
 use Rattle.bm_desk.proofs.Batches.{dated-stamped}
-use Rattle.bm_desk.proofs.Steps.{stamped-active, stands-entry, works-quiet}
+use Rattle.bm_desk.proofs.Steps.{stamped-active, stands-entry, works-entry}
 use Rattle.bm_law_order.specs.Act.{Act}
 use Rattle.bm_law_order.specs.Act as act
 use Rattle.bm_law_order.specs.Chunk as chunk
@@ -34,7 +34,7 @@ returns-clause-works g c =
     let T : Caches g.row.R.Denot → Type 0 = λ x. Took g.R.Recorder.log l e [] (g.H.Host.held h) x in
     let t : T (g.H.Host.held k) = subst T (sym (g.met.H.Host.held_back h z)) (took-at g.R.Recorder.log l c.level-level.result e [] (g.H.Host.held h) c.caches.result.now z c.level-level.ensures.same c.caches.ensures.held c.stamped.ensures.step) in
     let goes : Goes g.H.Host.face g.H.Host.pending g.H.Desk.stays h k = record { face = g.met.H.Host.face_back h z; pending = omega (arith, g.met.H.Host.pending_back h z); keeps = g.met.H.Desk.keeps_stays h k (g.met.H.Host.keeps_back h z) } in
-    works-quiet g.R.Recorder.log g.H.Host.face g.H.Host.pending g.H.Desk.stays g.H.Host.held (λ h. g.H.W.Knows.known (g.H.Desk.shared h)) h k e [] tt goes (ap g.H.W.Knows.known (g.met.H.Desk.shared_apart h z)) t.records t.processor t.after (stamped-active l c.args.class c.args.domain c.args.stamp (shown (g.H.Host.held h))) refl
+    works-entry g.R.Recorder.log g.H.Host.face g.H.Host.pending g.H.Desk.stays g.H.Host.held (λ h. g.H.W.Knows.known (g.H.Desk.shared h)) h k e [] goes (ap (λ w. (g.H.W.Knows.known w).grace) (g.met.H.Desk.shared_apart h z)) t.records t.processor t.after (stamped-active l c.args.class c.args.domain c.args.stamp (shown (g.H.Host.held h))) refl
 
 pub returns-clause-sound : goal.returns-clause-sound
 returns-clause-sound g c o =

@@ -21,7 +21,6 @@ returns-clause-statements g c =
     subst (Statements m) (sym lent) (statements-worked c.args.program.now m k w.goes.keeps.0 w.goes.pending record {
       processors = w.goes.keeps.0.processors;
       processor = w.goes.keeps.0.processor;
-      mail = w.mail;
     }))
 
 pub returns-clause-sound : goal.returns-clause-sound

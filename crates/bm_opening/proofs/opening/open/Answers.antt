@@ -14,7 +14,7 @@ use Rattle.bm_levels.specs.declared.program.Program.{Program}
 use Rattle.bm_lawful.specs.Fills.{fresh_stock}
 use Rattle.bm_opening.specs.Filling.{filling}
 use Rattle.bm_opening.specs.Opened.{IsOpen, outset}
-use Rattle.bm_opening.proofs.OpeningLemmas.{all-begins, ascending, dated, fills-once, fills-suit, living_side, lowered, no-numbers, no-parcels-told, no-words, none-live, opened-pool, side-is, stamped}
+use Rattle.bm_opening.proofs.OpeningLemmas.{all-begins, ascending, dated, fills-once, fills-suit, living_side, lowered, no-numbers, no-words, none-live, opened-pool, side-is, stamped}
 use Rattle.bm_levels.specs.AtTie.{TiedAt}
 use Rattle.bm_opening.proofs.FreshTold.{opened-tied}
 use Rattle.bm_opening.proofs.Bounds.{Within, within}
@@ -80,7 +80,6 @@ returns-in-Ok-create c =
       none = none-live slots w.slots;
       begun = w.begun;
       asked = refl;
-      parcels = no-parcels-told pool slots begun;
       numbers = no-numbers pool slots begun;
       words = no-words pool slots begun;
       planned = left-is s m fresh ∙ ap (planned_for 0) same;

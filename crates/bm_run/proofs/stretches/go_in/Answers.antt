@@ -4,15 +4,15 @@ use Rattle.bm_journal.specs.declared.entry.Entry.TheVariants as entry
 use Rattle.bm_journal.specs.declared.ids.Domain.TheVariants.{Plain}
 use Rattle.bm_levels.specs.Ready.{left_of, word_of}
 use Rattle.bm_levels.specs.declared.processor.Processor.{Processor}
-use Rattle.bm_run.proofs.Sections.{sound-moved, unmoved-by}
-use Rattle.bm_run.proofs.Written.{wrote-still}
+use Rattle.bm_run.proofs.Sections.{sound-moved, ordinary-moved}
+use Rattle.bm_run.proofs.Written.{wrote-one}
 use Rattle.bm_run.proofs.stretches.go_in.Goals as goal
 
 pub returns-clause-wrote : goal.returns-clause-wrote
 returns-clause-wrote c =
     let m : Processor = c.args.own.now in
     let e = rw c.ordinary.ensures at c.enter_section.ensures in
-    wrote-still m c.enter_section.new.own (entry.In Plain (word_of Plain m + 1)) e.said tt (unmoved-by Enter m c.enter_section.new.own e.known)
+    wrote-one m c.enter_section.new.own (entry.In Plain (word_of Plain m + 1)) e.said (ordinary-moved Enter m c.enter_section.new.own e.known)
 
 pub returns-clause-sound : goal.returns-clause-sound
 returns-clause-sound c p s =

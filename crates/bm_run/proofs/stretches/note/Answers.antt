@@ -3,7 +3,7 @@ use Rattle.bm_levels.specs.declared.processor.Processor.{Processor}
 use Rattle.bm_levels.specs.AtTie.{tied-quiet}
 use Rattle.bm_levels.proofs.Noted.{fine-noted}
 use Rattle.bm_run.proofs.Sections.{sound-noted}
-use Rattle.bm_run.proofs.Written.{wrote-still}
+use Rattle.bm_run.proofs.Written.{wrote-one}
 use Rattle.bm_run.proofs.stretches.note.Goals as goal
 
 pub returns-clause-fine : goal.returns-clause-fine
@@ -18,7 +18,7 @@ pub returns-clause-wrote : goal.returns-clause-wrote
 returns-clause-wrote c =
     let m : Processor = c.args.own.now in
     let n = rw c.ordinary.ensures at c.note.ensures.step in
-    wrote-still m (record m { caches = c.note.new.self }) c.args.entry n.records c.requires.still (record { processors = refl; processor = refl; parcels = refl })
+    wrote-one m (record m { caches = c.note.new.self }) c.args.entry n.records (record { processors = refl; processor = refl })
 
 pub returns-clause-tied : goal.returns-clause-tied
 returns-clause-tied c q since start t =

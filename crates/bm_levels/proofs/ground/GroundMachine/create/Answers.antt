@@ -1,6 +1,4 @@
-use Rattle.std.proofs.Common.{◌∷◌, refl}
-use Rattle.bm_journal.specs.declared.entry.Entry.TheVariants as entry
-use Rattle.bm_exec.proofs.Still.{still-created}
+use Rattle.std.proofs.Common.{refl}
 use Rattle.bm_levels.proofs.Grounds.{sound-still, statements-still}
 use Rattle.bm_levels.proofs.ground.GroundMachine.create.Goals as goal
 
@@ -13,5 +11,4 @@ returns-clause-sound g c =
 pub returns-clause-keeps : goal.returns-clause-keeps
 returns-clause-keeps g c =
     let e = c.make.ensures in
-    let d = e.created in
-    (statements-still 1 c.args.self.now.program.now (entry.New c.args.name c.args.values ∷ d.own) c.args.self.now.own.now c.make.new.own e.between d.records (still-created _ _ _ _ _ _ _ _ _ d), refl)
+    (statements-still 1 c.args.self.now.program.now c.args.self.now.own.now c.make.new.own e.between, refl)
