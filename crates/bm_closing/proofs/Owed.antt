@@ -20,6 +20,7 @@ use Rattle.bm_post.specs.Rights.{number_of, numbers}
 use Rattle.bm_cache.specs.Span.{Face}
 use Rattle.bm_cache.specs.Tests.{Tests}
 use Rattle.bm_cache.specs.declared.caches.Caches.{Caches}
+use Rattle.bm_desk.specs.Rested.{HasStamp}
 use Rattle.bm_desk.proofs.Owing.{shows}
 use Rattle.bm_closing.specs.AtEnd.{AtEnd}
 use Rattle.bm_closing.specs.Gathered.{gathering}
@@ -55,10 +56,10 @@ module _ {H R : Type 0} (F : H → Face) (D : H → Caches R) (W : H → Caches 
   -- all units of a class became a batch, and its period has passed
   pub gathered-sound : (sound : H → Type 0) →
       ((h : H) (done more : List Act) (es others : List Entry) → Shows done es → owes (done ++ more) (es ++ others) h → owes more others h) →
-      ((h : H) (d : Domain) (x n m c : ℕ) (ws : List ℕ) (p : Period) → p.domain ≡ d → n ≤ x → owes (at_once d x n m ws p) (passed_at_once d n m c p) h → sound h) →
-      (h : H) (v z : Caches R) (i : ℕ) (us ns : List ℕ) (parcels : List (List ℕ)) (ws : List ℕ) (w : Waited) → v ≡ D h → (F h).level ≡ 0 → ns ≡ us ++ concat parcels → w.period.domain ≡ Tracing → w.begun ≤ w.stamp →
+      ((h : H) (d : Domain) (x n m c : ℕ) (ws : List ℕ) (p : Period) → p.domain ≡ d → n ≤ x → HasStamp log (F h).processors c d x (D h) → owes (at_once d x n m ws p) (passed_at_once d n m c p) h → sound h) →
+      (h : H) (v z : Caches R) (i : ℕ) (us ns : List ℕ) (parcels : List (List ℕ)) (ws : List ℕ) (w : Waited) → v ≡ D h → (F h).level ≡ 0 → ns ≡ us ++ concat parcels → w.period.domain ≡ Tracing → w.begun ≤ w.stamp → HasStamp log (F (W h z)).processors i Tracing w.stamp (D (W h z)) →
       Adds 0 (gathering i ns w) (log v.recorder) (log z.recorder) → owes (receives_all i parcels ++ waiting ws w) [] h → sound (W h z)
-  gathered-sound sound told passed h v z i us ns parcels ws w e l n d b a o =
+  gathered-sound sound told passed h v z i us ns parcels ws w e l n d b f a o =
       let k = W h z in
       let A : ℕ → Caches R → List ℕ → Type 0 = λ x c xs. Adds x (gathering i xs w) (log c.recorder) (log z.recorder) in
       let a1 : A (F h).level (D h) (us ++ concat parcels) = subst (λ x. A x (D h) (us ++ concat parcels)) (sym l) (subst (λ c. A 0 c (us ++ concat parcels)) e (subst (A 0 v) n a)) in
@@ -68,4 +69,4 @@ module _ {H R : Type 0} (F : H → Face) (D : H → Caches R) (W : H → Caches 
       let one = noted h z (receives_all i parcels ++ waiting ws w) [] (gathering i (us ++ concat parcels) w) a1 o in
       let two = told k (receives_all i parcels) (waiting ws w) (entry.Sweep i (Whole (us ++ concat parcels)) ∷ []) (entry.Stamp i Tracing w.stamp ∷ after) (shows (chunk.Sweeping i us parcels) refl) one in
       let three = told k stamps rest (entry.Stamp i Tracing w.stamp ∷ []) after (shows (chunk.Stamping i Tracing w.stamp) refl) two in
-      passed k Tracing w.stamp w.begun w.seen i ws w.period d b three
+      passed k Tracing w.stamp w.begun w.seen i ws w.period d b f three

@@ -9,6 +9,7 @@ ghost use Rattle.bm_law.specs.Alone.{Adds};
 ghost use Rattle.bm_law_order.specs.Act.{Act};
 ghost use Rattle.bm_law_order.specs.Chunk.{Shows};
 ghost use Rattle.bm_cache.specs.declared.caches.Caches.{Caches};
+ghost use Rattle.bm_desk.specs.Rested.{HasStamp};
 ghost use Rattle.bm_closing.specs.Told.{at_once, passed_at_once};
 
 use bm_desk::Desk;
@@ -23,6 +24,6 @@ pub trait Ended<R: Recorder>: Desk<R> {
     // The first entries stand for the first acts.
     ghost owes_told: { (h : Self) (done more : List Act) (es others : List EntryValue) → Shows done es → Self.Desk.owes (done ++ more) (es ++ others) h → Self.Desk.owes more others h };
 
-    // A period began below the stamp and ended at once, and the number was read for a class.
-    ghost owes_passed: { (h : Self) (d : DomainValue) (x n m c : ℕ) (ws : List ℕ) (p : PeriodValue) → p.domain ≡ d → n ≤ x → Self.Desk.owes (at_once d x n m ws p) (passed_at_once d n m c p) h → Self.Host.sound h };
+    // A period began below the stamp that the batch of a class waits for, and ended at once, and the number was read for the class.
+    ghost owes_passed: { (h : Self) (d : DomainValue) (x n m c : ℕ) (ws : List ℕ) (p : PeriodValue) → p.domain ≡ d → n ≤ x → HasStamp R.log (Self.Host.face h).processors c d x (Self.Host.held h) → Self.Desk.owes (at_once d x n m ws p) (passed_at_once d n m c p) h → Self.Host.sound h };
 }

@@ -1,11 +1,15 @@
 -- When a poll has nothing to do. (This project's own.)
-use Rattle.std.specs.Prelude.{◌≡◌, ◌⊎◌, ◌≤◌, ℕ, ◌%◌, List, [], ◌∷◌, ◌++◌, length}
+use Rattle.std.specs.Prelude.{◌≡◌, ◌⊎◌, ◌<◌, ◌≤◌, ℕ, ◌%◌, IfSome, Option, Some, List, [], ◌∷◌, ◌++◌, length}
 use Rattle.bm_journal.specs.declared.ids.Domain.{Domain}
 use Rattle.bm_journal.specs.declared.period.Period.{Period}
 use Rattle.bm_journal.specs.declared.entry.Entry.{Entry}
 use Rattle.bm_journal.specs.declared.entry.Entry.TheVariants as entry
+use Rattle.bm_law.specs.State.{opening}
+use Rattle.bm_law.specs.Lists.{Log, after, stamp_of}
 use Rattle.bm_law_order.specs.Act.{Act}
 use Rattle.bm_law_order.specs.Act as act
+use Rattle.bm_cache.specs.Shown.{shown}
+use Rattle.bm_cache.specs.declared.caches.Caches.{Caches}
 use Rattle.bm_grace.specs.Answers.{ArePassed}
 use Rattle.bm_grace.specs.Known.{Known, side}
 
@@ -22,3 +26,15 @@ LooksOrEnds known owes d done es h =
 -- a number that a poll for a stamp begins no period at
 abbrev pub IsIdle : ℕ → ℕ → Type 0
 IsIdle x n = (n % 2 ≡ 1) ⊎ (x ≤ n)
+
+-- Where polls have to be for a batch, they are for the one of this class, or of some class, that waits for this stamp.
+abbrev pub PollsFor : {R : Type 0} → Type 0 → ℕ → Domain → ℕ → Caches R → Type 0
+PollsFor minds i d x c = minds → stamp_of d ((shown c).rows i).deferred ≡ Some x
+
+abbrev pub PollsForSome : {R : Type 0} → Type 0 → Domain → ℕ → Caches R → Type 0
+PollsForSome minds d x c = minds → (i : ℕ) × (stamp_of d ((shown c).rows i).deferred ≡ Some x)
+
+-- The caches are those of one of so many processors, and by the lists that its log leaves the batch of this class has this stamp.
+pub record HasStamp {R : Type 0} (log : R → Option Log) (processors i : ℕ) (d : Domain) (x : ℕ) (c : Caches R) : Type 0 where
+  pub processor : c.processor < processors
+  pub told : IfSome (log c.recorder) (λ es. stamp_of d ((after (opening c.processor) es).rows i).deferred ≡ Some x)

@@ -5,7 +5,7 @@ ghost use Rattle.std.specs.Prelude.{◌≡◌, ◌≤◌, ◌+◌, ◌∷◌, �
 ghost use Rattle.bm_law_order.specs.Act.{Act};
 ghost use Rattle.bm_law_order.specs.Act as act;
 ghost use Rattle.bm_grace.specs.Known.{side};
-ghost use Rattle.bm_desk.specs.Rested.{Fails, IsIdle};
+ghost use Rattle.bm_desk.specs.Rested.{Fails, IsIdle, HasStamp};
 ghost use Rattle.bm_journal.specs.declared.ids.Domain.{Domain as DomainValue};
 ghost use Rattle.bm_journal.specs.declared.period.Period.{Period as PeriodValue};
 ghost use Rattle.bm_journal.specs.declared.entry.Entry.TheVariants as entry;
@@ -45,6 +45,9 @@ pub trait Desk<R: Recorder>: Host<R> {
 
     /// The same in place of `asked`, before the entry of the step.
     ghost asked_owes: { List Act → Self → Type 0 };
+
+    /// Holds where each poll has to be for its class's batch.
+    ghost minds: { Type 0 };
 
     /// The desk is sound, and by what its level did last a poll of this domain for this stamp has nothing to do.
     ghost rested: { DomainValue → ℕ → Self → Type 0 };
@@ -102,17 +105,19 @@ pub trait Desk<R: Recorder>: Host<R> {
 
     ghost asked_stepped: { (h : Self) (c : Caches R) (done : List Act) (e : EntryValue) → is_step e ≡ true → (IsSome (R.log c.recorder) → Shows done (e ∷ [])) → Appends (R.log (Self.Host.held h).recorder) (Self.Host.face h).level e (R.log c.recorder) → asked_owes done h → Self.Host.sound (Self.Host.with_held h c) };
 
-    // A look in vain, also at a period that began just now, below the stamp; a number that needs no begin; a begin that was too
-    // late; and a period that began below the stamp and ended at once.
+    // A look in vain, also at a period that began just now for a batch that waits for the stamp, below it; a number that needs no
+    // begin; a begin that was too late for the number that was read; and such a period that ended at once.
     ghost rested_looked: { (h : Self) (d : DomainValue) (x : ℕ) → Fails (side d (Self.W.Knows.known (shared h))).first (side d (Self.W.Knows.known (shared h))).later → owes (act.Looks d (side d (Self.W.Knows.known (shared h))).later ∷ []) [] h → rested d x h };
 
-    ghost rested_begun: { (h : Self) (d : DomainValue) (x n : ℕ) → n ≤ x → Fails (side d (Self.W.Knows.known (shared h))).first (side d (Self.W.Knows.known (shared h))).later → owes (act.Begins d n ∷ act.Looks d (side d (Self.W.Knows.known (shared h))).later ∷ []) (entry.Begin d n ∷ []) h → rested d x h };
+    ghost rested_begun: { (h : Self) (d : DomainValue) (x n : ℕ) → n ≤ x → (minds → (i : ℕ) × HasStamp R.log (Self.Host.face h).processors i d x (Self.Host.held h)) → Fails (side d (Self.W.Knows.known (shared h))).first (side d (Self.W.Knows.known (shared h))).later → owes (act.Begins d n ∷ act.Looks d (side d (Self.W.Knows.known (shared h))).later ∷ []) (entry.Begin d n ∷ []) h → rested d x h };
 
     ghost rested_read: { (h : Self) (d : DomainValue) (x n : ℕ) → IsIdle x n → (side d (Self.W.Knows.known (shared h))).number ≡ 0 → owes (act.Reads d x n ∷ []) [] h → rested d x h };
 
-    ghost rested_missed: { (h : Self) (d : DomainValue) (x even n : ℕ) → owes (act.Misses d even n ∷ []) [] h → rested d x h };
+    ghost rested_missed: { (h : Self) (d : DomainValue) (x even n : ℕ) → owes (act.Reads d x even ∷ act.Misses d even n ∷ []) [] h → rested d x h };
 
-    ghost rested_whole: { (h : Self) (d : DomainValue) (x n : ℕ) (ws : List ℕ) (p : PeriodValue) → p.domain ≡ d → n ≤ x → owes (act.Begins d n ∷ act.Looks d ws ∷ act.Finishes p ∷ []) (entry.Begin d n ∷ entry.Finish p ∷ []) h → rested d x h };
+    ghost rested_whole: { (h : Self) (d : DomainValue) (x n : ℕ) (ws : List ℕ) (p : PeriodValue) → p.domain ≡ d → n ≤ x → (minds → (i : ℕ) × HasStamp R.log (Self.Host.face h).processors i d x (Self.Host.held h)) → owes (act.Begins d n ∷ act.Looks d ws ∷ act.Finishes p ∷ []) (entry.Begin d n ∷ entry.Finish p ∷ []) h → rested d x h };
+
+    ghost rested_sound: { (h : Self) (d : DomainValue) (x : ℕ) → rested d x h → Self.Host.sound h };
 
     ghost rested_lent: { (h : Self) (w : Self.W) (d : DomainValue) (x : ℕ) → w ≡ shared h → rested d x h → rested d x (with_shared h w) };
 
@@ -121,5 +126,5 @@ pub trait Desk<R: Recorder>: Host<R> {
 
     ghost rested_done: { (h : Self) (w : Self.W) (d : DomainValue) (x : ℕ) (done more : List Act) → Alike (Self.W.Knows.known (shared h)) (Self.W.Knows.known w) → Self.W.Knows.does more (shared h) w → asked_rested d x done h → asked_rested d x (done ++ more) (with_shared h w) };
 
-    ghost rested_passed: { (h : Self) (c : Caches R) (i : ℕ) (d : DomainValue) (x n : ℕ) → Appends (R.log (Self.Host.held h).recorder) (Self.Host.face h).level (entry.Pass i d n) (R.log c.recorder) → asked_rested d x (act.Reads d x n ∷ []) h → Self.Host.sound (Self.Host.with_held h c) };
+    ghost rested_passed: { (h : Self) (c : Caches R) (i : ℕ) (d : DomainValue) (x n : ℕ) → (minds → HasStamp R.log (Self.Host.face h).processors i d x (Self.Host.held h)) → Appends (R.log (Self.Host.held h).recorder) (Self.Host.face h).level (entry.Pass i d n) (R.log c.recorder) → asked_rested d x (act.Reads d x n ∷ []) h → Self.Host.sound (Self.Host.with_held h c) };
 }

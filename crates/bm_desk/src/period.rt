@@ -14,7 +14,7 @@ ghost use Rattle.bm_journal.specs.Recording.{Appends};
 ghost use Rattle.bm_journal.specs.declared.entry.Entry.TheVariants as entry;
 ghost use Rattle.bm_desk.specs.DeskTests.{Ripened};
 ghost use Rattle.bm_desk.specs.Periods.{Ends};
-ghost use Rattle.bm_desk.specs.Rested.{Fails, LooksOrEnds};
+ghost use Rattle.bm_desk.specs.Rested.{Fails, LooksOrEnds, PollsForSome};
 ghost use Rattle.bm_law_order.specs.Act.{Act};
 ghost use Rattle.bm_law_order.specs.Act as act;
 ghost use Rattle.bm_grace.specs.Begins.{begin_act};
@@ -196,8 +196,8 @@ fn begin_at<R: Recorder, H: Desk<R>>(host: &mut H, domain: Domain, even: u32)
     ensures lists { shown (H.Host.held host.new) ≡ shown (H.Host.held host.old) }
     ensures quiet { H.Host.pending host.new ≡ H.Host.pending host.old }
     ensures ages { Ages (H.W.Knows.rights (H.shared host.old)) (H.W.Knows.rights (H.shared host.new)) }
-    ensures stands { Stands R.log R.counts H.Host.sound H.Host.tests H.Host.face H.Host.held host.new }
-    ensures rested { (x : ℕ) → even < x → H.rested domain x host.new }
+    ensures stands { Stands R.log R.counts Whatever H.Host.tests H.Host.face H.Host.held host.new }
+    ensures rested { (x : ℕ) → even < x → PollsForSome H.minds domain x (H.Host.held host.old) → H.owes (act.Reads domain x even ∷ []) [] host.old → H.rested domain x host.new }
 {
     match try_begin(host, domain, even) {
         Began::Won => {
@@ -214,6 +214,7 @@ pub fn begin_if_due<R: Recorder, H: Desk<R>>(host: &mut H, domain: Domain, stamp
     requires stands { Stands R.log R.counts H.Host.sound H.Host.tests H.Host.face H.Host.held host.old }
     requires room { 0 < (side domain (H.W.Knows.known (H.shared host.old))).begins }
     requires rested { (side domain (H.W.Knows.known (H.shared host.old))).number % 2 ≡ 1 → H.rested domain stamp host.old }
+    requires batch { PollsForSome H.minds domain stamp (H.Host.held host.old) }
     ensures works { Works R.log H.Host.face H.Host.pending H.stays H.Host.held (λ h. H.W.Knows.known (H.shared h)) (plain_of domain) (tracing_of domain) (λ l. Say l (MayBegin domain)) host.old host.new }
     ensures lists { shown (H.Host.held host.new) ≡ shown (H.Host.held host.old) }
     ensures quiet { H.Host.pending host.new ≡ H.Host.pending host.old }

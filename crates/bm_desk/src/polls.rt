@@ -15,6 +15,7 @@ ghost use Rattle.bm_deferred.specs.WorkPhrases.{IsOne};
 ghost use Rattle.bm_desk.specs.DeskTests.{Ripened};
 ghost use Rattle.bm_desk.specs.Goes.{GoesOn};
 ghost use Rattle.bm_desk.specs.Periods.{Sees};
+ghost use Rattle.bm_desk.specs.Rested.{PollsFor};
 ghost use Rattle.bm_desk.specs.Owed.{Whatever};
 ghost use Rattle.bm_desk.specs.Works.{Stands, Works, plain_of, tracing_of};
 
@@ -45,7 +46,7 @@ fn note_passed<R: Recorder, H: Desk<R>>(host: &mut H, class: Class, domain: Doma
     ensures lists { shown (H.Host.held host.new) ≡ shown (H.Host.held host.old) }
     ensures ages { Ages (H.W.Knows.rights (H.shared host.old)) (H.W.Knows.rights (H.shared host.new)) }
     ensures stands { Stands R.log R.counts Whatever H.Host.tests H.Host.face H.Host.held host.new }
-    ensures sound { (stamp : ℕ) → H.asked_rested domain stamp (act.Reads domain stamp number ∷ []) host.old → H.Host.sound host.new }
+    ensures sound { (stamp : ℕ) → PollsFor H.minds class domain stamp (H.Host.held host.old) → H.asked_rested domain stamp (act.Reads domain stamp number ∷ []) host.old → H.Host.sound host.new }
 {
     let level = host.level();
     host.caches().passed(level, class, domain, number);
@@ -64,6 +65,7 @@ fn seen_number(seen: Done) -> u32
 fn see<R: Recorder, H: Desk<R>>(host: &mut H, class: Class, domain: Domain, stamp: u32) -> Done
     requires stands { Stands R.log R.counts H.Host.sound H.Host.tests H.Host.face H.Host.held host.old }
     requires rested { H.rested domain stamp host.old }
+    requires batch { PollsFor H.minds class domain stamp (H.Host.held host.old) }
     ensures works { Works R.log H.Host.face H.Host.pending H.stays H.Host.held (λ h. H.W.Knows.known (H.shared h)) 0 0 (λ l. Say l (IsOne (entry.Pass class domain (number_in result)))) host.old host.new }
     ensures answer { Answers result stamp }
     ensures ripe { (k : ℕ) → All (Ripened (H.Host.tests host.old) (H.Host.tests host.new) domain stamp result) ((shown (H.Host.held host.old)).rows k).deferred.first × All (Ripened (H.Host.tests host.old) (H.Host.tests host.new) domain stamp result) ((shown (H.Host.held host.old)).rows k).deferred.second }
@@ -80,10 +82,11 @@ fn see<R: Recorder, H: Desk<R>>(host: &mut H, class: Class, domain: Domain, stam
 /// Polls a domain for a class's batch with this stamp, and answers the number that it sees. A period that this side has in
 /// progress is looked at first, and ended if it has passed. Then, where none is in progress and the number is even and below
 /// the stamp, one is begun, and looked at. From `poll_state_synchronize_rcu` of kernel/rcu/tree.c, which begins nothing;
-/// there a kernel thread drives the periods.
+/// there a kernel thread drives the periods. On a desk that minds, the stamp is that of the class's batch.
 pub fn poll<R: Recorder, H: Desk<R>>(host: &mut H, class: Class, domain: Domain, stamp: u32) -> Done
     requires stands { Stands R.log R.counts H.Host.sound H.Host.tests H.Host.face H.Host.held host.old }
     requires room { 0 < (side domain (H.W.Knows.known (H.shared host.old))).begins }
+    requires batch { PollsFor H.minds class domain stamp (H.Host.held host.old) }
     ensures works { Works R.log H.Host.face H.Host.pending H.stays H.Host.held (λ h. H.W.Knows.known (H.shared h)) (plain_of domain) (tracing_of domain) (λ l. Say l (Sees class domain (number_in result))) host.old host.new }
     ensures answer { Answers result stamp }
     ensures ripe { (k : ℕ) → All (Ripened (H.Host.tests host.old) (H.Host.tests host.new) domain stamp result) ((shown (H.Host.held host.old)).rows k).deferred.first × All (Ripened (H.Host.tests host.old) (H.Host.tests host.new) domain stamp result) ((shown (H.Host.held host.old)).rows k).deferred.second }

@@ -9,7 +9,7 @@ use Rattle.bm_law_order.specs.Act.{Act}
 use Rattle.bm_law_order.specs.Chunk.{Chunk, Shows, acts_of, entries_of, is_judged}
 use Rattle.bm_law_order.specs.Chunk as chunk
 use Rattle.bm_law_order.specs.Story.{AllJudged, Story, Told, at_level, deeds, lines, lines_of}
-use Rattle.bm_law_order.specs.Tie.{Tied, TiedBy}
+use Rattle.bm_law_order.specs.Tie.{Tied, TiedBy, whatever}
 
 one-more : (ts : Story) (t : Told) → lines (ts ++ t ∷ []) ≡ lines ts ++ lines_of t
 one-more [] t = append-nil (lines_of t)
@@ -26,6 +26,14 @@ both-lines (x ∷ ts) us = ap (λ z. lines_of x ++ z) (both-lines ts us) ∙ sym
 both-deeds : (ts us : Story) → deeds (ts ++ us) ≡ deeds ts ++ deeds us
 both-deeds [] us = refl
 both-deeds (x ∷ ts) us = ap (λ z. acts_of x.chunk ++ z) (both-deeds ts us) ∙ sym (append_assoc (acts_of x.chunk) (deeds ts) (deeds us))
+
+all-whatever : (log : Log) (story : Story) → AllJudged whatever log story
+all-whatever log [] = tt
+all-whatever log (t ∷ ts) = (tt, all-whatever (log ++ lines_of t) ts)
+
+-- however its chunks are judged, it is tied
+pub tie-unjudged : {W : Type 0} (judge : ℕ → Log → Chunk → Type 0) (does : List Act → W → W → Type 0) (since : Log) (start : W) (l : ℕ) (done : List Act) (es : List Entry) (log : Log) (w : W) → Tied judge does since start l done es log w → Tied whatever does since start l done es log w
+tie-unjudged judge does since start l done es log w t = record { story = t.story; judged = all-whatever since t.story; log_is = t.log_is; done_is = t.done_is }
 
 module _ {W : Type 0} (judge : ℕ → Log → Chunk → Type 0) (free : (l : ℕ) (log : Log) (c : Chunk) → is_judged c ≡ false → judge l log c) (does : List Act → W → W → Type 0)
     (same : (a : W) → does [] a a) (join : (es fs : List Act) (a b c : W) → does es a b → does fs b c → does (es ++ fs) a c) (since : Log) (start : W) where

@@ -5,6 +5,7 @@ pub mod Ready
 pub mod AtProcessor
 pub mod Growing
 pub mod Hosting
+pub mod AtPolls
 pub mod AtTie
 pub mod AtRests
 pub mod RunsOn

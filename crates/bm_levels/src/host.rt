@@ -103,10 +103,7 @@ impl<'a, 's, B: Since, L: Rank> Desk<Keep> for At<'a, 's, B, L> {
     ghost use Rattle.bm_journal.specs.declared.entry.Entry.TheVariants as entry;
     ghost use Rattle.bm_levels.specs.AtProcessor.{IsAt, SameLives, Stays, log_of};
     ghost use Rattle.bm_levels.specs.AtTie.{OwesAt, owes-did, owes-said, tied-closed, tied-open, tied-paid, tied-shut};
-    ghost use Rattle.bm_levels.specs.AtRests.{RestedBy, RestsBy, law-kept, law-passed, law-rested_done, rests-by};
-    ghost use Rattle.bm_levels.specs.AtRests as idle;
-    ghost use Rattle.bm_grace.specs.Known.{side};
-    ghost use Rattle.bm_world.specs.LivingState.{known_living};
+    ghost use Rattle.bm_levels.specs.AtRests.{RestedBy, RestsBy, law-kept, law-passed, law-rested_done, rests-begun, rests-looked, rests-missed, rests-read, rests-tied, rests-whole, waits-in};
     ghost use Rattle.bm_law_order.specs.Act as act;
     ghost use Rattle.std.specs.Prelude.{◌∷◌};
     ghost use Rattle.bm_grace.specs.Known.{Objects};
@@ -123,6 +120,8 @@ impl<'a, 's, B: Since, L: Rank> Desk<Keep> for At<'a, 's, B, L> {
     ghost owes = { λ done es m. IsAt StandsAt L.number m.program.now m.own.now × OwesAt B.since B.start L.number done es m.own.now };
 
     ghost asked_owes = { λ done m. IsAt AskedAt L.number m.program.now m.own.now × OwesAt B.since B.start L.number done [] m.own.now };
+
+    ghost minds = { Unit {0} };
 
     ghost rested = { λ d x m. IsAt StandsAt L.number m.program.now m.own.now × RestsBy B.since B.start L.number d x (log_of m.own.now) m.own.now.side };
 
@@ -173,15 +172,17 @@ impl<'a, 's, B: Since, L: Rank> Desk<Keep> for At<'a, 's, B, L> {
 
     ghost asked_stepped = { λ h c done e i x a o. (at-stepped L.number h.program.now h.own.now c e i a o.0, tied-paid B.since B.start L.number done e h.own.now c x a o.1) };
 
-    ghost rested_looked = { λ h d x f o. (o.0, rests-by B.since B.start L.number d x (act.Looks d (side d (known_living h.own.now.side)).later ∷ []) [] (log_of h.own.now) h.own.now.side (idle.Looked f) o.1) };
+    ghost rested_looked = { λ h d x f o. (o.0, rests-looked B.since B.start L.number d x (log_of h.own.now) h.own.now.side f o.1) };
 
-    ghost rested_begun = { λ h d x n b f o. (o.0, rests-by B.since B.start L.number d x (act.Begins d n ∷ act.Looks d (side d (known_living h.own.now.side)).later ∷ []) (entry.Begin d n ∷ []) (log_of h.own.now) h.own.now.side (idle.Begun n b f) o.1) };
+    ghost rested_begun = { λ h d x n b a f o. (o.0, rests-begun B.since B.start L.number d x n _ h.own.now.caches h.own.now.side b o.0.ready.one (a tt) f o.1) };
 
-    ghost rested_read = { λ h d x n i z o. (o.0, rests-by B.since B.start L.number d x (act.Reads d x n ∷ []) [] (log_of h.own.now) h.own.now.side (idle.Read n i z) o.1) };
+    ghost rested_read = { λ h d x n i z o. (o.0, rests-read B.since B.start L.number d x n (log_of h.own.now) h.own.now.side i z o.1) };
 
-    ghost rested_missed = { λ h d x even n o. (o.0, rests-by B.since B.start L.number d x (act.Misses d even n ∷ []) [] (log_of h.own.now) h.own.now.side (idle.Missed even n) o.1) };
+    ghost rested_missed = { λ h d x even n o. (o.0, rests-missed B.since B.start L.number d x even n (log_of h.own.now) h.own.now.side o.1) };
 
-    ghost rested_whole = { λ h d x n ws p q b o. (o.0, rests-by B.since B.start L.number d x (act.Begins d n ∷ act.Looks d ws ∷ act.Finishes p ∷ []) (entry.Begin d n ∷ entry.Finish p ∷ []) (log_of h.own.now) h.own.now.side (idle.Ended n ws p q b) o.1) };
+    ghost rested_whole = { λ h d x n ws p q b a o. (o.0, rests-whole B.since B.start L.number d x n _ ws p h.own.now.caches h.own.now.side q b o.0.ready.one (a tt) o.1) };
+
+    ghost rested_sound = { λ h d x r. (r.0, tied-shut B.since B.start L.number h.own.now (rests-tied B.since B.start L.number d x (log_of h.own.now) h.own.now.side r.1)) };
 
     ghost rested_lent = { λ h w d x e r. subst (λ v. IsAt StandsAt L.number h.program.now (with_side h.own.now v) × RestsBy B.since B.start L.number d x (log_of h.own.now) v) (sym e) r };
 
@@ -189,5 +190,5 @@ impl<'a, 's, B: Since, L: Rank> Desk<Keep> for At<'a, 's, B, L> {
 
     ghost rested_done = { λ h w d x done more a m r. (at-sided AskedAt L.number h.program.now h.own.now w a r.0, law-rested_done B.since B.start L.number d x done more (log_of h.own.now) h.own.now.side w m r.1) };
 
-    ghost rested_passed = { λ h c i d x n a r. (at-stepped L.number h.program.now h.own.now c (entry.Pass i d n) refl a r.0, tied-shut B.since B.start L.number (with_caches h.own.now c) (law-passed B.since B.start L.number i d x n (log_of h.own.now) c.recorder.told h.own.now.side a r.1)) };
+    ghost rested_passed = { λ h c i d x n b a r. (at-stepped L.number h.program.now h.own.now c (entry.Pass i d n) refl a r.0, tied-shut B.since B.start L.number (with_caches h.own.now c) (law-passed B.since B.start L.number i d x n (log_of h.own.now) c.recorder.told h.own.now.side (waits-in _ i d x h.own.now.caches r.0.ready.one (b tt)) a r.1)) };
 }

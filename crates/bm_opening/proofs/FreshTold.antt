@@ -19,7 +19,7 @@ use Rattle.bm_law_order.specs.Numbers.{first_numbers}
 use Rattle.bm_law_order.specs.Pages.{fetches}
 use Rattle.bm_law_order.specs.Shared.{Shared, fresh}
 use Rattle.bm_law_order.specs.Story.{AllJudged, Story, deeds, lines}
-use Rattle.bm_law_order.specs.Tie.{Tied, TiedBy, whatever}
+use Rattle.bm_law_order.specs.Tie.{TiedBy}
 use Rattle.bm_law_order.specs.Words.{first_words}
 use Rattle.bm_law_order.proofs.BarePool.{fetched-bare}
 use Rattle.bm_post.specs.PostState.{no_parcels}
@@ -29,6 +29,7 @@ use Rattle.bm_world.specs.Slots.{AllEmpty, unit_at}
 use Rattle.bm_world.specs.Told.{told_boxes}
 use Rattle.bm_world.specs.ToldLiving.{LivingDoes, life_of, told_living}
 use Rattle.bm_opening.specs.Filling.{filling}
+use Rattle.bm_levels.specs.AtPolls.{polled}
 use Rattle.bm_opening.specs.Opened.{fresh_side, outset}
 use Rattle.bm_opening.proofs.OpeningLemmas.{living_side, none-at}
 
@@ -74,9 +75,9 @@ fill-lines : (cs : List ℕ) (pool : Stock) → lines (fill_story cs pool) ≡ f
 fill-lines [] pool = refl
 fill-lines (c ∷ cs) pool = let f = fetched c (prefill c) pool in ap (λ es. (0, entry.Fill c (named f.units)) ∷ es) (fill-lines cs f.pool)
 
-fill-judged : (log : Log) (cs : List ℕ) (pool : Stock) → AllJudged whatever log (fill_story cs pool)
-fill-judged log [] pool = tt
-fill-judged log (c ∷ cs) pool = let f = fetched c (prefill c) pool in (tt, fill-judged (log ++ (0, entry.Fill c (named f.units)) ∷ []) cs f.pool)
+fill-judged : (start : LivingState) (log : Log) (cs : List ℕ) (pool : Stock) → AllJudged (polled [] start) log (fill_story cs pool)
+fill-judged start log [] pool = tt
+fill-judged start log (c ∷ cs) pool = let f = fetched c (prefill c) pool in (tt, fill-judged start (log ++ (0, entry.Fill c (named f.units)) ∷ []) cs f.pool)
 
 -- they lead from what is told of the stock to what they leave of it
 fill-leads : (p : ℕ) (cs : List ℕ) (pool : Stock) (s : Shared) → s.pool ≡ bare_pool pool → ActsLead p (deeds (fill_story cs pool)) s (record s { pool = bare_pool (filling cs pool).pool })
@@ -104,14 +105,14 @@ fill-does cs pages pool slots begun q e z = record {
 }
 
 pub opened-tied : (cs : List ℕ) (pages : ℕ) (pool : Stock) (slots : List (Option UnitState)) (begun : List ℕ) (told : Option Log) → pool ≡ (filling cs (fresh_stock pages)).pool → AllEmpty slots → ((n : ℕ) → begun_at begun n ≡ 0) → IfSome told (λ es. es ≡ fill_log (filling cs (fresh_stock pages)).fills) →
-    TiedBy whatever LivingDoes [] (outset pages) 0 [] [] told (living_side pool slots begun)
+    TiedBy (polled [] (outset pages)) LivingDoes [] (outset pages) 0 [] [] told (living_side pool slots begun)
 opened-tied cs pages pool slots begun None q e z t = tt
 opened-tied cs pages pool slots begun (Some log) q e z t =
     let story = fill_story cs (fresh_stock pages) in
     let world : LivingState = living_side pool slots begun in
     record {
       story = story;
-      judged = fill-judged [] cs (fresh_stock pages);
+      judged = fill-judged (outset pages) [] cs (fresh_stock pages);
       log_is = t ∙ (sym (fill-lines cs (fresh_stock pages)) ∙ sym (append-nil (lines story)));
       done_is = subst (λ as'. LivingDoes as' (outset pages) world) (sym (append-nil (deeds story))) (fill-does cs pages pool slots begun q e z);
     }

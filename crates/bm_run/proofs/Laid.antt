@@ -9,7 +9,8 @@ use Rattle.bm_law_order.specs.ByDomain.{of}
 use Rattle.bm_law_order.specs.Orders.{IsLaid, Leads, Order, by}
 use Rattle.bm_law_order.specs.Shared.{Shared, fresh}
 use Rattle.bm_law_order.specs.Story.{Steady, plainly}
-use Rattle.bm_law_order.specs.Tie.{Tied, whatever}
+use Rattle.bm_law_order.specs.Chunk.{Chunk}
+use Rattle.bm_law_order.specs.Tie.{Tied}
 use Rattle.bm_law_order.specs.Whole.{before_first, behind_first, closing_of, cut_behind, from_first, given_up, in_turns, is_ended, is_fill, is_finish_or_sweep, is_sweep, is_yield, joined, opening_of, periods_ended, run_of, scripts_of, swept, through_first, turns_of, whole, with_front}
 use Rattle.bm_law_order.proofs.Along.{by-append}
 use Rattle.bm_law_order.proofs.TiesLead.{tied-leads}
@@ -31,13 +32,13 @@ fresh-steady pages = record { looked = looked; undropped = λ p l. refl; full = 
     looked Plain = inl refl
     looked Tracing = inl refl
 
--- a log that is tied since the outset leads from there to what its world tells
-pub tied-led : (pages : ℕ) (log : Log) (world : LivingState) → Tied whatever LivingDoes [] (outset pages) 0 [] [] log world → Leads (by 0 log) (fresh 1 pages) (plainly (told_living world))
-tied-led pages log world t =
+-- a log that is tied since the outset, however its chunks are judged, leads from there to what its world tells
+pub tied-led : (judge : ℕ → Log → Chunk → Type 0) (pages : ℕ) (log : Log) (world : LivingState) → Tied judge LivingDoes [] (outset pages) 0 [] [] log world → Leads (by 0 log) (fresh 1 pages) (plainly (told_living world))
+tied-led judge pages log world t =
     let first = outset-told pages in
     let did = (t.done_is.did 0 (outset-side pages)).leads in
-    let told : Tied whatever (ActsLead 0) [] (told_living (outset pages)) 0 [] [] log (told_living world) = record { story = t.story; judged = t.judged; log_is = t.log_is; done_is = did } in
-    let r = tied-leads whatever 0 0 [] log (told_living (outset pages)) (told_living world) told (subst Steady (sym first) (fresh-steady pages)) in
+    let told : Tied judge (ActsLead 0) [] (told_living (outset pages)) 0 [] [] log (told_living world) = record { story = t.story; judged = t.judged; log_is = t.log_is; done_is = did } in
+    let r = tied-leads judge 0 0 [] log (told_living (outset pages)) (told_living world) told (subst Steady (sym first) (fresh-steady pages)) in
     subst (λ z. Leads (by 0 z) (fresh 1 pages) (plainly (told_living world))) (sym r.log_is) (subst (λ (s : Shared). Leads (by 0 r.added) s (plainly (told_living world))) (ap plainly first) r.leads)
 
 -- and where nobody has a period in progress in that world, nobody has one after the log

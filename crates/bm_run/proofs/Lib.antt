@@ -11,3 +11,5 @@ pub mod Laid
 pub mod Progress
 pub mod LivesTold
 pub mod ParcelsTold
+pub mod StampsBound
+pub mod PollsTold

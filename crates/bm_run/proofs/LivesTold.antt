@@ -20,7 +20,7 @@ use Rattle.bm_law_order.specs.Lives.{IsGiven, Life, Lives, given_life, maker_of,
 use Rattle.bm_law_order.specs.Quiet.{is_quiet}
 use Rattle.bm_law_order.specs.Shared.{Shared}
 use Rattle.bm_law_order.specs.Story.{Story, at_level, deeds, lines, lines_of}
-use Rattle.bm_law_order.specs.Tie.{Tied, whatever}
+use Rattle.bm_law_order.specs.Tie.{Tied}
 use Rattle.bm_law_order.proofs.ActsJoin.{acts-append, acts-before, acts-later}
 use Rattle.bm_world.specs.LivingState.{LivingState, known_living, living_of}
 use Rattle.bm_world.specs.Slots.{unit_at}
@@ -143,8 +143,8 @@ known-so : (p : ℕ) (a b c : Lived) (log : Log) → ((v : ℕ) → c.begun v �
 known-so p a b c log f g h = record { fit = h.fit; begun = λ v. f v ∙ h.begun v; homes = λ v. g v ∙ h.homes v; freed = h.freed }
 
 -- a log that is tied since the outset tells which units live
-pub tied-lives : (pages : ℕ) (log : Log) (world : LivingState) → Tied whatever LivingDoes [] (outset pages) 0 [] [] log world → LivesOn 0 no_lives (lived_in (known_living world).objects) log
-tied-lives pages log world t =
+pub tied-lives : (judge : ℕ → Log → Chunk → Type 0) (pages : ℕ) (log : Log) (world : LivingState) → Tied judge LivingDoes [] (outset pages) 0 [] [] log world → LivesOn 0 no_lives (lived_in (known_living world).objects) log
+tied-lives judge pages log world t =
     let did = (t.done_is.did 0 (outset-side pages)).leads in
     let same : deeds t.story ++ [] ≡ deeds t.story = append-nil (deeds t.story) in
     let fit : ActsFit 0 (deeds t.story) (told_living (outset pages)) = subst (λ (as' : List Act). ActsFit 0 as' (told_living (outset pages))) same did.fit in

@@ -59,7 +59,8 @@ use Rattle.bm_opening.specs.Filling.{filling}
 use Rattle.bm_opening.specs.Opened.{IsOpen, outset}
 use Rattle.bm_run.specs.Closed.{Closed}
 use Rattle.bm_run.specs.Lines.{Wrote}
-use Rattle.bm_law_order.specs.Tie.{TiedBy, whatever}
+use Rattle.bm_law_order.specs.Tie.{TiedBy}
+use Rattle.bm_levels.specs.AtPolls.{polled}
 use Rattle.bm_world.specs.ToldLiving.{LivingDoes}
 use Rattle.bm_run.proofs.Laid.{tied-led}
 use Rattle.bm_run.proofs.ParcelsTold.{tied-parcels}
@@ -184,8 +185,8 @@ told-run s p m0 m2 m3 final r =
     let goes : LawfulSoFar (here p m3) p.scenario.now (z.log ++ rest) = late-goes-on (here p m3) p.scenario.now z.log rest (runs-none p m3 r.sound_ended) r.ended at_rest late here3 in
     let front_stands : HandlersStand s 0 front = subst (λ x. HandlersStand x 0 front) r.program (stands-here p m2 front r.sound here2.stands) in
     let front_done : HandlersDone s front = subst (λ x. HandlersDone x front) r.program here2.done in
-    let tied = subst (λ (o : Option Log). TiedBy whatever LivingDoes [] (outset s.pages) 0 [] [] o m2.side) told2 r.tied in
-    let begun : (d : Domain) → begun_by (side d (known_of m2)).number ≡ in_progress d None front = led-progress s.pages front m2.side r.sound.at.ready.first (tied-led s.pages front m2.side tied) in
+    let tied = subst (λ (o : Option Log). TiedBy (polled [] (outset s.pages)) LivingDoes [] (outset s.pages) 0 [] [] o m2.side) told2 r.tied in
+    let begun : (d : Domain) → begun_by (side d (known_of m2)).number ≡ in_progress d None front = led-progress s.pages front m2.side r.sound.at.ready.first (tied-led (polled [] (outset s.pages)) s.pages front m2.side tied) in
     let ends : EndsBegun (known_of m3) ≡ EndsPeriods front = ends-are (known_of m3) front (λ d. rw r.same (begun d)) in
     let leaves : Leaves 0 z.log (lists_of m3) = subst (λ (x : Option Log). IfSome x (λ es. Leaves 0 es (lists_of m3))) z.told (told-of p m3 r.sound_ended) in
     let state : lists_of m3 ≡ after (after (opening 0) front) e'.added = sym leaves.lists ∙ ap (after (opening 0)) middle ∙ after-append (opening 0) front e'.added in
@@ -206,7 +207,7 @@ told-run s p m0 m2 m3 final r =
         front_done = front_done;
         are_fills = fills-said classes (fresh_stock s.pages) fills logged;
         are_scripts = subst (λ (t : State ℕ). Scripts t scripts) (fills-leave p m0 fills o.sound told0) w'.is_part;
-        mail = tied-parcels s.pages front m2.side tied;
+        mail = tied-parcels (polled [] (outset s.pages)) s.pages front m2.side tied;
         closes = closes;
         before = lists_of m2;
         leaves = front2;

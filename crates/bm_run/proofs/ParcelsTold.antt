@@ -5,7 +5,8 @@ use Rattle.bm_law.specs.Lists.{Log}
 use Rattle.bm_law_order.specs.Orders.{Leads, by}
 use Rattle.bm_law_order.specs.Shared.{Shared, fresh}
 use Rattle.bm_law_order.specs.Story.{plainly}
-use Rattle.bm_law_order.specs.Tie.{Tied, whatever}
+use Rattle.bm_law_order.specs.Chunk.{Chunk}
+use Rattle.bm_law_order.specs.Tie.{Tied}
 use Rattle.bm_law_laid.proofs.Parts.{boxes-fit, boxes-over}
 use Rattle.bm_mail.specs.LeavesParcels.{LeavesParcels}
 use Rattle.bm_post.specs.PostState.{PostState, inbox, told_in}
@@ -20,9 +21,9 @@ use Rattle.bm_run.proofs.Laid.{outset-side, tied-led}
 own-boxes : (post : PostState) → post.processor ≡ 0 → told_boxes post 0 ≡ told_in post
 own-boxes post e = ap (λ p c. if nat_lt c 11 then map numbers (inbox p c post) else []) (sym e)
 
-pub tied-parcels : (pages : ℕ) (log : Log) (world : LivingState) → Tied whatever LivingDoes [] (outset pages) 0 [] [] log world → LeavesParcels log (told_in world.side.post)
-tied-parcels pages log world t =
-    let l : Leads (by 0 log) (fresh 1 pages) (plainly (told_living world)) = tied-led pages log world t in
+pub tied-parcels : (judge : ℕ → Log → Chunk → Type 0) (pages : ℕ) (log : Log) (world : LivingState) → Tied judge LivingDoes [] (outset pages) 0 [] [] log world → LeavesParcels log (told_in world.side.post)
+tied-parcels judge pages log world t =
+    let l : Leads (by 0 log) (fresh 1 pages) (plainly (told_living world)) = tied-led judge pages log world t in
     record {
       fit = boxes-fit (by 0 log) (fresh 1 pages) l.fit;
       left = ap (λ boxes. boxes 0) (sym (boxes-over (by 0 log) (fresh 1 pages))) ∙ (ap (λ (s : Shared). s.boxes 0) l.now_is ∙ own-boxes world.side.post (t.done_is.did 0 (outset-side pages)).stays.post_is);

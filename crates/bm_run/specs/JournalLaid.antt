@@ -7,6 +7,7 @@ use Rattle.bm_lang.specs.declared.scenario.Parts.{Parts}
 use Rattle.bm_law.specs.Lists.{Log}
 use Rattle.bm_law_order.specs.ByDomain.{of}
 use Rattle.bm_law_order.specs.Orders.{IsLaid, by, shared_over}
+use Rattle.bm_law_order.specs.Polls.{IsPolled}
 use Rattle.bm_law_order.specs.Shared.{fresh}
 use Rattle.bm_law_order.specs.Whole.{whole}
 use Rattle.bm_lives.specs.GraceLaw.{WholeGrace}
@@ -26,10 +27,15 @@ IsJournalLaid s j = IsLaid j.processors j.pages (whole (named_turns s.turns) j.l
 abbrev pub IsIdleAfter : ℕ → Log → Type 0
 IsIdleAfter pages log = (d : Domain) → (of d (shared_over (by 0 log) (fresh 1 pages)).numbers).driver ≡ None
 
--- It is laid; so its logs keep the law of grace periods, and each period that began has ended; a stamp waits for each number that
--- its log named before, and no number is seen above the last one that a period can end with.
+-- In that order its polls have rested, and its periods were begun for batches that waited.
+abbrev pub IsJournalPolled : Parts → Journal → Type 0
+IsJournalPolled s j = IsPolled j.processors j.pages (whole (named_turns s.turns) j.logs)
+
+-- It is laid, and polled; so its logs keep the law of grace periods, and each period that began has ended; a stamp waits for each
+-- number that its log named before, and no number is seen above the last one that a period can end with.
 pub record LaidWhole (s : Parts) (j : Journal) : Type 0 where
   pub laid : IsJournalLaid s j
+  pub polled : IsJournalPolled s j
   pub grace : WholeGrace j.logs
   pub plain_stamps : EachLog (λ p log. StampsFit Plain [] log) j.logs
   pub tracing_stamps : EachLog (λ p log. StampsFit Tracing [] log) j.logs

@@ -18,6 +18,7 @@ ghost use Rattle.bm_lives.specs.Lives.{WholeLives};
 ghost use Rattle.bm_lives.specs.Returns.{ReturnsLaw};
 ghost use Rattle.bm_lives.specs.Whole.{LawfulWhole};
 ghost use Rattle.bm_law_order.specs.Orders.{IsLaid, by};
+ghost use Rattle.bm_law_order.specs.Polls.{IsPolled};
 ghost use Rattle.bm_levels.specs.AtTie.{TiedAt};
 ghost use Rattle.bm_levels.specs.Ready.{word_of};
 ghost use Rattle.bm_levels.specs.Sound.{Sound};
@@ -96,6 +97,7 @@ fn journal_of(
     requires lives { WholeLives (log ∷ []) }
     requires returns { ReturnsLaw (log ∷ []) }
     requires laid { IsLaid 1 scenario.now.pages (by 0 log) }
+    requires polled { IsPolled 1 scenario.now.pages (by 0 log) }
     requires idle { IsIdleAfter scenario.now.pages log }
     ensures lawful { IfOk result (LawfulWhole scenario.now) }
     ensures laid { IfOk result (LaidWhole scenario.now) }
@@ -202,6 +204,7 @@ fn log_of<B: Since>(
     requires start { B.start ≡ outset scenario.now.pages }
     ensures lawful { IfOk result (LawfulLog scenario.now 0) }
     ensures laid { IfOk result (λ log. IsLaid 1 scenario.now.pages (by 0 log)) }
+    ensures polled { IfOk result (λ log. IsPolled 1 scenario.now.pages (by 0 log)) }
     ensures idle { IfOk result (IsIdleAfter scenario.now.pages) }
     ensures lives { IfOk result (λ log. WholeLives (log ∷ [])) }
     ensures returns { IfOk result (λ log. ReturnsLaw (log ∷ [])) }
@@ -234,8 +237,8 @@ fn log_of<B: Since>(
     close::<B>(alloc, own, opened)
 }
 
-/// Runs a checked scenario of the forms that run by now, and gives its journal, which is lawful and laid, and in which each grace
-/// period has ended. Its time grows with the statements run. Want of memory is the only refusal.
+/// Runs a checked scenario of the forms that run by now, and gives its journal, which is lawful and laid, in which each poll has
+/// rested and each grace period has ended. Its time grows with the statements run. Want of memory is the only refusal.
 pub fn replay(alloc: Global, checked: &Checked) -> Result<Journal, NoMemory>
     requires { RunsYet checked.now }
     ensures lawful { IfOk result (LawfulWhole checked.now) }

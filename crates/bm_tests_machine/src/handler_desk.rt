@@ -121,6 +121,8 @@ impl<R: Recorder, S: World> Desk<R> for Ground<R, S> {
 
     ghost asked_owes = { λ _ m. Unit {0} };
 
+    ghost minds = { ⊥ };
+
     ghost rested = { λ _ _ m. Unit {0} };
 
     ghost asked_rested = { λ _ _ _ m. Unit {0} };
@@ -172,13 +174,15 @@ impl<R: Recorder, S: World> Desk<R> for Ground<R, S> {
 
     ghost rested_looked = { λ h d x f o. o };
 
-    ghost rested_begun = { λ h d x n f g o. o };
+    ghost rested_begun = { λ h d x n b w f o. o };
 
     ghost rested_read = { λ h d x n i z o. o };
 
     ghost rested_missed = { λ h d x e n o. o };
 
-    ghost rested_whole = { λ h d x n ws p e f o. o };
+    ghost rested_whole = { λ h d x n ws p e b w o. o };
+
+    ghost rested_sound = { λ h d x o. o };
 
     ghost rested_lent = { λ h w d x e o. o };
 
@@ -186,7 +190,7 @@ impl<R: Recorder, S: World> Desk<R> for Ground<R, S> {
 
     ghost rested_done = { λ h w d x A B a m o. o };
 
-    ghost rested_passed = { λ h c i d x n a o. o };
+    ghost rested_passed = { λ h c i d x n w a o. o };
 }
 
 impl<'a, R: Recorder, S: World> Host<R> for Upper<'a, R, S> {

@@ -64,10 +64,11 @@ fn read_stamp<R: Recorder, H: Desk<R>>(host: &mut H, domain: Domain) -> u32
     host.world().stamp(domain)
 }
 
-/// A stamp of the plain domain, and what a poll for it answers.
+/// A stamp of the plain domain, and what a poll for it answers, on a desk that doesn't mind for which batch it is.
 fn stamp_and_poll<R: Recorder, H: Desk<R>>(host: &mut H, class: Class) -> (u32, Done)
     requires stands { Stands R.log R.counts H.Host.sound H.Host.tests H.Host.face H.Host.held host.old }
     requires apart { (h : H) (w : H.W) → H.Host.sound h → H.Host.sound (H.with_shared h w) }
+    requires free { H.minds → ⊥ }
     requires room { 0 < (side Plain (H.W.Knows.known (H.shared host.old))).begins }
     ensures stays { H.stays host.old host.new }
     ensures begins { (side Plain (H.W.Knows.known (H.shared host.old))).begins ≤ (side Plain (H.W.Knows.known (H.shared host.new))).begins + 1 }

@@ -100,6 +100,8 @@ impl<R: Recorder, S: World> Desk<R> for StillDesk<R, S> {
 
     ghost asked_owes = { λ _ m. Unit {0} };
 
+    ghost minds = { ⊥ };
+
     ghost rested = { λ _ _ m. Unit {0} };
 
     ghost asked_rested = { λ _ _ _ m. Unit {0} };
@@ -150,13 +152,15 @@ impl<R: Recorder, S: World> Desk<R> for StillDesk<R, S> {
 
     ghost rested_looked = { λ h d x f o. o };
 
-    ghost rested_begun = { λ h d x n f g o. o };
+    ghost rested_begun = { λ h d x n b w f o. o };
 
     ghost rested_read = { λ h d x n i z o. o };
 
     ghost rested_missed = { λ h d x e n o. o };
 
-    ghost rested_whole = { λ h d x n ws p e f o. o };
+    ghost rested_whole = { λ h d x n ws p e b w o. o };
+
+    ghost rested_sound = { λ h d x o. o };
 
     ghost rested_lent = { λ h w d x e o. o };
 
@@ -164,7 +168,7 @@ impl<R: Recorder, S: World> Desk<R> for StillDesk<R, S> {
 
     ghost rested_done = { λ h w d x A B a m o. o };
 
-    ghost rested_passed = { λ h c i d x n a o. o };
+    ghost rested_passed = { λ h c i d x n w a o. o };
 }
 
 impl<R: Recorder, S: World> Ended<R> for StillDesk<R, S> {
@@ -172,5 +176,5 @@ impl<R: Recorder, S: World> Ended<R> for StillDesk<R, S> {
 
     ghost owes_told = { λ h A B es others s o. o };
 
-    ghost owes_passed = { λ h d x n m c ws p e f o. o };
+    ghost owes_passed = { λ h d x n m c ws p e b w o. o };
 }

@@ -1,4 +1,4 @@
-use Rattle.std.proofs.Common.{◌≡◌, ◌≤◌, ◌∙◌, ◌++◌, ◌%◌, [], ℕ, List, map, refl, ap, sym, subst, arith}
+use Rattle.std.proofs.Common.{◌≡◌, ◌≤◌, ◌∙◌, ◌++◌, ◌%◌, [], ℕ, List, Some, eq-eqb, map, refl, ap, sym, subst, arith}
 use Rattle.std.specs.List.{All, concat, flat_map}
 use Rattle.std.proofs.lemmas.List.{map-append}
 use Rattle.bm_law_order.specs.Act.{Act}
@@ -13,7 +13,7 @@ use Rattle.bm_cache.specs.Span.{Face}
 use Rattle.bm_desk.specs.Goes.{Alike}
 use Rattle.bm_desk.specs.DeskTests.{tests_by}
 use Rattle.bm_desk.specs.Owed.{Whatever}
-use Rattle.bm_desk.proofs.Owing.{owes-called}
+use Rattle.bm_desk.proofs.Owing.{owes-called, has-stamp}
 use Rattle.bm_closing.specs.Arrived.{Arrived}
 use Rattle.bm_closing.specs.Gathered.{swept}
 use Rattle.bm_closing.specs.Told.{receives_all, waiting}
@@ -76,9 +76,13 @@ returns-clause-at_end g c =
     let b = at.begun in
     let stamp = at.stamp in
     let o = owes-called g.H.Desk.shared g.H.Desk.with_shared N g.H.W.Knows.does (λ (done : List Act). g.H.Desk.owes done []) (λ y z done more. g.met.H.Desk.owes_done y z done more []) h v w (N w) (waiting e.does.0 waited) c.world.ensures.held refl e.alike e.does.1 (receives_all i ps) c.requires.owes in
-    let sound = gathered-sound g.H.Host.face g.H.Host.held g.H.Host.with_held g.R.Recorder.log g.H.Desk.owes g.met.H.Ended.owes_noted g.H.Host.sound g.met.H.Ended.owes_told g.met.H.Ended.owes_passed h1 n c.gather.new.caches i all (swept i us (shown n)) ps e.does.0 waited c.caches.ensures.held
-    (ap (λ (f : Face). f.level) (g.met.H.Desk.face_apart h w (subst (λ y. Alike (N y) (N w)) c.world.ensures.held e.alike)) ∙ c.requires.at_end.ordinary) named at.domain (omega (arith, b, stamp)) c.gather.ensures.gathered.gained o in
     let a2 = at-end-batched g.R.Recorder.log g.R.Recorder.counts Whatever g.H.Host.tests g.H.Host.face g.H.Host.held h1 (g.H.Host.with_held h1 z) z i ns us x (g.met.H.Host.held_back h1 z) (g.met.H.Host.face_back h1 z) (g.met.H.Host.tests_back h1 z) tt lists (c.gather.ensures.gathered.processor ∙ ap (λ (y : Caches g.row.R.Denot). y.processor) c.caches.ensures.held) c.gather.ensures.placed either a1 in
+    let k = g.H.Host.with_held h1 z in
+    let there : shown (g.H.Host.held k) ≡ batched i ns us x (shown (g.H.Host.held h1)) = ap (λ (y : Caches g.row.R.Denot). shown y) (g.met.H.Host.held_back h1 z) ∙ lists in
+    let own : ((batched i ns us x (shown (g.H.Host.held h1))).rows i).deferred.tracing ≡ Some x = rw (eq-eqb i i refl) refl in
+    let waits = has-stamp g.R.Recorder.log g.R.Recorder.counts (g.H.Host.tests k) (g.H.Host.face k).processors _ (g.H.Host.held k) a2.fine i Tracing x (ap (λ (t : State Token). (t.rows i).deferred.tracing) there ∙ own) in
+    let sound = gathered-sound g.H.Host.face g.H.Host.held g.H.Host.with_held g.R.Recorder.log g.H.Desk.owes g.met.H.Ended.owes_noted g.H.Host.sound g.met.H.Ended.owes_told g.met.H.Ended.owes_passed h1 n c.gather.new.caches i all (swept i us (shown n)) ps e.does.0 waited c.caches.ensures.held
+    (ap (λ (f : Face). f.level) (g.met.H.Desk.face_apart h w (subst (λ y. Alike (N y) (N w)) c.world.ensures.held e.alike)) ∙ c.requires.at_end.ordinary) named at.domain (omega (arith, b, stamp)) waits c.gather.ensures.gathered.gained o in
     at-end-with g.R.Recorder.log g.R.Recorder.counts Whatever g.H.Host.sound g.H.Host.tests g.H.Host.face g.H.Host.held (g.H.Host.with_held h1 z) sound a2
 
 pub returns-clause-alike : goal.returns-clause-alike

@@ -15,9 +15,9 @@ use Rattle.bm_desk.specs.Works.{plain_of, tracing_of}
 use Rattle.bm_desk.proofs.Sides.{works-at-most, works-called, works-join, works-map, say-join}
 use Rattle.bm_desk.proofs.Turning.{called-turned, numbers-moved, works-turned}
 use Rattle.bm_law_order.specs.Act as act
-use Rattle.bm_law_order.specs.Chunk as chunk
 use Rattle.bm_grace.specs.Begins.{begin_act}
-use Rattle.bm_desk.proofs.Owing.{begun-sound, shows, stands-with}
+use Rattle.bm_cache.specs.Shown.{shown}
+use Rattle.bm_desk.proofs.Owing.{some-stamp}
 use Rattle.bm_desk.proofs.period.begin_at.Goals as goal
 
 pub returns-in-Won-clause-works : goal.returns-in-Won-clause-works
@@ -55,40 +55,25 @@ returns-in-Moved-clause-works g c =
     works-map g.R.Recorder.log g.H.Host.face g.H.Host.pending g.H.Desk.stays g.H.Host.held (λ h. N (g.H.Desk.shared h)) (plain_of d) (tracing_of d) (λ l. Nothing) (λ l. Say l (MayBegin d)) a b (nothing-began d)
     (works-called g.R.Recorder.log g.R.Recorder.counts g.H.Host.face g.H.Host.pending g.H.Desk.stays g.H.Host.held (λ h. N (g.H.Desk.shared h)) (λ h. g.H.W.Knows.rights (g.H.Desk.shared h)) (plain_of d) (tracing_of d) a b t)
 
-pub returns-in-Won-clause-stands : goal.returns-in-Won-clause-stands
-returns-in-Won-clause-stands g c =
-    let d = c.args.domain in
-    let n = c.args.even + 1 in
-    let y = c.finish_if_all.new.host in
-    let F : Began → Type 0 = λ r. g.H.Desk.owes (begin_act d c.args.even r ∷ []) [] c.try_begin.new.host in
-    let o = subst F c.in-Won.is (c.try_begin.ensures.owes [] [] (g.met.H.Desk.owes_open c.args.host.now c.requires.stands.sound)) in
-    let q = c.finish_if_all.ensures.owes (act.Begins d n ∷ []) (entry.Begin d n ∷ []) (c.note_begun.ensures.owes (act.Begins d n ∷ []) [] o) in
-    stands-with g.R.Recorder.log g.R.Recorder.counts (λ _. Unit {0}) g.H.Host.sound g.H.Host.tests g.H.Host.face g.H.Host.held y (begun-sound (λ h. g.H.W.Knows.known (g.H.Desk.shared h)) g.H.Desk.owes g.H.Host.sound g.met.H.Desk.owes_closed d n y q) c.finish_if_all.ensures.stands
-
-pub returns-in-Moved-clause-stands : goal.returns-in-Moved-clause-stands
-returns-in-Moved-clause-stands g c =
-    let d = c.args.domain in
-    let y = c.try_begin.new.host in
-    let m = c.in-Moved.field-0 in
-    let F : Began → Type 0 = λ r. g.H.Desk.owes (begin_act d c.args.even r ∷ []) [] y in
-    let o = subst F c.in-Moved.is (c.try_begin.ensures.owes [] [] (g.met.H.Desk.owes_open c.args.host.now c.requires.stands.sound)) in
-    stands-with g.R.Recorder.log g.R.Recorder.counts (λ _. Unit {0}) g.H.Host.sound g.H.Host.tests g.H.Host.face g.H.Host.held y (g.met.H.Desk.owes_closed y (act.Misses d c.args.even m ∷ []) [] (shows (chunk.Missing d c.args.even m) refl) o) c.try_begin.ensures.stands
-
 pub returns-in-Won-clause-rested : goal.returns-in-Won-clause-rested
-returns-in-Won-clause-rested g c x less =
+returns-in-Won-clause-rested g c x less batch owed =
     let d = c.args.domain in
     let n = c.args.even + 1 in
+    let a = c.args.host.now in
     let y = c.finish_if_all.new.host in
     let F : Began → Type 0 = λ r. g.H.Desk.owes (begin_act d c.args.even r ∷ []) [] c.try_begin.new.host in
-    let o = subst F c.in-Won.is (c.try_begin.ensures.owes [] [] (g.met.H.Desk.owes_open c.args.host.now c.requires.stands.sound)) in
+    let o = subst F c.in-Won.is (c.try_begin.ensures.owes [] [] (g.met.H.Desk.owes_open a c.requires.stands.sound)) in
+    let lists = c.finish_if_all.ensures.lists ∙ c.note_begun.ensures.lists ∙ ap shown c.try_begin.ensures.turned.held in
+    let w = some-stamp g.R.Recorder.log g.R.Recorder.counts (λ _. Unit {0}) g.H.Host.tests g.H.Host.face g.H.Host.held g.H.Desk.minds d x a y lists batch c.finish_if_all.ensures.stands in
     elim (c.finish_if_all.ensures.owes (act.Begins d n ∷ []) (entry.Begin d n ∷ []) (c.note_begun.ensures.owes (act.Begins d n ∷ []) [] o)) [
-      | inl q ↦ g.met.H.Desk.rested_begun y d x n (omega (arith, less)) q.1 q.0
-      | inr q ↦ g.met.H.Desk.rested_whole y d x n q.0 q.1 q.2 (omega (arith, less)) q.4
+      | inl q ↦ g.met.H.Desk.rested_begun y d x n (omega (arith, less)) w q.1 q.0
+      | inr q ↦ g.met.H.Desk.rested_whole y d x n q.0 q.1 q.2 (omega (arith, less)) w q.4
     ]
 
 pub returns-in-Moved-clause-rested : goal.returns-in-Moved-clause-rested
-returns-in-Moved-clause-rested g c x less =
+returns-in-Moved-clause-rested g c x less batch owed =
     let d = c.args.domain in
+    let even = c.args.even in
     let y = c.try_begin.new.host in
-    let F : Began → Type 0 = λ r. g.H.Desk.owes (begin_act d c.args.even r ∷ []) [] y in
-    g.met.H.Desk.rested_missed y d x c.args.even c.in-Moved.field-0 (subst F c.in-Moved.is (c.try_begin.ensures.owes [] [] (g.met.H.Desk.owes_open c.args.host.now c.requires.stands.sound)))
+    let F : Began → Type 0 = λ r. g.H.Desk.owes (act.Reads d x even ∷ begin_act d even r ∷ []) [] y in
+    g.met.H.Desk.rested_missed y d x even c.in-Moved.field-0 (subst F c.in-Moved.is (c.try_begin.ensures.owes (act.Reads d x even ∷ []) [] owed))

@@ -4,6 +4,9 @@ use Rattle.bm_law.specs.Lists.{Log}
 use Rattle.bm_law.specs.State.{State}
 use Rattle.bm_law_order.specs.Act as act
 use Rattle.bm_grace.specs.Answers.{Answers, number_in}
+use Rattle.bm_grace.specs.declared.answer.Done.{Done}
+use Rattle.bm_cache.specs.declared.caches.Caches.{Caches}
+use Rattle.bm_desk.specs.Rested.{PollsForSome}
 use Rattle.bm_law_order.specs.Chunk as chunk
 use Rattle.bm_desk.proofs.Owing.{shows, stands-with}
 use Rattle.bm_law.specs.SweepPhrases.{MayBegin}
@@ -111,5 +114,16 @@ returns-in_default-clause-rested g c =
 
 pub returns-then-number-eq0-clause-rested : goal.returns-then-number-eq0-clause-rested
 returns-then-number-eq0-clause-rested g c =
-    let less : c.in-NotYet.number < c.args.stamp = subst (λ r. Answers r c.args.stamp) c.in-NotYet.is c.ask.ensures.answer in
-    c.begin_at.ensures.rested c.args.stamp less
+    let d = c.args.domain in
+    let x = c.args.stamp in
+    let y = c.ask.new.host in
+    let less : c.in-NotYet.number < x = subst (λ r. Answers r x) c.in-NotYet.is c.ask.ensures.answer in
+    let F : Done → Type 0 = λ r. g.H.Desk.owes (act.Reads d x (number_in r) ∷ []) [] y in
+    let owed = subst F c.in-NotYet.is (c.ask.ensures.owes [] [] (c.drives.ensures.owes [] [] (g.met.H.Desk.owes_open c.args.host.now c.requires.stands.sound))) in
+    let batch = subst (λ (z : Caches g.row.R.Denot). PollsForSome g.H.Desk.minds d x z) (sym (c.ask.ensures.called.held ∙ c.drives.ensures.called.held)) c.requires.batch in
+    c.begin_at.ensures.rested x less batch owed
+
+pub returns-then-number-eq0-clause-stands : goal.returns-then-number-eq0-clause-stands
+returns-then-number-eq0-clause-stands g c =
+    let y = c.begin_at.new.host in
+    stands-with g.R.Recorder.log g.R.Recorder.counts (λ _. Unit {0}) g.H.Host.sound g.H.Host.tests g.H.Host.face g.H.Host.held y (g.met.H.Desk.rested_sound y c.args.domain c.args.stamp (returns-then-number-eq0-clause-rested g c)) c.begin_at.ensures.stands

@@ -1,7 +1,7 @@
 use Rattle.std.proofs.Common.{◌≡◌, ◌+◌, ◌++◌, ◌∷◌, ◌∙◌, [], ℕ, List, refl, ap, arith}
 use Rattle.bm_journal.specs.declared.entry.Entry.{Entry}
 use Rattle.bm_journal.specs.declared.entry.Entry.TheVariants as entry
-use Rattle.bm_law.specs.Lists.{after}
+use Rattle.bm_law.specs.Lists.{after, stamp_of}
 use Rattle.bm_law.specs.State.{State}
 use Rattle.bm_law.specs.SweepPhrases.{MayBegin, MayFinish, PollPhrase}
 use Rattle.bm_cache.specs.Shown.{shown}
@@ -49,3 +49,9 @@ returns-clause-ripe g c k =
       ripened-before (T a) (T b) (T c.see.new.host) c.args.domain c.args.stamp c.see.result ((shown (g.H.Host.held a)).rows k).deferred.first ((shown (g.H.Host.held b)).rows k).deferred.first o (ap (λ (s : State Token). (s.rows k).deferred.first) q) (c.see.ensures.ripe k).0,
       ripened-before (T a) (T b) (T c.see.new.host) c.args.domain c.args.stamp c.see.result ((shown (g.H.Host.held a)).rows k).deferred.second ((shown (g.H.Host.held b)).rows k).deferred.second o (ap (λ (s : State Token). (s.rows k).deferred.second) q) (c.see.ensures.ripe k).1,
     )
+
+pub begin_if_due-requires-clause-batch : goal.begin_if_due-requires-clause-batch
+begin_if_due-requires-clause-batch g c m = (c.args.class, ap (λ (s : State Token). stamp_of c.args.domain (s.rows c.args.class).deferred) c.finish_if_passed.ensures.lists ∙ c.requires.batch m)
+
+pub see-requires-clause-batch : goal.see-requires-clause-batch
+see-requires-clause-batch g c m = ap (λ (s : State Token). stamp_of c.args.domain (s.rows c.args.class).deferred) (c.begin_if_due.ensures.lists ∙ c.finish_if_passed.ensures.lists) ∙ c.requires.batch m

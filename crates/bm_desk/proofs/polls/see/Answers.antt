@@ -1,14 +1,16 @@
-use Rattle.std.proofs.Common.{[], ◌∷◌, ℕ, subst, sym}
+use Rattle.std.proofs.Common.{[], ◌∷◌, ◌∙◌, ℕ, ap, subst, sym}
 use Rattle.bm_law_order.specs.Act as act
 use Rattle.bm_desk.proofs.Owing.{stands-with}
 use Rattle.bm_journal.specs.declared.entry.Entry.TheVariants as entry
-use Rattle.bm_law.specs.Lists.{after}
+use Rattle.bm_law.specs.Lists.{after, stamp_of}
 use Rattle.bm_cache.specs.Shown.{shown}
 use Rattle.bm_deferred.specs.Parts.{Part, Say, Stand}
 use Rattle.bm_deferred.specs.WorkPhrases.{IsOne}
 use Rattle.bm_grace.specs.Answers.{number_in}
 use Rattle.bm_work.proofs.Grown.{say-after}
+use Rattle.bm_cache.specs.declared.caches.Caches.{Caches}
 use Rattle.bm_desk.specs.Onward.{Onward}
+use Rattle.bm_desk.specs.Rested.{PollsFor}
 use Rattle.bm_desk.specs.Works.{Works}
 use Rattle.bm_desk.proofs.Sides.{aged-tests, called-works, works-join}
 use Rattle.bm_desk.proofs.Tests.{ripened-all}
@@ -39,4 +41,7 @@ returns-clause-stands g c =
     let x = c.args.stamp in
     let o = c.ask_now-seen.ensures.rested [] (c.pause.ensures.rested d x c.requires.rested) in
     let F : ℕ → Type 0 = λ n. g.H.Desk.asked_rested d x (act.Reads d x n ∷ []) z in
-    stands-with g.R.Recorder.log g.R.Recorder.counts (λ _. Unit {0}) g.H.Host.sound g.H.Host.tests g.H.Host.face g.H.Host.held y (c.note_passed.ensures.sound x (subst F (sym c.seen_number.ensures) o)) c.note_passed.ensures.stands
+    let i = c.args.class in
+    let deferred = ap (λ (k : Caches g.row.R.Denot). ((shown k).rows i).deferred) c.ask_now-seen.ensures.called.held ∙ (c.pause.ensures.came.kept.rows i).deferred in
+    let batch : PollsFor g.H.Desk.minds i d x (g.H.Host.held z) = λ m. ap (stamp_of d) deferred ∙ c.requires.batch m in
+    stands-with g.R.Recorder.log g.R.Recorder.counts (λ _. Unit {0}) g.H.Host.sound g.H.Host.tests g.H.Host.face g.H.Host.held y (c.note_passed.ensures.sound x batch (subst F (sym c.seen_number.ensures) o)) c.note_passed.ensures.stands

@@ -19,6 +19,10 @@ use Rattle.bm_desk.proofs.Passings.{batch-ripe, pass-not, pass-stop, pass-yes, s
 use Rattle.bm_desk.proofs.Sides.{on-err, on-ok, posted-stopped, posted-works, works-join-at, works-map-at, works-stopped-at}
 use Rattle.bm_desk.proofs.stages.pass_first.Goals as goal
 
+pub poll-requires-clause-batch : goal.poll-requires-clause-batch
+poll-requires-clause-batch g c m =
+    ap (λ (z : Caches g.row.R.Denot). ((shown z).rows c.args.class).deferred.plain) c.batch_stamp.ensures.same ∙ sym c.batch_stamp.ensures.stamp ∙ c.in-Some.is
+
 pub send_first-requires-clause-ripe : goal.send_first-requires-clause-ripe
 send_first-requires-clause-ripe g c =
     let a = c.args.host.now in

@@ -15,6 +15,10 @@ use Rattle.bm_desk.proofs.Passings.{pass-not, pass-stop, pass-yes}
 use Rattle.bm_desk.proofs.Sides.{on-err, on-ok, posted-stopped, posted-works, works-join-at, works-map-at, works-stopped-at}
 use Rattle.bm_desk.proofs.stages.pass_second.Goals as goal
 
+pub poll-requires-clause-batch : goal.poll-requires-clause-batch
+poll-requires-clause-batch g c m =
+    ap (λ (z : Caches g.row.R.Denot). ((shown z).rows c.args.class).deferred.tracing) c.batch_stamp.ensures.same ∙ sym c.batch_stamp.ensures.stamp ∙ c.in-Some.is
+
 pub returns-in-Passed-clause-ok : goal.returns-in-Passed-clause-ok
 returns-in-Passed-clause-ok g c =
     let j = g.met.H.Desk.stays_join in

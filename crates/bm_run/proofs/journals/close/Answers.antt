@@ -56,7 +56,7 @@ returns-clause-tied g c =
     let told : n.caches.recorder.told ≡ Some l = ap (λ (k : Recorded). k.told) (sym c.finish.ensures) ∙ (sym c.into_log.ensures.told ∙ q) in
     record {
       world = n.side;
-      tied = subst (λ (o : Option Log). Ends g.B.Since.since g.B.Since.start [] [] o n.side) told end.sound;
+      tied = subst (λ (o : Option Log). Ends g.B.Since.since g.B.Since.start [] [] o n.side) told end.sound.1;
       idle = λ d. (rest d).1.0.no_driver (rest d).1.1;
       objects = alike.objects;
     }))

@@ -3,10 +3,12 @@ use Rattle.std.proofs.Common.{rules, ◌≡◌, ◌∷◌, [], ℕ, List, Some, 
 use Rattle.bm_law.specs.Lists.{Log}
 use Rattle.bm_law_order.specs.ByDomain.{of}
 use Rattle.bm_law_order.specs.Orders.{IsLaid, Order, shared_over}
+use Rattle.bm_law_order.specs.Polls.{IsPolled}
 use Rattle.bm_law_order.specs.Shared.{fresh}
 use Rattle.bm_law_order.specs.Whole.{whole}
 use Rattle.bm_run.specs.JournalLaid.{named_turns}
 use Rattle.bm_run.proofs.Laid.{laid-whole, whole-one}
+use Rattle.bm_run.proofs.PollsTold.{polled-whole}
 use Rattle.bm_lawful.specs.Lawful.{LawfulLog}
 use Rattle.bm_lawful.specs.Short.{JournalShort}
 use Rattle.bm_lawful.proofs.Told.{one-log}
@@ -56,6 +58,7 @@ returns-clause-laid c =
     let now = sym c.in_ok-logs.ensures in
     record {
       laid = subst (λ (x : List Log). IsLaid s.processors s.pages (whole (named_turns s.turns) x)) now (subst (λ (n : ℕ). IsLaid n s.pages order) (sym c.requires.yet.one) one);
+      polled = subst (λ (x : List Log). IsPolled s.processors s.pages (whole (named_turns s.turns) x)) now (subst (λ (n : ℕ). IsPolled n s.pages order) (sym c.requires.yet.one) (polled-whole (named_turns s.turns) s.pages log c.requires.polled));
       grace = record {
         law = subst GraceLaw now (laws.grace s.pages logs order (lit≤ tt) of-logs one);
         plain_ended = subst (AllEnded Plain) now (laws.ended Plain 1 s.pages logs order of-logs one (idle Plain));

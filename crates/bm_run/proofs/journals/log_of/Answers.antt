@@ -9,7 +9,8 @@ use Rattle.bm_exec.specs.Lists.{Behind}
 use Rattle.bm_exec.specs.Living.{home_of}
 use Rattle.bm_law_order.specs.Orders.{IsLaid, by}
 use Rattle.bm_law_order.specs.Whole.{whole}
-use Rattle.bm_law_order.specs.Tie.{Tied, whatever}
+use Rattle.bm_law_order.specs.Tie.{Tied}
+use Rattle.bm_levels.specs.AtPolls.{polled}
 use Rattle.bm_world.specs.ToldLiving.{LivingDoes}
 use Rattle.bm_opening.specs.Opened.{outset}
 use Rattle.bm_levels.specs.AtProcessor.{lists_of}
@@ -29,6 +30,7 @@ use Rattle.bm_run.proofs.LogLaw.{RunLeft, alone-sends, lawful-run, lived-run, un
 use Rattle.bm_run.proofs.OpenedList.{opened-ascend, opened-few}
 use Rattle.bm_run.proofs.Results.{both-if-ok, if-ok, not-err}
 use Rattle.bm_run.proofs.journals.log_of.Given.{Over}
+use Rattle.bm_run.proofs.PollsTold.{tied-polled}
 use Rattle.bm_run.proofs.journals.log_of.Goals as goal
 
 some-processors : (n : ℕ) → n ≡ 1 → 1 ≤ n
@@ -107,14 +109,17 @@ run-left g c final x =
     )
 
 -- the log is tied since the outset, and leads from there to a world in which nobody has a period in progress
-since-outset : (g : Over) (c : goal.After-close g) (final : Log) (world : LivingState) → Tied whatever LivingDoes g.B.Since.since g.B.Since.start 0 [] [] final world → Tied whatever LivingDoes [] (outset c.args.scenario.now.pages) 0 [] [] final world
+abbrev TiedSince : Log → LivingState → Log → LivingState → Type 0
+TiedSince since start log world = Tied (polled since start) LivingDoes since start 0 [] [] log world
+
+since-outset : (g : Over) (c : goal.After-close g) (final : Log) (world : LivingState) → TiedSince g.B.Since.since g.B.Since.start final world → TiedSince [] (outset c.args.scenario.now.pages) final world
 since-outset g c final world t =
-    subst (λ l. Tied whatever LivingDoes l (outset c.args.scenario.now.pages) 0 [] [] final world) c.requires.since (subst (λ w. Tied whatever LivingDoes g.B.Since.since w 0 [] [] final world) c.requires.start t)
+    subst (λ l. TiedSince l (outset c.args.scenario.now.pages) final world) c.requires.since (subst (λ w. TiedSince g.B.Since.since w final world) c.requires.start t)
 
 led-log : (g : Over) (c : goal.After-close g) → IfOk c.close.result (λ final. IsLaid 1 c.args.scenario.now.pages (by 0 final) × IsIdleAfter c.args.scenario.now.pages final)
 led-log g c = if-ok c.close.result _ _ c.close.ensures.tied (λ final t.
     let pages = c.args.scenario.now.pages in
-    let led = tied-led pages final t.world (since-outset g c final t.world t.tied) in (led.fit, led-idle pages final t.world led t.idle))
+    let led = tied-led (polled [] (outset pages)) pages final t.world (since-outset g c final t.world t.tied) in (led.fit, led-idle pages final t.world led t.idle))
 
 pub returns-clause-lawful : goal.returns-clause-lawful
 returns-clause-lawful g c = both-if-ok c.close.result _ _ _ c.close.ensures.closed (led-log g c) (λ final x h.
@@ -129,7 +134,7 @@ lived-log g c = both-if-ok c.close.result _ _ _ c.close.ensures.closed c.close.e
     let objects = (known_living t.world).objects in
     let none : (u : ℕ) → objects.lives u ≡ None = λ u. ap (λ (o : Objects). o.lives u) t.objects ∙ (ap (λ (w : LivingState). lives_of w.slots u) r.1.same ∙ r.1.lives u) in
     let law = c.lives_law.ensures in
-    lived-run final (lived_in objects) law.one law.whole law.freed (tied-lives c.args.scenario.now.pages final t.world (since-outset g c final t.world t.tied)) (λ u. ap home_of (none u)))
+    lived-run final (lived_in objects) law.one law.whole law.freed (tied-lives (polled [] (outset c.args.scenario.now.pages)) c.args.scenario.now.pages final t.world (since-outset g c final t.world t.tied)) (λ u. ap home_of (none u)))
 
 pub returns-clause-lives : goal.returns-clause-lives
 returns-clause-lives g c = if-ok c.close.result _ _ (lived-log g c) (λ final h. h.0)
@@ -152,3 +157,6 @@ returns-clause-laid g c = if-ok c.close.result _ _ (led-log g c) (λ final h. h.
 
 pub returns-clause-idle : goal.returns-clause-idle
 returns-clause-idle g c = if-ok c.close.result _ _ (led-log g c) (λ final h. h.1)
+
+pub returns-clause-polled : goal.returns-clause-polled
+returns-clause-polled g c = if-ok c.close.result _ _ c.close.ensures.tied (λ final t. tied-polled c.args.scenario.now.pages final t.world (since-outset g c final t.world t.tied))

@@ -30,3 +30,9 @@ poll-requires-clause-stands g c =
 
 pub stamp_and_poll-requires-clause-apart : goal.stamp_and_poll-requires-clause-apart
 stamp_and_poll-requires-clause-apart g c h w s = s
+
+pub stamp_and_poll-requires-clause-free : goal.stamp_and_poll-requires-clause-free
+stamp_and_poll-requires-clause-free g c m = m
+
+pub poll-requires-clause-batch : goal.poll-requires-clause-batch
+poll-requires-clause-batch g c m = absurd m

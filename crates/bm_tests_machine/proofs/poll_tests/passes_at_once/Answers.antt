@@ -7,3 +7,6 @@ stamp_and_poll-requires-clause-stands g c =
 
 pub stamp_and_poll-requires-clause-apart : goal.stamp_and_poll-requires-clause-apart
 stamp_and_poll-requires-clause-apart g c h w s = s
+
+pub stamp_and_poll-requires-clause-free : goal.stamp_and_poll-requires-clause-free
+stamp_and_poll-requires-clause-free g c m = m
