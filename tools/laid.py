@@ -220,7 +220,8 @@ class Shared:
         passed, stamp = self.passed.get(p), self.stamps.get((p, size, "plain"))
         if passed and passed[0] == size and stamp is not None:
             for unit in units:
-                self.waits[unit] = (stamp, passed[1])
+                if self.waits.get(unit) == "batch":
+                    self.waits[unit] = (stamp, passed[1])
 
     def on_receive(self, p: int, level: int, words: list[str]) -> None:
         box = self.box(p, int(words[0]))

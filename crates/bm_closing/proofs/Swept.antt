@@ -44,8 +44,8 @@ use Rattle.bm_closing.proofs.Sweeping.{batched, batched-second}
 -- ---- its entries
 
 -- a gathering and a return are a sweep
-sweep-of : (c : ℕ) (ns : List ℕ) (w : Waited) → w.period.domain ≡ Tracing → SweepOf c ns (gathering c ns w ++ entry.Return c (Whole ns) ∷ [])
-sweep-of c ns w d =
+sweep-of : (c : ℕ) (ns : List ℕ) (w : Waited) → w.period.domain ≡ Tracing → w.stamp ≤ w.seen → SweepOf c ns (gathering c ns w ++ entry.Return c (Whole ns) ∷ [])
+sweep-of c ns w d le =
     let begun : List Entry = entry.Begin Tracing w.begun ∷ entry.Finish w.period ∷ [] in
     let poll : List Entry = entry.Begin Tracing w.begun ∷ entry.Finish w.period ∷ entry.Pass c Tracing w.seen ∷ [] in
     let polls : PollPhrase c Tracing poll = record {
@@ -59,6 +59,7 @@ sweep-of c ns w d =
     record {
       phrase = record { swept = ns; returned = ns; stamp = w.stamp; poll = poll; own_is = refl; polls = polls };
       taken = refl;
+      waited = le;
       given = refl;
     }
 
@@ -96,8 +97,8 @@ returned-others c x ns ms us s k d = rw (ne_eqb k c d) refl
 
 module _ {H R : Type 0} (log : R → Option Log) (faces : H → Face) (waits : H → ℕ) (stays : H → H → Type 0) (holds : H → Caches R) (known : H → Known) (join : (a b c : H) → stays a b → stays b c → stays a c) where
   -- the units became a batch, and went back
-  pub swept-of : (c : ℕ) (us : List UnitState) (w : Waited) (a b d : H) → w.period.domain ≡ Tracing → Gathered log c us w (holds a) (holds b) → SentBack log c (holds b) (holds d) → Goes faces waits stays a b → Goes faces waits stays b d → Alike (known a) (known b) → Alike (known b) (known d) → (known b).parcels ≡ (known a).parcels → (known d).parcels ≡ (known b).parcels → (known d).grace ≡ (known b).grace → (known b).grace.plain.begins ≡ (known a).grace.plain.begins → (known a).grace.tracing.begins ≤ (known b).grace.tracing.begins + 1 → Swept log faces waits stays holds known c us a d
-  swept-of c us w a b d tracing g r go1 go2 k1 k2 p1 p2 same plain begins =
+  pub swept-of : (c : ℕ) (us : List UnitState) (w : Waited) (a b d : H) → w.period.domain ≡ Tracing → w.stamp ≤ w.seen → Gathered log c us w (holds a) (holds b) → SentBack log c (holds b) (holds d) → Goes faces waits stays a b → Goes faces waits stays b d → Alike (known a) (known b) → Alike (known b) (known d) → (known b).parcels ≡ (known a).parcels → (known d).parcels ≡ (known b).parcels → (known d).grace ≡ (known b).grace → (known b).grace.plain.begins ≡ (known a).grace.plain.begins → (known a).grace.tracing.begins ≤ (known b).grace.tracing.begins + 1 → Swept log faces waits stays holds known c us a d
+  swept-of c us w a b d tracing le g r go1 go2 k1 k2 p1 p2 same plain begins =
       let s = shown (holds a) in
       let L : H → Option Log = λ h. log (holds h).recorder in
       let ns = swept c us s in
@@ -110,7 +111,7 @@ module _ {H R : Type 0} (log : R → Option Log) (faces : H → Face) (waits : H
       let target = seven_lists ((seen number_of s).rows c) ++ numbers us in
       let lists : shown (holds d) ≡ effect 0 (entry.Return c (Whole ms)) [] (batched c ns us w.stamp s) = r.lists ∙ ap (effect 0 (entry.Return c (Whole ms)) []) g.lists in
       record {
-        phrase = grew-say 0 (SweepOf c target) (gathering c ns w ++ back) (seen number_of s) (L a) (L d) (Records-adds 0 (gathering c ns w ++ back) (L a) (L d) adds) (subst G (swept-named c us s) (sweep-of c ns w tracing));
+        phrase = grew-say 0 (SweepOf c target) (gathering c ns w ++ back) (seen number_of s) (L a) (L d) (Records-adds 0 (gathering c ns w ++ back) (L a) (L d) adds) (subst G (swept-named c us s) (sweep-of c ns w tracing le));
         alone = alone-adds 0 (gathering c ns w ++ back) (L a) (L d) adds;
         empty = ap (λ (t : State Token). seven_lists (t.rows c)) lists ∙ returned-empty c w.stamp ns ms us s;
         others = λ k n. ap (λ (t : State Token). t.rows k) lists ∙ returned-others c w.stamp ns ms us s k n;

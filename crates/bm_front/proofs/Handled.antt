@@ -22,7 +22,7 @@ use Rattle.bm_lawful.proofs.Levels.{levels}
 use Rattle.bm_lawful.proofs.Spares.{AllSpare, Spares}
 use Rattle.bm_front.specs.ClosingEntries.{IsOfClosing}
 use Rattle.bm_front.specs.Owed.{AllReplied}
-use Rattle.bm_front.proofs.Fronts.{front-has}
+use Rattle.bm_lawful.proofs.FrontLaws.{front-has}
 use Rattle.bm_front.proofs.OfClosing.{closing-writes}
 use Rattle.bm_front.proofs.Replied.{replied}
 use Rattle.bm_front.proofs.Spared.{spared}

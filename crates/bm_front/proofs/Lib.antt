@@ -1,8 +1,7 @@
-pub mod OfWork
-pub mod Parts
-pub mod Blocks
-pub mod Fronts
+pub mod Batches
+pub mod Returned
 pub mod Replied
 pub mod Spared
 pub mod OfClosing
 pub mod Handled
+pub mod ReturnedLog

@@ -12,9 +12,9 @@ use Rattle.bm_deferred.proofs.Each.{AllOf}
 use Rattle.bm_lawful.specs.Calls.{Allocates}
 use Rattle.bm_lawful.proofs.RunsAll.{Closed}
 use Rattle.bm_front.specs.Owed.{AllReplied}
-use Rattle.bm_front.specs.WorkEntries.{IsOfWork}
-use Rattle.bm_front.proofs.Fronts.{Fronted}
-use Rattle.bm_front.proofs.OfWork.{work-writes}
+use Rattle.bm_lawful.specs.WorkEntries.{IsOfWork}
+use Rattle.bm_lawful.proofs.FrontLaws.{Written}
+use Rattle.bm_lawful.proofs.OfWork.{work-writes}
 
 join : (v w : List Entry) → AllReplied v → AllReplied w → AllReplied (v ++ w)
 join v w a b = record {
@@ -58,7 +58,7 @@ all-work-apart : (c : ℕ) (es : List Entry) → AllOf (IsOfWork c) es → all_a
 all-work-apart c [] h = refl
 all-work-apart c (e ∷ es) h = both (is_apart e) (all_apart es) (work-apart c e h.0) (all-work-apart c es h.1)
 
-pub replied : (s : Parts) → Fronted s AllReplied
+pub replied : (s : Parts) → Written s AllReplied
 replied s = record {
   closed = closed s.types;
   fill = λ c us m. apart (entry.Fill c _ ∷ []) refl;

@@ -18,11 +18,11 @@ use Rattle.bm_deferred.proofs.Each.{AllOf}
 use Rattle.bm_lawful.specs.Opened.{OfClass, is_class, object_size, opened_classes, uses_class}
 use Rattle.bm_lawful.proofs.RunsAll.{Closed}
 use Rattle.bm_lawful.proofs.Spares.{AllSpare, Spares, other-row, spare-alloc, spare-free, spare-join}
-use Rattle.bm_mail.proofs.Sends.{among}
-use Rattle.bm_front.specs.WorkEntries.{IsOfWork}
-use Rattle.bm_front.proofs.Fronts.{Fronted}
-use Rattle.bm_front.proofs.OfWork.{work-writes}
-use Rattle.bm_front.proofs.Parts.{Has}
+use Rattle.bm_lawful.proofs.PartLaws.{among}
+use Rattle.bm_lawful.specs.WorkEntries.{IsOfWork}
+use Rattle.bm_lawful.proofs.FrontLaws.{Written}
+use Rattle.bm_lawful.proofs.OfWork.{work-writes}
+use Rattle.bm_lawful.proofs.PartLaws.{Has}
 
 -- ---- which classes are used
 
@@ -128,7 +128,7 @@ begins-spare c w name = (λ l us t. refl, (λ l us t. refl, tt))
 ends-spare : (c w : ℕ) (name : List ℕ) → AllSpare c (entry.Out Plain w ∷ entry.Done name ∷ [])
 ends-spare c w name = (λ l us t. refl, (λ l us t. refl, tt))
 
-pub spared : (s : Parts) (c : ℕ) → list_any (uses_class c) s.types ≡ false → Fronted s (AllSpare c)
+pub spared : (s : Parts) (c : ℕ) → list_any (uses_class c) s.types ≡ false → Written s (AllSpare c)
 spared s c e = record {
   closed = closed s.types c e;
   fill = λ d us m. fill-spares s.types c d us e m;

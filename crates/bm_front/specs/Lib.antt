@@ -1,3 +1,2 @@
-pub mod WorkEntries
 pub mod Owed
 pub mod ClosingEntries

@@ -1,6 +1,6 @@
 //! Laws of the front of a log.
 
-ghost use Rattle.std.specs.Prelude.{◌≡◌, ◌<◌, ℕ, false};
+ghost use Rattle.std.specs.Prelude.{◌≡◌, ◌<◌, ℕ, false, None, []};
 ghost use Rattle.std.specs.List.{list_any};
 ghost use Rattle.bm_lang.specs.declared.scenario.Parts.{Parts};
 ghost use Rattle.bm_law.specs.Lists.{Leaves, Log, after};
@@ -11,6 +11,7 @@ ghost use Rattle.bm_due.specs.Standing.{HandlersStand};
 ghost use Rattle.bm_lawful.specs.Grammar.{Front, IsLog};
 ghost use Rattle.bm_lawful.specs.Handlers.{HandlersDone};
 ghost use Rattle.bm_lawful.specs.Opened.{uses_class};
+ghost use Rattle.bm_lives.specs.StampLaw.{ReturnsFit};
 ghost use Rattle.bm_front.specs.Owed.{AllReplied};
 
 /// A log with handlers, where each of those stands where it is due and left its phrase. In a front the cache of a class that no
@@ -24,4 +25,11 @@ pub fn handled_law()
         (l : ℕ) → 0 < l → AllReplied (own_entries l log) }
     ensures null { (s : Parts) (p : ℕ) (log : Log) (last : State ℕ) → HandlersStand s p log → HandlersDone s log →
         IsLog s p log → Leaves p log last → NullLaw p log }
+{}
+
+/// In such a log, where it is whole and names what is there, each return is the next entry of ordinary code after a pass of its class that
+/// saw the stamp of the tracing batch reached, and gives back units that were in Second when that stamp was taken.
+pub fn returned_law()
+    ensures { (s : Parts) (p : ℕ) (log : Log) (last : State ℕ) → HandlersStand s p log → HandlersDone s log →
+        IsLog s p log → Leaves p log last → ReturnsFit (opening p) None (λ c. []) log }
 {}

@@ -8,3 +8,4 @@ pub mod UnitsOut
 pub mod OrderOf
 pub mod WorkedOrders
 pub mod WorkedPolls
+pub mod WorkedSeals

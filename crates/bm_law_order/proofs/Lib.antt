@@ -5,3 +5,4 @@ pub mod Stories
 pub mod Ties
 pub mod BarePool
 pub mod TiesLead
+pub mod Unwaited

@@ -158,8 +158,8 @@ drop-here : (p l : ℕ) (d : Option Dropping) (lives : Lives) → (with_drop p l
 drop-here p l d lives = rw (eq-eqb p p refl, eq-eqb l l refl) refl
 
 -- a drop that ends a life, and the free that follows it
-drop-leads : (p l u life home : ℕ) (e : Entry) (s : Shared) → ((z : Shared) → z.lives.dropping p l ≡ Some (record { unit = u; life = life; ended = Some home }) → Fits p l e z) → ((z : Shared) → shared_after p l e z ≡ record z { lives = with_drop p l None z.lives }) → Steady s → IsOnly u life home s → Leads (by p ((l, entry.Drop u life) ∷ (l, entry.Last) ∷ (l, e) ∷ [])) (plainly s) (plainly (act_after p (act.Ends u life home) s))
-drop-leads p l u life home e s fits after h f =
+drop-leads : (p l u life home : ℕ) (delayed : Bool) (e : Entry) (s : Shared) → ((z : Shared) → z.lives.dropping p l ≡ Some (record { unit = u; life = life; ended = Some home }) → Fits p l e z) → ((z : Shared) → shared_after p l e z ≡ record z { lives = with_drop p l None z.lives }) → Steady s → IsOnly u life home s → Leads (by p ((l, entry.Drop u life) ∷ (l, entry.Last) ∷ (l, e) ∷ [])) (plainly s) (plainly (act_after p (act.Ends u life home delayed) s))
+drop-leads p l u life home delayed e s fits after h f =
     let held : Life = record { maker = home; count = 1 } in
     let none = h.undropped p l in
     let d0 : Dropping = record { unit = u; life = life; ended = None } in
@@ -323,12 +323,12 @@ sweeping-comes p l c us parcels s f h =
 
 ending-comes : (p l u life home : ℕ) (delayed : Bool) (s : Shared) → IsOnly u life home s → Steady s → Comes p l (chunk.Ending u life home delayed) s
 ending-comes p l u life home true s f h = record {
-  leads = drop-leads p l u life home (entry.Delay u home) s (λ z k. record { words = tt; numbers = tt; looks = tt; lives = record { life = life; under = k }; pages = tt; boxes = tt }) (λ z. refl) h f;
-  steady = steady-like s (act_after p (act.Ends u life home) s) refl refl refl h.full h;
+  leads = drop-leads p l u life home true (entry.Delay u home) s (λ z k. record { words = tt; numbers = tt; looks = tt; lives = record { life = life; under = k }; pages = tt; boxes = tt }) (λ z. refl) h f;
+  steady = steady-like s (act_after p (act.Ends u life home true) s) refl refl refl h.full h;
 }
 ending-comes p l u life home false s f h = record {
-  leads = drop-leads p l u life home (entry.Free u home) s (λ z k. record { words = tt; numbers = tt; looks = tt; lives = record { life = life; under = k }; pages = tt; boxes = tt }) (λ z. refl) h f;
-  steady = steady-like s (act_after p (act.Ends u life home) s) refl refl refl h.full h;
+  leads = drop-leads p l u life home false (entry.Free u home) s (λ z k. record { words = tt; numbers = tt; looks = tt; lives = record { life = life; under = k }; pages = tt; boxes = tt }) (λ z. refl) h f;
+  steady = steady-like s (act_after p (act.Ends u life home false) s) refl refl refl h.full h;
 }
 
 -- What a chunk does where its acts find what they need, its entries say.

@@ -1,5 +1,5 @@
 -- What a processor did to what all share, as the world tells it: one act a call. (This project's own.)
-use Rattle.std.specs.Prelude.{ℕ, List, Option, map}
+use Rattle.std.specs.Prelude.{ℕ, Bool, List, Option, map}
 use Rattle.bm_journal.specs.declared.ids.Domain.{Domain}
 use Rattle.bm_journal.specs.declared.period.Period.{Period}
 use Rattle.bm_page.specs.UnitState.{UnitState}
@@ -20,7 +20,7 @@ sealed us = map (λ u. let s : Sealed = record { unit = u.number; seal = u.seal 
 -- Units are named by their numbers, and with their seals where they are given away: what was sent or returned, and what began a
 -- life. A receive that found nothing has no units. A read of a number has the stamp that it was compared with; a begin has the odd
 -- number that it left, and one that came too late the even number that was named and the other one that it found; a look has the
--- words that it found.
+-- words that it found. A life ends by a free, plain or with delay.
 pub data Act : Type 0 where
   Enters : Domain → (word : ℕ) → Act
   Leaves : Domain → (word : ℕ) → Act
@@ -35,4 +35,4 @@ pub data Act : Type 0 where
   Sends : (class to : ℕ) → List Sealed → Act
   Receives : (class : ℕ) → List ℕ → Act
   Makes : (unit life : ℕ) → Option Seal → Act
-  Ends : (unit life home : ℕ) → Act
+  Ends : (unit life home : ℕ) (delayed : Bool) → Act

@@ -30,7 +30,7 @@ act_after p (act.Returns us) s = record s { pool = all_back (reverse (units_of u
 act_after p (act.Sends c to us) s = record s { boxes = on_box to c (λ parcels. parcels ++ units_of us ∷ []) s.boxes }
 act_after p (act.Receives c us) s = record s { boxes = on_box p c (drop 1) s.boxes }
 act_after p (act.Makes u life seal) s = record s { lives = given_life p u s.lives }
-act_after p (act.Ends u life home) s = record s { lives = with_life u None s.lives }
+act_after p (act.Ends u life home delayed) s = record s { lives = with_life u None s.lives }
 act_after p _ s = s
 
 -- the processor looks at the words of the period that it has in progress, of which there are some
@@ -66,7 +66,7 @@ ActFits p (act.Returns us) s = AllOut (reverse (units_of us)) s.pool
 ActFits p (act.Sends c to us) s = IsParcel s.processors to (units_of us)
 ActFits p (act.Receives c us) s = us ≡ oldest (s.boxes p c)
 ActFits p (act.Makes u life seal) s = IsGiven u life s.lives
-ActFits p (act.Ends u life home) s = IsOnly u life home s
+ActFits p (act.Ends u life home delayed) s = IsOnly u life home s
 
 abbrev pub acts_over : ℕ → List Act → Shared → Shared
 acts_over p [] s = s

@@ -62,7 +62,7 @@ acts_of (Receiving c us) = act.Receives c us ∷ []
 acts_of (FindingNone c) = act.Receives c [] ∷ []
 acts_of (Sweeping c us parcels) = map (act.Receives c) parcels ++ act.Receives c [] ∷ []
 acts_of (Making u life seal) = act.Makes u life seal ∷ []
-acts_of (Ending u life home delayed) = act.Ends u life home ∷ []
+acts_of (Ending u life home delayed) = act.Ends u life home delayed ∷ []
 
 abbrev pub entries_of : Chunk → List Entry
 entries_of (Quiet e q) = e ∷ []

@@ -1,6 +1,6 @@
 -- What a unit that was freed with delay has to wait for before it is given again. (bpf_mem_free_rcu of kernel/bpf/memalloc.c puts it on
 -- free_by_rcu, from which call_rcu takes it; that a reply names the stamp and the number seen is this project's own.)
-use Rattle.std.specs.Prelude.{◌≡◌, ◌≤◌, ℕ, eqb, if◌then◌else◌, Option, Some, None, List, [], ◌∷◌}
+use Rattle.std.specs.Prelude.{◌≡◌, ◌≤◌, ℕ, false, eqb, if◌then◌else◌, Option, Some, None, List, [], ◌∷◌}
 use Rattle.bm_journal.specs.declared.ids.Domain.TheVariants.{Plain}
 use Rattle.bm_journal.specs.declared.entry.Entry.{Entry}
 use Rattle.bm_journal.specs.declared.entry.Entry.TheVariants as entry
@@ -8,6 +8,8 @@ use Rattle.bm_journal.specs.EntryText.{unit_list}
 use Rattle.bm_deferred.specs.Begun.{for_domain}
 use Rattle.bm_law.specs.State.{State, opening}
 use Rattle.bm_law.specs.Lists.{next as lists_after}
+use Rattle.bm_law_order.specs.Act.{Act}
+use Rattle.bm_law_order.specs.Act as act
 use Rattle.bm_law_order.specs.Orders.{AllFit, Order}
 use Rattle.bm_law_order.specs.Polls.{for_processor}
 
@@ -28,13 +30,19 @@ pub record Waiting : Type 0 where
 abbrev pub on_unit : ℕ → Wait → (ℕ → Wait) → ℕ → Wait
 on_unit u wait waits v = if eqb v u then wait else waits v
 
-abbrev pub on_units : List ℕ → Wait → (ℕ → Wait) → ℕ → Wait
-on_units [] wait waits = waits
-on_units (u ∷ us) wait waits = on_unit u wait (on_units us wait waits)
+-- what waits for its batch has waited
+abbrev pub ended : (stamp seen : ℕ) → Wait → Wait
+ended stamp seen Batch = Over stamp seen
+ended stamp seen wait = wait
 
--- a batch that is sent behind a pass of its class has waited: its stamp, and the number that was seen
+abbrev pub all_ended : (stamp seen : ℕ) → List ℕ → (ℕ → Wait) → ℕ → Wait
+all_ended stamp seen [] waits = waits
+all_ended stamp seen (u ∷ us) waits = let now = all_ended stamp seen us waits in on_unit u (ended stamp seen (now u)) now
+
+-- A batch that is sent behind a pass of its class has waited: its stamp, and the number that was seen. Other units of a parcel wait
+-- for what they did.
 abbrev pub waited : (class : ℕ) → Option ℕ → Option (ℕ × ℕ) → List ℕ → (ℕ → Wait) → ℕ → Wait
-waited c (Some stamp) (Some (d, seen)) us waits = if eqb c d then on_units us (Over stamp seen) waits else waits
+waited c (Some stamp) (Some (d, seen)) us waits = if eqb c d then all_ended stamp seen us waits else waits
 waited c _ _ us waits = waits
 
 abbrev pub waits_after : (p : ℕ) → Entry → Waiting → ℕ → Wait
@@ -70,3 +78,15 @@ nobody_waits = record { waits = λ u. Nothing; lists = opening; passed = λ p. N
 -- Each unit of an order is given with what it has waited for.
 abbrev pub IsSealed : Order → Type 0
 IsSealed order = AllFit waiting_after SealFits order nobody_waits
+
+-- ---- where nothing waits
+
+-- No unit begins its life with a seal, and no life ends by a delayed free.
+abbrev pub WaitsNot : Act → Type 0
+WaitsNot (act.Makes u life seal) = seal ≡ None
+WaitsNot (act.Ends u life home delayed) = delayed ≡ false
+WaitsNot _ = Unit {0}
+
+abbrev pub NothingWaits : List Act → Type 0
+NothingWaits [] = Unit {0}
+NothingWaits (a ∷ more) = WaitsNot a × NothingWaits more

@@ -25,7 +25,7 @@ use Rattle.bm_lawful.specs.Grammar.{IsLog}
 use Rattle.bm_lawful.specs.OwnGrammar.{ordinary}
 use Rattle.bm_lawful.specs.SectionWords.{SectionWords}
 use Rattle.bm_lawful.specs.Handlers.{HandlersDone}
-use Rattle.bm_lawful.specs.Lawful.{HeadingOf, Lawful, LawfulLog}
+use Rattle.bm_lawful.specs.Lawful.{HeadingOf, LawfulLogs, LawfulLog}
 use Rattle.bm_lawful.specs.WorkedJournal.{asks, block_of, drops_x, drops_x_unless_null, gave, makes_and_drops, makes_x, one_object_log, one_page, swept, took, types, vector_of}
 use Rattle.bm_lawful.specs.WorkedHandlers.{counted, finds_busy, handled, handler, interrupted, interrupted_journal, interrupted_log, taken, uninterrupted_journal}
 use Rattle.bm_lawful.proofs.BlockParts.{RunsList, block-parts}
@@ -146,7 +146,7 @@ is-log = record {
         refl,
   );
   is_closing = then-of _ _ _ (ordinary (entry.Ended ∷ entry.Close ∷ [])) (ordinary (swept (3 ∷ 2 ∷ 1 ∷ 0 ∷ []))) (ordinary-stand _ _ _ refl)
-      (then-of _ _ _ [] (ordinary (swept (3 ∷ 2 ∷ 1 ∷ 0 ∷ []))) (then-of _ _ _ [] [] refl refl) ([], then-of _ _ _ (ordinary (swept (3 ∷ 2 ∷ 1 ∷ 0 ∷ []))) [] (ordinary-say _ (swept (3 ∷ 2 ∷ 1 ∷ 0 ∷ [])) _ _ (record { phrase = sweep; taken = refl; given = refl }) refl) refl));
+      (then-of _ _ _ [] (ordinary (swept (3 ∷ 2 ∷ 1 ∷ 0 ∷ []))) (then-of _ _ _ [] [] refl refl) ([], then-of _ _ _ (ordinary (swept (3 ∷ 2 ∷ 1 ∷ 0 ∷ []))) [] (ordinary-say _ (swept (3 ∷ 2 ∷ 1 ∷ 0 ∷ [])) _ _ (record { phrase = sweep; taken = refl; waited = lit≤ tt; given = refl }) refl) refl));
 }
 
 phrases : HandlersDone (handled (makes_and_drops 7 8 9)) interrupted_log
@@ -176,7 +176,7 @@ heading : HeadingOf (handled (makes_and_drops 7 8 9)) interrupted_journal
 unfolding class_of_size size_of_class low_of_size high_of_size batch_of_size
 heading = record { processors = refl; pages = refl; types = refl; maps = refl; scripts = refl; classes = refl }
 
-pub interrupted-lawful : Lawful (handled (makes_and_drops 7 8 9)) interrupted_journal
+pub interrupted-lawful : LawfulLogs (handled (makes_and_drops 7 8 9)) interrupted_journal
 interrupted-lawful = record {
   heading = heading;
   count = refl;
@@ -191,8 +191,8 @@ interrupted-lawful = record {
 false-true : false ≡ true → ⊥
 false-true q = cc
 
-pub unplanned-wrong : Lawful (record (handled (makes_and_drops 7 8 9)) { ats = [] }) interrupted_journal → ⊥
+pub unplanned-wrong : LawfulLogs (record (handled (makes_and_drops 7 8 9)) { ats = [] }) interrupted_journal → ⊥
 unplanned-wrong h = false-true (h.logs 0 interrupted_log refl).handlers
 
-pub uninterrupted-wrong : Lawful (handled (makes_and_drops 7 8 9)) uninterrupted_journal → ⊥
+pub uninterrupted-wrong : LawfulLogs (handled (makes_and_drops 7 8 9)) uninterrupted_journal → ⊥
 uninterrupted-wrong h = false-true (h.logs 0 one_object_log refl).handlers

@@ -34,3 +34,7 @@ pub mod EachLevel
 pub mod Ended
 pub mod WorkedHandled
 pub mod InterruptedLog
+pub mod OfWork
+pub mod PartLaws
+pub mod BlockLaws
+pub mod FrontLaws

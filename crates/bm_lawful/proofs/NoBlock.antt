@@ -26,7 +26,7 @@ use Rattle.bm_lawful.specs.Grammar.{IsLog}
 use Rattle.bm_lawful.specs.OwnGrammar.{ordinary}
 use Rattle.bm_lawful.proofs.Unplanned.{done-ordinary}
 use Rattle.bm_lawful.specs.SectionWords.{SectionWords}
-use Rattle.bm_lawful.specs.Lawful.{HeadingOf, Lawful, LawfulLog}
+use Rattle.bm_lawful.specs.Lawful.{HeadingOf, LawfulLogs, LawfulLog}
 use Rattle.bm_lawful.specs.Short.{all_entries}
 use Rattle.bm_deferred.proofs.Pages.{short-named}
 use Rattle.bm_lawful.specs.WorkedJournal.{vector_of, block_of, sweep_period}
@@ -136,7 +136,7 @@ is-log = record {
         (then-of _ _ _ [] (stops ++ work1) (no_names, body-runs, λ y. tt) (then-of _ _ _ stops work1 (stands _ _) (then-of _ _ _ work1 [] (then-of _ _ _ work1 [] is-work1 refl) (0, (refl, refl))))))
         refl,
   );
-  is_closing = then-of _ _ _ (entry.Ended ∷ entry.Close ∷ []) swept (stands _ _) (then-of _ _ _ [] swept (then-of _ _ _ [] [] refl refl) ([], then-of _ _ _ swept [] (says _ _ _ (record { phrase = sweep; taken = refl; given = refl })) refl));
+  is_closing = then-of _ _ _ (entry.Ended ∷ entry.Close ∷ []) swept (stands _ _) (then-of _ _ _ [] swept (then-of _ _ _ [] [] refl refl) ([], then-of _ _ _ swept [] (says _ _ _ (record { phrase = sweep; taken = refl; waited = lit≤ tt; given = refl })) refl));
 }
 
 words : SectionWords no_block_log
@@ -156,7 +156,7 @@ log-lawful = record {
   parcels = λ q. parcels;
 }
 
-pub no_block-lawful : Lawful no_block no_block_journal
+pub no_block-lawful : LawfulLogs no_block no_block_journal
 no_block-lawful = record {
   heading = heading;
   count = refl;

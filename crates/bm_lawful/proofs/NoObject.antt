@@ -18,7 +18,7 @@ use Rattle.bm_lawful.proofs.Opening.{no-page}
 use Rattle.bm_lawful.specs.Held.{no_names}
 use Rattle.bm_lawful.specs.OwnGrammar.{IsLog, LawfulLog, ordinary}
 use Rattle.bm_lawful.specs.SectionWords.{SectionWords}
-use Rattle.bm_lawful.specs.Lawful.{HeadingOf, Lawful}
+use Rattle.bm_lawful.specs.Lawful.{HeadingOf, LawfulLogs}
 use Rattle.bm_lawful.specs.Short.{all_entries}
 use Rattle.bm_deferred.proofs.Pages.{short-named}
 use Rattle.bm_lawful.specs.WorkedJournal.{asks, asked, took_none, ended, no_object, no_object_log, no_object_journal}
@@ -93,7 +93,7 @@ log-lawful = record {
   null = null;
 }
 
-pub no_object-lawful : Lawful no_object no_object_journal
+pub no_object-lawful : LawfulLogs no_object no_object_journal
 no_object-lawful = record {
   heading = heading;
   count = refl;

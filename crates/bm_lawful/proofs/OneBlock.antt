@@ -29,7 +29,7 @@ use Rattle.bm_lawful.specs.Grammar.{IsLog}
 use Rattle.bm_lawful.specs.OwnGrammar.{ordinary}
 use Rattle.bm_lawful.proofs.Unplanned.{done-ordinary}
 use Rattle.bm_lawful.specs.SectionWords.{SectionWords}
-use Rattle.bm_lawful.specs.Lawful.{HeadingOf, Lawful, LawfulLog}
+use Rattle.bm_lawful.specs.Lawful.{HeadingOf, LawfulLogs, LawfulLog}
 use Rattle.bm_lawful.specs.Short.{all_entries}
 use Rattle.bm_deferred.proofs.Pages.{short-named}
 use Rattle.bm_lawful.specs.WorkedJournal.{vector_of, block_of, x_name, item_id, drops_x, drops_x_unless_null, sweep_period}
@@ -217,7 +217,7 @@ is-log = record {
         (then-of _ _ _ (takes ++ work1 ++ drops 2) (stops ++ work2) (dropped, body-runs, owns-nothing) (then-of _ _ _ stops work2 (stands _ _) (then-of _ _ _ work2 [] (then-of _ _ _ work2 [] is-work2 refl) (0, (refl, refl))))))
         refl,
   );
-  is_closing = then-of _ _ _ (entry.Ended ∷ entry.Close ∷ []) swept (stands _ _) (then-of _ _ _ [] swept (then-of _ _ _ [] [] refl refl) ([], then-of _ _ _ swept [] (says _ _ _ (record { phrase = sweep; taken = refl; given = refl })) refl));
+  is_closing = then-of _ _ _ (entry.Ended ∷ entry.Close ∷ []) swept (stands _ _) (then-of _ _ _ [] swept (then-of _ _ _ [] [] refl refl) ([], then-of _ _ _ swept [] (says _ _ _ (record { phrase = sweep; taken = refl; waited = lit≤ tt; given = refl })) refl));
 }
 
 words : SectionWords one_block_log
@@ -237,7 +237,7 @@ log-lawful = record {
   parcels = λ q. parcels;
 }
 
-pub one_block-lawful : Lawful one_block one_block_journal
+pub one_block-lawful : LawfulLogs one_block one_block_journal
 one_block-lawful = record {
   heading = heading;
   count = refl;

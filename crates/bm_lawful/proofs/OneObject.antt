@@ -1,5 +1,5 @@
 -- The journal of one object made and dropped is lawful.
-use Rattle.std.proofs.Common.{ℕ, inl, inr, List, [], ◌∷◌, ◌++◌, refl, sym, ap, codes}
+use Rattle.std.proofs.Common.{ℕ, inl, inr, List, [], ◌∷◌, ◌++◌, refl, sym, ap, codes, lit≤}
 use Rattle.std.proofs.lemmas.Bool.Decides.{eqb_tells}
 use Rattle.bm_class.specs.Sizes.{class_of_size, size_of_class}
 use Rattle.bm_class.specs.Watermarks.{low_of_size, high_of_size, batch_of_size}
@@ -18,7 +18,7 @@ use Rattle.bm_law.proofs.Folds.{Leaves-append}
 use Rattle.bm_lawful.proofs.Opening.{first-four}
 use Rattle.bm_lawful.specs.OwnGrammar.{IsLog, LawfulLog, ordinary}
 use Rattle.bm_lawful.specs.SectionWords.{SectionWords}
-use Rattle.bm_lawful.specs.Lawful.{HeadingOf, Lawful}
+use Rattle.bm_lawful.specs.Lawful.{HeadingOf, LawfulLogs}
 use Rattle.bm_lawful.specs.Short.{all_entries}
 use Rattle.bm_deferred.proofs.Pages.{short-named}
 use Rattle.bm_lawful.specs.WorkedJournal.{asks, one_page, asked, took, gave, ended, swept, sweep_period, one_object, one_object_log, one_object_journal}
@@ -91,7 +91,7 @@ is-log = record {
   are_scripts = (_, refl, (1, part, [], refl, record { part = asks ∷ took 3 ++ gave 3 4; after = dropped; own_is = refl; runs = object-runs 7 8 9; owns_nothing = dropped-owns_nothing }, refl));
   before = after (opening 0) front;
   before_is = Leaves-append 0 front (ordinary (entry.Ended ∷ entry.Close ∷ swept (3 ∷ 2 ∷ 1 ∷ 0 ∷ []))) last leaves;
-  are_sweeps = (swept (3 ∷ 2 ∷ 1 ∷ 0 ∷ []), [], refl, record { phrase = sweep; taken = refl; given = refl }, refl);
+  are_sweeps = (swept (3 ∷ 2 ∷ 1 ∷ 0 ∷ []), [], refl, record { phrase = sweep; taken = refl; waited = lit≤ tt; given = refl }, refl);
 }
 
 words : SectionWords one_object_log
@@ -110,7 +110,7 @@ log-lawful = record {
   null = null;
 }
 
-pub one_object-lawful : Lawful one_object one_object_journal
+pub one_object-lawful : LawfulLogs one_object one_object_journal
 one_object-lawful = record {
   heading = heading;
   count = refl;

@@ -17,7 +17,7 @@ use Rattle.bm_lawful.proofs.Opening.{no-page}
 use Rattle.bm_lawful.specs.Held.{no_names}
 use Rattle.bm_lawful.specs.OwnGrammar.{IsLog, LawfulLog, ordinary}
 use Rattle.bm_lawful.specs.SectionWords.{SectionWords}
-use Rattle.bm_lawful.specs.Lawful.{HeadingOf, Lawful}
+use Rattle.bm_lawful.specs.Lawful.{HeadingOf, LawfulLogs}
 use Rattle.bm_lawful.specs.Short.{all_entries}
 use Rattle.bm_deferred.proofs.Pages.{short-named}
 use Rattle.bm_lawful.specs.WorkedJournal.{asks, took_none, twice_part, main_part, three_calls, three_calls_log, three_calls_journal}
@@ -100,7 +100,7 @@ log-lawful = record {
   null = null;
 }
 
-pub three_calls-lawful : Lawful three_calls three_calls_journal
+pub three_calls-lawful : LawfulLogs three_calls three_calls_journal
 three_calls-lawful = record {
   heading = heading;
   count = refl;

@@ -8,7 +8,7 @@ use Rattle.bm_lang.specs.declared.scenario.Block.{Block}
 use Rattle.bm_page.specs.Stock.{fetched}
 use Rattle.bm_lawful.specs.Fills.{fresh_stock, numbers_of, prefill}
 use Rattle.bm_lawful.specs.OwnGrammar.{IsLog}
-use Rattle.bm_lawful.specs.Lawful.{Lawful}
+use Rattle.bm_lawful.specs.Lawful.{LawfulLogs}
 use Rattle.bm_lawful.specs.WorkedJournal.{scenario_of, one_object}
 use Rattle.bm_lawful.specs.WrongJournals.{not_opened, not_opened_log}
 use Rattle.bm_lawful.proofs.Opening.{first-four}
@@ -25,7 +25,7 @@ opens pages body own h =
 no-unit : (v w : List Entry) (units : List ℕ) → units ≡ 0 ∷ 1 ∷ 2 ∷ 3 ∷ [] → entry.Fill 0 (Whole []) ∷ v ≡ entry.Fill 0 (Whole units) ∷ w → ⊥
 no-unit v w units e q = cc
 
-pub not_opened-wrong : Lawful one_object not_opened → ⊥
+pub not_opened-wrong : LawfulLogs one_object not_opened → ⊥
 not_opened-wrong h =
     let l = owned-log one_object refl 0 refl not_opened_log (h.logs 0 not_opened_log refl) in
     let is : IsLog one_object 0 (entries_of not_opened_log) = subst (IsLog one_object 0) (own-is one_object 0 not_opened_log l) l.is_log in

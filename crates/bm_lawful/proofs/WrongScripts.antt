@@ -12,7 +12,7 @@ use Rattle.bm_lawful.specs.Fills.{fresh_stock, numbers_of, prefill}
 use Rattle.bm_lawful.specs.Held.{Names, no_names}
 use Rattle.bm_lawful.specs.OwnRuns.{Run, Done, Then, RunsBlock}
 use Rattle.bm_lawful.specs.OwnGrammar.{IsLog, IsScript}
-use Rattle.bm_lawful.specs.Lawful.{Lawful}
+use Rattle.bm_lawful.specs.Lawful.{LawfulLogs}
 use Rattle.bm_lawful.specs.WorkedJournal.{vector_of, types, makes_x, drops_x_unless_null, makes_and_drops, makes_and_drops_twice, script_of, three_calls}
 use Rattle.bm_lawful.specs.WrongJournals.{main_first_log, main_first, repeated_once_log, repeated_once}
 use Rattle.bm_lawful.proofs.Blocks.{block-runs}
@@ -61,7 +61,7 @@ apart units units' v w e = cc
 other-name : codes "main" ≡ codes "twice" → ⊥
 other-name e = omega (arith, ap (λ (v : List ℕ). slice_index v 0) e)
 
-pub main_first-wrong : Lawful three_calls main_first → ⊥
+pub main_first-wrong : LawfulLogs three_calls main_first → ⊥
 main_first-wrong h =
     let l = owned-log three_calls refl 0 refl main_first_log (h.logs 0 main_first_log refl) in
     let m = made-of (entries_of main_first_log) (subst (IsLog three_calls 0) (own-is three_calls 0 main_first_log l) l.is_log) in
@@ -109,7 +109,7 @@ script-calls : (s : Script) (w : ℕ) (own : List Entry) (k : IsScript three_cal
 unfolding calls asks-one
 script-calls s w own k = omega (arith, ap calls k.own_is, calls-append k.part (entry.Out Plain (w + 1) ∷ entry.Done s.name ∷ []))
 
-pub repeated_once-wrong : Lawful three_calls repeated_once → ⊥
+pub repeated_once-wrong : LawfulLogs three_calls repeated_once → ⊥
 unfolding calls asks-one
 repeated_once-wrong h =
     let l = owned-log three_calls refl 0 refl repeated_once_log (h.logs 0 repeated_once_log refl) in

@@ -6,7 +6,7 @@ use Rattle.bm_class.specs.Sizes.{size_of_class}
 use Rattle.bm_journal.specs.declared.entry.Entry.{Entry}
 use Rattle.bm_deferred.specs.Pages.{HasShort, all_given, units_given, wanted}
 use Rattle.bm_deferred.proofs.Pages.{any_short, not-named}
-use Rattle.bm_lawful.specs.Lawful.{Lawful}
+use Rattle.bm_lawful.specs.Lawful.{LawfulLogs}
 use Rattle.bm_lawful.specs.Short.{all_entries}
 use Rattle.bm_lawful.specs.WrongShort.{three_pages, third_unnamed}
 
@@ -18,7 +18,7 @@ has-short : (es : List Entry) → any_short es ≡ true → HasShort es
 has-short [] h = cc
 has-short (e ∷ es) h = short-by e es (nat_lt (length (units_given e)) (wanted e)) refl h (has-short es)
 
-pub third_unnamed-wrong : ¬ Lawful three_pages third_unnamed
+pub third_unnamed-wrong : ¬ LawfulLogs three_pages third_unnamed
 unfolding size_of_class
 third_unnamed-wrong l =
     let es = all_entries third_unnamed.logs in

@@ -13,7 +13,7 @@ use Rattle.bm_lawful.specs.Held.{Names, Null, no_names, with_name}
 use Rattle.bm_lawful.specs.Calls.{Allocates, answered}
 use Rattle.bm_lawful.specs.OwnRuns.{Run, Done, Then, RunsAction}
 use Rattle.bm_lawful.specs.OwnGrammar.{Swept, ordinary}
-use Rattle.bm_lawful.specs.Lawful.{Lawful}
+use Rattle.bm_lawful.specs.Lawful.{LawfulLogs}
 use Rattle.bm_lawful.specs.WorkedJournal.{vector_of, types, x_name, item_id, makes_x, drops_x_unless_null, makes_and_drops, no_object, asks, took_none, ended, swept}
 use Rattle.bm_lawful.specs.WrongJournals.{empty_swept_log, empty_swept}
 use Rattle.bm_lawful.proofs.Blocks.{RunsList, block-runs}
@@ -87,7 +87,7 @@ unswept units v e h = subst (λ us. Swept 0 us (λ w. w ≡ []) v) e h
 not-empty : {v : List Entry} (e : Entry) → e ∷ v ≡ [] → ⊥
 not-empty e q = cc
 
-pub empty_swept-wrong : Lawful no_object empty_swept → ⊥
+pub empty_swept-wrong : LawfulLogs no_object empty_swept → ⊥
 empty_swept-wrong h =
     let k = log-made 0 (makes_and_drops 7 8 9) empty_swept_log (owned-log no_object refl 0 refl empty_swept_log (h.logs 0 empty_swept_log refl)) in
     let b = begun k.units _ _ k.own_is in

@@ -24,7 +24,7 @@ use Rattle.bm_lawful.specs.Runs.{Run, Leaving, Done, Followed, Calls, RunsBlock}
 use Rattle.bm_lawful.specs.Closing.{EndsPeriods, AreSweeps, Closing}
 use Rattle.bm_lawful.specs.Grammar.{IsBody, IsScript, AreScripts, Front, behind_script}
 use Rattle.bm_lawful.specs.OwnGrammar.{ordinary}
-use Rattle.bm_lawful.specs.Lawful.{Lawful, LawfulLog}
+use Rattle.bm_lawful.specs.Lawful.{LawfulLogs, LawfulLog}
 use Rattle.bm_lawful.specs.WorkedJournal.{vector_of, block_of, x_name, item_id, script_of, drops_x_unless_null}
 use Rattle.bm_lawful.specs.WorkedDeferred.{block, with_work, makes_block, makes_and_drops_block, one_block, makes_never, no_block, begins, takes, work_reads, refills, work_ends, stops, closes}
 use Rattle.bm_lawful.specs.WrongDeferred.{left_out_log, left_out, not_asked_log, not_asked, not_behind_log, not_behind}
@@ -164,7 +164,7 @@ leaves-nothing names main h =
 work-out : (c w : ℕ) (v v' : List Entry) → entry.Work c ∷ v ≡ entry.Out Plain w ∷ v' → ⊥
 work-out c w v v' e = cc
 
-pub not_asked-wrong : Lawful no_block not_asked → ⊥
+pub not_asked-wrong : LawfulLogs no_block not_asked → ⊥
 not_asked-wrong h =
     let later : List Entry = entry.Receive 10 (Whole []) ∷ entry.Read 10 1 ∷ refills 2 ++ work_ends ++ stops ++ work_reads 2 ++ work_ends ++ closes (256 ∷ 0 ∷ []) in
     let k = worked-of _ (begins ++ entry.Work 10 ∷ later) (h.logs 0 not_asked_log refl) in
@@ -174,7 +174,7 @@ not_asked-wrong h =
 ended-work : (c : ℕ) (v v' : List Entry) → entry.Out Plain 2 ∷ entry.Done (codes "main") ∷ entry.Ended ∷ v ≡ entry.Out Plain 2 ∷ entry.Done (codes "main") ∷ entry.Work c ∷ v' → ⊥
 ended-work c v v' e = cc
 
-pub not_behind-wrong : Lawful no_block not_behind → ⊥
+pub not_behind-wrong : LawfulLogs no_block not_behind → ⊥
 not_behind-wrong h =
     let k = worked-of _ (begins ++ stops ++ closes (0 ∷ [])) (h.logs 0 not_behind_log refl) in
     let main = leaves-nothing k.names k.main k.runs in
@@ -267,7 +267,7 @@ works-behind names main tail more h e =
     let c = called-of names begun main tail (entry.Drop 0 1 ∷ more) h e in
     works-first c.until_down.0 c.works c.rest more c.until_down.1 c.more_is
 
-pub left_out-wrong : Lawful one_block left_out → ⊥
+pub left_out-wrong : LawfulLogs one_block left_out → ⊥
 left_out-wrong h =
     let later : List Entry = entry.Last ∷ entry.Free 0 0 ∷ entry.Enter 10 1 ∷ entry.Push 10 0 ∷ entry.Count 10 1 ∷ entry.Leave 10 0 ∷ stops ++ work_reads 1 ++ refills 2 ++ work_ends ++ closes (256 ∷ 0 ∷ []) in
     let k = worked-of makes_and_drops_block (begins ++ takes ++ entry.Drop 0 1 ∷ later) (h.logs 0 left_out_log refl) in

@@ -1,7 +1,7 @@
 -- The closing of a processor, behind its scripts: what it leaves in the log. (free_mem_alloc and drain_mem_cache in
 -- kernel/bpf/memalloc.c empty all lists of a cache after the last grace periods. That a tracing period stands behind each
 -- sweep, the order of the lists, and that periods are finished by those who began them are this project's own.)
-use Rattle.std.specs.Prelude.{◌≡◌, ℕ, zero, suc, ◌+◌, Option, Some, None, List, [], ◌∷◌, ◌++◌}
+use Rattle.std.specs.Prelude.{◌≡◌, ◌≤◌, ℕ, zero, suc, ◌+◌, Option, Some, None, List, [], ◌∷◌, ◌++◌}
 use Rattle.bm_journal.specs.declared.ids.Domain.{Domain}
 use Rattle.bm_journal.specs.declared.ids.Domain.TheVariants.{Plain, Tracing}
 use Rattle.bm_journal.specs.declared.period.Period.{Period}
@@ -36,10 +36,11 @@ EndsOne d (Some n) = Say 0 (IsEnd d n)
 abbrev pub EndsPeriods : Log → Part
 EndsPeriods log = Then (EndsOne Plain (in_progress Plain None log)) (EndsOne Tracing (in_progress Tracing None log))
 
--- a sweep that takes exactly these units, and gives exactly these back to the stock
+-- A sweep that takes exactly these units, waits until its stamp is reached, and gives exactly these units back to the stock.
 pub record SweepOf (c : ℕ) (units : List ℕ) (own : List Entry) : Type 0 where
   pub phrase : SweepPhrase c own
   pub taken : phrase.swept ≡ units
+  pub waited : phrase.stamp ≤ phrase.polls.seen
   pub given : phrase.returned ≡ units
 
 -- a sweep exactly where there are units

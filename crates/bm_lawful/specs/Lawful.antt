@@ -43,7 +43,7 @@ pub record LawfulLog (s : Parts) (p : ℕ) (log : Log) : Type 0 where
 
 -- A journal: its heading; its logs, of which there is one a processor; where its caches and refills got fewer units than they
 -- wanted; no histories; and its totals.
-pub record Lawful (s : Parts) (j : Journal) : Type 0 where
+pub record LawfulLogs (s : Parts) (j : Journal) : Type 0 where
   pub heading : HeadingOf s j
   pub count : length j.logs ≡ s.processors
   pub logs : (p : ℕ) (log : Log) → slice_get j.logs p ≡ Some log → LawfulLog s p log

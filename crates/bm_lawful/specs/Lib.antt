@@ -11,6 +11,7 @@ pub mod Grammar
 pub mod OwnRuns
 pub mod CallEntries
 pub mod Handlers
+pub mod WorkEntries
 pub mod OwnGrammar
 pub mod Lawful
 pub mod Worked

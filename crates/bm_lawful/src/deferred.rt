@@ -5,7 +5,7 @@ ghost use Rattle.bm_journal.specs.JournalText.{journal_text};
 ghost use Rattle.bm_journal.specs.declared.ids.Domain.TheVariants.{Plain, Tracing};
 ghost use Rattle.bm_law.specs.State.{opening};
 ghost use Rattle.bm_lawful.specs.Closing.{EndsPeriods, in_progress};
-ghost use Rattle.bm_lawful.specs.Lawful.{Lawful};
+ghost use Rattle.bm_lawful.specs.Lawful.{LawfulLogs};
 ghost use Rattle.bm_lawful.specs.Parcels.{ParcelLaw};
 ghost use Rattle.bm_lawful.specs.Works.{lowest_raised};
 ghost use Rattle.bm_lawful.specs.WorkedDeferred.{one_block, one_block_journal, no_block, no_block_journal};
@@ -16,19 +16,19 @@ ghost use Rattle.bm_lawful.specs.WrongDeferred.{begun, ends, inbox_forgotten, le
 /// Lawful journals with deferred work: of a script that makes an object of 4088 bytes and drops it, with its text; and of
 /// one that makes nothing, so that a work stands behind the script alone.
 pub fn worked_deferred()
-    ensures one_block { Lawful one_block one_block_journal }
+    ensures one_block { LawfulLogs one_block one_block_journal }
     ensures text { journal_text one_block_journal ≡ lines_text one_block_lines }
-    ensures no_block { Lawful no_block no_block_journal }
+    ensures no_block { LawfulLogs no_block no_block_journal }
 {}
 
 /// Journals that aren't lawful, each one step away from one above: no work behind a call that raised the flag; a work
 /// behind a statement though no flag is up; no work behind the script; a fetch that gives fewer units than were wanted though a page
 /// was never named.
 pub fn wrong_deferred()
-    ensures left_out { ¬ Lawful one_block left_out }
-    ensures not_asked { ¬ Lawful no_block not_asked }
-    ensures not_behind { ¬ Lawful no_block not_behind }
-    ensures unnamed { ¬ Lawful three_pages third_unnamed }
+    ensures left_out { ¬ LawfulLogs one_block left_out }
+    ensures not_asked { ¬ LawfulLogs no_block not_asked }
+    ensures not_behind { ¬ LawfulLogs no_block not_behind }
+    ensures unnamed { ¬ LawfulLogs three_pages third_unnamed }
 {}
 
 /// Which class is worked for first, computed: the lowest one whose flag is up.

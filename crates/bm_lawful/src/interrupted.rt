@@ -3,7 +3,7 @@
 ghost use Rattle.std.specs.Prelude.{◌≡◌, false, []};
 ghost use Rattle.bm_journal.specs.declared.ids.Domain.TheVariants.{Plain};
 ghost use Rattle.bm_lawful.specs.Handlers.{HandlersDone};
-ghost use Rattle.bm_lawful.specs.Lawful.{Lawful};
+ghost use Rattle.bm_lawful.specs.Lawful.{LawfulLogs};
 ghost use Rattle.bm_lawful.specs.SectionWords.{SectionWords, words_fit};
 ghost use Rattle.bm_lawful.specs.WorkedHandlers.{asks_too, back_as_other, begins_with_two, behind_script, encloses_inside, ends_first, handled, idle, interrupted, interrupted_journal, keeps, keeps_it, no_section, plain_script, same_words, uninterrupted_journal};
 ghost use Rattle.bm_lawful.specs.WorkedJournal.{makes_and_drops};
@@ -14,7 +14,7 @@ ghost use Rattle.bm_lawful.specs.WorkedJournal.{makes_and_drops};
 pub fn worked_handlers()
     ensures interrupted { HandlersDone (handled (makes_and_drops 7 8 9)) interrupted }
     ensures words { SectionWords interrupted }
-    ensures journal { Lawful (handled (makes_and_drops 7 8 9)) interrupted_journal }
+    ensures journal { LawfulLogs (handled (makes_and_drops 7 8 9)) interrupted_journal }
     ensures behind { HandlersDone (handled idle) behind_script }
     ensures words_behind { SectionWords behind_script }
 {}
@@ -29,8 +29,8 @@ pub fn wrong_handlers()
     ensures bare { ¬ HandlersDone (handled idle) no_section }
     ensures plain { ¬ HandlersDone (handled idle) plain_script }
     ensures back { ¬ HandlersDone (handled idle) back_as_other }
-    ensures unplanned { ¬ Lawful (record (handled (makes_and_drops 7 8 9)) { ats = [] }) interrupted_journal }
-    ensures left_out { ¬ Lawful (handled (makes_and_drops 7 8 9)) uninterrupted_journal }
+    ensures unplanned { ¬ LawfulLogs (record (handled (makes_and_drops 7 8 9)) { ats = [] }) interrupted_journal }
+    ensures left_out { ¬ LawfulLogs (handled (makes_and_drops 7 8 9)) uninterrupted_journal }
 {}
 
 /// Words that no log has: two sections with the same words, a first section with word 2, and one that ends before it began.

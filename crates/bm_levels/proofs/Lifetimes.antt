@@ -42,9 +42,9 @@ same-at post slots slots' begun begun' n e f =
     let may : (life : ℕ) → may_live begun' n life ≡ may_live begun n life = λ life. rw f refl in
     record {
       mine = ap (λ (o : Option UnitState). is_mine post n && not (is_some o)) e;
-      settled = λ life seal. may life;
-      due = λ life seal. may life;
-      ripe = λ life seal. may life;
+      settled = λ life seal. ap (λ (b : Bool). b && is_none seal) (may life);
+      due = λ life seal. refl;
+      ripe = λ life seal. refl;
       since = λ d x. refl;
     }
 

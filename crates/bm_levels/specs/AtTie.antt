@@ -2,7 +2,7 @@
 use Rattle.std.specs.Prelude.{◌≡◌, ◌⊎◌, ◌+◌, ℕ, ◌&&◌, nat_eq, true, false, List, [], ◌∷◌, Option, Some, None, IsSome, ◌++◌}
 use Rattle.std.proofs.Common.{◌∙◌, ap, append_assoc, append-nil, eq-eqb, inl, inr, refl, subst, sym}
 use Rattle.std.proofs.lemmas.List.{map-append}
-use Rattle.std.proofs.lemmas.Bool.{and_parts, eqb-true}
+use Rattle.std.proofs.lemmas.Bool.{and_parts, eqb-true, false≢true}
 use Rattle.bm_journal.specs.declared.entry.Entry.{Entry}
 use Rattle.bm_journal.specs.declared.entry.Entry.TheVariants as entry
 use Rattle.bm_journal.specs.Recording.{Appends, Kept as Recorded}
@@ -15,6 +15,8 @@ use Rattle.bm_law_order.specs.Act as act
 use Rattle.bm_grace.specs.PlainState.{idle}
 use Rattle.bm_post.specs.PostState.{no_parcels}
 use Rattle.bm_cache.specs.Steps.{is_free, is_own_reply, is_own_step, is_reply, is_step}
+use Rattle.bm_cache.specs.Tests.{SuitsFree, Waits}
+use Rattle.bm_cache.specs.Tokens.{Token}
 use Rattle.bm_cache.specs.declared.caches.Caches.{Caches}
 use Rattle.bm_law_order.specs.Chunk.{Chunk, Shows, acts_of, entries_of, seal_told}
 use Rattle.bm_law_order.specs.Chunk as chunk
@@ -23,10 +25,10 @@ use Rattle.bm_law_order.specs.Tie.{Tied, TiedBy}
 use Rattle.bm_law.specs.Spans.{Records, own_entries}
 use Rattle.bm_law.proofs.Spans.{own-append}
 use Rattle.bm_law_order.proofs.Ties.{law-closed, law-done, law-quiet, law-said, law-stepped, tie-judged, tie-level}
-use Rattle.bm_world.specs.LivingState.{LivingState}
+use Rattle.bm_world.specs.LivingState.{LivingState, rights_living}
 use Rattle.bm_world.specs.ToldLiving.{LivingDoes, living-join, living-same}
 use Rattle.bm_levels.specs.AtPolls.{polled, unpolled}
-use Rattle.bm_levels.specs.AtProcessor.{log_of}
+use Rattle.bm_levels.specs.AtProcessor.{log_of, tests_of}
 use Rattle.bm_levels.specs.Hosting.{with_caches, with_side}
 use Rattle.bm_levels.specs.declared.processor.Processor.{Processor}
 
@@ -42,9 +44,9 @@ TiedAt since start m = OwesAt since start 0 [] [] m
 abbrev pub GaveAt : Log → LivingState → (l u life : ℕ) → Processor → Type 0
 GaveAt since start l u life m = (seal : Option (ℕ × ℕ)) × OwesAt since start l [] (given u life seal ∷ []) m
 
--- a life ended by its drop, and its unit's free hasn't begun
+-- a life ended by its drop, and its unit's free, which is a plain one, hasn't begun
 abbrev pub FreesAt : Log → LivingState → (l u home : ℕ) → Processor → Type 0
-FreesAt since start l u home m = (life : ℕ) × OwesAt since start l (act.Ends u life home ∷ []) (entry.Drop u life ∷ entry.Last ∷ []) m
+FreesAt since start l u home m = (life : ℕ) × OwesAt since start l (act.Ends u life home false ∷ []) (entry.Drop u life ∷ entry.Last ∷ []) m
 
 -- a side of which nobody did anything
 abbrev pub no_living_state : LivingState
@@ -128,13 +130,18 @@ free-is u home (entry.Free v to) h = let p = and_parts (nat_eq u v) (nat_eq home
 free-is u home (entry.Delay v to) h = let p = and_parts (nat_eq u v) (nat_eq home to) h in inr (ap (λ x. entry.Delay x to) (sym (eqb-true u v p.0)) ∙ ap (entry.Delay u) (sym (eqb-true home to p.1)))
 free-is u home _ h = absurd (cc)
 
-pub tied-freed : (since : Log) (start : LivingState) (l : ℕ) (m : Processor) (c : Caches Recorded) (e : Entry) (u home : ℕ) → is_free u home e ≡ true → Appends (log_of m) l e c.recorder.told → FreesAt since start l u home m → TiedAt since start (with_caches m c)
-tied-freed since start l m c e u home i a t =
-    let said = law-said (polled since start) (unpolled since start) LivingDoes living-same living-join since start l (act.Ends u t.0 home ∷ []) (entry.Drop u t.0 ∷ entry.Last ∷ []) e (log_of m) c.recorder.told m.side a t.1 in
-    tied-closed since start l (act.Ends u t.0 home ∷ []) (entry.Drop u t.0 ∷ entry.Last ∷ e ∷ []) (with_caches m c)
-    (elim (free-is u home e i) [
-      | inl q ↦ record { chunk = chunk.Ending u t.0 home false; free = refl; acts_are = refl; entries_are = ap (λ x. entry.Drop u t.0 ∷ entry.Last ∷ x ∷ []) (sym q) }
-      | inr q ↦ record { chunk = chunk.Ending u t.0 home true; free = refl; acts_are = refl; entries_are = ap (λ x. entry.Drop u t.0 ∷ entry.Last ∷ x ∷ []) (sym q) }
+-- no unit waits, so none is freed with delay
+waits-not : (m : Processor) (u : Token) → Waits (tests_of m) u → ⊥
+waits-not m u h = false≢true (and_parts ((rights_living m.side).mine u.number) false h).1
+
+pub tied-freed : (since : Log) (start : LivingState) (l : ℕ) (m : Processor) (c : Caches Recorded) (e : Entry) (u : Token) → SuitsFree (tests_of m) u e → is_free u.number u.home e ≡ true → Appends (log_of m) l e c.recorder.told → FreesAt since start l u.number u.home m → TiedAt since start (with_caches m c)
+tied-freed since start l m c e u f i a t =
+    let n = u.number in
+    let said = law-said (polled since start) (unpolled since start) LivingDoes living-same living-join since start l (act.Ends n t.0 u.home false ∷ []) (entry.Drop n t.0 ∷ entry.Last ∷ []) e (log_of m) c.recorder.told m.side a t.1 in
+    tied-closed since start l (act.Ends n t.0 u.home false ∷ []) (entry.Drop n t.0 ∷ entry.Last ∷ e ∷ []) (with_caches m c)
+    (elim (free-is n u.home e i) [
+      | inl q ↦ record { chunk = chunk.Ending n t.0 u.home false; free = refl; acts_are = refl; entries_are = ap (λ x. entry.Drop n t.0 ∷ entry.Last ∷ x ∷ []) (sym q) }
+      | inr q ↦ absurd (waits-not m u (subst (SuitsFree (tests_of m) u) q f))
     ]) said
 
 -- ---- another processor's state
@@ -200,11 +207,11 @@ tied-begun since start l u life seal xs before m k r e d t =
         by-level since start l 0 (Some log) k.side (as-judged since start l (act.Makes u life seal ∷ []) (given u life (seal_told seal) ∷ []) (Some log) k.side (chunk.Making u life seal) refl refl (λ before q. tt) did)
 
 -- the life of a unit ended, behind its drop and the reply
-pub tied-freeing : (since : Log) (start : LivingState) (l u life home : ℕ) (m k : Processor) (mid : Option Log) → Appends (log_of m) l (entry.Drop u life) mid → Appends mid l entry.Last (log_of k) → LivingDoes (act.Ends u life home ∷ []) m.side k.side → TiedAt since start m → FreesAt since start l u home k
+pub tied-freeing : (since : Log) (start : LivingState) (l u life home : ℕ) (m k : Processor) (mid : Option Log) → Appends (log_of m) l (entry.Drop u life) mid → Appends mid l entry.Last (log_of k) → LivingDoes (act.Ends u life home false ∷ []) m.side k.side → TiedAt since start m → FreesAt since start l u home k
 tied-freeing since start l u life home m k mid a b d t =
     let one = law-said (polled since start) (unpolled since start) LivingDoes living-same living-join since start l [] [] (entry.Drop u life) (log_of m) mid m.side a (tied-open since start l m t) in
     let two = law-said (polled since start) (unpolled since start) LivingDoes living-same living-join since start l [] (entry.Drop u life ∷ []) entry.Last mid (log_of k) m.side b one in
-    (life, law-done (polled since start) (unpolled since start) LivingDoes living-same living-join since start l [] (act.Ends u life home ∷ []) (entry.Drop u life ∷ entry.Last ∷ []) (log_of k) m.side k.side d two)
+    (life, law-done (polled since start) (unpolled since start) LivingDoes living-same living-join since start l [] (act.Ends u life home false ∷ []) (entry.Drop u life ∷ entry.Last ∷ []) (log_of k) m.side k.side d two)
 
 -- ---- as a desk's laws need it
 

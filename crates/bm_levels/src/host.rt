@@ -71,7 +71,7 @@ impl<'a, 's, B: Since, L: Rank> Host<Keep> for At<'a, 's, B, L> {
 
     ghost sound_given = { λ h c u n x a s. (at-gave L.number h.program.now h.own.now c u n x a s.0, tied-gave B.since B.start L.number h.own.now c u n x a s.1) };
 
-    ghost sound_freed = { λ h c e u n i a s. (at-freed L.number h.program.now h.own.now c e u n i a s.0, tied-freed B.since B.start L.number h.own.now c e u n i a s.1) };
+    ghost sound_freed = { λ h c e u f i a s. (at-freed L.number h.program.now h.own.now c e u.number u.home i a s.0, tied-freed B.since B.start L.number h.own.now c e u f i a s.1) };
 
     ghost keeps_back = { λ h c. (stays-caches h.program.now h.own.now c, refl, goes-still (known_of h.own.now) (known_of h.own.now) refl, refl) };
 

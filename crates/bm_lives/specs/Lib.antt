@@ -3,6 +3,5 @@ pub mod Lives
 pub mod Returns
 pub mod GraceLaw
 pub mod StampLaw
-pub mod Whole
 pub mod Worked
 pub mod Wrong

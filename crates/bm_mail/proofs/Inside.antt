@@ -5,7 +5,8 @@ use Rattle.bm_journal.specs.declared.entry.Entry.{Entry}
 use Rattle.bm_journal.specs.declared.entry.Entry.TheVariants as entry
 use Rattle.bm_journal.specs.EntryText.{unit_list}
 use Rattle.bm_deferred.specs.Inboxes.{Inboxes, on_inbox, inboxes_after}
-use Rattle.bm_mail.proofs.Sends.{among, SendsOf}
+use Rattle.bm_lawful.proofs.PartLaws.{among}
+use Rattle.bm_mail.proofs.Sends.{SendsOf}
 
 -- the other classes hold none
 abbrev pub Inside : List ℕ → Inboxes → Type 0

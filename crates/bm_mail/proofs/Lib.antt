@@ -1,8 +1,6 @@
 pub mod QuietEntries
 pub mod Quiet
 pub mod Sends
-pub mod Blocks
-pub mod Scripts
 pub mod Fits
 pub mod Inside
 pub mod Front

@@ -3,12 +3,10 @@ use Rattle.std.proofs.Common.{◌≡◌, ℕ, List, [], ◌∷◌, ◌++◌, ref
 use Rattle.bm_journal.specs.declared.ids.Domain.{Domain}
 use Rattle.bm_journal.specs.declared.entry.Entry.{Entry}
 use Rattle.bm_journal.specs.declared.entry.Entry.TheVariants as entry
-use Rattle.bm_law.specs.Phrases.{AddPhrase}
 use Rattle.bm_law.specs.SweepPhrases.{MayBegin, MayFinish, PollPhrase}
 use Rattle.bm_deferred.specs.Inboxes.{Inboxes, inboxes_after}
-use Rattle.bm_deferred.specs.Parts.{Part, Say}
-use Rattle.bm_deferred.specs.WorkPhrases.{Brings, IsOne, Moved, Unloads, take_of, takes}
-use Rattle.bm_deferred.proofs.Each.{AllOf, PartOf, of-append, part-say, part-then}
+use Rattle.bm_deferred.specs.Parts.{Part}
+use Rattle.bm_deferred.proofs.Each.{AllOf, PartOf, of-append}
 
 abbrev pub IsQuiet : Entry → Type 0
 IsQuiet (entry.Send c to us) = ⊥
@@ -29,34 +27,6 @@ after-quiet p (entry.Send c to us) boxes h = absurd h
 after-quiet p (entry.Receive c us) boxes h = absurd h
 after-quiet p (entry.Sweep c us) boxes h = absurd h
 after-quiet p _ boxes h = refl
-
--- one entry
-pub quiet-one : (l : ℕ) (e : Entry) → IsQuiet e → QuietPart l (Say l (IsOne e))
-quiet-one l e q = part-say IsQuiet l (IsOne e) (λ own h. subst AllQuiet (sym h) (q, tt))
-
--- additions
-add-quiet : (c u : ℕ) (own : List Entry) → AddPhrase c u own → AllQuiet own
-add-quiet c u own (k, a, e) = subst AllQuiet (sym e) (tt, (tt, (tt, (tt, tt))))
-
-pub quiet-add : (l c u : ℕ) → QuietPart l (Say l (AddPhrase c u))
-quiet-add l c u = part-say IsQuiet l (AddPhrase c u) (add-quiet c u)
-
-pub quiet-brings : (l c : ℕ) (e : Entry) (u : ℕ) → IsQuiet e → QuietPart l (Brings l c e u)
-quiet-brings l c e u q = part-then IsQuiet l (Say l (IsOne e)) (Say l (AddPhrase c u)) (quiet-one l e q) (quiet-add l c u)
-
--- takes of a drain
-takes-quiet : (c : ℕ) (xs : List Moved) → AllQuiet (takes c xs)
-takes-quiet c [] = tt
-takes-quiet c (x ∷ xs) = of-append IsQuiet (take_of c x) (takes c xs) (tt, (tt, (tt, (tt, tt)))) (takes-quiet c xs)
-
-pub unloads-quiet : (c middle : ℕ) (own : List Entry) → Unloads c middle own → AllQuiet own
-unloads-quiet c middle own h = subst AllQuiet (sym h.own_is) (of-append IsQuiet (takes c h.over) h.last (takes-quiet c h.over) last)
-  where
-    last : AllQuiet h.last
-    last = elim h.is_last [
-      | inl a ↦ subst AllQuiet (sym a.2) (tt, (tt, (tt, (tt, tt))))
-      | inr a ↦ subst AllQuiet (sym a.1) (tt, (tt, (tt, tt)))
-    ]
 
 -- polls
 may-finish-quiet : (d : Domain) (own : List Entry) → MayFinish d own → AllQuiet own

@@ -1,5 +1,5 @@
 -- The law of parcels over a log with handlers, which neither send parcels nor take them.
-use Rattle.std.proofs.Common.{◌≡◌, ℕ, List, [], ◌∷◌, ◌++◌, refl, sym, ap, subst, ◌∙◌}
+use Rattle.std.proofs.Common.{◌≡◌, ℕ, List, ◌∷◌, ◌++◌, refl, sym, ap, subst, ◌∙◌}
 use Rattle.bm_journal.specs.declared.entry.Entry.{Entry}
 use Rattle.bm_journal.specs.declared.entry.Entry.TheVariants as entry
 use Rattle.bm_lang.specs.declared.scenario.Parts.{Parts}
@@ -10,13 +10,12 @@ use Rattle.bm_law.specs.Spans.{own_entries}
 use Rattle.bm_law.proofs.Spans.{own-append}
 use Rattle.bm_deferred.specs.Parts.{Say}
 use Rattle.bm_deferred.specs.Inboxes.{Inboxes}
-use Rattle.bm_deferred.proofs.Each.{part-say}
-use Rattle.bm_mail.proofs.QuietEntries.{AllQuiet, IsQuiet}
+use Rattle.bm_mail.proofs.QuietEntries.{IsQuiet}
 use Rattle.bm_due.specs.Standing.{HandlersStand}
 use Rattle.bm_lawful.specs.CallEntries.{IsOfHandler}
 use Rattle.bm_lawful.specs.Closing.{close_of}
 use Rattle.bm_lawful.specs.Fills.{AreFills, fresh_stock}
-use Rattle.bm_lawful.specs.Grammar.{AreScripts, lines_of}
+use Rattle.bm_lawful.specs.Grammar.{AreScripts, Front, lines_of}
 use Rattle.bm_lawful.specs.Handlers.{HandlersDone}
 use Rattle.bm_lawful.specs.Opened.{opened_classes}
 use Rattle.bm_lawful.specs.Parcels.{ParcelLaw, ParcelsFit}
@@ -24,9 +23,8 @@ use Rattle.bm_lawful.proofs.EachLevel.{AllAbove, above-front, above-map, handler
 use Rattle.bm_lawful.proofs.Ended.{before-end}
 use Rattle.bm_mail.specs.LeavesParcels.{LeavesParcels, no_boxes}
 use Rattle.bm_mail.specs.SweepsTold.{ClosingTold}
-use Rattle.bm_mail.proofs.Quiet.{quiet-fills}
-use Rattle.bm_mail.proofs.Sends.{AllSendOf, all-quiet-send, send-append}
-use Rattle.bm_mail.proofs.Scripts.{sends-scripts}
+use Rattle.bm_lawful.proofs.FrontLaws.{front-has}
+use Rattle.bm_mail.proofs.Sends.{AllSendOf, front-sends}
 use Rattle.bm_mail.proofs.Inside.{Inside}
 use Rattle.bm_mail.proofs.Front.{AllSends, front-fits, front-inside, sends-above}
 use Rattle.bm_mail.proofs.Closed.{closing-fits}
@@ -50,10 +48,8 @@ parcels-handled s fills scripts closing boxes stand done f x d c =
     let log : Log = front ++ closing in
     let above : AllAbove IsQuiet log = above-map IsOfHandler IsQuiet handler-quiet log (handlers-above s 0 log stand done) in
     let end : AllAt 0 closing = (before-end s 0 front closing (close_of 0 ++ own_entries 0 c.two) stand (closing-begins classes front boxes (after start front) closing c)).1 in
-    let quiet : AllQuiet (own_entries 0 fills) = part-say IsQuiet 0 (AreFills classes (fresh_stock s.pages)) (quiet-fills classes (fresh_stock s.pages)) start fills f in
-    let own : AllSendOf classes (own_entries 0 front) =
-    subst (AllSendOf classes) (sym (own-append 0 fills scripts))
-    (send-append classes (own_entries 0 fills) (own_entries 0 scripts) (all-quiet-send classes (own_entries 0 fills) quiet) (sends-scripts s (lines_of 0 s.runs) (after start fills) scripts x)) in
+    let whole : Front s 0 start front = record { one = fills; two = scripts; part_is = refl; is_first = f; is_second = x } in
+    let own : AllSendOf classes (own_entries 0 front) = front-has s (AllSendOf classes) (front-sends s) 0 start front whole in
     let sends : AllSends classes front = sends-above classes front (above-front IsQuiet front closing above) own in
     let inside : Inside classes boxes = subst (Inside classes) d.left (front-inside classes front no_boxes sends d.fit (λ k e. refl)) in
     let closed : ParcelsFit 0 (after start front) boxes closing = closing-fits classes front boxes (after start front) closing end inside c in

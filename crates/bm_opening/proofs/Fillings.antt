@@ -13,7 +13,7 @@ use Rattle.bm_page.proofs.StockLemmas.{out_inside}
 use Rattle.bm_cache.specs.Each.{Sits}
 use Rattle.bm_cache.specs.Opening.{FillsSit}
 use Rattle.bm_lawful.specs.Fills.{prefill}
-use Rattle.bm_opening.specs.Filling.{Filling, behind, filling, units_in, IsUnborn}
+use Rattle.bm_opening.specs.Filling.{Filling, behind, filling, units_in, IsUnborn, NeverLived}
 
 pub filling-step : (fs : List (ℕ × List UnitState)) (c : ℕ) (cs : List ℕ) (pool : Stock) → behind fs (filling (c ∷ cs) pool) ≡ behind (fs ++ (c, (fetched c (prefill c) pool).units) ∷ []) (filling cs (fetched c (prefill c) pool).pool)
 filling-step fs c cs pool =
@@ -21,18 +21,18 @@ filling-step fs c cs pool =
     ap (λ x. let r : Filling = record { fills = x; pool = rest.pool } in r) (sym (append_assoc fs ((c, (fetched c (prefill c) pool).units) ∷ []) rest.fills))
 
 -- no life begins by a write of one that never lived
-set-life : (units : List Stocked) (n : ℕ) (s : Stocked) → s.life ≡ 0 → ((m : ℕ) → (stocked_at units m).life ≡ 0) → (m : ℕ) → (stocked_at (set units n s) m).life ≡ 0
-set-life [] n s z h m = h m
-set-life (u ∷ us) zero s z h zero = z
-set-life (u ∷ us) zero s z h (suc m) = h (suc m)
-set-life (u ∷ us) (suc n) s z h zero = h 0
-set-life (u ∷ us) (suc n) s z h (suc m) = set-life us n s z (λ k. h (suc k)) m
+set-new : (units : List Stocked) (n : ℕ) (s : Stocked) → NeverLived s.life s.seal → ((m : ℕ) → NeverLived (stocked_at units m).life (stocked_at units m).seal) → (m : ℕ) → NeverLived (stocked_at (set units n s) m).life (stocked_at (set units n s) m).seal
+set-new [] n s z h m = h m
+set-new (u ∷ us) zero s z h zero = z
+set-new (u ∷ us) zero s z h (suc m) = h (suc m)
+set-new (u ∷ us) (suc n) s z h zero = h 0
+set-new (u ∷ us) (suc n) s z h (suc m) = set-new us n s z (λ k. h (suc k)) m
 
 unborn-given : (c n : ℕ) (pool : Stock) → IsUnborn pool.units → IsUnborn (given c n pool).units
 unfolding given
 unborn-given c n pool h = record {
   size = let s = h.size in omega (arith, length-set pool.units n (record (stocked_at pool.units n) { out = true }), s);
-  life = set-life pool.units n (record (stocked_at pool.units n) { out = true }) (h.life n) h.life;
+  each = set-new pool.units n (record (stocked_at pool.units n) { out = true }) (h.each n) h.each;
 }
 
 unborn-next : (c m : ℕ) (pool : Stock) (o : Option ℕ) → next_unit c pool ≡ o → IsUnborn pool.units → ((n : ℕ) → IsUnborn (fetched c m (given c n pool)).pool.units) → IsUnborn (fetched c (suc m) pool).pool.units
@@ -64,15 +64,15 @@ sits-fetched c pool pool' held us each h out h' i d lt =
     let s = each i d lt in
     let o = all-right (IsOut pool') held us out.each i d lt in
     let inside = out_inside pool'.units u.number o.out in
-    let z = h.life u.number in
+    let z = (h.each u.number).0 in
     let size = h'.size in
     record {
       class = s.of_class;
       numbered = record { number = omega (arith, inside, size); life = omega (arith, s.life, z) };
     }
 
-pub unlived-fetched : (c : ℕ) (pool : Stock) (held us : List UnitState) → All (λ (u : UnitState). u.life ≡ 0) held → All (IsFromStock c pool) us → IsUnborn pool.units → All (λ (u : UnitState). u.life ≡ 0) (held ++ us)
-unlived-fetched c pool held us a each h = All-append (λ (u : UnitState). u.life ≡ 0) held us a (λ i d lt. (each i d lt).life ∙ h.life (get_or us i d).number)
+pub unlived-fetched : (c : ℕ) (pool : Stock) (held us : List UnitState) → All (λ (u : UnitState). NeverLived u.life u.seal) held → All (IsFromStock c pool) us → IsUnborn pool.units → All (λ (u : UnitState). NeverLived u.life u.seal) (held ++ us)
+unlived-fetched c pool held us a each h = All-append (λ (u : UnitState). NeverLived u.life u.seal) held us a (λ i d lt. let new = h.each (get_or us i d).number in ((each i d lt).life ∙ new.0, (each i d lt).seal ∙ new.1))
 
 -- a list that grew by one, seen through a function
 pub map-more : {A B : Type 0} (f : A → B) (xs ys : List A) (x : A) (z : B) → ys ≡ xs ++ x ∷ [] → f x ≡ z → map f ys ≡ map f xs ++ z ∷ []
@@ -82,7 +82,7 @@ map-more f xs ys x z e h = ap (map f) e ∙ (map-append f xs (x ∷ []) ∙ ap (
 pub record Filled_so_far (classes rest : List ℕ) (first pool : Stock) (fs : List (ℕ × List UnitState)) : Type 0 where
   pub so_far : filling classes first ≡ behind fs (filling rest pool)
   pub sits : FillsSit fs
-  pub unlived : All (λ (u : UnitState). u.life ≡ 0) (units_in fs)
+  pub unlived : All (λ (u : UnitState). NeverLived u.life u.seal) (units_in fs)
   pub out : AreOut pool (units_in fs)
   pub unborn : IsUnborn pool.units
 
@@ -95,7 +95,7 @@ filled-more classes rest c first pool now fs v p each out =
     record {
       so_far = v.so_far ∙ (filling-step fs c rest pool ∙ ap (λ (s : Stock). behind (fs ++ (c, us) ∷ []) (filling rest s)) (sym p));
       sits = sits-more fs c us v.sits (sits-fetched c pool now (units_in fs) us each v.unborn out born);
-      unlived = subst (All (λ (u : UnitState). u.life ≡ 0)) (sym more) (unlived-fetched c pool (units_in fs) us v.unlived each v.unborn);
+      unlived = subst (All (λ (u : UnitState). NeverLived u.life u.seal)) (sym more) (unlived-fetched c pool (units_in fs) us v.unlived each v.unborn);
       out = subst (AreOut now) (sym more) out;
       unborn = born;
     }

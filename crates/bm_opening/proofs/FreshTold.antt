@@ -17,6 +17,7 @@ use Rattle.bm_law_order.specs.Lives.{Life}
 use Rattle.bm_law_order.specs.Looks.{first_looks}
 use Rattle.bm_law_order.specs.Numbers.{first_numbers}
 use Rattle.bm_law_order.specs.Pages.{fetches}
+use Rattle.bm_law_order.specs.Seals.{NothingWaits}
 use Rattle.bm_law_order.specs.Shared.{Shared, fresh}
 use Rattle.bm_law_order.specs.Story.{AllJudged, Story, deeds, lines}
 use Rattle.bm_law_order.specs.Tie.{TiedBy}
@@ -90,9 +91,14 @@ fill-leads p (c ∷ cs) pool s e =
     let rest = fill-leads p cs f.pool now pools in
     record { fit = (same.units ∙ ap (fetches c (prefill c)) (sym e), rest.fit); now_is = rest.now_is }
 
+fill-waits : (cs : List ℕ) (pool : Stock) → NothingWaits (deeds (fill_story cs pool))
+fill-waits [] pool = tt
+fill-waits (c ∷ cs) pool = (tt, fill-waits cs (fetched c (prefill c) pool).pool)
+
 fill-does : (cs : List ℕ) (pages : ℕ) (pool : Stock) (slots : List (Option UnitState)) (begun : List ℕ) → pool ≡ (filling cs (fresh_stock pages)).pool → AllEmpty slots → ((n : ℕ) → begun_at begun n ≡ 0) →
     LivingDoes (deeds (fill_story cs (fresh_stock pages))) (outset pages) (living_side pool slots begun)
 fill-does cs pages pool slots begun q e z = record {
+  waits = fill-waits cs (fresh_stock pages);
   did = λ p s.
       let first = fresh-told pages (fresh_stock pages) [] [] no-slots no-lives in
       let start : Shared = record (fresh 1 pages) { pool = bare_pool (fresh_stock pages) } in

@@ -1,5 +1,5 @@
 -- The processor after its opening.
-use Rattle.std.proofs.Common.{◌≡◌, ◌≢◌, ◌≤◌, ◌<◌, ℕ, suc, zero, ◌+◌, ◌*◌, Bool, true, false, not, if◌then◌else◌, List, [], ◌∷◌, ◌++◌, length, get_or, map, refl, sym, ap, subst, ◌∙◌, Option, Some, None, arith, eq-eqb, eqb, ne_eqb, nat_lt, is_some, inl, inr, replicate}
+use Rattle.std.proofs.Common.{◌≡◌, ◌≢◌, ◌≤◌, ◌<◌, ℕ, suc, zero, ◌+◌, ◌*◌, Bool, true, false, not, if◌then◌else◌, List, [], ◌∷◌, ◌++◌, length, get_or, map, refl, sym, ap, subst, ◌∙◌, Option, Some, None, arith, eq-eqb, eqb, ne_eqb, nat_lt, is_none, is_some, inl, inr, replicate}
 use Rattle.std.specs.List.{All, AllPairs}
 use Rattle.std.proofs.lemmas.Bool.{and_from, and_parts, cases_eq, ltb-true}
 use Rattle.std.proofs.lemmas.Bool.Decides.{nat_tests}
@@ -9,6 +9,7 @@ use mathlib.Core.Path.{fun_ext}
 use Rattle.bm_journal.specs.declared.ids.Domain.{Domain}
 use Rattle.bm_journal.specs.declared.ids.Domain.TheVariants.{Plain, Tracing}
 use Rattle.bm_journal.specs.declared.entry.Entry.TheVariants as entry
+use Rattle.bm_page.specs.declared.units.Seal.{Seal}
 use Rattle.bm_page.specs.Stock.{Stock, stocked_at, fetched, unborn}
 use Rattle.bm_page.specs.UnitState.{UnitState}
 use Rattle.bm_page.specs.Out.{AreOut}
@@ -19,7 +20,7 @@ use Rattle.bm_post.specs.Kept.{IsRoomy}
 use Rattle.bm_post.specs.PostState.{Parcels, PostState, is_mine, no_parcels, waits}
 use Rattle.bm_post.specs.Rights.{numbers}
 use Rattle.bm_post.proofs.Room.{room-is}
-use Rattle.bm_world.specs.LivingState.{HaveLived, LivingState, begun_at, known_living, lives_of, living_of, may_live, rights_living}
+use Rattle.bm_world.specs.LivingState.{HaveLived, LivingState, begun_at, known_living, lives_of, living_of, may_be_used, may_live, rights_living}
 use Rattle.bm_world.specs.Slots.{AllEmpty, unit_at}
 use Rattle.bm_law.specs.Effect.{effect}
 use Rattle.bm_law.specs.Lists.{is_unstamped}
@@ -31,7 +32,7 @@ use Rattle.bm_cache.specs.Tokens.{Token, number_of}
 use Rattle.bm_desk.specs.Dated.{Dated, DatedRow}
 use Rattle.bm_desk.specs.DeskTests.{tests_by}
 use Rattle.bm_lawful.specs.Fills.{prefill, fresh_stock}
-use Rattle.bm_opening.specs.Filling.{filling, units_in, IsUnborn}
+use Rattle.bm_opening.specs.Filling.{filling, units_in, IsUnborn, NeverLived}
 use Rattle.bm_opening.specs.Opened.{ascends, fresh_side}
 
 pub ascending : (cs : List ℕ) (pool : Stock) → ascends cs ≡ true → Ascending (filling cs pool).fills
@@ -80,12 +81,12 @@ no-waits (suc k) n = no-waits k n
 pub roomy : (pool : Stock) → IsUnborn pool.units → IsRoomy pool
 roomy pool h = record {
   size = let s = h.size in omega (arith, s);
-  lives = λ n. let z = h.life n in omega (arith, z);
+  lives = λ n. let z = (h.each n).0 in omega (arith, z);
 }
 
 pub unlived : (post : PostState) → IsUnborn post.pool.units → post.inboxes ≡ no_parcels → HaveLived [] post
 unlived post h e = record {
-  stock = λ n out. h.life n;
+  stock = λ n out. h.each n;
   boxes = λ i. let none : get_or post.inboxes i [] ≡ [] = ap (λ (z : List Parcels). get_or z i []) e ∙ none-at 88 i in rw none (All-nil _);
 }
 
@@ -121,14 +122,18 @@ mine-here pool slots begun n e o =
     let alone : eqb (waits n no_parcels) 0 ≡ true = ap (λ k. eqb k 0) (no-waits 88 n) in
     and_from (is_mine (fresh_side pool).post n) (not (is_some (unit_at slots n))) (and_from (stocked_at pool.units n).out (eqb (waits n no_parcels) 0) o alone) none
 
-settled-here : (begun : List ℕ) (n life : ℕ) → n < 65536 → life ≡ 0 → begun_at begun n ≡ 0 → may_live begun n life ≡ true
-settled-here begun n life lt z none = and_from (has_room n life) (eqb life (begun_at begun n)) (room-is n life (omega (arith, lt)) (omega (arith, z))) (eq-eqb life (begun_at begun n) (z ∙ sym none))
+settled-here : (begun : List ℕ) (n life : ℕ) (seal : Option Seal) → n < 65536 → NeverLived life seal → begun_at begun n ≡ 0 → may_be_used begun n life seal ≡ true
+settled-here begun n life seal lt new none =
+    let z = new.0 in
+    and_from (may_live begun n life) (is_none seal)
+    (and_from (has_room n life) (eqb life (begun_at begun n)) (room-is n life (omega (arith, lt)) (omega (arith, z))) (eq-eqb life (begun_at begun n) (z ∙ sym none)))
+    (ap is_none new.1)
 
-reusable : (pool : Stock) (slots : List (Option UnitState)) (begun : List ℕ) (u : Token) → AllEmpty slots → ((n : ℕ) → begun_at begun n ≡ 0) → IsUnborn pool.units → u.life ≡ 0 → (stocked_at pool.units u.number).out ≡ true → Reusable (tests_by (rights_living (living_side pool slots begun))) u
+reusable : (pool : Stock) (slots : List (Option UnitState)) (begun : List ℕ) (u : Token) → AllEmpty slots → ((n : ℕ) → begun_at begun n ≡ 0) → IsUnborn pool.units → NeverLived u.life u.seal → (stocked_at pool.units u.number).out ≡ true → Reusable (tests_by (rights_living (living_side pool slots begun))) u
 reusable pool slots begun u e none born z o =
     let inside = out_inside pool.units u.number o in
     let size = born.size in
-    and_from ((rights_living (living_side pool slots begun)).mine u.number) (may_live begun u.number u.life) (mine-here pool slots begun u.number e o) (settled-here begun u.number u.life (omega (arith, inside, size)) z (none u.number))
+    and_from ((rights_living (living_side pool slots begun)).mine u.number) (may_be_used begun u.number u.life u.seal) (mine-here pool slots begun u.number e o) (settled-here begun u.number u.life u.seal (omega (arith, inside, size)) z (none u.number))
 
 all-front : (P : Token → Type 0) (xs ys : List Token) → All P (xs ++ ys) → All P xs
 all-front P [] ys h i d lt = absurd (omega arith)
@@ -143,7 +148,7 @@ suits : (t : Tests) (fs : Fills) → All (Reusable t) (units_in fs) → FillsSui
 suits t [] h = tt
 suits t (f ∷ fs) h = (all-front (Reusable t) f.1 (units_in fs) h, suits t fs (all-back (Reusable t) f.1 (units_in fs) h))
 
-pub fills-suit : (pool : Stock) (slots : List (Option UnitState)) (begun : List ℕ) (fs : Fills) → AllEmpty slots → ((n : ℕ) → begun_at begun n ≡ 0) → IsUnborn pool.units → All (λ (u : Token). u.life ≡ 0) (units_in fs) → AreOut pool (units_in fs) → FillsSuit (tests_by (rights_living (living_side pool slots begun))) fs
+pub fills-suit : (pool : Stock) (slots : List (Option UnitState)) (begun : List ℕ) (fs : Fills) → AllEmpty slots → ((n : ℕ) → begun_at begun n ≡ 0) → IsUnborn pool.units → All (λ (u : Token). NeverLived u.life u.seal) (units_in fs) → AreOut pool (units_in fs) → FillsSuit (tests_by (rights_living (living_side pool slots begun))) fs
 fills-suit pool slots begun fs e none born z o =
     suits (tests_by (rights_living (living_side pool slots begun))) fs (λ i d lt. reusable pool slots begun (get_or (units_in fs) i d) e none born (z i d lt) (o.each i d lt).out)
 

@@ -1,6 +1,7 @@
 -- The units that caches begin with, as a run brings them. (prefill_mem_cache in kernel/bpf/memalloc.c.)
-use Rattle.std.specs.Prelude.{◌≡◌, ◌≤◌, ℕ, List, [], ◌∷◌, ◌++◌, length}
+use Rattle.std.specs.Prelude.{◌≡◌, ◌≤◌, ℕ, Option, None, List, [], ◌∷◌, ◌++◌, length}
 use Rattle.bm_lawful.specs.Fills.{prefill}
+use Rattle.bm_page.specs.declared.units.Seal.{Seal}
 use Rattle.bm_page.specs.declared.units.Stocked.{Stocked}
 use Rattle.bm_page.specs.UnitState.{UnitState}
 use Rattle.bm_page.specs.Stock.{Stock, stocked_at, fetched}
@@ -22,7 +23,11 @@ abbrev pub units_in : List (ℕ × List UnitState) → List UnitState
 units_in [] = []
 units_in (f ∷ fs) = f.1 ++ units_in fs
 
+-- a unit with so many lives and this seal never lived
+abbrev pub NeverLived : (life : ℕ) → Option Seal → Type 0
+NeverLived life seal = (life ≡ 0) × (seal ≡ None)
+
 -- no unit ever lived, and each number is one of 65,536
 pub record IsUnborn (units : List Stocked) : Type 0 where
   pub size : length units ≤ 65536
-  pub life : (n : ℕ) → (stocked_at units n).life ≡ 0
+  pub each : (n : ℕ) → NeverLived (stocked_at units n).life (stocked_at units n).seal

@@ -6,7 +6,7 @@ ghost use Rattle.bm_page.specs.Out.{AreOut};
 ghost use Rattle.bm_page.specs.UnitState.{UnitState};
 ghost use Rattle.bm_cache.specs.Opening.{FillsSit};
 ghost use Rattle.bm_lawful.specs.Fills.{prefill};
-ghost use Rattle.bm_opening.specs.Filling.{filling, units_in, IsUnborn};
+ghost use Rattle.bm_opening.specs.Filling.{filling, units_in, IsUnborn, NeverLived};
 
 use bm_class::Class;
 use bm_page::{Pool, Unit};
@@ -50,7 +50,7 @@ pub(crate) fn fill(
     ensures fills { IfOk result (λ fills. map (λ f. (f.0, f.1.items)) fills.items ≡ (filling classes.now pool.old).fills) }
     ensures pool { OnOk result (pool.new ≡ (filling classes.now pool.old).pool) }
     ensures sits { IfOk result (λ fills. FillsSit (map (λ f. (f.0, f.1.items)) fills.items)) }
-    ensures unlived { IfOk result (λ fills. All (λ (u : UnitState). u.life ≡ 0) (units_in (map (λ f. (f.0, f.1.items)) fills.items))) }
+    ensures unlived { IfOk result (λ fills. All (λ (u : UnitState). NeverLived u.life u.seal) (units_in (map (λ f. (f.0, f.1.items)) fills.items))) }
     ensures out { IfOk result (λ fills. AreOut pool.new (units_in (map (λ f. (f.0, f.1.items)) fills.items))) }
     ensures unborn { IsUnborn pool.new.units }
 {

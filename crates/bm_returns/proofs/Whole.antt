@@ -11,7 +11,7 @@ use Rattle.bm_law.specs.Lists.{Leaves, Log, next}
 use Rattle.bm_law.specs.Stands.{times}
 use Rattle.bm_law.specs.Worked.{Emptied}
 use Rattle.bm_deferred.specs.Inboxes.{Inboxes, inboxes_after}
-use Rattle.bm_lawful.specs.Lawful.{Lawful, LawfulLog}
+use Rattle.bm_lawful.specs.Lawful.{LawfulLogs, LawfulLog}
 use Rattle.bm_lawful.specs.Parcels.{ParcelFits, ParcelLaw, ParcelsFit, no_parcels, sends_alone}
 use Rattle.bm_lives.specs.Together as together
 use Rattle.bm_lives.specs.Together.{Each, EachLog, beside, named, named_in}
@@ -104,5 +104,5 @@ one-log s [] e a h f = absurd (omega (arith, e))
 one-log s (log ∷ []) e a h f = lawful-returns s log (h 0 log refl) a f.0
 one-log s (log ∷ other ∷ logs) e a h f = absurd (omega (arith, e))
 
-pub journal-returns : (s : Parts) (j : Journal) → Lawful s j → s.processors ≡ 1 → EachLog (λ p log. FreedAsGiven log) j.logs → ReturnsLaw j.logs
+pub journal-returns : (s : Parts) (j : Journal) → LawfulLogs s j → s.processors ≡ 1 → EachLog (λ p log. FreedAsGiven log) j.logs → ReturnsLaw j.logs
 journal-returns s j h e f = one-log s j.logs (h.count ∙ e) (one-processor s e) h.logs f

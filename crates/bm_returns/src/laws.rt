@@ -6,7 +6,7 @@ ghost use Rattle.bm_lang.specs.declared.scenario.Parts.{Parts};
 ghost use Rattle.bm_law.specs.State.{State};
 ghost use Rattle.bm_law.specs.Lists.{Leaves, Log};
 ghost use Rattle.bm_law.specs.Worked.{Emptied};
-ghost use Rattle.bm_lawful.specs.Lawful.{Lawful, LawfulLog};
+ghost use Rattle.bm_lawful.specs.Lawful.{LawfulLogs, LawfulLog};
 ghost use Rattle.bm_lawful.specs.Parcels.{ParcelLaw, sends_alone};
 ghost use Rattle.bm_lives.specs.Together.{Each, EachLog, named_in};
 ghost use Rattle.bm_lives.specs.Returns.{ParcelsArrive, ReturnsLaw, receiver};
@@ -27,5 +27,5 @@ pub fn returns_law()
     ensures law { (s : Parts) (log : Log) →
         LawfulLog s 0 log → sends_alone s ≡ true → FreedAsGiven log → ReturnsLaw (log ∷ []) }
     ensures journal { (s : Parts) (j : Journal) →
-        Lawful s j → s.processors ≡ 1 → EachLog (λ p log. FreedAsGiven log) j.logs → ReturnsLaw j.logs }
+        LawfulLogs s j → s.processors ≡ 1 → EachLog (λ p log. FreedAsGiven log) j.logs → ReturnsLaw j.logs }
 {}

@@ -20,7 +20,7 @@ use Rattle.bm_world.specs.ToldLiving.{LivingDoes, told_living}
 use Rattle.bm_opening.specs.Opened.{outset}
 use Rattle.bm_opening.proofs.FreshTold.{outset-told}
 use Rattle.bm_run.specs.ClosingTie.{IsIdle}
-use Rattle.bm_run.specs.JournalLaid.{IsIdleAfter}
+use Rattle.bm_run.specs.IdleAfter.{IsIdleAfter}
 
 pub outset-side : (pages : ℕ) → IsSideOf 0 (outset pages).side
 outset-side pages = record { post_is = refl; grace_is = refl; agree = refl; turn = lit< tt; most = lit≤ tt; boxes = refl; plain_words = refl; tracing_words = refl }

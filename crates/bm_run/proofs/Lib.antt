@@ -13,3 +13,4 @@ pub mod LivesTold
 pub mod ParcelsTold
 pub mod StampsBound
 pub mod PollsTold
+pub mod SealsTold

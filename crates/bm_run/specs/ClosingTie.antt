@@ -20,6 +20,7 @@ use Rattle.bm_law_order.specs.Quiet.{is_quiet}
 use Rattle.bm_law_order.specs.Story.{at_level, deeds, lines}
 use Rattle.bm_law_order.specs.Tie.{Tied, TiedBy, whatever}
 use Rattle.bm_law_order.proofs.ActsJoin.{acts-append, acts-before}
+use Rattle.bm_law_order.proofs.Unwaited.{waits-front as nothing-front}
 use Rattle.bm_law_order.proofs.Ties.{law-closed, law-done, law-quiet, law-said, law-stepped, tie-unjudged}
 use Rattle.bm_grace.specs.PlainState.{domain_in}
 use Rattle.bm_closing.specs.Told.{at_once, passed_at_once}
@@ -110,6 +111,7 @@ ends-told since start done more es others (Some log) side s t = first-told since
 -- the last number that was read is no matter
 unread : (acts : List Act) (d : Domain) (x m : ℕ) (a b : LivingState) → LivingDoes (acts ++ act.Reads d x m ∷ []) a b → LivingDoes acts a b
 unread acts d x m a b did = record {
+  waits = nothing-front acts (act.Reads d x m ∷ []) did.waits;
   did = λ p s.
       let h = did.did p s in
       record {

@@ -1,4 +1,4 @@
 pub mod Lines
 pub mod Closed
 pub mod ClosingTie
-pub mod JournalLaid
+pub mod IdleAfter

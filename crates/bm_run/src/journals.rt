@@ -16,9 +16,11 @@ ghost use Rattle.bm_lawful.specs.Opened.{object_size, opened_classes};
 ghost use Rattle.bm_lawful.specs.Lawful.{LawfulLog};
 ghost use Rattle.bm_lives.specs.Lives.{WholeLives};
 ghost use Rattle.bm_lives.specs.Returns.{ReturnsLaw};
-ghost use Rattle.bm_lives.specs.Whole.{LawfulWhole};
+ghost use Rattle.bm_lives.specs.StampLaw.{SealsFit};
+ghost use Rattle.bm_law_journal.specs.Lawful.{Laid, Lawful};
 ghost use Rattle.bm_law_order.specs.Orders.{IsLaid, by};
 ghost use Rattle.bm_law_order.specs.Polls.{IsPolled};
+ghost use Rattle.bm_law_order.specs.Seals.{IsSealed};
 ghost use Rattle.bm_levels.specs.AtTie.{TiedAt};
 ghost use Rattle.bm_levels.specs.Ready.{word_of};
 ghost use Rattle.bm_levels.specs.Sound.{Sound};
@@ -27,7 +29,7 @@ ghost use Rattle.bm_built.specs.Yet.{RunsYet};
 ghost use Rattle.bm_opening.specs.Opened.{outset};
 ghost use Rattle.bm_run.specs.Closed.{Closed};
 ghost use Rattle.bm_run.specs.ClosingTie.{IsTiedLog};
-ghost use Rattle.bm_run.specs.JournalLaid.{IsIdleAfter, LaidWhole};
+ghost use Rattle.bm_run.specs.IdleAfter.{IsIdleAfter};
 ghost use Rattle.bm_run.specs.Lines.{when_on};
 
 use crate::classes::{opened_classes, type_classes, with_marks};
@@ -38,7 +40,7 @@ use bm_check::Checked;
 use bm_class::Class;
 use bm_closing::close as close_classes;
 use bm_exec::Types;
-use bm_front::handled_law;
+use bm_front::{handled_law, returned_law};
 use bm_journal::{Histories, Journal, Log, Logs, Names, Opened, Recorder, totals_of};
 use bm_lang::{Parts, Scenario, Script, TypeDeclaration};
 use bm_law_laid::{journal_law, whole_law};
@@ -98,12 +100,15 @@ fn journal_of(
     requires returns { ReturnsLaw (log ∷ []) }
     requires laid { IsLaid 1 scenario.now.pages (by 0 log) }
     requires polled { IsPolled 1 scenario.now.pages (by 0 log) }
+    requires sealed { IsSealed (by 0 log) }
+    requires seals { SealsFit (log ∷ []) log }
     requires idle { IsIdleAfter scenario.now.pages log }
-    ensures lawful { IfOk result (LawfulWhole scenario.now) }
-    ensures laid { IfOk result (LaidWhole scenario.now) }
+    ensures lawful { IfOk result (Lawful scenario.now) }
+    ensures laid { IfOk result (Laid scenario.now) }
 {
     whole_law();
     journal_law();
+    returned_law();
     let types = type_names(alloc, scenario.types.as_slice())?;
     let scripts = script_names(alloc, scenario.scripts.as_slice())?;
     let classes = Opened::new(with_marks(alloc, classes)?);
@@ -205,6 +210,8 @@ fn log_of<B: Since>(
     ensures lawful { IfOk result (LawfulLog scenario.now 0) }
     ensures laid { IfOk result (λ log. IsLaid 1 scenario.now.pages (by 0 log)) }
     ensures polled { IfOk result (λ log. IsPolled 1 scenario.now.pages (by 0 log)) }
+    ensures sealed { IfOk result (λ log. IsSealed (by 0 log)) }
+    ensures seals { IfOk result (λ log. SealsFit (log ∷ []) log) }
     ensures idle { IfOk result (IsIdleAfter scenario.now.pages) }
     ensures lives { IfOk result (λ log. WholeLives (log ∷ [])) }
     ensures returns { IfOk result (λ log. ReturnsLaw (log ∷ [])) }
@@ -238,11 +245,11 @@ fn log_of<B: Since>(
 }
 
 /// Runs a checked scenario of the forms that run by now, and gives its journal, which is lawful and laid, in which each poll has
-/// rested and each grace period has ended. Its time grows with the statements run. Want of memory is the only refusal.
+/// rested, each unit was given with what it had waited for, and each grace period has ended. Its time grows with the statements run. Want of memory is the only refusal.
 pub fn replay(alloc: Global, checked: &Checked) -> Result<Journal, NoMemory>
     requires { RunsYet checked.now }
-    ensures lawful { IfOk result (LawfulWhole checked.now) }
-    ensures laid { IfOk result (LaidWhole checked.now) }
+    ensures lawful { IfOk result (Lawful checked.now) }
+    ensures laid { IfOk result (Laid checked.now) }
 {
     let scenario = checked.scenario();
     let parts = scenario.parts();

@@ -9,8 +9,7 @@ use Rattle.bm_lang.specs.declared.scenario.Parts.{Parts}
 use Rattle.bm_lang.specs.Limits.{first_limit}
 use Rattle.bm_lang.specs.Scenarios.{Reads}
 use Rattle.bm_check.specs.Scripts.{AllAccepted}
-use Rattle.bm_lives.specs.Whole.{LawfulWhole}
-use Rattle.bm_run.specs.JournalLaid.{LaidWhole}
+use Rattle.bm_law_journal.specs.Lawful.{Laid, Lawful}
 use Rattle.bm_command.specs.declared.command.Command.{Command}
 use Rattle.bm_command.specs.declared.command.Command.TheVariants.{Replay, Check}
 use Rattle.bm_tool.specs.declared.refusal.Refusal.{Refusal}
@@ -38,7 +37,7 @@ pub record IsServable (c : Command) (bytes : List ℕ) : Type 0 where
 abbrev pub Serves : Command → Option (List ℕ) → Option Journal → Type 0
 Serves Check left journal = (journal ≡ None) × IfSome left (λ bytes. (s : Parts) × IsPrepared Check bytes s)
 Serves (Replay totals) left None = ⊥
-Serves (Replay totals) left (Some journal) = IfSome left (λ bytes. (s : Parts) × IsPrepared (Replay totals) bytes s × LawfulWhole s journal × LaidWhole s journal)
+Serves (Replay totals) left (Some journal) = IfSome left (λ bytes. (s : Parts) × IsPrepared (Replay totals) bytes s × Lawful s journal × Laid s journal)
 
 -- what a command writes: the text of the journal, or its lines of totals alone, or that the scripts are accepted
 abbrev pub out_text : Command → Option Journal → List ℕ

@@ -1,5 +1,5 @@
 -- What calls do where units live: what stays true, and what they do to the right to units.
-use Rattle.std.proofs.Common.{◌≡◌, ◌≢◌, ◌⊎◌, ℕ, ◌+◌, ◌<◌, ◌≤◌, ◌^◌, Bool, true, false, not, ◌&&◌, List, [], ◌∷◌, ◌++◌, length, length-set, get_or, set, refl, sym, ◌∙◌, ap, subst, inl, inr, arith, eqb, eq-eqb, ne_eqb, is_some, Option, Some, None, Result, Ok, Err, IfOk, OnOk, OnErr, IfSome, IfNone}
+use Rattle.std.proofs.Common.{◌≡◌, ◌≢◌, ◌⊎◌, ℕ, ◌+◌, ◌<◌, ◌≤◌, ◌^◌, Bool, true, false, not, ◌&&◌, List, [], ◌∷◌, ◌++◌, length, length-set, get_or, set, refl, sym, ◌∙◌, ap, subst, inl, inr, arith, eqb, eq-eqb, ne_eqb, is_none, is_some, Option, Some, None, Result, Ok, Err, IfOk, OnOk, OnErr, IfSome, IfNone}
 use Rattle.std.specs.List.{All}
 use Rattle.std.proofs.lemmas.Bool.{cases_eq, cases_lt, and_parts, and_from, eqb-true, false≢true}
 use Rattle.std.specs.Prelude.{if◌then◌else◌}
@@ -8,6 +8,7 @@ use Rattle.std.proofs.lemmas.List.Elements.{All-nil}
 use Rattle.std.proofs.lemmas.List.Sums.{get_or-le-sum_by}
 use Rattle.bm_law.specs.Stands.{times}
 use Rattle.bm_page.specs.UnitState.{UnitState}
+use Rattle.bm_page.specs.declared.units.Seal.{Seal}
 use Rattle.bm_page.specs.Out.{IsFromStock}
 use Rattle.bm_page.specs.Stock.{fetched, stocked_at}
 use Rattle.bm_post.specs.HasRoom.{has_room, room-of}
@@ -16,7 +17,7 @@ use Rattle.bm_post.specs.Calls.{Fetches, Receives, Takes}
 use Rattle.bm_post.specs.PostState.{Parcels, PostState, is_mine, rights_in, sent_to, taken_by, times_in, waits}
 use Rattle.bm_post.proofs.Counts.{at-number, here-times, zero-or-more}
 use Rattle.bm_post.proofs.Room.{room-is}
-use Rattle.bm_world.specs.LivingState.{AreLiving, HaveLived, LivedAs, begun_at, may_live, next_life, rights_with_living}
+use Rattle.bm_world.specs.LivingState.{AreLiving, HaveLived, LivedAs, begun_at, may_be_used, may_live, next_life, rights_with_living}
 use Rattle.bm_world.specs.Slots.{AllEmpty, unit_at}
 use Rattle.bm_world.proofs.Lived.{came-lived}
 use Rattle.bm_world.proofs.SlotLemmas.{Slotted, at-other, at-same, none-not, none-of, not-both, some-one, within}
@@ -31,6 +32,20 @@ has-room begun n life h = (and_parts (has_room n life) (eqb life (begun_at begun
 
 pub may-live : (begun : List ℕ) (n life : ℕ) → has_room n life ≡ true → life ≡ begun_at begun n → may_live begun n life ≡ true
 may-live begun n life r h = and_from (has_room n life) (eqb life (begun_at begun n)) r (eq-eqb life (begun_at begun n) h)
+
+-- .. and it has no seal
+pub may-be-used : (begun : List ℕ) (n life : ℕ) (seal : Option Seal) → may_live begun n life ≡ true → seal ≡ None → may_be_used begun n life seal ≡ true
+may-be-used begun n life seal h s = and_from (may_live begun n life) (is_none seal) h (ap is_none s)
+
+pub lives-so : (begun : List ℕ) (n life : ℕ) (seal : Option Seal) → may_be_used begun n life seal ≡ true → may_live begun n life ≡ true
+lives-so begun n life seal h = (and_parts (may_live begun n life) (is_none seal) h).0
+
+none-is : (seal : Option Seal) → is_none seal ≡ true → seal ≡ None
+none-is None h = refl
+none-is (Some x) h = absurd (false≢true h)
+
+pub seal-none : (begun : List ℕ) (n life : ℕ) (seal : Option Seal) → may_be_used begun n life seal ≡ true → seal ≡ None
+seal-none begun n life seal h = none-is seal (and_parts (may_live begun n life) (is_none seal) h).1
 
 -- what is mine here is mine of the post, and doesn't live
 mine-of : (post : PostState) (slots : Slotted) (begun : List ℕ) (n : ℕ) → (rights_with_living post slots begun).mine n ≡ true → is_mine post n ≡ true
@@ -47,14 +62,14 @@ holds-post post slots begun us h = record { each = λ k d lt. mine-of post slots
 
 pub leave-post : (post : PostState) (slots : Slotted) (begun : List ℕ) (us : List UnitState) → All (MayLeave (rights_with_living post slots begun)) us → All (MayLeave (rights_in post)) us
 leave-post post slots begun us h k d lt = elim (h k d lt) [
-  | inl a ↦ inl (has-room begun (get_or us k d).number (get_or us k d).life a)
-  | inr b ↦ inr (has-room begun (get_or us k d).number (get_or us k d).life b)
+  | inl a ↦ let u : UnitState = get_or us k d in inl (has-room begun u.number u.life (lives-so begun u.number u.life u.seal a))
+  | inr b ↦ absurd (false≢true b)
 ]
 
 pub leave-lived : (post : PostState) (slots : Slotted) (begun : List ℕ) (us : List UnitState) → All (MayLeave (rights_with_living post slots begun)) us → All (LivedAs begun) us
 leave-lived post slots begun us h k d lt = elim (h k d lt) [
-  | inl a ↦ lives-as begun (get_or us k d).number (get_or us k d).life a
-  | inr b ↦ lives-as begun (get_or us k d).number (get_or us k d).life b
+  | inl a ↦ let u : UnitState = get_or us k d in (lives-as begun u.number u.life (lives-so begun u.number u.life u.seal a), seal-none begun u.number u.life u.seal a)
+  | inr b ↦ absurd (false≢true b)
 ]
 
 pub loses-living : (post post' : PostState) (slots : Slotted) (begun : List ℕ) (ns : List ℕ) → Loses ns (rights_in post) (rights_in post') → Loses ns (rights_with_living post slots begun) (rights_with_living post' slots begun)
@@ -71,7 +86,9 @@ free-of post slots begun asked n k f (Some u) e = absurd (false≢true (sym f �
 takes-living : (class : ℕ) (us : List UnitState) (post post' : PostState) (slots : Slotted) (begun : List ℕ) (asked : ℕ) → AreLiving post slots begun asked → All (LivedAs begun) us → Takes class us (rights_in post) (rights_in post') → Takes class us (rights_with_living post slots begun) (rights_with_living post' slots begun)
 takes-living class us post post' slots begun asked k lived x = record {
   of_class = x.of_class;
-  settled = λ i d lt. may-live begun (get_or us i d).number (get_or us i d).life (x.settled i d lt) (lived i d lt);
+  settled = λ i d lt.
+      let u : UnitState = get_or us i d in
+      may-be-used begun u.number u.life u.seal (may-live begun u.number u.life (x.settled i d lt) (lived i d lt).0) (lived i d lt).1;
   gains = record {
     once = x.gains.once;
     were_not = λ n h. ap (λ b. b && not (is_some (unit_at slots n))) (x.gains.were_not n h);
@@ -101,6 +118,7 @@ living-over post post' slots begun asked p m h k = record {
   number = k.number;
   mine = λ n u e. m n u e (k.mine n u e);
   life = k.life;
+  unsealed = k.unsealed;
   home = λ n u e. rw p (k.home n u e);
   few = k.few;
   most = k.most;
@@ -135,11 +153,11 @@ living-sent (Err x) to class post post' slots begun asked us ok err h l s = livi
 
 -- where no unit has begun a life, the lives of a unit are none
 none-begun : (begun : List ℕ) → ((n : ℕ) → begun_at begun n ≡ 0) → (u : UnitState) → LivedAs [] u → LivedAs begun u
-none-begun begun z u h = h ∙ sym (z u.number)
+none-begun begun z u h = (h.0 ∙ sym (z u.number), h.1)
 
 unlived : (begun : List ℕ) (post : PostState) → ((n : ℕ) → begun_at begun n ≡ 0) → HaveLived [] post → HaveLived begun post
 unlived begun post z h = record {
-  stock = λ n out. h.stock n out ∙ sym (z n);
+  stock = λ n out. let k = h.stock n out in (k.0 ∙ sym (z n), k.1);
   boxes = λ i k d lt j e le. none-begun begun z (get_or (get_or (get_or post.inboxes i []) k d) j e) (h.boxes i k d lt j e le);
 }
 
@@ -150,6 +168,7 @@ none-living post slots begun size counts empty z lived = record {
   number = λ n u e. absurd (not-both (unit_at slots n) u (empty n) e);
   mine = λ n u e. absurd (not-both (unit_at slots n) u (empty n) e);
   life = λ n u e. absurd (not-both (unit_at slots n) u (empty n) e);
+  unsealed = λ n u e. absurd (not-both (unit_at slots n) u (empty n) e);
   home = λ n u e. absurd (not-both (unit_at slots n) u (empty n) e);
   few = omega arith;
   most = λ n. let e = z n in omega (arith, e);
@@ -197,8 +216,8 @@ none-in-boxes post n mine i =
 
 lived-begun : (post : PostState) (begun : List ℕ) (n k : ℕ) → is_mine post n ≡ true → HaveLived begun post → HaveLived (set begun n k) post
 lived-begun post begun n k mine h = record {
-  stock = λ m out. h.stock m out ∙ sym (counted-other begun n m k (not-in-stock post n m mine out));
-  boxes = λ i a d lt j e le. h.boxes i a d lt j e le ∙ sym (counted-other begun n (get_or (get_or (get_or post.inboxes i []) a d) j e).number k (none-in-boxes post n mine i a d lt j e le));
+  stock = λ m out. let was = h.stock m out in (was.0 ∙ sym (counted-other begun n m k (not-in-stock post n m mine out)), was.1);
+  boxes = λ i a d lt j e le. let was = h.boxes i a d lt j e le in (was.0 ∙ sym (counted-other begun n (get_or (get_or (get_or post.inboxes i []) a d) j e).number k (none-in-boxes post n mine i a d lt j e le)), was.1);
 }
 
 most-begun : (begun : List ℕ) (n life asked m : ℕ) → n < length begun → life ≡ begun_at begun n → begun_at begun m ≤ asked → begun_at (set begun n (life + 1)) m ≤ asked + 1
@@ -219,6 +238,7 @@ living-begun post slots begun asked u room mine fit home k = record {
     | inl x ↦ ap (λ (w : UnitState). w.life) x.1 ∙ sym (ap (begun_at (set begun u.number (u.life + 1))) x.0 ∙ counted-same begun u.number (u.life + 1) counts-there)
     | inr x ↦ k.life m v x.1 ∙ sym (counted-other begun u.number m (u.life + 1) x.0)
   ];
+  unsealed = λ m v e. elim (either m v e) [ inl x ↦ ap (λ (w : UnitState). w.seal) x.1 | inr x ↦ k.unsealed m v x.1 ];
   home = λ m v e. elim (either m v e) [ inl x ↦ subst (λ w. w.home < post.processors) (sym x.1) home | inr x ↦ k.home m v x.1 ];
   few = room;
   most = λ m. most-begun begun u.number u.life asked m counts-there (lives-as begun u.number u.life fit) (k.most m);
@@ -270,9 +290,9 @@ others-may post slots begun n k v there m life now fit =
 
 pub begun-lasts : (post : PostState) (slots : Slotted) (begun : List ℕ) (n k : ℕ) (v : UnitState) → n < length slots → Lasting [] (rights_with_living post slots begun) (rights_with_living post (set slots n (Some v)) (set begun n k))
 begun-lasts post slots begun n k v there = record {
-  settled = λ m life seal was now fit. others-may post slots begun n k v there m life now fit;
-  due = λ m life seal was now none fit. others-may post slots begun n k v there m life now fit;
-  ripe = λ m life seal was now none fit. others-may post slots begun n k v there m life now fit;
+  settled = λ m life seal was now fit. may-be-used (set begun n k) m life seal (others-may post slots begun n k v there m life now (lives-so begun m life seal fit)) (seal-none begun m life seal fit);
+  due = λ m life seal was now none fit. fit;
+  ripe = λ m life seal was now none fit. fit;
   since = λ d x m was now h. refl;
 }
 
@@ -291,8 +311,29 @@ ended-mine post slots begun asked n u there k = record {
   others = λ m h. ap (λ o. is_mine post m && not (is_some o)) (at-other slots n m None (not-one m n h));
 }
 
+pub living-ended : (post : PostState) (slots : Slotted) (begun : List ℕ) (asked n : ℕ) (u : UnitState) → unit_at slots n ≡ Some u → AreLiving post slots begun asked → AreLiving post (set slots n None) begun asked
+living-ended post slots begun asked n u there k = record {
+  size = length-set slots n None ∙ k.size;
+  counts = k.counts;
+  number = λ m v e. k.number m v (was m v e);
+  mine = λ m v e. k.mine m v (was m v e);
+  life = λ m v e. k.life m v (was m v e);
+  unsealed = λ m v e. k.unsealed m v (was m v e);
+  home = λ m v e. k.home m v (was m v e);
+  few = k.few;
+  most = k.most;
+  lived = k.lived;
+}
+  where
+    was : (m : ℕ) (v : UnitState) → unit_at (set slots n None) m ≡ Some v → unit_at slots m ≡ Some v
+    was m v e =
+        elim (cases_eq m n) [
+          | inl same ↦ absurd (not-both (unit_at (set slots n None) m) v (ap (unit_at (set slots n None)) same ∙ at-same slots n None (within slots n u there)) e)
+          | inr other ↦ sym (at-other slots n m None other) ∙ e
+        ]
+
 -- .. and the unit may be used again
-pub ended-settled : (post : PostState) (slots : Slotted) (begun : List ℕ) (asked n : ℕ) (u : UnitState) → unit_at slots n ≡ Some u → AreLiving post slots begun asked → may_live begun u.number u.life ≡ true
+pub ended-settled : (post : PostState) (slots : Slotted) (begun : List ℕ) (asked n : ℕ) (u : UnitState) → unit_at slots n ≡ Some u → AreLiving post slots begun asked → may_be_used begun u.number u.life u.seal ≡ true
 ended-settled post slots begun asked n u there k =
     let number = k.number n u there in
     let life = k.life n u there in
@@ -300,4 +341,6 @@ ended-settled post slots begun asked n u there k =
     let size = k.size in
     let most = k.most n in
     let few = k.few in
-    may-live begun u.number u.life (room-is u.number u.life (omega (arith, number, inside, size)) (omega (arith, life, most, few))) (life ∙ ap (begun_at begun) (sym number))
+    may-be-used begun u.number u.life u.seal
+    (may-live begun u.number u.life (room-is u.number u.life (omega (arith, number, inside, size)) (omega (arith, life, most, few))) (life ∙ ap (begun_at begun) (sym number)))
+    (k.unsealed n u there)

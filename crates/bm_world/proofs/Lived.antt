@@ -12,11 +12,11 @@ use Rattle.bm_page.proofs.StockLemmas.{stocked_at-same, stocked_at-other}
 use Rattle.bm_page.proofs.FetchLemmas.{fetched-zero, fetched-none, fetched-next}
 use Rattle.bm_post.specs.PostState.{Parcels, PostState, all_returned, inbox, no_parcels, place, sent_to, taken_by}
 use Rattle.bm_post.proofs.Room.{next_cases}
-use Rattle.bm_world.specs.LivingState.{HaveLived, LivedAs, begun_at}
+use Rattle.bm_world.specs.LivingState.{HasLived, HaveLived, LivedAs, begun_at}
 
 -- each unit of a pool has had the lives that it has begun
 abbrev pub StockLived : List ℕ → Stock → Type 0
-StockLived begun pool = (n : ℕ) → (stocked_at pool.units n).out ≡ false → (stocked_at pool.units n).life ≡ begun_at begun n
+StockLived begun pool = (n : ℕ) → (stocked_at pool.units n).out ≡ false → HasLived begun n (stocked_at pool.units n).life (stocked_at pool.units n).seal
 
 -- ---- units that come from the pool
 
@@ -37,7 +37,8 @@ unlocked class number n pool out =
 given-lived : (class number : ℕ) (begun : List ℕ) (pool : Stock) → StockLived begun pool → StockLived begun (given class number pool)
 given-lived class number begun pool h n out =
     let e = unlocked class number n pool out in
-    ap (λ (s : Stocked). s.life) e ∙ h n (ap (λ (s : Stocked). s.out) (sym e) ∙ out)
+    let k = h n (ap (λ (s : Stocked). s.out) (sym e) ∙ out) in
+    (ap (λ (s : Stocked). s.life) e ∙ k.0, ap (λ (s : Stocked). s.seal) e ∙ k.1)
 
 fetched-lived : (class want : ℕ) (begun : List ℕ) (pool : Stock) → StockLived begun pool → StockLived begun (fetched class want pool).pool
 fetched-lived class zero begun pool h = rw (fetched-zero class zero pool refl) h
@@ -49,7 +50,7 @@ fetched-lived class (suc want) begun pool h =
 
 -- units that were in stock
 pub came-lived : (class : ℕ) (begun : List ℕ) (pool : Stock) (us : List UnitState) → StockLived begun pool → All (IsFromStock class pool) us → All (LivedAs begun) us
-came-lived class begun pool us h each k d lt = let u : UnitState = get_or us k d in let e = each k d lt in e.life ∙ h u.number e.stock
+came-lived class begun pool us h each k d lt = let u : UnitState = get_or us k d in let e = each k d lt in let was = h u.number e.stock in (e.life ∙ was.0, e.seal ∙ was.1)
 
 -- ---- units that go back to the pool
 
@@ -58,14 +59,16 @@ unfolding returned
 returned-lived u begun pool r h n out =
     elim (cases_eq n u.number) [
       | inl same ↦ elim (cases_lt u.number (length pool.units)) [
-        | inl less ↦ ap (λ m. (stocked_at (returned u pool).units m).life) same ∙ ap (λ (s : Stocked). s.life) (stocked_at-same pool.units u.number (stocked_of u) less) ∙ r ∙ ap (begun_at begun) (sym same)
+        | inl less ↦
+            let now : stocked_at (returned u pool).units n ≡ stocked_of u = ap (λ m. stocked_at (returned u pool).units m) same ∙ stocked_at-same pool.units u.number (stocked_of u) less in
+            (ap (λ (s : Stocked). s.life) now ∙ r.0 ∙ ap (begun_at begun) (sym same), ap (λ (s : Stocked). s.seal) now ∙ r.1)
         | inr past ↦ as-before (ap (λ m. stocked_at (returned u pool).units m) same ∙ get_or_past (returned u pool).units u.number unborn (rw length-set past) ∙ sym (get_or_past pool.units u.number unborn past) ∙ ap (λ m. stocked_at pool.units m) (sym same))
       ]
       | inr other ↦ as-before (stocked_at-other pool.units u.number n (stocked_of u) other)
     ]
   where
-    as-before : stocked_at (returned u pool).units n ≡ stocked_at pool.units n → (stocked_at (returned u pool).units n).life ≡ begun_at begun n
-    as-before e = ap (λ (s : Stocked). s.life) e ∙ h n (ap (λ (s : Stocked). s.out) (sym e) ∙ out)
+    as-before : stocked_at (returned u pool).units n ≡ stocked_at pool.units n → HasLived begun n (stocked_at (returned u pool).units n).life (stocked_at (returned u pool).units n).seal
+    as-before e = let k = h n (ap (λ (s : Stocked). s.out) (sym e) ∙ out) in (ap (λ (s : Stocked). s.life) e ∙ k.0, ap (λ (s : Stocked). s.seal) e ∙ k.1)
 
 all-lived : (us : List UnitState) (begun : List ℕ) (pool : Stock) → All (LivedAs begun) us → StockLived begun pool → StockLived begun (all_returned us pool)
 all-lived [] begun pool r h = h
@@ -131,11 +134,11 @@ none-counted (suc k) (suc n) = none-counted k n
 -- a post whose pool was just made, and whose inboxes are empty
 pub new-lived : (post : PostState) (k : ℕ) → post.pool.units ≡ replicate k unborn → post.inboxes ≡ no_parcels → HaveLived [] post
 new-lived post k units empty = record {
-  stock = λ n out. ap (λ (z : List Stocked). (stocked_at z n).life) units ∙ unborn-at k n;
+  stock = λ n out. let e : stocked_at post.pool.units n ≡ unborn = ap (λ (z : List Stocked). stocked_at z n) units ∙ unborn-at k n in (ap (λ (s : Stocked). s.life) e, ap (λ (s : Stocked). s.seal) e);
   boxes = λ i. let e : get_or post.inboxes i [] ≡ [] = ap (λ (z : List Parcels). get_or z i []) empty ∙ none-at 88 i in rw e (All-nil _);
 }
   where
-    unborn-at : (k n : ℕ) → (stocked_at (replicate k unborn) n).life ≡ 0
+    unborn-at : (k n : ℕ) → stocked_at (replicate k unborn) n ≡ unborn
     unborn-at zero n = refl
     unborn-at (suc k) zero = refl
     unborn-at (suc k) (suc n) = unborn-at k n

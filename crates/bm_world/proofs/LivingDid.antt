@@ -1,5 +1,5 @@
 -- What each call of the world with the units that live in it does.
-use Rattle.std.proofs.Common.{◌≡◌, ℕ, ◌+◌, ◌<◌, List, [], ◌∷◌, set, length, Option, None, Some, Result, Ok, Err, OnOk, OnErr, sym, ◌∙◌, ap, subst, inl, inr, eq-eqb, ne_eqb}
+use Rattle.std.proofs.Common.{◌≡◌, ℕ, ◌+◌, ◌<◌, List, [], ◌∷◌, false, set, length, Option, None, Some, Result, Ok, Err, OnOk, OnErr, refl, sym, ◌∙◌, ap, subst, inl, inr, eq-eqb, ne_eqb}
 use Rattle.std.specs.Prelude.{eqb, if◌then◌else◌}
 use Rattle.std.proofs.lemmas.Bool.{cases_eq}
 use mathlib.Core.Path.{fun_ext}
@@ -8,6 +8,7 @@ use Rattle.bm_law_order.specs.Act as act
 use Rattle.bm_page.specs.UnitState.{UnitState}
 use Rattle.bm_law_order.specs.Acts.{ActsLead}
 use Rattle.bm_law_order.specs.Lives.{Life, Lives}
+use Rattle.bm_law_order.specs.Seals.{NothingWaits}
 use Rattle.bm_law_order.specs.Shared.{Shared}
 use Rattle.bm_world.specs.LivingState.{LivingState, begun_at, next_life, with_begun, with_ended}
 use Rattle.bm_world.specs.SideState.{SideState}
@@ -17,21 +18,22 @@ use Rattle.bm_world.specs.ToldLiving.{LivingDoes, life_of, lives_told, told_livi
 use Rattle.bm_world.proofs.SlotLemmas.{at-other, at-same}
 
 -- what the side did, where nothing began or ended a life
-pub lifts : (acts : List Act) (a b : LivingState) → b.slots ≡ a.slots → b.begun ≡ a.begun → SideDoes acts a.side b.side → LivingDoes acts a b
-lifts acts a b slots begun d = record {
+pub lifts : (acts : List Act) (a b : LivingState) → b.slots ≡ a.slots → b.begun ≡ a.begun → NothingWaits acts → SideDoes acts a.side b.side → LivingDoes acts a b
+lifts acts a b slots begun w d = record {
+  waits = w;
   did = λ p s.
       let u = d.did p s in
       let same : lives_told b ≡ lives_told a = (let F : List (Option UnitState) → List ℕ → Lives = λ xs ys. record { begun = begun_at ys; holds = λ n. life_of (unit_at xs n); dropping = λ p l. None } in ap (λ xs. F xs b.begun) slots ∙ ap (F a.slots) begun) in
       record { leads = subst (λ lives. ActsLead p acts (told_living a) (told lives b.side)) (sym same) (u.leads (lives_told a)); stays = u.stays };
 }
 
-pub lifts-ok : {A E : Type 0} (r : Result A E) (acts : List Act) (a b : LivingState) → b.slots ≡ a.slots → b.begun ≡ a.begun → OnOk r (SideDoes acts a.side b.side) → OnOk r (LivingDoes acts a b)
-lifts-ok (Ok x) acts a b slots begun d = lifts acts a b slots begun d
-lifts-ok (Err x) acts a b slots begun d = tt
+pub lifts-ok : {A E : Type 0} (r : Result A E) (acts : List Act) (a b : LivingState) → b.slots ≡ a.slots → b.begun ≡ a.begun → NothingWaits acts → OnOk r (SideDoes acts a.side b.side) → OnOk r (LivingDoes acts a b)
+lifts-ok (Ok x) acts a b slots begun w d = lifts acts a b slots begun w d
+lifts-ok (Err x) acts a b slots begun w d = tt
 
-pub lifts-err : {A E : Type 0} (r : Result A E) (acts : List Act) (a b : LivingState) → b.slots ≡ a.slots → b.begun ≡ a.begun → OnErr r (SideDoes acts a.side b.side) → OnErr r (LivingDoes acts a b)
-lifts-err (Err x) acts a b slots begun d = lifts acts a b slots begun d
-lifts-err (Ok x) acts a b slots begun d = tt
+pub lifts-err : {A E : Type 0} (r : Result A E) (acts : List Act) (a b : LivingState) → b.slots ≡ a.slots → b.begun ≡ a.begun → NothingWaits acts → OnErr r (SideDoes acts a.side b.side) → OnErr r (LivingDoes acts a b)
+lifts-err (Err x) acts a b slots begun w d = lifts acts a b slots begun w d
+lifts-err (Ok x) acts a b slots begun w d = tt
 
 -- a test of equality, the other way round
 turned : (m n : ℕ) → eqb m n ≡ eqb n m
@@ -41,8 +43,9 @@ turned m n = elim (cases_eq m n) [
 ]
 
 -- a unit of this processor's begins a life
-pub does-make : (u : UnitState) (a b : LivingState) → b ≡ with_begun u a → unit_at a.slots u.number ≡ None → u.life ≡ begun_at a.begun u.number → ((n : ℕ) → begun_at b.begun n ≡ (if eqb u.number n then begun_at a.begun n + 1 else begun_at a.begun n)) → u.number < length a.slots → u.home ≡ a.side.grace.processor → LivingDoes (act.Makes u.number (u.life + 1) u.seal ∷ []) a b
-does-make u a b e none next counts there home = record {
+pub does-make : (u : UnitState) (a b : LivingState) → b ≡ with_begun u a → u.seal ≡ None → unit_at a.slots u.number ≡ None → u.life ≡ begun_at a.begun u.number → ((n : ℕ) → begun_at b.begun n ≡ (if eqb u.number n then begun_at a.begun n + 1 else begun_at a.begun n)) → u.number < length a.slots → u.home ≡ a.side.grace.processor → LivingDoes (act.Makes u.number (u.life + 1) u.seal ∷ []) a b
+does-make u a b e unsealed none next counts there home = record {
+  waits = (unsealed, tt);
   did = λ p s. record {
     leads = record {
       fit = (record { none = ap life_of none; next_is = ap (λ n. n + 1) next }, tt);
@@ -67,8 +70,9 @@ does-make u a b e none next counts there home = record {
         ]
 
 -- a life ends
-pub does-end : (n : ℕ) (u : UnitState) (a b : LivingState) → b ≡ with_ended n a → unit_at a.slots n ≡ Some u → u.life ≡ begun_at a.begun n → n < length a.slots → LivingDoes (act.Ends n u.life u.home ∷ []) a b
+pub does-end : (n : ℕ) (u : UnitState) (a b : LivingState) → b ≡ with_ended n a → unit_at a.slots n ≡ Some u → u.life ≡ begun_at a.begun n → n < length a.slots → LivingDoes (act.Ends n u.life u.home false ∷ []) a b
 does-end n u a b e lives last there = record {
+  waits = (refl, tt);
   did = λ p s. record {
     leads = record {
       fit = (record { holds = ap life_of lives; now_is = last }, tt);

@@ -1,6 +1,6 @@
 -- The world on one thread with the units that live in it. (This project's own. The kernel's allocator knows nothing of a unit
 -- while it is in use.)
-use Rattle.std.specs.Prelude.{◌≡◌, ℕ, ◌+◌, ◌%◌, ◌^◌, ◌<◌, ◌≤◌, ◌&&◌, not, eqb, Bool, false, true, Option, None, Some, List, [], is_some, length, slice_index_or, slice_set}
+use Rattle.std.specs.Prelude.{◌≡◌, ℕ, ◌+◌, ◌%◌, ◌^◌, ◌<◌, ◌≤◌, ◌&&◌, not, eqb, Bool, false, true, Option, None, Some, List, [], is_none, is_some, length, slice_index_or, slice_set}
 use Rattle.std.specs.List.{All}
 use Rattle.std.proofs.lemmas.Bool.{and_parts}
 use Rattle.bm_journal.specs.declared.ids.Domain.{Domain}
@@ -44,14 +44,18 @@ known_living world = record (known_of world.side) { objects = record { lives = l
 abbrev pub may_live : (begun : List ℕ) → (n life : ℕ) → Bool
 may_live begun n life = has_room n life && eqb life (begun_at begun n)
 
--- Mine is what is mine of the side and doesn't live. Each unit whose lives are those that it has begun may be used again as
--- soon as it is there, whatever its seal.
+-- .. and so may the unit, if it has no seal
+abbrev pub may_be_used : (begun : List ℕ) → (n life : ℕ) → Option Seal → Bool
+may_be_used begun n life seal = may_live begun n life && is_none seal
+
+-- Mine is what is mine of the side and doesn't live. Each unit without a seal, whose lives are those that it has begun, may be used
+-- again as soon as it is there. No unit waits here: each life ends by a plain free, and so no unit has a seal either.
 abbrev pub rights_with_living : PostState → List (Option UnitState) → List ℕ → Rights
 rights_with_living post slots begun = record {
   mine = λ n. is_mine post n && not (is_some (unit_at slots n));
-  settled = λ n life seal. may_live begun n life;
-  due = λ n life seal. may_live begun n life;
-  ripe = λ n life seal. may_live begun n life;
+  settled = may_be_used begun;
+  due = λ n life seal. false;
+  ripe = λ n life seal. false;
   since = λ d x n. true;
 }
 
@@ -83,24 +87,30 @@ with_begun unit world =
 abbrev pub with_ended : ℕ → LivingState → LivingState
 with_ended n world = record world { slots = slice_set world.slots n None }
 
--- The lives of a unit are those that it has begun.
+-- The lives of a unit are those that it has begun, and it has no seal.
+abbrev pub HasLived : (begun : List ℕ) (n life : ℕ) → Option Seal → Type 0
+HasLived begun n life seal = (life ≡ begun_at begun n) × (seal ≡ None)
+
 abbrev pub LivedAs : List ℕ → UnitState → Type 0
-LivedAs begun unit = unit.life ≡ begun_at begun unit.number
+LivedAs begun unit = HasLived begun unit.number unit.life unit.seal
 
 -- So it is of each unit of the pool and of the inboxes.
 pub record HaveLived (begun : List ℕ) (post : PostState) : Type 0 where
-  pub stock : (n : ℕ) → (stocked_at post.pool.units n).out ≡ false → (stocked_at post.pool.units n).life ≡ begun_at begun n
+  pub stock : (n : ℕ) → (stocked_at post.pool.units n).out ≡ false
+      → HasLived begun n (stocked_at post.pool.units n).life (stocked_at post.pool.units n).seal
   pub boxes : (i : ℕ) → All (All (LivedAs begun)) (slice_index_or post.inboxes i [])
 
 -- What the parts keep true: there is a slot for each number, and a count of its lives, which isn't above the number of objects
 -- that were asked for; the unit in a slot has its number, is out of the pool and stands in no inbox, lives the last life that
--- it has begun, and its home is one of the processors; and so it is of the lives of each unit of the pool and of the inboxes.
+-- it has begun, has no seal, and its home is one of the processors; and so it is of the lives and seals of all units of the pool
+-- and of the inboxes.
 pub record AreLiving (post : PostState) (slots : List (Option UnitState)) (begun : List ℕ) (asked : ℕ) : Type 0 where
   pub size : length slots ≡ 2 ^ 16
   pub counts : length begun ≡ 2 ^ 16
   pub number : (n : ℕ) (unit : UnitState) → unit_at slots n ≡ Some unit → unit.number ≡ n
   pub mine : (n : ℕ) (unit : UnitState) → unit_at slots n ≡ Some unit → is_mine post n ≡ true
   pub life : (n : ℕ) (unit : UnitState) → unit_at slots n ≡ Some unit → unit.life ≡ begun_at begun n
+  pub unsealed : (n : ℕ) (unit : UnitState) → unit_at slots n ≡ Some unit → unit.seal ≡ None
   pub home : (n : ℕ) (unit : UnitState) → unit_at slots n ≡ Some unit → unit.home < post.processors
   pub few : asked < 2 ^ 31
   pub most : (n : ℕ) → begun_at begun n ≤ asked
@@ -108,7 +118,9 @@ pub record AreLiving (post : PostState) (slots : List (Option UnitState)) (begun
 
 -- what may be used again has room
 pub room-living : (p : LivingState) (n life : ℕ) (seal : Option Seal) → (rights_living p).settled n life seal ≡ true → (n < 2 ^ 16) × (life + 1 < 2 ^ 32)
-room-living p n life seal h = room-of n life seal (and_parts (has_room n life) (eqb life (begun_at p.begun n)) h).0
+room-living p n life seal h =
+    let may = (and_parts (may_live p.begun n life) (is_none seal) h).0 in
+    room-of n life seal (and_parts (has_room n life) (eqb life (begun_at p.begun n)) may).0
 
 pub idle-living : (world : LivingState) (d : Domain) (n : ℕ) → LivingAtRest world d n → n % 2 ≡ 0 → (side d (known_living world)).number ≡ 0
 idle-living world Plain n rest even = idle-of world.side Plain n rest even

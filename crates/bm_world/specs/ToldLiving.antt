@@ -4,8 +4,10 @@ use Rattle.bm_law_order.specs.Act.{Act}
 use Rattle.bm_page.specs.UnitState.{UnitState}
 use Rattle.bm_law_order.specs.Acts.{ActsLead}
 use Rattle.bm_law_order.specs.Lives.{Life, Lives}
+use Rattle.bm_law_order.specs.Seals.{NothingWaits}
 use Rattle.bm_law_order.specs.Shared.{Shared}
 use Rattle.bm_law_order.proofs.ActsJoin.{acts-join, acts-same}
+use Rattle.bm_law_order.proofs.Unwaited.{waits-append}
 use Rattle.bm_world.specs.LivingState.{LivingState, begun_at}
 use Rattle.bm_world.specs.Slots.{unit_at}
 use Rattle.bm_world.specs.Told.{IsSideOf, told}
@@ -26,14 +28,17 @@ pub record LivingDid (p : ℕ) (acts : List Act) (before now : LivingState) : Ty
   pub leads : ActsLead p acts (told_living before) (told_living now)
   pub stays : IsSideOf p now.side
 
+-- by these acts nothing waits, and from the side of each processor they lead there
 pub record LivingDoes (acts : List Act) (before now : LivingState) : Type 0 where
+  pub waits : NothingWaits acts
   pub did : (p : ℕ) → IsSideOf p before.side → LivingDid p acts before now
 
 pub living-same : (a : LivingState) → LivingDoes [] a a
-living-same a = record { did = λ p s. record { leads = acts-same p (told_living a); stays = s } }
+living-same a = record { waits = tt; did = λ p s. record { leads = acts-same p (told_living a); stays = s } }
 
 pub living-join : (es fs : List Act) (a b c : LivingState) → LivingDoes es a b → LivingDoes fs b c → LivingDoes (es ++ fs) a c
 living-join es fs a b c x y = record {
+  waits = waits-append es fs x.waits y.waits;
   did = λ p s.
       let u = x.did p s in
       let v = y.did p u.stays in

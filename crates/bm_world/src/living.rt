@@ -200,7 +200,7 @@ impl LivingSide {
         ensures home { result.home < self.old.side.grace.processors }
         ensures lasts { Lasting [] (rights_living self.old) (rights_living self.new) }
         ensures rest { StaysAtRest LivingAtRest self.old self.new }
-        ensures does { LivingDoes (act.Ends number result.life result.home ∷ []) self.old self.new }
+        ensures does { LivingDoes (act.Ends number result.life result.home false ∷ []) self.old self.new }
     {
         self.side.processors_agree();
         self.slots.take(number)

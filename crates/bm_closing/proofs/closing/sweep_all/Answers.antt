@@ -1,7 +1,12 @@
+use Rattle.std.proofs.Common.{◌≡◌, ◌≤◌, ◌+◌, ℕ, arith}
 use Rattle.std.specs.List.{flat_map}
 use Rattle.bm_closing.proofs.AtEnds.{when-ok, with-ok}
 use Rattle.bm_closing.proofs.Swept.{swept-of}
 use Rattle.bm_closing.proofs.closing.sweep_all.Goals as goal
+
+-- a number that is the stamp has reached it
+reached : (x m n : ℕ) → x ≡ n + 2 → m ≡ n + 2 → x ≤ m
+reached x m n e f = omega (arith, e, f)
 
 pub returns-clause-swept : goal.returns-clause-swept
 returns-clause-swept g c =
@@ -15,4 +20,5 @@ returns-clause-swept g c =
     let w = one.gathered.0 in
     let rest = c.requires.rest in
     let at = one.gathered.1 rest.0 rest.1.0 rest.1.1 in
-    with-ok r _ (λ e. swept-of g.R.Recorder.log g.H.Host.face g.H.Host.pending g.H.Desk.stays g.H.Host.held (λ h. g.H.W.Knows.known (g.H.Desk.shared h)) g.met.H.Desk.stays_join c.args.class us w a b d at.domain one.gathered.2 (when-ok r _ e two.sent) one.goes (when-ok r _ e two.goes) one.alike (when-ok r _ e two.alike) one.parcels (when-ok r _ e two.parcels) (when-ok r _ e two.grace) one.plain one.begins)
+    let passed = reached w.stamp w.seen rest.0 at.stamp at.seen in
+    with-ok r _ (λ e. swept-of g.R.Recorder.log g.H.Host.face g.H.Host.pending g.H.Desk.stays g.H.Host.held (λ h. g.H.W.Knows.known (g.H.Desk.shared h)) g.met.H.Desk.stays_join c.args.class us w a b d at.domain passed one.gathered.2 (when-ok r _ e two.sent) one.goes (when-ok r _ e two.goes) one.alike (when-ok r _ e two.alike) one.parcels (when-ok r _ e two.parcels) (when-ok r _ e two.grace) one.plain one.begins)

@@ -1,4 +1,4 @@
-use Rattle.std.proofs.Common.{◌≡◌, ◌≢◌, ◌∙◌, ◌+◌, ℕ, Option, None, Some, [], ◌∷◌, sym, ap, subst, arith}
+use Rattle.std.proofs.Common.{◌≡◌, ◌≢◌, ◌∙◌, ◌+◌, ℕ, false, Option, None, Some, [], ◌∷◌, sym, ap, subst, arith}
 use Rattle.bm_journal.specs.declared.entry.Entry.TheVariants as entry
 use Rattle.bm_journal.specs.declared.ids.ObjId.{ObjId}
 use Rattle.bm_page.specs.UnitState.{UnitState}
@@ -133,4 +133,4 @@ release-requires-clause-tied g c =
     let now : u.life ≡ o.life = living-now o.unit o.life alive.0 u m.side.slots e.unit alive.1 in
     let k : Processor = record m { caches = c.note-2.new.self; side = c.end_life-unit.new.self } in
     let F : ℕ → Type 0 = λ x. FreesAt g.B.Since.since g.B.Since.start l x u.home k in
-    subst F (sym e.number) (tied-freeing g.B.Since.since g.B.Since.start l o.unit o.life u.home m k c.note.new.self.recorder.told n.records n'.records (subst (λ x. LivingDoes (act.Ends o.unit x u.home ∷ []) m.side k.side) now e.does) c.requires.tied)
+    subst F (sym e.number) (tied-freeing g.B.Since.since g.B.Since.start l o.unit o.life u.home m k c.note.new.self.recorder.told n.records n'.records (subst (λ x. LivingDoes (act.Ends o.unit x u.home false ∷ []) m.side k.side) now e.does) c.requires.tied)

@@ -4,29 +4,38 @@ use Rattle.bm_law.specs.Lists.{Log}
 use Rattle.bm_law_order.specs.ByDomain.{of}
 use Rattle.bm_law_order.specs.Orders.{IsLaid, Order, shared_over}
 use Rattle.bm_law_order.specs.Polls.{IsPolled}
+use Rattle.bm_law_order.specs.Seals.{IsSealed}
 use Rattle.bm_law_order.specs.Shared.{fresh}
 use Rattle.bm_law_order.specs.Whole.{whole}
-use Rattle.bm_run.specs.JournalLaid.{named_turns}
+use Rattle.bm_law_journal.specs.Lawful.{named_turns}
 use Rattle.bm_run.proofs.Laid.{laid-whole, whole-one}
 use Rattle.bm_run.proofs.PollsTold.{polled-whole}
+use Rattle.bm_run.proofs.SealsTold.{sealed-whole}
 use Rattle.bm_lawful.specs.Lawful.{LawfulLog}
 use Rattle.bm_lawful.specs.Short.{JournalShort}
 use Rattle.bm_lawful.proofs.Told.{one-log}
 use Rattle.bm_journal.specs.declared.ids.Domain.{Domain}
 use Rattle.bm_journal.specs.declared.ids.Domain.TheVariants.{Plain, Tracing}
-use Rattle.bm_lives.specs.GraceLaw.{AllEnded, GraceLaw}
+use Rattle.bm_lives.specs.GraceLaw.{WholeGrace}
 use Rattle.bm_lives.specs.Lives.{WholeLives}
-use Rattle.bm_lives.specs.StampLaw.{SeenFit, StampsFit}
-use Rattle.bm_lives.specs.Together.{EachLog}
+use Rattle.bm_lives.specs.StampLaw.{StampLaw}
 use Rattle.bm_lives.specs.Returns.{ReturnsLaw}
 use Rattle.bm_run.proofs.journals.journal_of.Goals as goal
 
 pub returns-clause-lawful : goal.returns-clause-lawful
 returns-clause-lawful c =
     let s = c.args.scenario.now in
+    let log = c.args.log in
+    let logs : List Log = log ∷ [] in
+    let order = whole (named_turns s.turns) logs in
+    let of-logs = c.whole_law.ensures (named_turns s.turns) logs in
+    let laid = laid-whole (named_turns s.turns) s.pages log c.requires.laid in
+    let idle : (d : Domain) → (of d (shared_over order (fresh 1 s.pages)).numbers).driver ≡ None = λ d. subst (λ (o : Order). (of d (shared_over o (fresh 1 s.pages)).numbers).driver ≡ None) (sym (whole-one (named_turns s.turns) log)) (c.requires.idle d) in
+    let laws = c.journal_law.ensures in
+    let l : LawfulLog s 0 log = c.requires.lawful in
     let one = sym c.in_ok-logs.ensures in
     record {
-      lawful = record {
+      logs = record {
         heading = record {
           processors = refl;
           pages = refl;
@@ -36,36 +45,37 @@ returns-clause-lawful c =
           classes = search rules;
         };
         count = search rules;
-        logs = subst (λ logs. (p : ℕ) (log : Log) → slice_get logs p ≡ Some log → LawfulLog s p log) one (one-log s c.args.log c.requires.lawful);
+        logs = subst (λ logs. (p : ℕ) (log : Log) → slice_get logs p ≡ Some log → LawfulLog s p log) one (one-log s log l);
         graphs = search rules;
         totals = search rules;
-        short = subst (JournalShort s.pages) one (c.journal_law.ensures.short 1 s.pages (c.args.log ∷ []) (whole [] (c.args.log ∷ [])) (c.whole_law.ensures [] (c.args.log ∷ [])) (laid-whole [] s.pages c.args.log c.requires.laid));
+        short = subst (JournalShort s.pages) one (laws.short 1 s.pages logs order of-logs laid);
       };
       lives = subst WholeLives one c.requires.lives;
       returns = subst ReturnsLaw one c.requires.returns;
+      grace = subst WholeGrace one (record {
+        law = laws.grace s.pages logs order (lit≤ tt) of-logs laid;
+        plain_ended = laws.ended Plain 1 s.pages logs order of-logs laid (idle Plain);
+        tracing_ended = laws.ended Tracing 1 s.pages logs order of-logs laid (idle Tracing);
+      });
+      stamps = subst StampLaw one (record {
+        plain_stamps = laws.stamps Plain 1 s.pages logs order of-logs laid;
+        tracing_stamps = laws.stamps Tracing 1 s.pages logs order of-logs laid;
+        plain_seen = laws.seen Plain 1 s.pages logs order of-logs laid;
+        tracing_seen = laws.seen Tracing 1 s.pages logs order of-logs laid;
+        seals = (c.requires.seals, tt);
+        returns = (c.returned_law.ensures s 0 log l.last l.handlers l.phrases l.is_log l.lists, tt);
+      });
     }
 
 pub returns-clause-laid : goal.returns-clause-laid
 returns-clause-laid c =
     let s = c.args.scenario.now in
     let log = c.args.log in
-    let logs : List Log = log ∷ [] in
-    let order = whole (named_turns s.turns) logs in
-    let of-logs = c.whole_law.ensures (named_turns s.turns) logs in
-    let one = laid-whole (named_turns s.turns) s.pages log c.requires.laid in
-    let idle : (d : Domain) → (of d (shared_over order (fresh 1 s.pages)).numbers).driver ≡ None = λ d. subst (λ (o : Order). (of d (shared_over o (fresh 1 s.pages)).numbers).driver ≡ None) (sym (whole-one (named_turns s.turns) log)) (c.requires.idle d) in
-    let laws = c.journal_law.ensures in
-    let now = sym c.in_ok-logs.ensures in
+    let turns = named_turns s.turns in
+    let one = sym c.in_ok-logs.ensures in
+    let processors = sym c.requires.yet.one in
     record {
-      laid = subst (λ (x : List Log). IsLaid s.processors s.pages (whole (named_turns s.turns) x)) now (subst (λ (n : ℕ). IsLaid n s.pages order) (sym c.requires.yet.one) one);
-      polled = subst (λ (x : List Log). IsPolled s.processors s.pages (whole (named_turns s.turns) x)) now (subst (λ (n : ℕ). IsPolled n s.pages order) (sym c.requires.yet.one) (polled-whole (named_turns s.turns) s.pages log c.requires.polled));
-      grace = record {
-        law = subst GraceLaw now (laws.grace s.pages logs order (lit≤ tt) of-logs one);
-        plain_ended = subst (AllEnded Plain) now (laws.ended Plain 1 s.pages logs order of-logs one (idle Plain));
-        tracing_ended = subst (AllEnded Tracing) now (laws.ended Tracing 1 s.pages logs order of-logs one (idle Tracing));
-      };
-      plain_stamps = subst (EachLog (λ p es. StampsFit Plain [] es)) now (laws.stamps Plain 1 s.pages logs order of-logs one);
-      tracing_stamps = subst (EachLog (λ p es. StampsFit Tracing [] es)) now (laws.stamps Tracing 1 s.pages logs order of-logs one);
-      plain_seen = subst (SeenFit Plain) now (laws.seen Plain 1 s.pages logs order of-logs one);
-      tracing_seen = subst (SeenFit Tracing) now (laws.seen Tracing 1 s.pages logs order of-logs one);
+      laid = subst (λ (x : List Log). IsLaid s.processors s.pages (whole turns x)) one (subst (λ (n : ℕ). IsLaid n s.pages (whole turns (log ∷ []))) processors (laid-whole turns s.pages log c.requires.laid));
+      polled = subst (λ (x : List Log). IsPolled s.processors s.pages (whole turns x)) one (subst (λ (n : ℕ). IsPolled n s.pages (whole turns (log ∷ []))) processors (polled-whole turns s.pages log c.requires.polled));
+      sealed = subst (λ (x : List Log). IsSealed (whole turns x)) one (sealed-whole turns log c.requires.sealed);
     }

@@ -20,7 +20,7 @@ use Rattle.bm_levels.specs.declared.processor.Processor.{Processor}
 use Rattle.bm_levels.specs.declared.program.Program.{Program}
 use Rattle.bm_opening.proofs.Bounds.{few-planned, within}
 use Rattle.bm_run.specs.Closed.{Closed}
-use Rattle.bm_run.specs.JournalLaid.{IsIdleAfter}
+use Rattle.bm_run.specs.IdleAfter.{IsIdleAfter}
 use Rattle.bm_run.specs.Lines.{lines_cost}
 use Rattle.bm_run.proofs.Declared.{all-declared, few-left, room-all, room-for}
 use Rattle.bm_run.proofs.Lines.{down-when, few-when}
@@ -31,6 +31,7 @@ use Rattle.bm_run.proofs.OpenedList.{opened-ascend, opened-few}
 use Rattle.bm_run.proofs.Results.{both-if-ok, if-ok, not-err}
 use Rattle.bm_run.proofs.journals.log_of.Given.{Over}
 use Rattle.bm_run.proofs.PollsTold.{tied-polled}
+use Rattle.bm_run.proofs.SealsTold.{tied-sealed, tied-seals}
 use Rattle.bm_run.proofs.journals.log_of.Goals as goal
 
 some-processors : (n : ℕ) → n ≡ 1 → 1 ≤ n
@@ -160,3 +161,9 @@ returns-clause-idle g c = if-ok c.close.result _ _ (led-log g c) (λ final h. h.
 
 pub returns-clause-polled : goal.returns-clause-polled
 returns-clause-polled g c = if-ok c.close.result _ _ c.close.ensures.tied (λ final t. tied-polled c.args.scenario.now.pages final t.world (since-outset g c final t.world t.tied))
+
+pub returns-clause-sealed : goal.returns-clause-sealed
+returns-clause-sealed g c = if-ok c.close.result _ _ c.close.ensures.tied (λ final t. tied-sealed (polled [] (outset c.args.scenario.now.pages)) c.args.scenario.now.pages final t.world (since-outset g c final t.world t.tied))
+
+pub returns-clause-seals : goal.returns-clause-seals
+returns-clause-seals g c = if-ok c.close.result _ _ c.close.ensures.tied (λ final t. tied-seals (polled [] (outset c.args.scenario.now.pages)) c.args.scenario.now.pages final t.world (since-outset g c final t.world t.tied))

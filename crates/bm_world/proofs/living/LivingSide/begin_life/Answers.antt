@@ -1,7 +1,7 @@
 use Rattle.std.proofs.Common.{Some, true, arith, ◌≡◌, ◌+◌, ◌<◌, ◌^◌, length, refl, set, subst, sym}
 use Rattle.bm_post.specs.HasRoom.{room-of}
-use Rattle.bm_world.specs.LivingState.{LivingState, may_live, with_begun, next_life, rights_living}
-use Rattle.bm_world.proofs.Alive.{begun-gone, begun-lasts, counted, has-room, lives-as, living-begun}
+use Rattle.bm_world.specs.LivingState.{LivingState, may_be_used, with_begun, next_life, rights_living}
+use Rattle.bm_world.proofs.Alive.{begun-gone, begun-lasts, counted, has-room, lives-as, lives-so, living-begun, seal-none}
 use Rattle.bm_world.proofs.SlotLemmas.{at-same}
 use Rattle.bm_world.proofs.LivingDid.{does-make}
 use Rattle.bm_world.proofs.Alive.{lives-not}
@@ -12,7 +12,8 @@ invariant_of-self c =
     let i = c.self.inside in
     let u = c.args.unit in
     let mine = subst (λ (s : LivingState). (rights_living s).mine u.number ≡ true) (sym c.self.view_is) c.requires.mine in
-    let settled = subst (λ (s : LivingState). may_live s.begun u.number u.life ≡ true) (sym c.self.view_is) c.requires.settled in
+    let used = subst (λ (s : LivingState). may_be_used s.begun u.number u.life u.seal ≡ true) (sym c.self.view_is) c.requires.settled in
+    let settled = lives-so i.begun.counts.items u.number u.life u.seal used in
     let home = subst (λ k. u.home < k) (sym c.processors_agree.ensures) (subst (λ (s : LivingState). u.home < s.side.grace.processors) (sym c.self.view_is) c.requires.home) in
     let room = subst (λ (s : LivingState). s.asked + 1 < 2 ^ 31) (sym c.self.view_is) c.requires.room in
     let put = rw c.begin_life.ensures at c.put.ensures in
@@ -23,14 +24,16 @@ pub returns-clause-next : goal.returns-clause-next
 returns-clause-next c =
     let i = c.self.inside in
     let u = c.args.unit in
-    let settled = subst (λ (s : LivingState). may_live s.begun u.number u.life ≡ true) (sym c.self.view_is) c.requires.settled in
+    let used = subst (λ (s : LivingState). may_be_used s.begun u.number u.life u.seal ≡ true) (sym c.self.view_is) c.requires.settled in
+    let settled = lives-so i.begun.counts.items u.number u.life u.seal used in
     rw (← c.self.view_is) (lives-as i.begun.counts.items u.number u.life settled)
 
 pub returns-clause-counted : goal.returns-clause-counted
 returns-clause-counted c n =
     let i = c.self.inside in
     let u = c.args.unit in
-    let settled = subst (λ (s : LivingState). may_live s.begun u.number u.life ≡ true) (sym c.self.view_is) c.requires.settled in
+    let used = subst (λ (s : LivingState). may_be_used s.begun u.number u.life u.seal ≡ true) (sym c.self.view_is) c.requires.settled in
+    let settled = lives-so i.begun.counts.items u.number u.life u.seal used in
     let number = (room-of u.number u.life u.seal (has-room i.begun.counts.items u.number u.life settled)).0 in
     let size = c.self.invariant.counts in
     let there : u.number < length i.begun.counts.items = omega (arith, number, size) in
@@ -41,7 +44,8 @@ pub returns-clause-gone : goal.returns-clause-gone
 returns-clause-gone c =
     let i = c.self.inside in
     let u = c.args.unit in
-    let settled = subst (λ (s : LivingState). may_live s.begun u.number u.life ≡ true) (sym c.self.view_is) c.requires.settled in
+    let used = subst (λ (s : LivingState). may_be_used s.begun u.number u.life u.seal ≡ true) (sym c.self.view_is) c.requires.settled in
+    let settled = lives-so i.begun.counts.items u.number u.life u.seal used in
     let number = (room-of u.number u.life u.seal (has-room i.begun.counts.items u.number u.life settled)).0 in
     let size = c.self.invariant.size in
     let there : u.number < length i.slots.slots.items = omega (arith, number, size) in
@@ -53,7 +57,8 @@ pub returns-clause-lasts : goal.returns-clause-lasts
 returns-clause-lasts c =
     let i = c.self.inside in
     let u = c.args.unit in
-    let settled = subst (λ (s : LivingState). may_live s.begun u.number u.life ≡ true) (sym c.self.view_is) c.requires.settled in
+    let used = subst (λ (s : LivingState). may_be_used s.begun u.number u.life u.seal ≡ true) (sym c.self.view_is) c.requires.settled in
+    let settled = lives-so i.begun.counts.items u.number u.life u.seal used in
     let number = (room-of u.number u.life u.seal (has-room i.begun.counts.items u.number u.life settled)).0 in
     let size = c.self.invariant.size in
     let there : u.number < length i.slots.slots.items = omega (arith, number, size) in
@@ -65,7 +70,8 @@ pub returns-clause-lives : goal.returns-clause-lives
 returns-clause-lives c =
     let i = c.self.inside in
     let u = c.args.unit in
-    let settled = subst (λ (s : LivingState). may_live s.begun u.number u.life ≡ true) (sym c.self.view_is) c.requires.settled in
+    let used = subst (λ (s : LivingState). may_be_used s.begun u.number u.life u.seal ≡ true) (sym c.self.view_is) c.requires.settled in
+    let settled = lives-so i.begun.counts.items u.number u.life u.seal used in
     let number = (room-of u.number u.life u.seal (has-room i.begun.counts.items u.number u.life settled)).0 in
     let size = c.self.invariant.size in
     let there : u.number < length i.slots.slots.items = omega (arith, number, size) in
@@ -78,7 +84,8 @@ returns-clause-does c h =
     let u = c.args.unit in
     let a : LivingState = record { side = i.side; slots = i.slots.slots.items; begun = i.begun.counts.items; asked = i.asked } in
     let mine = subst (λ (s : LivingState). (rights_living s).mine u.number ≡ true) (sym c.self.view_is) c.requires.mine in
-    let settled = subst (λ (s : LivingState). may_live s.begun u.number u.life ≡ true) (sym c.self.view_is) c.requires.settled in
+    let used = subst (λ (s : LivingState). may_be_used s.begun u.number u.life u.seal ≡ true) (sym c.self.view_is) c.requires.settled in
+    let settled = lives-so i.begun.counts.items u.number u.life u.seal used in
     let number = (room-of u.number u.life u.seal (has-room i.begun.counts.items u.number u.life settled)).0 in
     let size = c.self.invariant.size in
     let sizes = c.self.invariant.counts in
@@ -88,4 +95,4 @@ returns-clause-does c h =
     let said = rw c.begin_life.ensures at (rw c.life.ensures at (rw c.number.ensures at c.set.ensures)) in
     let home = subst (λ (s : LivingState). u.home ≡ s.side.grace.processor) (sym c.self.view_is) h in
     let lives = lives-as i.begun.counts.items u.number u.life settled in
-    rw (← c.self.view_is, put, said) (does-make u a (with_begun u a) refl (lives-not i.side.post i.slots.slots.items i.begun.counts.items u.number mine) lives (λ n. counted i.begun.counts.items u.number u.life n counts lives) there home)
+    rw (← c.self.view_is, put, said) (does-make u a (with_begun u a) refl (seal-none i.begun.counts.items u.number u.life u.seal used) (lives-not i.side.post i.slots.slots.items i.begun.counts.items u.number mine) lives (λ n. counted i.begun.counts.items u.number u.life n counts lives) there home)

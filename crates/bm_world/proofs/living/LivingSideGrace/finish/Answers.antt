@@ -6,4 +6,4 @@ use Rattle.bm_world.proofs.living.LivingSideGrace.finish.Goals as goal
 pub returns-clause-does : goal.returns-clause-does
 returns-clause-does c =
     let i = c.self.inside in
-    rw (← c.self.view_is) (lifts (act.Finishes c.finish.result ∷ []) (record { side = i.side; slots = i.slots.slots.items; begun = i.begun.counts.items; asked = i.asked }) (record { side = c.finish.new.self; slots = i.slots.slots.items; begun = i.begun.counts.items; asked = i.asked }) refl refl c.finish.ensures.does)
+    rw (← c.self.view_is) (lifts (act.Finishes c.finish.result ∷ []) (record { side = i.side; slots = i.slots.slots.items; begun = i.begun.counts.items; asked = i.asked }) (record { side = c.finish.new.self; slots = i.slots.slots.items; begun = i.begun.counts.items; asked = i.asked }) refl refl (tt, tt) c.finish.ensures.does)

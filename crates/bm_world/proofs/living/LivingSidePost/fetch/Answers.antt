@@ -23,4 +23,4 @@ returns-clause-ok c =
 pub returns-clause-does : goal.returns-clause-does
 returns-clause-does c =
     let i = c.self.inside in
-    rw (← c.self.view_is) (lifts-ok c.fetch.result (act.Fetches c.args.class c.args.want (numbers (drop (length c.args.out.now.items) c.fetch.new.out.items)) ∷ []) (record { side = i.side; slots = i.slots.slots.items; begun = i.begun.counts.items; asked = i.asked }) (record { side = c.fetch.new.self; slots = i.slots.slots.items; begun = i.begun.counts.items; asked = i.asked }) refl refl c.fetch.ensures.does)
+    rw (← c.self.view_is) (lifts-ok c.fetch.result (act.Fetches c.args.class c.args.want (numbers (drop (length c.args.out.now.items) c.fetch.new.out.items)) ∷ []) (record { side = i.side; slots = i.slots.slots.items; begun = i.begun.counts.items; asked = i.asked }) (record { side = c.fetch.new.self; slots = i.slots.slots.items; begun = i.begun.counts.items; asked = i.asked }) refl refl (tt, tt) c.fetch.ensures.does)

@@ -38,4 +38,4 @@ returns-clause-back c =
 pub returns-clause-does : goal.returns-clause-does
 returns-clause-does c =
     let i = c.self.inside in
-    rw (← c.self.view_is) (lifts (act.Returns (sealed c.args.units.items) ∷ []) (record { side = i.side; slots = i.slots.slots.items; begun = i.begun.counts.items; asked = i.asked }) (record { side = c.put_back.new.self; slots = i.slots.slots.items; begun = i.begun.counts.items; asked = i.asked }) refl refl c.put_back.ensures.does)
+    rw (← c.self.view_is) (lifts (act.Returns (sealed c.args.units.items) ∷ []) (record { side = i.side; slots = i.slots.slots.items; begun = i.begun.counts.items; asked = i.asked }) (record { side = c.put_back.new.self; slots = i.slots.slots.items; begun = i.begun.counts.items; asked = i.asked }) refl refl (tt, tt) c.put_back.ensures.does)

@@ -33,4 +33,4 @@ invariant_of-self c =
 pub returns-clause-does : goal.returns-clause-does
 returns-clause-does c =
     let i = c.self.inside in
-    rw (← c.self.view_is) (lifts-ok c.send.result (act.Sends c.args.class c.args.to (sealed c.args.units.items) ∷ []) (record { side = i.side; slots = i.slots.slots.items; begun = i.begun.counts.items; asked = i.asked }) (record { side = c.send.new.self; slots = i.slots.slots.items; begun = i.begun.counts.items; asked = i.asked }) refl refl c.send.ensures.does)
+    rw (← c.self.view_is) (lifts-ok c.send.result (act.Sends c.args.class c.args.to (sealed c.args.units.items) ∷ []) (record { side = i.side; slots = i.slots.slots.items; begun = i.begun.counts.items; asked = i.asked }) (record { side = c.send.new.self; slots = i.slots.slots.items; begun = i.begun.counts.items; asked = i.asked }) refl refl (tt, tt) c.send.ensures.does)

@@ -1,5 +1,6 @@
 -- What the work of a class writes. (bpf_mem_refill and what it calls in kernel/bpf/memalloc.c touch the lists of one cache.)
 use Rattle.std.specs.Prelude.{◌≡◌, ℕ}
+use Rattle.bm_journal.specs.declared.ids.Domain.TheVariants.{Plain}
 use Rattle.bm_journal.specs.declared.entry.Entry.{Entry}
 use Rattle.bm_journal.specs.declared.entry.Entry.TheVariants as entry
 
@@ -29,3 +30,11 @@ IsOfWork c (entry.Return d us) = d ≡ c
 IsOfWork c (entry.Begin domain n) = Unit {0}
 IsOfWork c (entry.Finish period) = Unit {0}
 IsOfWork c _ = ⊥
+
+-- No tracing batch begins, takes its stamp or ends by the entry.
+abbrev pub KeepsBatch : Entry → Type 0
+KeepsBatch (entry.Stamp c d x) = d ≡ Plain
+KeepsBatch (entry.BeginSecond c us) = ⊥
+KeepsBatch (entry.Return c us) = ⊥
+KeepsBatch (entry.Sweep c us) = ⊥
+KeepsBatch _ = Unit {0}

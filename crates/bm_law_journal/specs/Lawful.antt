@@ -1,0 +1,50 @@
+-- When a journal is lawful for a scenario, and when it is laid: what the program promises of the journals that it prints. One field a law;
+-- behind each stands the file that states it. Types and values of objects, slots, lists and trees have no law so far: no form that
+-- runs so far names them. (This project's own: journals are.)
+use Rattle.std.specs.Prelude.{ℕ, List, [], Option, None, Some}
+use Rattle.bm_journal.specs.declared.journal.Journal.{Journal}
+use Rattle.bm_lang.specs.declared.scenario.Parts.{Parts}
+use Rattle.bm_law_order.specs.Orders.{IsLaid, Order}
+use Rattle.bm_law_order.specs.Polls.{IsPolled}
+use Rattle.bm_law_order.specs.Seals.{IsSealed}
+use Rattle.bm_law_order.specs.Whole.{whole}
+use Rattle.bm_lawful.specs.Lawful.{LawfulLogs}
+use Rattle.bm_lives.specs.GraceLaw.{WholeGrace}
+use Rattle.bm_lives.specs.Lives.{WholeLives}
+use Rattle.bm_lives.specs.Returns.{ReturnsLaw}
+use Rattle.bm_lives.specs.StampLaw.{StampLaw}
+
+-- ---- lawful
+
+pub record Lawful (s : Parts) (j : Journal) : Type 0 where
+  -- Its heading names what the scenario declares; each log is made of the phrases of its processor's scripts, of their handlers and of
+  -- deferred work, names what is on its lists, and leaves them empty; fewer units come than were wanted only where the pages are used up;
+  -- and its totals are the sums over its logs. (bm_lawful, specs/Lawful)
+  pub logs : LawfulLogs s j
+  -- Each life of a unit is given once, ends once, and its free names the processor that gave it. (bm_lives, specs/Lives)
+  pub lives : WholeLives j.logs
+  -- Each unit goes back to the stock as often as it was taken, and each parcel arrives. (bm_lives, specs/Returns)
+  pub returns : ReturnsLaw j.logs
+  -- No grace period ends while a section goes on that was there when it began, and each ends. (bm_lives, specs/GraceLaw)
+  pub grace : WholeGrace j.logs
+  -- What waits for a grace period waits for one that began after it, and is given again with its number. (bm_lives, specs/StampLaw)
+  pub stamps : StampLaw j.logs
+
+-- ---- laid
+
+-- the processors whose turns a scenario names, in order
+abbrev pub named_turns : Option (List ℕ) → List ℕ
+named_turns None = []
+named_turns (Some turns) = turns
+
+-- the one order of all entries that the scenario's turns make of the logs
+abbrev pub order_of : Parts → Journal → Order
+order_of s j = whole (named_turns s.turns) j.logs
+
+pub record Laid (s : Parts) (j : Journal) : Type 0 where
+  -- In that order each entry finds what it needs of what processors share, from the outset on. (bm_law_order, specs/Orders)
+  pub laid : IsLaid j.processors j.pages (order_of s j)
+  -- Each poll has done what there was to do, and each period was begun for a batch that waits. (bm_law_order, specs/Polls)
+  pub polled : IsPolled j.processors j.pages (order_of s j)
+  -- Each unit is given with what it has waited for. (bm_law_order, specs/Seals)
+  pub sealed : IsSealed (order_of s j)

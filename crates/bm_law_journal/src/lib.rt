@@ -1,0 +1,14 @@
+//! When a journal is lawful for a scenario, and when it is laid: one page, `specs/Lawful.antt`, with a field for each law and the file
+//! that states it. The program's promise cites it.
+//!
+//! - `Lawful` is what a journal says as a whole: its heading, its logs one by one, what they say together, its totals.
+//! - `Laid` is what the one order of its entries says, which the scenario's turns make.
+//! - `worked_lawful`: a journal that is lawful, made by hand, and logs that no such journal has.
+//!
+//! The laws themselves are stated in `bm_lawful`, `bm_lives` and `bm_law_order`, each with worked examples, right ones and wrong
+//! ones. Nothing in this crate runs. That a run's journal is lawful and laid is proved where the run is (`bm_run`).
+#![tactic(auto)]
+
+mod worked;
+
+pub use worked::worked_lawful;

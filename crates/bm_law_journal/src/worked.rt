@@ -1,0 +1,32 @@
+//! A worked journal that is lawful, and logs that no lawful journal has.
+
+ghost use Rattle.std.specs.Prelude.{◌≡◌};
+ghost use Rattle.bm_journal.specs.declared.journal.Journal.{Journal};
+ghost use Rattle.bm_lang.specs.declared.scenario.Parts.{Parts};
+ghost use Rattle.bm_lawful.specs.WorkedDeferred.{one_block as block_made_and_dropped, one_block_journal};
+ghost use Rattle.bm_law_journal.specs.Lawful.{Lawful};
+ghost use Rattle.bm_lives.specs.Wrong.{ends_in_section, given_twice, never_ended, never_received, never_returned, other_home, returned_too_early, sealed_though_plain};
+
+use bm_lawful::worked_deferred;
+use bm_lives::{worked_grace, worked_lives, worked_returns, worked_stamps};
+
+/// Lawful is the journal of a block that is made and dropped, with deferred work. Whatever its scenario, a journal isn't whose logs
+/// give a life twice, leave a life without its end, free a unit to another home, don't return a unit, send a parcel that nobody
+/// receives, end a grace period within a section, give a unit a seal after a plain free, or return a batch too early.
+pub fn worked_lawful()
+    ensures one_block { Lawful block_made_and_dropped one_block_journal }
+    ensures given_twice { (s : Parts) (j : Journal) → j.logs ≡ given_twice → ¬ Lawful s j }
+    ensures never_ended { (s : Parts) (j : Journal) → j.logs ≡ never_ended → ¬ Lawful s j }
+    ensures other_home { (s : Parts) (j : Journal) → j.logs ≡ other_home → ¬ Lawful s j }
+    ensures never_returned { (s : Parts) (j : Journal) → j.logs ≡ never_returned → ¬ Lawful s j }
+    ensures never_received { (s : Parts) (j : Journal) → j.logs ≡ never_received → ¬ Lawful s j }
+    ensures ends_in_section { (s : Parts) (j : Journal) → j.logs ≡ ends_in_section → ¬ Lawful s j }
+    ensures sealed_though_plain { (s : Parts) (j : Journal) → j.logs ≡ sealed_though_plain → ¬ Lawful s j }
+    ensures returned_too_early { (s : Parts) (j : Journal) → j.logs ≡ returned_too_early → ¬ Lawful s j }
+{
+    worked_deferred();
+    worked_lives();
+    worked_returns();
+    worked_grace();
+    worked_stamps();
+}
