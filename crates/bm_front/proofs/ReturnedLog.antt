@@ -7,7 +7,7 @@ use Rattle.bm_journal.specs.declared.entry.Entry.TheVariants as entry
 use Rattle.bm_lang.specs.declared.scenario.Parts.{Parts}
 use Rattle.bm_page.specs.Stock.{Stock, fetched}
 use Rattle.bm_due.specs.Standing.{HandlersStand}
-use Rattle.bm_law.specs.Lists.{Leaves, Log, after}
+use Rattle.bm_law.specs.Lists.{Leaves, Log}
 use Rattle.bm_law.specs.State.{State, opening, seven_lists}
 use Rattle.bm_deferred.specs.Parts.{Part, Nothing, Say, Stand, Then}
 use Rattle.bm_deferred.proofs.Each.{AllOf, of-map, part-say, part-stand}

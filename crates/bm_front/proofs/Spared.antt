@@ -10,7 +10,6 @@ use Rattle.bm_journal.specs.declared.entry.Entry.TheVariants as entry
 use Rattle.bm_lang.specs.declared.scenario.Parts.{Parts}
 use Rattle.bm_lang.specs.declared.scenario.TypeDeclaration.{TypeDeclaration}
 use Rattle.bm_law.specs.Effect.{sent}
-use Rattle.bm_law.specs.Lists.{after}
 use Rattle.bm_law.specs.Spans.{own_entries}
 use Rattle.bm_law.specs.State.{State}
 use Rattle.bm_deferred.specs.WorkPhrases.{Work}

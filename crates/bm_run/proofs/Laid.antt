@@ -1,6 +1,6 @@
 -- The log of a run is laid, and no period is in progress after it.
 use Rattle.std.specs.Prelude.{◌≢◌, ◌⊎◌, None, not}
-use Rattle.std.proofs.Common.{◌≡◌, arith, inl, ◌++◌, ◌∷◌, [], ℕ, zero, suc, Bool, true, false, if◌then◌else◌, List, refl, sym, ◌∙◌, ap, subst, append-nil, append_assoc, lit<, lit≤}
+use Rattle.std.proofs.Common.{◌≡◌, arith, inl, ◌++◌, ◌∷◌, [], ℕ, zero, suc, Bool, true, false, List, refl, sym, ◌∙◌, ap, subst, append-nil, append_assoc, lit<, lit≤}
 use Rattle.bm_journal.specs.declared.ids.Domain.{Domain}
 use Rattle.bm_journal.specs.declared.ids.Domain.TheVariants.{Plain, Tracing}
 use Rattle.bm_law.specs.Lists.{Log}

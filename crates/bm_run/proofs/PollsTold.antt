@@ -1,5 +1,5 @@
 -- The polls of a log that is tied since the outset have rested, and its periods were begun for a batch that waited.
-use Rattle.std.specs.Prelude.{◌≢◌, ◌⊎◌, ◌<◌, ◌≤◌, ◌+◌, ◌%◌, eqb, length}
+use Rattle.std.specs.Prelude.{◌≢◌, ◌⊎◌, ◌≤◌, ◌+◌, ◌%◌, eqb, length}
 use Rattle.std.proofs.Common.{◌≡◌, ℕ, zero, suc, true, false, List, [], ◌∷◌, ◌++◌, Option, None, Some, refl, sym, ◌∙◌, ap, subst, append-nil, arith, inl, inr}
 use Rattle.std.proofs.lemmas.Bool.Decides.{eqb_tells}
 use Rattle.bm_journal.specs.declared.ids.Domain.{Domain}
@@ -19,7 +19,7 @@ use Rattle.bm_law_order.specs.Chunk.{Chunk, acts_of, entries_of, seal_told}
 use Rattle.bm_law_order.specs.Chunk as chunk
 use Rattle.bm_law_order.specs.Looks.{Passes}
 use Rattle.bm_law_order.specs.Numbers.{Numbers, begun, ended, next, numbers_after}
-use Rattle.bm_law_order.specs.Orders.{AllFit, AllShared, Leads, Order, by, over, shared_over}
+use Rattle.bm_law_order.specs.Orders.{AllFit, AllShared, Order, by, over, shared_over}
 use Rattle.bm_law_order.specs.Polls.{AtSome, HasPolled, HasRested, IsPolled, PollFits, Polling, no_polls, polling_after}
 use Rattle.bm_law_order.specs.Quiet.{is_quiet}
 use Rattle.bm_law_order.specs.Shared.{Fits, Shared, found, fresh, shared_after}
@@ -28,10 +28,9 @@ use Rattle.bm_law_order.specs.Tie.{Tied, whatever}
 use Rattle.bm_law_order.specs.Whole.{whole}
 use Rattle.bm_law_order.proofs.ActsJoin.{acts-append, acts-later}
 use Rattle.bm_law_order.proofs.Along.{by-append, fit-append, fit-front, fit-rest, over-append}
-use Rattle.bm_law_order.proofs.Ties.{tie-closed, tie-judged}
-use Rattle.bm_grace.specs.Answers.{ArePassed, IsPassed}
+use Rattle.bm_law_order.proofs.Ties.{tie-judged}
+use Rattle.bm_grace.specs.Answers.{ArePassed}
 use Rattle.bm_grace.specs.Known.{side}
-use Rattle.bm_grace.specs.PlainState.{is_processor}
 use Rattle.bm_desk.specs.Rested.{Fails, IsIdle}
 use Rattle.bm_world.specs.LivingState.{LivingState, known_living}
 use Rattle.bm_world.specs.Told.{IsSideOf}

@@ -1,6 +1,6 @@
 -- Which periods a processor has in progress where its log leads from the outset.
 use Rattle.std.specs.Prelude.{◌⊎◌, ◌%◌, if◌then◌else◌}
-use Rattle.std.proofs.Common.{◌≡◌, ◌+◌, ℕ, zero, suc, [], ◌∷◌, Option, None, Some, refl, sym, ◌∙◌, ap, subst, arith, inl, inr}
+use Rattle.std.proofs.Common.{◌≡◌, ℕ, zero, suc, [], ◌∷◌, Option, None, Some, refl, sym, ◌∙◌, ap, subst, arith, inl, inr}
 use Rattle.bm_journal.specs.declared.ids.Domain.{Domain}
 use Rattle.bm_journal.specs.declared.ids.Domain.TheVariants.{Plain, Tracing}
 use Rattle.bm_journal.specs.declared.entry.Entry.{Entry}

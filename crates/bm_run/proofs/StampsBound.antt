@@ -1,12 +1,12 @@
 -- Along the log of the one processor that there is, no batch waits for more than the first period that begins afterwards.
 use Rattle.std.specs.Prelude.{eqb, if◌then◌else◌}
-use Rattle.std.proofs.Common.{◌≡◌, ◌≢◌, ◌⊎◌, ◌≤◌, ◌+◌, ◌%◌, ℕ, Bool, List, [], ◌∷◌, Option, None, Some, refl, sym, ◌∙◌, ap, subst, arith, inl, inr}
+use Rattle.std.proofs.Common.{◌≡◌, ◌≢◌, ◌⊎◌, ◌≤◌, ◌+◌, ◌%◌, ℕ, List, [], ◌∷◌, None, Some, refl, sym, ◌∙◌, arith, inl, inr}
 use Rattle.std.proofs.lemmas.Bool.Decides.{eqb_tells}
 use Rattle.bm_journal.specs.declared.ids.Domain.{Domain}
 use Rattle.bm_journal.specs.declared.ids.Domain.TheVariants.{Plain, Tracing}
 use Rattle.bm_journal.specs.declared.entry.Entry.{Entry}
 use Rattle.bm_journal.specs.declared.entry.Entry.TheVariants as entry
-use Rattle.bm_law.specs.State.{Deferred, Row, Side, State}
+use Rattle.bm_law.specs.State.{Deferred, Row, State}
 use Rattle.bm_law.specs.Lists.{Log, after, next as lists_after, stamp_of}
 use Rattle.bm_law.specs.Effect.{sent}
 use Rattle.bm_law_order.specs.ByDomain.{of}

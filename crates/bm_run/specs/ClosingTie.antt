@@ -9,7 +9,7 @@ use Rattle.bm_journal.specs.declared.entry.Entry.TheVariants as entry
 use Rattle.bm_journal.specs.Recording.{Appends}
 use Rattle.bm_law.specs.Alone.{Adds}
 use Rattle.bm_law.specs.Alone as alone
-use Rattle.bm_law.specs.Lists.{Log, after, stamp_of}
+use Rattle.bm_law.specs.Lists.{Log, stamp_of}
 use Rattle.bm_law.specs.State.{State, opening}
 use Rattle.bm_law.proofs.Folds.{after-append}
 use Rattle.bm_law_order.specs.Act.{Act}
