@@ -8,7 +8,7 @@ use Rattle.bm_lang.specs.declared.scenario.Action.TheBlock.{hidden-the_row-State
 use Rattle.bm_lang.specs.declared.scenario.Block.{Block, roll-Block, rolls-Block', Row_of-Statement, end_of-Statement, more_of-Statement, items-the_row-Statement, items_hidden-the_row-Statement-0}
 use Rattle.bm_lang.specs.declared.scenario.Statement.{Statement}
 use Rattle.bm_lang.specs.declared.scenario.TypeDeclaration.{TypeDeclaration}
-use Rattle.bm_lawful.specs.OwnRuns.{Run, Done, Then, RunsAction, RunsBlock, RunsRow}
+use Rattle.bm_lawful.proofs.OwnRuns.{Run, Done, Then, RunsAction, RunsBlock, RunsRow}
 
 -- statements, one after the other
 abbrev pub RunsList : List TypeDeclaration → List Statement → Run

@@ -15,6 +15,7 @@ use Rattle.bm_lawful.specs.SectionWords.{is_outside}
 use Rattle.bm_lawful.proofs.Levels.{levels}
 use Rattle.bm_lawful.proofs.OfCall.{of-calls}
 use Rattle.bm_lawful.proofs.RunsAll.{Closed, block-all}
+use Rattle.bm_lawful.proofs.SameRuns.{alone-owned}
 
 -- ---- whole handlers
 
@@ -33,7 +34,7 @@ enclosed-has s P k w part h = elim (is_outside w) as (λ b. P (if b then entry.I
 ]
 
 phrase-has : (s : Parts) (P : List Entry → Type 0) (k : Framed s P) (name : List ℕ) (w : ℕ) (own : List Entry) → HandlerPhrase s name w own → P own
-phrase-has s P k name w own h = subst P (sym h.own_is) (enclosed-has s P k w h.part (block-all s.types P k.closed h.script.body no_names h.part h.after h.runs))
+phrase-has s P k name w own h = subst P (sym h.own_is) (enclosed-has s P k w h.part (block-all s.types P k.closed h.script.body no_names h.part h.after (alone-owned s.types h.script.body no_names h.after h.part h.runs)))
 
 -- they have it together
 pub handlers-have : (s : Parts) (P : List Entry → Type 0) → Framed s P → (es : List Entry) → AreHandlers s es → P es

@@ -15,6 +15,7 @@ use Rattle.bm_lawful.specs.Handlers.{Handled, HandlerPhrase, HandlersDone, all_w
 use Rattle.bm_lawful.proofs.Cuts.{Before, cuts, last-cut}
 use Rattle.bm_lawful.proofs.OfCall.{OfCalls, of-calls}
 use Rattle.bm_lawful.proofs.RunsAll.{block-all}
+use Rattle.bm_lawful.proofs.SameRuns.{alone-owned}
 
 -- ---- entries of a handler's own
 
@@ -60,7 +61,7 @@ enclosed-within w part h = elim (is_outside w) as (λ b. all_within (if b then e
 ]
 
 pub phrase-calls : (s : Parts) (name : List ℕ) (w : ℕ) (own : List Entry) (h : HandlerPhrase s name w own) → OfCalls h.part
-phrase-calls s name w own h = block-all s.types OfCalls (of-calls s.types) h.script.body no_names h.part h.after h.runs
+phrase-calls s name w own h = block-all s.types OfCalls (of-calls s.types) h.script.body no_names h.part h.after (alone-owned s.types h.script.body no_names h.after h.part h.runs)
 
 pub phrase-within : (s : Parts) (name : List ℕ) (w : ℕ) (own : List Entry) → HandlerPhrase s name w own → all_within own ≡ true
 phrase-within s name w own h = subst (λ es. all_within es ≡ true) (sym h.own_is) (enclosed-within w h.part (calls-within h.part (phrase-calls s name w own h)))

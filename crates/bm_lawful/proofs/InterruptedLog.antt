@@ -22,7 +22,7 @@ use Rattle.bm_lawful.specs.Held.{no_names}
 use Rattle.bm_lawful.specs.Runs.{Run, RunsBlock}
 use Rattle.bm_lawful.specs.Parcels.{ParcelLaw}
 use Rattle.bm_lawful.specs.Grammar.{IsLog}
-use Rattle.bm_lawful.specs.OwnGrammar.{ordinary}
+use Rattle.bm_lawful.specs.Ordinary.{ordinary}
 use Rattle.bm_lawful.specs.SectionWords.{SectionWords}
 use Rattle.bm_lawful.specs.Handlers.{HandlersDone}
 use Rattle.bm_lawful.specs.Lawful.{HeadingOf, LawfulLogs, LawfulLog}

@@ -1,3 +1,5 @@
+pub mod OwnRuns
+pub mod OwnGrammar
 pub mod Blocks
 pub mod Ordinary
 pub mod RunsAll

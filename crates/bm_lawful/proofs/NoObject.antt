@@ -8,22 +8,25 @@ use Rattle.bm_journal.specs.declared.units.Units.TheVariants.{Whole}
 use Rattle.bm_journal.specs.declared.entry.Entry.{Entry}
 use Rattle.bm_journal.specs.declared.entry.Entry.TheVariants as entry
 use Rattle.bm_law.specs.State.{State, opening}
-use Rattle.bm_law.specs.Lists.{Log, AllName, Leaves, after}
+use Rattle.bm_law.specs.Lists.{AllName, Leaves, after}
 use Rattle.bm_law.specs.Null.{Nothing, NullLaw, RepliesFit}
 use Rattle.bm_law.specs.Spans.{own_entries}
 use Rattle.bm_law.specs.Worked.{Emptied}
 use Rattle.bm_law.proofs.Null.{pops-fit}
-use Rattle.bm_law.proofs.Folds.{Leaves-append}
 use Rattle.bm_lawful.proofs.Opening.{no-page}
 use Rattle.bm_lawful.specs.Held.{no_names}
-use Rattle.bm_lawful.specs.OwnGrammar.{IsLog, LawfulLog, ordinary}
+use Rattle.bm_lawful.specs.Ordinary.{ordinary}
+use Rattle.bm_lawful.specs.Grammar.{IsLog, lines_of}
+use Rattle.bm_lawful.specs.Parcels.{ParcelLaw}
 use Rattle.bm_lawful.specs.SectionWords.{SectionWords}
-use Rattle.bm_lawful.specs.Lawful.{HeadingOf, LawfulLogs}
+use Rattle.bm_lawful.specs.Lawful.{HeadingOf, LawfulLog, LawfulLogs}
 use Rattle.bm_lawful.specs.Short.{all_entries}
 use Rattle.bm_deferred.proofs.Pages.{short-named}
 use Rattle.bm_lawful.specs.WorkedJournal.{asks, asked, took_none, ended, no_object, no_object_log, no_object_journal}
 use Rattle.bm_lawful.proofs.Ran.{with_null, null-runs, null-owns_nothing}
-use Rattle.bm_lawful.proofs.SameLogs.{told-log}
+use Rattle.bm_lawful.proofs.Ordinary.{all-ordinary, says, stands, then-of}
+use Rattle.bm_lawful.proofs.SameLogs.{scripts-told}
+use Rattle.bm_lawful.proofs.Unplanned.{done-ordinary}
 use Rattle.bm_lawful.proofs.Told.{one-log}
 
 -- the lists that the log leaves
@@ -52,29 +55,25 @@ null = record {
   replies = λ l. elim (eqb_tells 0 l) [ inl y ↦ rw (← y.1) replies | inr y ↦ rw y.0 tt ];
 }
 
+parcels : ParcelLaw 0 no_object_log
+parcels = (tt, (tt, (tt, (tt, (tt, (tt, (tt, (tt, (tt, (tt, (tt, (tt, (tt, λ c. refl)))))))))))))
+
 heading : HeadingOf no_object no_object_journal
 unfolding class_of_size size_of_class low_of_size high_of_size batch_of_size
 heading = record { processors = refl; pages = refl; types = refl; maps = refl; scripts = refl; classes = refl }
 
--- the script's part of the log, and all up to its end
+-- the script's part of the log
 abbrev part : List Entry
 part = entry.Script (codes "main") ∷ entry.In Plain 1 ∷ asks ∷ took_none ++ entry.Out Plain 2 ∷ entry.Done (codes "main") ∷ []
 
-abbrev front : Log
-front = ordinary (entry.Fill 0 (Whole []) ∷ part)
-
-is-log : IsLog no_object 0 (asked [] ++ took_none ++ ended)
+is-log : IsLog no_object 0 no_object_log
 unfolding class_of_size
 is-log = record {
-  fills = entry.Fill 0 (Whole []) ∷ [];
-  scripts = part;
-  sweeps = [];
-  own_is = refl;
-  are_fills = ([], ap (λ units. entry.Fill 0 (Whole units) ∷ []) (sym no-page), refl);
-  are_scripts = (_, refl, (1, part, [], refl, record { part = asks ∷ took_none; after = with_null no_names; own_is = refl; runs = null-runs 7 8 9 no_names; owns_nothing = null-owns_nothing }, refl));
-  before = after (opening 0) front;
-  before_is = Leaves-append 0 front (ordinary (entry.Ended ∷ entry.Close ∷ [])) last leaves;
-  are_sweeps = refl;
+  front = ordinary (entry.Fill 0 (Whole []) ∷ part);
+  closing = ordinary (entry.Ended ∷ entry.Close ∷ []);
+  log_is = refl;
+  is_front = then-of _ _ (opening 0) (entry.Fill 0 (Whole []) ∷ []) part (says _ _ _ ([], ap (λ units. entry.Fill 0 (Whole units) ∷ []) (sym no-page), refl)) (scripts-told no_object refl (lines_of 0 no_object.runs) _ part (_, refl, (1, part, [], refl, record { part = asks ∷ took_none; after = with_null no_names; own_is = refl; runs = null-runs 7 8 9 no_names; owns_nothing = null-owns_nothing }, refl)));
+  is_closing = then-of _ _ _ (entry.Ended ∷ entry.Close ∷ []) [] (stands _ _) (then-of _ _ _ [] [] (then-of _ _ _ [] [] refl refl) ([], then-of _ _ _ [] [] refl refl));
 }
 
 words : SectionWords no_object_log
@@ -83,21 +82,22 @@ words Tracing = refl
 
 log-lawful : LawfulLog no_object 0 no_object_log
 log-lawful = record {
-  own = asked [] ++ took_none ++ ended;
-  log_is = refl;
+  handlers = refl;
+  phrases = done-ordinary _ _ (all-ordinary (asked [] ++ took_none ++ ended)) refl;
   is_log = is-log;
   words = words;
   last = last;
   lists = leaves;
   emptied = emptied;
   null = null;
+  parcels = λ q. parcels;
 }
 
 pub no_object-lawful : LawfulLogs no_object no_object_journal
 no_object-lawful = record {
   heading = heading;
   count = refl;
-  logs = one-log no_object no_object_log (told-log no_object refl 0 refl no_object_log log-lawful);
+  logs = one-log no_object no_object_log log-lawful;
   short = short-named 0 (all_entries no_object_journal.logs) refl;
   graphs = refl;
   totals = refl;

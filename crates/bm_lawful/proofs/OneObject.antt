@@ -8,22 +8,25 @@ use Rattle.bm_journal.specs.declared.units.Units.TheVariants.{Whole}
 use Rattle.bm_journal.specs.declared.entry.Entry.{Entry}
 use Rattle.bm_journal.specs.declared.entry.Entry.TheVariants as entry
 use Rattle.bm_law.specs.State.{State, opening}
-use Rattle.bm_law.specs.Lists.{Log, AllName, Leaves, after}
+use Rattle.bm_law.specs.Lists.{AllName, Leaves, after}
 use Rattle.bm_law.specs.Null.{Nothing, NullLaw, RepliesFit}
 use Rattle.bm_law.specs.Spans.{own_entries}
 use Rattle.bm_law.specs.SweepPhrases.{SweepPhrase}
 use Rattle.bm_law.specs.Worked.{Emptied}
 use Rattle.bm_law.proofs.Null.{pops-fit}
-use Rattle.bm_law.proofs.Folds.{Leaves-append}
 use Rattle.bm_lawful.proofs.Opening.{first-four}
-use Rattle.bm_lawful.specs.OwnGrammar.{IsLog, LawfulLog, ordinary}
+use Rattle.bm_lawful.specs.Ordinary.{ordinary}
+use Rattle.bm_lawful.specs.Grammar.{IsLog, lines_of}
+use Rattle.bm_lawful.specs.Parcels.{ParcelLaw}
 use Rattle.bm_lawful.specs.SectionWords.{SectionWords}
-use Rattle.bm_lawful.specs.Lawful.{HeadingOf, LawfulLogs}
+use Rattle.bm_lawful.specs.Lawful.{HeadingOf, LawfulLog, LawfulLogs}
 use Rattle.bm_lawful.specs.Short.{all_entries}
 use Rattle.bm_deferred.proofs.Pages.{short-named}
 use Rattle.bm_lawful.specs.WorkedJournal.{asks, one_page, asked, took, gave, ended, swept, sweep_period, one_object, one_object_log, one_object_journal}
 use Rattle.bm_lawful.proofs.Ran.{dropped, object-runs, dropped-owns_nothing}
-use Rattle.bm_lawful.proofs.SameLogs.{told-log}
+use Rattle.bm_lawful.proofs.Ordinary.{all-ordinary, says, stands, then-of}
+use Rattle.bm_lawful.proofs.SameLogs.{scripts-told}
+use Rattle.bm_lawful.proofs.Unplanned.{done-ordinary}
 use Rattle.bm_lawful.proofs.Told.{one-log}
 
 -- the lists that the log leaves
@@ -52,6 +55,9 @@ null = record {
   replies = λ l. elim (eqb_tells 0 l) [ inl y ↦ rw (← y.1) replies | inr y ↦ rw y.0 tt ];
 }
 
+parcels : ParcelLaw 0 one_object_log
+parcels = (tt, (tt, (tt, (tt, (tt, (tt, (tt, (tt, (tt, (tt, (tt, (tt, (tt, (tt, (tt, (tt, (tt, (tt, (tt, (tt, (tt, (refl, (tt, (tt, (tt, (tt, (tt, λ c. elim (eqb_tells c 0) [ inl y ↦ rw y.1 refl | inr y ↦ rw y.0 refl ])))))))))))))))))))))))))))
+
 heading : HeadingOf one_object one_object_journal
 unfolding class_of_size size_of_class low_of_size high_of_size batch_of_size
 heading = record { processors = refl; pages = refl; types = refl; maps = refl; scripts = refl; classes = refl }
@@ -73,25 +79,22 @@ sweep = record {
   };
 }
 
--- the script's part of the log, and all up to its end
+-- the script's part of the log, and that of the sweep
 abbrev part : List Entry
 part = entry.Script (codes "main") ∷ entry.In Plain 1 ∷ asks ∷ took 3 ++ gave 3 4 ++ entry.Out Plain 2 ∷ entry.Done (codes "main") ∷ []
 
-abbrev front : Log
-front = ordinary (entry.Fill 0 (Whole one_page) ∷ part)
+abbrev sweeps : List Entry
+sweeps = swept (3 ∷ 2 ∷ 1 ∷ 0 ∷ [])
 
-is-log : IsLog one_object 0 (asked one_page ++ took 3 ++ gave 3 4 ++ ended ++ swept (3 ∷ 2 ∷ 1 ∷ 0 ∷ []))
+is-log : IsLog one_object 0 one_object_log
 unfolding class_of_size sweep
 is-log = record {
-  fills = entry.Fill 0 (Whole one_page) ∷ [];
-  scripts = part;
-  sweeps = swept (3 ∷ 2 ∷ 1 ∷ 0 ∷ []);
-  own_is = refl;
-  are_fills = ([], ap (λ units. entry.Fill 0 (Whole units) ∷ []) (sym first-four), refl);
-  are_scripts = (_, refl, (1, part, [], refl, record { part = asks ∷ took 3 ++ gave 3 4; after = dropped; own_is = refl; runs = object-runs 7 8 9; owns_nothing = dropped-owns_nothing }, refl));
-  before = after (opening 0) front;
-  before_is = Leaves-append 0 front (ordinary (entry.Ended ∷ entry.Close ∷ swept (3 ∷ 2 ∷ 1 ∷ 0 ∷ []))) last leaves;
-  are_sweeps = (swept (3 ∷ 2 ∷ 1 ∷ 0 ∷ []), [], refl, record { phrase = sweep; taken = refl; waited = lit≤ tt; given = refl }, refl);
+  front = ordinary (entry.Fill 0 (Whole one_page) ∷ part);
+  closing = ordinary (entry.Ended ∷ entry.Close ∷ swept (3 ∷ 2 ∷ 1 ∷ 0 ∷ []));
+  log_is = refl;
+  is_front = then-of _ _ (opening 0) (entry.Fill 0 (Whole one_page) ∷ []) part (says _ _ _ ([], ap (λ units. entry.Fill 0 (Whole units) ∷ []) (sym first-four), refl)) (scripts-told one_object refl (lines_of 0 one_object.runs) _ part (_, refl, (1, part, [], refl, record { part = asks ∷ took 3 ++ gave 3 4; after = dropped; own_is = refl; runs = object-runs 7 8 9; owns_nothing = dropped-owns_nothing }, refl)));
+  is_closing = then-of _ _ _ (entry.Ended ∷ entry.Close ∷ []) sweeps (stands _ _)
+      (then-of _ _ _ [] sweeps (then-of _ _ _ [] [] refl refl) ([], then-of _ _ _ sweeps [] (says _ _ _ (record { phrase = sweep; taken = refl; waited = lit≤ tt; given = refl })) refl));
 }
 
 words : SectionWords one_object_log
@@ -100,21 +103,22 @@ words Tracing = refl
 
 log-lawful : LawfulLog one_object 0 one_object_log
 log-lawful = record {
-  own = asked one_page ++ took 3 ++ gave 3 4 ++ ended ++ swept (3 ∷ 2 ∷ 1 ∷ 0 ∷ []);
-  log_is = refl;
+  handlers = refl;
+  phrases = done-ordinary _ _ (all-ordinary (asked one_page ++ took 3 ++ gave 3 4 ++ ended ++ swept (3 ∷ 2 ∷ 1 ∷ 0 ∷ []))) refl;
   is_log = is-log;
   words = words;
   last = last;
   lists = leaves;
   emptied = emptied;
   null = null;
+  parcels = λ q. parcels;
 }
 
 pub one_object-lawful : LawfulLogs one_object one_object_journal
 one_object-lawful = record {
   heading = heading;
   count = refl;
-  logs = one-log one_object one_object_log (told-log one_object refl 0 refl one_object_log log-lawful);
+  logs = one-log one_object one_object_log log-lawful;
   short = short-named 1 (all_entries one_object_journal.logs) refl;
   graphs = refl;
   totals = refl;

@@ -7,7 +7,7 @@ use Rattle.bm_journal.specs.declared.entry.Entry.TheVariants as entry
 use Rattle.bm_law.specs.State.{opening}
 use Rattle.bm_law.specs.Spans.{own_entries}
 use Rattle.bm_law.proofs.Alone.{level-own}
-use Rattle.bm_lawful.specs.OwnGrammar.{ordinary}
+use Rattle.bm_lawful.specs.Ordinary.{ordinary}
 use Rattle.bm_lawful.specs.Closing.{EndsOne, EndsPeriods, IsEnd}
 use Rattle.bm_lawful.specs.WrongDeferred.{begun, ends}
 use Rattle.bm_lawful.proofs.Ordinary.{said, says, parted, then-of}

@@ -9,7 +9,7 @@ use Rattle.bm_law.specs.Phrases.{FreePhrase}
 use Rattle.bm_lawful.specs.Held.{Nothing, Null, Object, Names, no_names, with_name, OwnsNothing}
 use Rattle.bm_lawful.specs.Opened.{OfClass}
 use Rattle.bm_lawful.specs.Calls.{Allocates, RunsNew, RunsDrop}
-use Rattle.bm_lawful.specs.OwnRuns.{Run, RunsBlock}
+use Rattle.bm_lawful.proofs.OwnRuns.{Run, RunsBlock}
 use Rattle.bm_lawful.specs.Worked.{item}
 use Rattle.bm_lawful.specs.WorkedJournal.{vector_of, block_of, types, x_name, item_id, makes_x, drops_x, drops_x_unless_null, makes_and_drops, makes_and_drops_twice, asks, took, took_none, gave}
 use Rattle.bm_lawful.proofs.Blocks.{RunsList, block-runs}

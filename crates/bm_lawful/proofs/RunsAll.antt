@@ -7,7 +7,7 @@ use Rattle.bm_lang.specs.declared.scenario.TypeDeclaration.{TypeDeclaration}
 use Rattle.bm_lang.specs.declared.scenario.TypeId.{TypeId}
 use Rattle.bm_lawful.specs.Held.{Held, Nothing, Null, Object, Names}
 use Rattle.bm_lawful.specs.Calls.{RunsNew, RunsDrop}
-use Rattle.bm_lawful.specs.OwnRuns.{Times, Chosen, RunsAction, RunsElse, RunsBlock, RunsRow}
+use Rattle.bm_lawful.proofs.OwnRuns.{Times, Chosen, RunsAction, RunsElse, RunsBlock, RunsRow}
 
 -- a property of stretches that joins, and that each `new` and each `drop` has
 pub record Closed (types : List TypeDeclaration) (P : List Entry → Type 0) : Type 0 where

@@ -1,4 +1,4 @@
--- Where no deferred work runs, a log is lawful exactly where its entries are so by the grammar of entries of one level.
+-- Where no deferred work runs, the entries of a lawful log are so by the grammar of entries of one level.
 use Rattle.std.proofs.Common.{◌≡◌, ◌≢◌, ◌≤◌, ℕ, zero, suc, ◌+◌, Bool, true, false, not, ◌||◌, nat_eq, ◌==◌, if◌then◌else◌, List, [], ◌∷◌, ◌++◌, length, drop, None, refl, sym, ap, ◌∙◌, subst, arith, append_assoc, append-nil}
 use Rattle.std.specs.List.{concat, filter, list_any}
 use Rattle.std.proofs.Math.Seq.{drop-append_seam}
@@ -12,7 +12,6 @@ use Rattle.bm_lang.specs.declared.scenario.Parts.{Parts}
 use Rattle.bm_lang.specs.declared.scenario.Script.{Script}
 use Rattle.bm_lang.specs.declared.scenario.TypeDeclaration.{TypeDeclaration}
 use Rattle.bm_law.specs.State.{State, seven_lists, opening}
-use Rattle.bm_law.specs.Alone.{AllAt}
 use Rattle.bm_law.specs.Lists.{Log, Leaves, brought, next, after}
 use Rattle.bm_law.specs.Spans.{own_entries}
 use Rattle.bm_law.proofs.Alone.{at-own, level-append, level-own}
@@ -28,17 +27,15 @@ use Rattle.bm_lawful.specs.Closing.{close_of, in_progress, EndsOne, EndsPeriods,
 use Rattle.bm_deferred.specs.Inboxes.{Inboxes, inboxes_after}
 use Rattle.bm_lawful.specs.Parcels.{no_parcels, ParcelsFit, sends_alone}
 use Rattle.bm_due.specs.Due.{planned_for}
-use Rattle.bm_lawful.specs.Handlers.{all_within}
-use Rattle.bm_lawful.proofs.GoneBack.{within-append}
-use Rattle.bm_lawful.proofs.Unplanned.{done-ordinary, unplanned-at, unplanned-stands}
+use Rattle.bm_lawful.proofs.Unplanned.{unplanned-at}
 use Rattle.bm_lawful.specs.Grammar.{behind_statement, behind_script, IsBody, IsScript, AreScripts, lines_of, Front}
-use Rattle.bm_lawful.specs.OwnGrammar.{ordinary}
-use Rattle.bm_lawful.specs.OwnGrammar as own
+use Rattle.bm_lawful.specs.Ordinary.{ordinary}
+use Rattle.bm_lawful.proofs.OwnGrammar as own
 use Rattle.bm_lawful.specs.Lawful.{LawfulLog}
-use Rattle.bm_lawful.proofs.Ordinary.{all-ordinary, stands, stood, said, then-of, parted, cut-of}
+use Rattle.bm_lawful.proofs.Ordinary.{stands, stood, said, then-of, parted, cut-of}
 use Rattle.bm_lawful.proofs.SameRuns.{block-same}
-use Rattle.bm_lawful.proofs.Spares.{AllSpare, spared, spare-sweep}
-use Rattle.bm_lawful.proofs.Calm.{Empty, AllCalm, calm-join, calm-quiet, calm-idle, quiet-fit, quiet-fitted, quiet-behind, quiet-within, calm-fills, calm-scripts, calm-ended}
+use Rattle.bm_lawful.proofs.Spares.{spared, spare-sweep}
+use Rattle.bm_lawful.proofs.Calm.{Empty, AllCalm, calm-join, calm-quiet, calm-idle, quiet-fitted, quiet-behind, calm-fills, calm-scripts, calm-ended}
 
 -- ---- scripts
 
@@ -56,7 +53,7 @@ script-told s e x w l es k =
     let l2 = after l1 (ordinary k.part) in
     let bare : behind_script s (after l2 (ordinary last)) [] = subst (λ (P : Part). P (after l2 (ordinary last)) []) (sym (none-script s e)) refl in
     let body : IsBody s x l1 (ordinary k.part) =
-    (k.after, subst (λ (P : Part). RunsBlock s.types 0 P x.body no_names k.after l1 (ordinary k.part)) (sym (none-statement s e)) ((block-same s.types x.body).told no_names k.after l1 k.part k.runs), k.owns_nothing) in
+    (k.after, subst (λ (P : Part). RunsBlock s.types 0 P x.body no_names k.after l1 (ordinary k.part)) (sym (none-statement s e)) ((block-same 0 s.types x.body).told no_names k.after l1 k.part k.runs), k.owns_nothing) in
     let stop : Then (Stand 0 last) (behind_script s) l2 (ordinary last) = record { one = ordinary last; two = []; part_is = refl; is_first = stands last l2; is_second = bare } in
     subst (λ v. IsScript s x w l (ordinary v)) (sym k.own_is)
     (then-of (Stand 0 head) (Then (IsBody s x) (Then (Stand 0 last) (behind_script s))) l head (k.part ++ last) (stands head l) (then-of (IsBody s x) (Then (Stand 0 last) (behind_script s)) l1 k.part last body stop))
@@ -73,7 +70,7 @@ script-owned s e x w l es h =
     let bare : ordinary v.right ≡ [] = subst (λ (P : Part). P (after l2 (ordinary v.left)) (ordinary v.right)) (none-script s e) v.is_second in
     let none : v.right ≡ [] = sym (level-own 0 v.right) ∙ ap (own_entries 0) bare in
     let names : Names = u.is_first.0 in
-    let runs = (block-same s.types x.body).owned no_names names l1 (ordinary u.left) (subst (λ (P : Part). RunsBlock s.types 0 P x.body no_names names l1 (ordinary u.left)) (none-statement s e) u.is_first.1) in
+    let runs = ((block-same 0 s.types x.body).owned no_names names l1 (ordinary u.left) (subst (λ (P : Part). RunsBlock s.types 0 P x.body no_names names l1 (ordinary u.left)) (none-statement s e) u.is_first.1)).1 in
     record {
       part = own_entries 0 (ordinary u.left);
       after = names;
@@ -83,7 +80,7 @@ script-owned s e x w l es h =
       owns_nothing = u.is_first.2;
     }
 
-scripts-told : (s : Parts) → s.deferred ≡ false → (rs : List RunLine) (l : State ℕ) (es : List Entry) → own.AreScripts s rs es → AreScripts s rs l (ordinary es)
+pub scripts-told : (s : Parts) → s.deferred ≡ false → (rs : List RunLine) (l : State ℕ) (es : List Entry) → own.AreScripts s rs es → AreScripts s rs l (ordinary es)
 scripts-told s e [] l es h = ap ordinary h
 scripts-told s e (r ∷ rs) l es h =
     let w = h.2.0 in
@@ -128,25 +125,6 @@ opened-from types =
 apart : (k c : ℕ) → c + 1 ≤ k → k ≢ c
 apart k c le e = omega (arith, le, e)
 
-sweep-told : (c : ℕ) (cs : List ℕ) (before s : State ℕ) (units : List ℕ) (es : List Entry) → seven_lists (s.rows c) ≡ units → ((k : ℕ) → c + 1 ≤ k → s.rows k ≡ before.rows k) →
-    ((t : State ℕ) (w : List Entry) → ((k : ℕ) → c + 1 ≤ k → t.rows k ≡ before.rows k) → own.AreSweeps before cs w → AreSweeps cs t (ordinary w)) →
-    own.Swept c units (own.AreSweeps before cs) es → AreSweeps (c ∷ cs) s (ordinary es)
-sweep-told c cs before s [] es e same go h =
-    let none : [] ≡ seven_lists (s.rows c) ++ [] = sym (append-nil (seven_lists (s.rows c)) ∙ e) in
-    ([], record { one = []; two = ordinary es; part_is = refl; is_first = subst (λ us. SweepWhere c us s []) none refl; is_second = go s es same h })
-sweep-told c cs before s (u ∷ us) es e same go h =
-    let some : u ∷ us ≡ seven_lists (s.rows c) ++ [] = sym (append-nil (seven_lists (s.rows c)) ∙ e) in
-    let same' : (k : ℕ) → c + 1 ≤ k → (after s (ordinary h.0)).rows k ≡ before.rows k = λ k le. spared k h.0 s (spare-sweep k c h.0 (apart k c le) h.3.phrase) ∙ same k le in (
-      [],
-      subst (λ v. Then (SweepWhere c (seven_lists (s.rows c) ++ [])) (AreSweeps cs) s (ordinary v)) (sym h.2)
-          (then-of (SweepWhere c (seven_lists (s.rows c) ++ [])) (AreSweeps cs) s h.0 h.1 (subst (λ us. SweepWhere c us s (ordinary h.0)) some (h.0, h.3, stands h.0 s)) (go (after s (ordinary h.0)) h.1 same' h.4)),
-    )
-
-sweeps-told : (n : ℕ) (cs : List ℕ) (before s : State ℕ) (es : List Entry) → From n cs → ((k : ℕ) → n ≤ k → s.rows k ≡ before.rows k) → own.AreSweeps before cs es → AreSweeps cs s (ordinary es)
-sweeps-told n [] before s es f same h = ap ordinary h
-sweeps-told n (c ∷ cs) before s es f same h =
-    sweep-told c cs before s (seven_lists (before.rows c)) es (ap seven_lists (same c f.0)) (λ k le. same k (omega (arith, le, f.0))) (λ t w q y. sweeps-told (c + 1) cs before t w f.1 q y) h
-
 -- the inbox's units in a sweep that took these
 brought-is : (c : ℕ) (s : State ℕ) (swept more : List ℕ) → swept ≡ seven_lists (s.rows c) ++ more → brought (entry.Sweep c (Whole swept)) s ≡ more
 brought-is c s swept more e = ap (λ us. drop (length (seven_lists (s.rows c))) us) e ∙ drop-append_seam (seven_lists (s.rows c)) more
@@ -154,25 +132,6 @@ brought-is c s swept more e = ap (λ us. drop (length (seven_lists (s.rows c))) 
 -- a sweep leaves no parcel
 swept-empty : (p c : ℕ) (swept : List ℕ) (boxes : Inboxes) → Empty boxes → Empty (inboxes_after p (entry.Sweep c (Whole swept)) boxes)
 swept-empty p c swept boxes z k = elim (k == c) as (λ b. (if b then [] else boxes k) ≡ []) [ true ↦ refl | false ↦ z k ]
-
-sweep-fit : (p c : ℕ) (cs : List ℕ) (before s : State ℕ) (boxes : Inboxes) (units : List ℕ) (es : List Entry) → Empty boxes → seven_lists (s.rows c) ≡ units → ((k : ℕ) → c + 1 ≤ k → s.rows k ≡ before.rows k) →
-    ((t : State ℕ) (more : Inboxes) (w : List Entry) → Empty more → ((k : ℕ) → c + 1 ≤ k → t.rows k ≡ before.rows k) → own.AreSweeps before cs w → ParcelsFit p t more (ordinary w)) →
-    own.Swept c units (own.AreSweeps before cs) es → ParcelsFit p s boxes (ordinary es)
-sweep-fit p c cs before s boxes [] es z e same go h = go s boxes es z same h
-sweep-fit p c cs before s boxes (u ∷ us) es z e same go h =
-    let x = h.3.phrase in
-    let tail : List Entry = entry.Stamp c Tracing x.stamp ∷ x.poll ++ entry.Return c (Whole x.returned) ∷ [] in
-    let first : Entry = entry.Sweep c (Whole x.swept) in
-    let whole : (0, first) ∷ (ordinary tail ++ ordinary h.1) ≡ ordinary es = ap (λ v. (0, first) ∷ v) (sym (level-append 0 tail h.1)) ∙ ap ordinary (ap (λ v. v ++ h.1) (sym x.own_is) ∙ sym h.2) in
-    let same' : (k : ℕ) → c + 1 ≤ k → (after s (ordinary (first ∷ tail))).rows k ≡ before.rows k = λ k le. spared k (first ∷ tail) s (subst (AllSpare k) x.own_is (spare-sweep k c h.0 (apart k c le) x)) ∙ same k le in
-    let takes : brought first s ≡ concat (boxes c) = brought-is c s x.swept [] (h.3.taken ∙ sym e ∙ sym (append-nil (seven_lists (s.rows c)))) ∙ sym (ap concat (z c)) in
-    subst (ParcelsFit p s boxes) whole
-    (takes, quiet-fit p (next s (0, first)) (inboxes_after p first boxes) tail (ordinary h.1) (quiet-behind c x.stamp x.poll x.returned x.polls) (swept-empty p c x.swept boxes z) (λ more y. go (after s (ordinary (first ∷ tail))) more h.1 y same' h.4))
-
-sweeps-fit : (p n : ℕ) (cs : List ℕ) (before s : State ℕ) (boxes : Inboxes) (es : List Entry) → Empty boxes → From n cs → ((k : ℕ) → n ≤ k → s.rows k ≡ before.rows k) → own.AreSweeps before cs es → ParcelsFit p s boxes (ordinary es)
-sweeps-fit p n [] before s boxes es z f same h = subst (λ v. ParcelsFit p s boxes (ordinary v)) (sym h) z
-sweeps-fit p n (c ∷ cs) before s boxes es z f same h =
-    sweep-fit p c cs before s boxes (seven_lists (before.rows c)) es z (ap seven_lists (same c f.0)) (λ k le. same k (omega (arith, le, f.0))) (λ t more w y q x. sweeps-fit p (c + 1) cs before t more w y f.1 q x) h
 
 -- no unit in two lists together
 front-empty : (v w : List ℕ) → v ++ w ≡ [] → v ≡ []
@@ -220,24 +179,6 @@ ended-same (suc p) s = refl
 no-period : (d : Domain) (front : List Entry) (s : State ℕ) (es : List Entry) → AllCalm front → EndsOne d (in_progress d None (ordinary front)) s (ordinary es) → es ≡ []
 no-period d front s es c h = sym (level-own 0 es) ∙ ap (own_entries 0) (subst (λ b. EndsOne d b s (ordinary es)) (calm-idle d front c) h)
 
-no-periods : (front : List Entry) (s : State ℕ) → AllCalm front → EndsPeriods (ordinary front) s []
-no-periods front s c =
-    let none : (d : Domain) → EndsOne d (in_progress d None (ordinary front)) s [] = λ d. subst (λ b. EndsOne d b s []) (sym (calm-idle d front c)) refl in
-    record { one = []; two = []; part_is = refl; is_first = none Plain; is_second = none Tracing }
-
-closing-told : (p : ℕ) (classes : List ℕ) (front : List Entry) (s : State ℕ) (sweeps : List Entry) → From 0 classes → AllCalm front → own.AreSweeps s classes sweeps → Closing p classes (ordinary front) s (ordinary ((entry.Ended ∷ close_of p) ++ sweeps))
-closing-told p classes front s sweeps f c h =
-    let head : List Entry = entry.Ended ∷ close_of p in
-    let s' = after s (ordinary head) in
-    let swept : AreSweeps classes s' (ordinary sweeps) = sweeps-told 0 classes s s' sweeps f (λ k le. ap (λ (t : State ℕ). t.rows k) (ended-same p s)) h in
-    then-of (Stand 0 head) (Then (EndsPeriods (ordinary front)) (AreSweeps classes)) s head sweeps (stands head s) (record { one = []; two = ordinary sweeps; part_is = refl; is_first = no-periods front s' c; is_second = swept })
-
-closing-fit : (p : ℕ) (classes : List ℕ) (s : State ℕ) (boxes : Inboxes) (sweeps : List Entry) → From 0 classes → Empty boxes → own.AreSweeps s classes sweeps → ParcelsFit p s boxes (ordinary ((entry.Ended ∷ close_of p) ++ sweeps))
-closing-fit p classes s boxes sweeps f z h =
-    let head : List Entry = entry.Ended ∷ close_of p in
-    subst (ParcelsFit p s boxes) (sym (level-append 0 head sweeps))
-    (quiet-fit p s boxes head (ordinary sweeps) (calm-quiet head (calm-ended p)) z (λ more y. sweeps-fit p 0 classes s (after s (ordinary head)) more sweeps y f (λ k le. ap (λ (t : State ℕ). t.rows k) (ended-same p s)) h))
-
 -- the closing by its entries
 record Closed (p : ℕ) (classes : List ℕ) (s : State ℕ) (es : List Entry) : Type 0 where
   sweeps : List Entry
@@ -261,61 +202,13 @@ closing-owned p classes front s boxes es f c z h fit =
     let rest = quiet-fitted p s boxes head (ordinary u.right) (calm-quiet head (calm-ended p)) z (subst (ParcelsFit p s boxes) (ap ordinary whole ∙ level-append 0 head u.right) fit) in
     record { sweeps = u.right; whole = whole; are = sweeps-owned p 0 classes s s2 rest.0 u.right rest.1 f (λ k le. ap (λ (q : State ℕ). q.rows k) (ended-same p s)) swept rest.2 }
 
--- no handler begins or ends in the closing
-swept-within : (c : ℕ) (units : List ℕ) (Rest : List Entry → Type 0) → ((es : List Entry) → Rest es → all_within es ≡ true) → (es : List Entry) → own.Swept c units Rest es → all_within es ≡ true
-swept-within c [] Rest f es h = f es h
-swept-within c (u ∷ us) Rest f es h =
-    let x = h.3.phrase in
-    let tail : List Entry = entry.Stamp c Tracing x.stamp ∷ x.poll ++ entry.Return c (Whole x.returned) ∷ [] in
-    let one : all_within h.0 ≡ true = ap all_within x.own_is ∙ quiet-within tail (quiet-behind c x.stamp x.poll x.returned x.polls) in
-    ap all_within h.2 ∙ within-append h.0 h.1 one (f h.1 h.4)
-
-sweeps-within : (s : State ℕ) (cs : List ℕ) (es : List Entry) → own.AreSweeps s cs es → all_within es ≡ true
-sweeps-within s [] es h = ap all_within h
-sweeps-within s (c ∷ cs) es h = swept-within c (seven_lists (s.rows c)) (own.AreSweeps s cs) (sweeps-within s cs) es h
-
-closing-within : (p : ℕ) (classes : List ℕ) (s : State ℕ) (sweeps : List Entry) → own.AreSweeps s classes sweeps → all_within ((entry.Ended ∷ close_of p) ++ sweeps) ≡ true
-closing-within p classes s sweeps h = within-append (entry.Ended ∷ close_of p) sweeps (quiet-within (entry.Ended ∷ close_of p) (calm-quiet (entry.Ended ∷ close_of p) (calm-ended p))) (sweeps-within s classes sweeps h)
-
 -- ---- the whole log
 
 -- the law of parcels holds where no deferred work runs
 alone-off : (s : Parts) → s.deferred ≡ false → sends_alone s ≡ true
 alone-off s e = ap (λ b. not b || nat_eq s.processors 1) e
 
--- a log by the grammar of entries is lawful
-pub told-log : (s : Parts) → s.deferred ≡ false → (p : ℕ) → planned_for p s ≡ [] → (log : Log) → own.LawfulLog s p log → LawfulLog s p log
-told-log s e p none log h =
-    let i = h.is_log in
-    let classes = opened_classes s.types in
-    let front : List Entry = i.fills ++ i.scripts in
-    let rest : List Entry = (entry.Ended ∷ close_of p) ++ i.sweeps in
-    let t = after (opening p) (ordinary front) in
-    let calm : AllCalm front = calm-join i.fills i.scripts (calm-fills classes (fresh_stock s.pages) i.fills i.are_fills) (calm-scripts s (lines_of p s.runs) i.scripts i.are_scripts) in
-    let whole : log ≡ ordinary front ++ ordinary rest = h.log_is ∙ ap ordinary (i.own_is ∙ sym (append_assoc i.fills i.scripts rest)) ∙ level-append 0 front rest in
-    let swept : own.AreSweeps t classes i.sweeps = subst (λ q. own.AreSweeps q classes i.sweeps) (sym i.before_is.lists) i.are_sweeps in
-    let start = opening p in
-    let at : AllAt 0 log = subst (AllAt 0) (sym h.log_is) (all-ordinary h.own) in
-    let within : all_within (own_entries 0 log) ≡ true = ap all_within (ap (own_entries 0) (whole ∙ sym (level-append 0 front rest)) ∙ level-own 0 (front ++ rest)) ∙ within-append front rest (quiet-within front (calm-quiet front calm)) (closing-within p classes i.before i.sweeps i.are_sweeps) in
-    record {
-      handlers = unplanned-stands s p log none at within;
-      phrases = done-ordinary s log at within;
-      words = h.words;
-      is_log = record {
-        front = ordinary front;
-        closing = ordinary rest;
-        log_is = whole;
-        is_front = then-of _ (AreScripts s (lines_of p s.runs)) start i.fills i.scripts (i.fills, i.are_fills, stands i.fills start) (scripts-told s e (lines_of p s.runs) (after start (ordinary i.fills)) i.scripts i.are_scripts);
-        is_closing = closing-told p classes front t i.sweeps (opened-from s.types) calm swept;
-      };
-      last = h.last;
-      lists = h.lists;
-      emptied = h.emptied;
-      null = h.null;
-      parcels = λ q. subst (ParcelsFit p start no_parcels) (sym whole) (quiet-fit p start no_parcels front (ordinary rest) (calm-quiet front calm) (λ c. refl) (λ more z. closing-fit p classes t more i.sweeps (opened-from s.types) z swept));
-    }
-
--- and the other way round
+-- the entries of a lawful log are so by the grammar of entries
 pub owned-log : (s : Parts) → s.deferred ≡ false → (p : ℕ) → planned_for p s ≡ [] → (log : Log) → LawfulLog s p log → own.LawfulLog s p log
 owned-log s e p none log h =
     let i = h.is_log in

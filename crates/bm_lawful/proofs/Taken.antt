@@ -11,7 +11,7 @@ use Rattle.bm_lawful.specs.Held.{Object, Names, no_names, with_name}
 use Rattle.bm_lawful.specs.Opened.{object_size}
 use Rattle.bm_lawful.specs.Worked.{item}
 use Rattle.bm_lawful.specs.Calls.{Allocates, answered, RunsNew, RunsDrop}
-use Rattle.bm_lawful.specs.OwnRuns.{Run, Done, Then}
+use Rattle.bm_lawful.proofs.OwnRuns.{Run, Done, Then}
 use Rattle.bm_lawful.specs.WorkedJournal.{types, x_name, item_id, drops_x, drops_x_unless_null, vector_of, asks, took, gave}
 use Rattle.bm_lawful.proofs.Blocks.{RunsList, block-runs}
 

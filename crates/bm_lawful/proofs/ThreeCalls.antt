@@ -1,28 +1,32 @@
 -- The journal of two scripts, of which one asks twice, is lawful.
-use Rattle.std.proofs.Common.{ℕ, inl, inr, [], ◌∷◌, ◌++◌, refl, sym, ap}
+use Rattle.std.proofs.Common.{ℕ, inl, inr, List, [], ◌∷◌, ◌++◌, refl, sym, ap}
 use Rattle.std.proofs.lemmas.Bool.Decides.{eqb_tells}
 use Rattle.bm_class.specs.Sizes.{class_of_size, size_of_class}
 use Rattle.bm_class.specs.Watermarks.{low_of_size, high_of_size, batch_of_size}
 use Rattle.bm_journal.specs.declared.ids.Domain.TheVariants.{Plain, Tracing}
 use Rattle.bm_journal.specs.declared.units.Units.TheVariants.{Whole}
+use Rattle.bm_journal.specs.declared.entry.Entry.{Entry}
 use Rattle.bm_journal.specs.declared.entry.Entry.TheVariants as entry
 use Rattle.bm_law.specs.State.{State, opening}
-use Rattle.bm_law.specs.Lists.{Log, AllName, Leaves, after}
+use Rattle.bm_law.specs.Lists.{AllName, Leaves, after}
 use Rattle.bm_law.specs.Null.{Nothing, NullLaw, RepliesFit}
 use Rattle.bm_law.specs.Spans.{own_entries}
 use Rattle.bm_law.specs.Worked.{Emptied}
 use Rattle.bm_law.proofs.Null.{pops-fit}
-use Rattle.bm_law.proofs.Folds.{Leaves-append}
 use Rattle.bm_lawful.proofs.Opening.{no-page}
 use Rattle.bm_lawful.specs.Held.{no_names}
-use Rattle.bm_lawful.specs.OwnGrammar.{IsLog, LawfulLog, ordinary}
+use Rattle.bm_lawful.specs.Ordinary.{ordinary}
+use Rattle.bm_lawful.specs.Grammar.{IsLog, lines_of}
+use Rattle.bm_lawful.specs.Parcels.{ParcelLaw}
 use Rattle.bm_lawful.specs.SectionWords.{SectionWords}
-use Rattle.bm_lawful.specs.Lawful.{HeadingOf, LawfulLogs}
+use Rattle.bm_lawful.specs.Lawful.{HeadingOf, LawfulLog, LawfulLogs}
 use Rattle.bm_lawful.specs.Short.{all_entries}
 use Rattle.bm_deferred.proofs.Pages.{short-named}
 use Rattle.bm_lawful.specs.WorkedJournal.{asks, took_none, twice_part, main_part, three_calls, three_calls_log, three_calls_journal}
 use Rattle.bm_lawful.proofs.Ran.{with_null, two_nulls, null-runs, twice-runs, null-owns_nothing, nulls-own_nothing}
-use Rattle.bm_lawful.proofs.SameLogs.{told-log}
+use Rattle.bm_lawful.proofs.Ordinary.{all-ordinary, says, stands, then-of}
+use Rattle.bm_lawful.proofs.SameLogs.{scripts-told}
+use Rattle.bm_lawful.proofs.Unplanned.{done-ordinary}
 use Rattle.bm_lawful.proofs.Told.{one-log}
 
 -- the lists that the log leaves
@@ -51,23 +55,23 @@ null = record {
   replies = λ l. elim (eqb_tells 0 l) [ inl y ↦ rw (← y.1) replies | inr y ↦ rw y.0 tt ];
 }
 
+parcels : ParcelLaw 0 three_calls_log
+parcels = (tt, (tt, (tt, (tt, (tt, (tt, (tt, (tt, (tt, (tt, (tt, (tt, (tt, (tt, (tt, (tt, (tt, (tt, (tt, (tt, (tt, (tt, (tt, (tt, (tt, (tt, (tt, (tt, (tt, λ c. refl)))))))))))))))))))))))))))))
+
 heading : HeadingOf three_calls three_calls_journal
 unfolding class_of_size size_of_class low_of_size high_of_size batch_of_size
 heading = record { processors = refl; pages = refl; types = refl; maps = refl; scripts = refl; classes = refl }
 
--- all up to the end of the scripts
-abbrev front : Log
-front = ordinary (entry.Fill 0 (Whole []) ∷ twice_part ++ main_part)
+abbrev scripts : List Entry
+scripts = twice_part ++ main_part
 
-is-log : IsLog three_calls 0 (entry.Fill 0 (Whole []) ∷ twice_part ++ main_part ++ entry.Ended ∷ entry.Close ∷ [])
+is-log : IsLog three_calls 0 three_calls_log
 unfolding class_of_size
 is-log = record {
-  fills = entry.Fill 0 (Whole []) ∷ [];
-  scripts = twice_part ++ main_part;
-  sweeps = [];
-  own_is = refl;
-  are_fills = ([], ap (λ units. entry.Fill 0 (Whole units) ∷ []) (sym no-page), refl);
-  are_scripts = (
+  front = ordinary (entry.Fill 0 (Whole []) ∷ scripts);
+  closing = ordinary (entry.Ended ∷ entry.Close ∷ []);
+  log_is = refl;
+  is_front = then-of _ _ (opening 0) (entry.Fill 0 (Whole []) ∷ []) scripts (says _ _ _ ([], ap (λ units. entry.Fill 0 (Whole units) ∷ []) (sym no-page), refl)) (scripts-told three_calls refl (lines_of 0 three_calls.runs) _ scripts (
     _,
     refl,
     (
@@ -78,10 +82,8 @@ is-log = record {
       record { part = two_nulls; after = with_null (with_null no_names); own_is = refl; runs = twice-runs 11 12; owns_nothing = nulls-own_nothing },
       (_, refl, (3, main_part, [], refl, record { part = asks ∷ took_none; after = with_null no_names; own_is = refl; runs = null-runs 7 8 9 no_names; owns_nothing = null-owns_nothing }, refl)),
     ),
-  );
-  before = after (opening 0) front;
-  before_is = Leaves-append 0 front (ordinary (entry.Ended ∷ entry.Close ∷ [])) last leaves;
-  are_sweeps = refl;
+  ));
+  is_closing = then-of _ _ _ (entry.Ended ∷ entry.Close ∷ []) [] (stands _ _) (then-of _ _ _ [] [] (then-of _ _ _ [] [] refl refl) ([], then-of _ _ _ [] [] refl refl));
 }
 
 words : SectionWords three_calls_log
@@ -90,21 +92,22 @@ words Tracing = refl
 
 log-lawful : LawfulLog three_calls 0 three_calls_log
 log-lawful = record {
-  own = entry.Fill 0 (Whole []) ∷ twice_part ++ main_part ++ entry.Ended ∷ entry.Close ∷ [];
-  log_is = refl;
+  handlers = refl;
+  phrases = done-ordinary _ _ (all-ordinary (entry.Fill 0 (Whole []) ∷ twice_part ++ main_part ++ entry.Ended ∷ entry.Close ∷ [])) refl;
   is_log = is-log;
   words = words;
   last = last;
   lists = leaves;
   emptied = emptied;
   null = null;
+  parcels = λ q. parcels;
 }
 
 pub three_calls-lawful : LawfulLogs three_calls three_calls_journal
 three_calls-lawful = record {
   heading = heading;
   count = refl;
-  logs = one-log three_calls three_calls_log (told-log three_calls refl 0 refl three_calls_log log-lawful);
+  logs = one-log three_calls three_calls_log log-lawful;
   short = short-named 0 (all_entries three_calls_journal.logs) refl;
   graphs = refl;
   totals = refl;

@@ -13,11 +13,12 @@ use Rattle.bm_law.specs.State.{State, seven_lists}
 use Rattle.bm_law.specs.Lists.{Log, Leaves, lists_of}
 use Rattle.bm_law.proofs.Agree.{lists-leaves}
 use Rattle.bm_lawful.specs.Held.{Names, no_names, OwnsNothing}
-use Rattle.bm_lawful.specs.OwnRuns.{RunsBlock}
+use Rattle.bm_lawful.proofs.OwnRuns.{RunsBlock}
 use Rattle.bm_page.specs.Stock.{fetched}
 use Rattle.bm_lawful.specs.Fills.{fresh_stock, numbers_of, prefill}
 use Rattle.bm_lawful.specs.Lawful as lawful
-use Rattle.bm_lawful.specs.OwnGrammar.{IsLog, IsScript, LawfulLog, Swept, ordinary}
+use Rattle.bm_lawful.specs.Ordinary.{ordinary}
+use Rattle.bm_lawful.proofs.OwnGrammar.{IsLog, IsScript, LawfulLog, Swept}
 use Rattle.bm_lawful.specs.SectionWords.{SectionWords, word_fits, word_next, words_fit}
 use Rattle.bm_lawful.specs.WorkedJournal.{types, scenario_of, script_of}
 

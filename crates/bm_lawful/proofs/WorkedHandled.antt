@@ -15,7 +15,7 @@ use Rattle.bm_law.specs.Spans.{own_entries}
 use Rattle.bm_lawful.specs.Calls.{Allocates, RunsNew}
 use Rattle.bm_lawful.specs.Handlers.{HandlerPhrase, HandlersDone, enclosed}
 use Rattle.bm_lawful.specs.Held.{Names, OwnsNothing, no_names}
-use Rattle.bm_lawful.specs.OwnRuns.{Done, Run, RunsBlock}
+use Rattle.bm_lawful.proofs.OwnRuns.{Done, Run, RunsBlock}
 use Rattle.bm_lawful.specs.SectionWords.{SectionWords, word_after}
 use Rattle.bm_lawful.specs.Worked.{item}
 use Rattle.bm_lawful.specs.WorkedJournal.{asks, drops_x_unless_null, item_id, makes_and_drops, makes_x, script_of, took, types, vector_of, x_name}
@@ -23,6 +23,7 @@ use Rattle.bm_lawful.specs.WorkedHandlers.{asks_too, back_as_other, behind_scrip
 use Rattle.bm_lawful.proofs.Blocks.{RunsList, block-runs}
 use Rattle.bm_lawful.proofs.GoneBack.{done-back, done-grow, done-none}
 use Rattle.bm_lawful.proofs.Ran.{null-owns_nothing, of-item, with_null}
+use Rattle.bm_lawful.proofs.SameRuns.{alone-owned, alone-told}
 use Rattle.bm_lawful.proofs.Taken.{new-taken}
 use Rattle.bm_lawful.proofs.Told.{same-script}
 use Rattle.bm_lawful.proofs.Unplanned.{done-stretch, log_within}
@@ -73,14 +74,14 @@ whole s log l name own w o h p =
 pub interrupted-done : HandlersDone (handled (makes_and_drops 7 8 9)) interrupted
 interrupted-done =
     let s = handled (makes_and_drops 7 8 9) in
-    let phrase : HandlerPhrase s (codes "h") 1 finds_busy = record { index = 1; script = _; found = refl; called = refl; handles = refl; part = finds_busy; after = with_null no_names; own_is = refl; runs = busy-runs; owns_nothing = null-owns_nothing } in
+    let phrase : HandlerPhrase s (codes "h") 1 finds_busy = record { index = 1; script = _; found = refl; called = refl; handles = refl; part = finds_busy; after = with_null no_names; own_is = refl; runs = alone-told s.types (makes_and_drops 7 8 9) no_names (with_null no_names) finds_busy busy-runs; owns_nothing = null-owns_nothing } in
     done-stretch s counted (taken ++ handler (codes "h") finds_busy) refl (whole s taken 1 (codes "h") finds_busy refl refl (done-stretch s taken [] refl (done-none s)) phrase)
 
 pub behind_script-done : HandlersDone (handled idle) behind_script
 behind_script-done =
     let s = handled idle in
     let own : List Entry = entry.In Plain 3 ∷ entry.Out Plain 4 ∷ [] in
-    let phrase : HandlerPhrase s (codes "h") 2 own = record { index = 1; script = _; found = refl; called = refl; handles = refl; part = []; after = no_names; own_is = refl; runs = idle-runs; owns_nothing = λ x. tt } in
+    let phrase : HandlerPhrase s (codes "h") 2 own = record { index = 1; script = _; found = refl; called = refl; handles = refl; part = []; after = no_names; own_is = refl; runs = alone-told s.types idle no_names no_names [] idle-runs; owns_nothing = λ x. tt } in
     done-stretch s works_on (worked_behind ++ handler (codes "h") own) refl (whole s worked_behind 1 (codes "h") own refl refl (done-stretch s worked_behind [] refl (done-none s)) phrase)
 
 pub interrupted-words : SectionWords interrupted
@@ -119,7 +120,7 @@ only body (suc (suc i)) x e k = absurd (none-some e)
 ran-of : (body : Block) (name : List ℕ) (w : ℕ) (own : List Entry) → HandlerPhrase (handled body) name w own → Ran body w own
 ran-of body name w own h =
     let same = only body h.index h.script h.found h.handles in
-    record { part = h.part; after = h.after; own_is = h.own_is; runs = subst (λ (x : Script). RunsBlock types x.body no_names h.part h.after) (sym same) h.runs; owns_nothing = h.owns_nothing }
+    record { part = h.part; after = h.after; own_is = h.own_is; runs = subst (λ (x : Script). RunsBlock types x.body no_names h.part h.after) (sym same) (alone-owned types h.script.body no_names h.after h.part h.runs); owns_nothing = h.owns_nothing }
 
 -- the body that does nothing leaves nothing
 idle-none : (w : ℕ) (own : List Entry) → Ran idle w own → own ≡ enclosed w []

@@ -12,9 +12,9 @@ use Rattle.bm_law.specs.State.{State, seven_lists}
 use Rattle.bm_law.specs.Lists.{Log}
 use Rattle.bm_lawful.specs.Held.{Names, no_names, OwnsNothing}
 use Rattle.bm_lawful.specs.Calls.{RunsDrop}
-use Rattle.bm_lawful.specs.OwnRuns.{Run, Done, Then}
+use Rattle.bm_lawful.proofs.OwnRuns.{Run, Done, Then}
 use Rattle.bm_lawful.specs.Lawful.{LawfulLogs}
-use Rattle.bm_lawful.specs.OwnGrammar.{LawfulLog}
+use Rattle.bm_lawful.proofs.OwnGrammar.{LawfulLog}
 use Rattle.bm_lawful.specs.WorkedJournal.{vector_of, types, x_name, makes_x, drops_x_unless_null, makes_and_drops, one_object, one_page, asks, asked, took, gave, ended, swept}
 use Rattle.bm_lawful.specs.WrongJournals.{two_processors, other_type, other_script, one_map, one_history, other_dropped_log, other_dropped, other_value_log, other_value, other_class_log, other_class, two_pages, other_marks, one_step_more, two_logs, no_log, never_dropped_log, never_dropped, makes_alone, object_left, dropped_twice_log, dropped_twice, null_with_units_log, null_with_units, below_the_top_log, below_the_top, not_counted_log, not_counted, other_order_log, other_order, one_left_out_log, one_left_out, not_swept_log, not_swept, not_closed_log, not_closed}
 use Rattle.bm_lawful.proofs.Blocks.{RunsList, block-runs}

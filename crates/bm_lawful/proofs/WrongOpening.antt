@@ -7,7 +7,7 @@ use Rattle.bm_journal.specs.declared.entry.Entry.TheVariants as entry
 use Rattle.bm_lang.specs.declared.scenario.Block.{Block}
 use Rattle.bm_page.specs.Stock.{fetched}
 use Rattle.bm_lawful.specs.Fills.{fresh_stock, numbers_of, prefill}
-use Rattle.bm_lawful.specs.OwnGrammar.{IsLog}
+use Rattle.bm_lawful.proofs.OwnGrammar.{IsLog}
 use Rattle.bm_lawful.specs.Lawful.{LawfulLogs}
 use Rattle.bm_lawful.specs.WorkedJournal.{scenario_of, one_object}
 use Rattle.bm_lawful.specs.WrongJournals.{not_opened, not_opened_log}

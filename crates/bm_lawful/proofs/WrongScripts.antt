@@ -10,8 +10,8 @@ use Rattle.bm_lang.specs.declared.scenario.Script.{Script}
 use Rattle.bm_page.specs.Stock.{fetched}
 use Rattle.bm_lawful.specs.Fills.{fresh_stock, numbers_of, prefill}
 use Rattle.bm_lawful.specs.Held.{Names, no_names}
-use Rattle.bm_lawful.specs.OwnRuns.{Run, Done, Then, RunsBlock}
-use Rattle.bm_lawful.specs.OwnGrammar.{IsLog, IsScript}
+use Rattle.bm_lawful.proofs.OwnRuns.{Run, Done, Then, RunsBlock}
+use Rattle.bm_lawful.proofs.OwnGrammar.{IsLog, IsScript}
 use Rattle.bm_lawful.specs.Lawful.{LawfulLogs}
 use Rattle.bm_lawful.specs.WorkedJournal.{vector_of, types, makes_x, drops_x_unless_null, makes_and_drops, makes_and_drops_twice, script_of, three_calls}
 use Rattle.bm_lawful.specs.WrongJournals.{main_first_log, main_first, repeated_once_log, repeated_once}

@@ -1,5 +1,5 @@
 -- A journal in which a fetch gives fewer units than were wanted though a page was never named.
-use Rattle.std.proofs.Common.{◌≡◌, ◌<◌, Bool, true, false, List, [], ◌∷◌, length, nat_lt, refl, inl, inr, lit<}
+use Rattle.std.proofs.Common.{◌≡◌, Bool, true, false, List, [], ◌∷◌, length, nat_lt, refl, inl, inr, lit<}
 use Rattle.std.specs.Prelude.{◌||◌}
 use Rattle.std.proofs.lemmas.Bool.{ltb-true}
 use Rattle.bm_class.specs.Sizes.{size_of_class}

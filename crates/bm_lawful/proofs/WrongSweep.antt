@@ -11,8 +11,9 @@ use Rattle.bm_law.specs.Lists.{Leaves}
 use Rattle.bm_law.specs.Phrases.{raise_below, alloc_took, alloc_empty, alloc_busy}
 use Rattle.bm_lawful.specs.Held.{Names, Null, no_names, with_name}
 use Rattle.bm_lawful.specs.Calls.{Allocates, answered}
-use Rattle.bm_lawful.specs.OwnRuns.{Run, Done, Then, RunsAction}
-use Rattle.bm_lawful.specs.OwnGrammar.{Swept, ordinary}
+use Rattle.bm_lawful.proofs.OwnRuns.{Run, Done, Then, RunsAction}
+use Rattle.bm_lawful.specs.Ordinary.{ordinary}
+use Rattle.bm_lawful.proofs.OwnGrammar.{Swept}
 use Rattle.bm_lawful.specs.Lawful.{LawfulLogs}
 use Rattle.bm_lawful.specs.WorkedJournal.{vector_of, types, x_name, item_id, makes_x, drops_x_unless_null, makes_and_drops, no_object, asks, took_none, ended, swept}
 use Rattle.bm_lawful.specs.WrongJournals.{empty_swept_log, empty_swept}

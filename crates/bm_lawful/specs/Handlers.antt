@@ -10,7 +10,7 @@ use Rattle.bm_lang.specs.declared.scenario.ScriptKind.TheVariants as kind
 use Rattle.bm_law.specs.Lists.{Log}
 use Rattle.bm_law.specs.Spans.{own_entries}
 use Rattle.bm_lawful.specs.Held.{Names, no_names, OwnsNothing}
-use Rattle.bm_lawful.specs.OwnRuns.{RunsBlock}
+use Rattle.bm_lawful.specs.Runs.{RunsAlone}
 use Rattle.bm_lawful.specs.SectionWords.{is_outside, word_after}
 
 -- These entries, in a plain section of their own where the word before is that of none, and as they stand where it is that of
@@ -30,7 +30,7 @@ pub record HandlerPhrase (s : Parts) (name : List ℕ) (w : ℕ) (own : List Ent
   pub part : List Entry
   pub after : Names
   pub own_is : own ≡ enclosed w part
-  pub runs : RunsBlock s.types script.body no_names part after
+  pub runs : RunsAlone s.types script.body no_names part after
   pub owns_nothing : (x : List ℕ) → OwnsNothing (after x)
 
 -- the entry neither begins a handler nor ends one

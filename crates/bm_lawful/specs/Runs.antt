@@ -5,10 +5,12 @@ use Rattle.bm_journal.specs.declared.entry.Entry.{Entry}
 use Rattle.bm_lang.specs.declared.scenario.Action.{Action, New, Drop, Acquire, Get, Exchange, If', Repeat, Section, Lock, Unlock, Yield, PushFront, PushBack, PopFront, PopBack, Add, First, Remove, Held-Action-If-2, None', Some'}
 use Rattle.bm_lang.specs.declared.scenario.Block.{Block, Block', Row_of-Statement, end_of-Statement, more_of-Statement}
 use Rattle.bm_lang.specs.declared.scenario.TypeDeclaration.{TypeDeclaration}
+use Rattle.bm_law.specs.State.{opening}
 use Rattle.bm_deferred.specs.Parts.{Part, Say, Then}
 use Rattle.bm_deferred.specs.Parts as part
 use Rattle.bm_lawful.specs.Held.{Held, Nothing, Null, Object, Names}
 use Rattle.bm_lawful.specs.Calls.{RunsNew, RunsDrop}
+use Rattle.bm_lawful.specs.Ordinary.{ordinary}
 
 -- from these names to those names, a part of a log
 abbrev pub Run : Type 1
@@ -76,3 +78,7 @@ abbrev mutual
   pub RunsRow : List TypeDeclaration → ℕ → Part → {m : _} → Row_of-Statement m → Run
   RunsRow types l behind end_of-Statement = Done
   RunsRow types l behind (more_of-Statement line action rest) = Followed (Followed (RunsAction types l behind action) (Leaving behind)) (RunsRow types l behind rest)
+
+-- A block leaves these entries of one level, where nothing stands behind a statement: from which lists doesn't matter then.
+abbrev pub RunsAlone : List TypeDeclaration → Block → Names → List Entry → Names → Type 0
+RunsAlone types body names own after = RunsBlock types 0 part.Nothing body names after (opening 0) (ordinary own)

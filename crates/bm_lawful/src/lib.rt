@@ -4,13 +4,11 @@
 mod deferred;
 mod handlers;
 mod interrupted;
-mod laws;
 mod worked;
 mod worked_journal;
 
 pub use deferred::{worked_deferred, worked_flags, worked_parcels, worked_periods, wrong_deferred};
 pub use handlers::{handlers_law, unplanned_law};
 pub use interrupted::{worked_handlers, wrong_handlers, wrong_words};
-pub use laws::logs_without_work;
 pub use worked::{worked_classes, worked_names};
 pub use worked_journal::{worked_journals, wrong_journals};

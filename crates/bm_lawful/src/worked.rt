@@ -1,9 +1,10 @@
 //! Worked declarations, whose classes are computed.
 
-ghost use Rattle.std.specs.Prelude.{◌≡◌, ◌∷◌, []};
+ghost use Rattle.std.specs.Prelude.{◌≡◌, ◌∷◌, [], ℕ};
+ghost use Rattle.bm_law.specs.State.{State};
 ghost use Rattle.bm_lawful.specs.Held.{Nothing, Null, no_names, with_name};
 ghost use Rattle.bm_lawful.specs.Opened.{object_size, opened_classes};
-ghost use Rattle.bm_lawful.specs.OwnRuns.{Done};
+ghost use Rattle.bm_lawful.specs.Runs.{Done};
 ghost use Rattle.bm_lawful.specs.Worked.{item, page, pair};
 ghost use Rattle.std.specs.Prelude.{codes};
 
@@ -22,5 +23,5 @@ pub fn worked_classes()
 pub fn worked_names()
     ensures same { with_name (codes "x") Null no_names (codes "x") ≡ Null }
     ensures other { with_name (codes "x") Null no_names (codes "y") ≡ Nothing }
-    ensures done { Done no_names [] no_names }
+    ensures done { (s : State ℕ) → Done no_names no_names s [] }
 {}

@@ -1,6 +1,6 @@
 -- Logs and stretches whose lives are wrong.
 use Rattle.std.proofs.Common.{◌++◌}
-use Rattle.bm_lawful.specs.OwnGrammar.{ordinary}
+use Rattle.bm_lawful.specs.Ordinary.{ordinary}
 use Rattle.bm_lives.specs.Worked.{lends, borrows, hands_on}
 use Rattle.bm_lives.specs.Wrong.{given_twice, left_out, ended_twice, other_freed, not_freed}
 use Rattle.bm_lived.specs.Lived.{Lived, no_lives}

@@ -2,9 +2,8 @@
 
 ghost use Rattle.std.specs.Prelude.{ℕ, ◌≡◌, ◌<◌, None, List, [], ◌∷◌, length, replicate};
 ghost use Rattle.bm_law.specs.Lists.{Log};
-ghost use Rattle.bm_lives.specs.Together.{named, times};
 ghost use Rattle.bm_lives.specs.Lives.{LivesLaw, WholeLives};
-ghost use Rattle.bm_lived.specs.Units.{freed_units, given_units};
+ghost use Rattle.bm_lived.specs.Units.{FreedAsGiven};
 ghost use Rattle.bm_lived.specs.Lived.{Lived, no_lives};
 ghost use Rattle.bm_lived.specs.Told.{LivesOn};
 ghost use Rattle.bm_lived.specs.Grown.{grown_at};
@@ -19,5 +18,5 @@ pub fn lives_law()
     ensures one { (a : Lived) (log : Log) → LivesOn 0 no_lives a log → AreLived a (log ∷ []) }
     ensures law { (a : Lived) (logs : List Log) → AreLived a logs → LivesLaw logs }
     ensures whole { (a : Lived) (logs : List Log) → AreLived a logs → ((u : ℕ) → a.homes u ≡ None) → WholeLives logs }
-    ensures freed { (a : Lived) (logs : List Log) → AreLived a logs → ((u : ℕ) → a.homes u ≡ None) → (u : ℕ) → times u (named freed_units logs) ≡ times u (named given_units logs) }
+    ensures freed { (a : Lived) (logs : List Log) → AreLived a logs → ((u : ℕ) → a.homes u ≡ None) → FreedAsGiven logs }
 {}

@@ -17,7 +17,7 @@ use Rattle.bm_deferred.specs.Parts.{Stand, Then}
 use Rattle.bm_deferred.specs.Inboxes.{Inboxes, on_inbox, inboxes_after}
 use Rattle.bm_deferred.proofs.Each.{part-stand}
 use Rattle.bm_mail.proofs.QuietEntries.{AllQuiet, IsQuiet}
-use Rattle.bm_lawful.specs.OwnGrammar.{ordinary}
+use Rattle.bm_lawful.specs.Ordinary.{ordinary}
 use Rattle.bm_lawful.specs.Closing.{close_of, EndsPeriods, SweepOf, SweepWhere, AreSweeps}
 use Rattle.bm_lawful.specs.Parcels.{ParcelsFit}
 use Rattle.bm_lawful.proofs.Ordinary.{parted, said}

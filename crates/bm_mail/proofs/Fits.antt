@@ -6,7 +6,7 @@ use Rattle.bm_law.specs.State.{State}
 use Rattle.bm_law.specs.Lists.{Log, next, after}
 use Rattle.bm_deferred.specs.Inboxes.{Inboxes, inboxes_after}
 use Rattle.bm_mail.proofs.QuietEntries.{AllQuiet, IsQuiet, after-quiet}
-use Rattle.bm_lawful.specs.OwnGrammar.{ordinary}
+use Rattle.bm_lawful.specs.Ordinary.{ordinary}
 use Rattle.bm_lawful.specs.Parcels.{ParcelFits, ParcelsFit}
 
 quiet-fits : (e : Entry) (s : State ℕ) (boxes : Inboxes) → IsQuiet e → ParcelFits 0 e s boxes

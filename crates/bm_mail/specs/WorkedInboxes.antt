@@ -5,7 +5,7 @@ use Rattle.bm_journal.specs.declared.entry.Entry.TheVariants as entry
 use Rattle.bm_law.specs.Lists.{Log}
 use Rattle.bm_deferred.specs.Inboxes.{Inboxes, on_inbox}
 use Rattle.bm_lawful.specs.Parcels.{no_parcels}
-use Rattle.bm_lawful.specs.OwnGrammar.{ordinary}
+use Rattle.bm_lawful.specs.Ordinary.{ordinary}
 
 -- these parcels in the inbox of class 10, and none in the others
 abbrev pub waiting : List (List ℕ) → Inboxes

@@ -3,13 +3,12 @@ use Rattle.std.proofs.Common.{◌≡◌, ℕ, ◌+◌, [], ◌∷◌, refl, ◌�
 use Rattle.bm_journal.specs.declared.entry.Entry.{Entry}
 use Rattle.bm_journal.specs.declared.entry.Entry.TheVariants as entry
 use Rattle.bm_law.specs.State.{State, opening}
-use Rattle.bm_law.specs.Lists.{AllName, Leaves, Log, Names, after, brought, next}
+use Rattle.bm_law.specs.Lists.{AllName, Log, Names, after, brought, next}
 use Rattle.bm_law.specs.Stands.{times, comes_in, goes_out}
-use Rattle.bm_law.specs.Worked.{Emptied}
 use Rattle.bm_law.proofs.Stands.{times-append}
 use Rattle.bm_lives.specs.Together.{named_in}
 use Rattle.bm_lives.specs.Returns.{returned_units, taken_units}
-use Rattle.bm_returns.specs.Units.{arrived_by, arrived_units, freed_units, given_units, sent_units}
+use Rattle.bm_returns.specs.Units.{LeavesNothing, arrived_by, arrived_units, freed_units, given_units, sent_units}
 use Rattle.bm_returns.proofs.Held.{AllWithin, Within, all-within, held, held-effect, held-emptied, held-opening, reach}
 
 -- what goes out is given, sent or returned
@@ -44,7 +43,7 @@ joined x y z a b c d e f a' b' c' d' e' f' p q = omega (arith, p, q)
 six : (x z a b c d e f a' b' c' d' e' f' : ℕ) → a' ≡ a → b' ≡ b → c' ≡ c → d' ≡ d → e' ≡ e → f' ≡ f → z + (a + b + c) ≡ x + (d + e + f) → z + (a' + b' + c') ≡ x + (d' + e' + f')
 six x z a b c d e f a' b' c' d' e' f' p q r t v w h = omega (arith, p, q, r, t, v, w, h)
 
-pub log-balance : (N u : ℕ) (s : State ℕ) (log : Log) → AllWithin N log → AllName s log →
+log-balance : (N u : ℕ) (s : State ℕ) (log : Log) → AllWithin N log → AllName s log →
     held N u (after s log) + (times u (named_in given_units log) + times u (named_in sent_units log) + times u (named_in returned_units log)) ≡ held N u s + (times u (named_in taken_units log) + times u (named_in freed_units log) + times u (arrived_by s log))
 log-balance N u s [] w h = refl
 log-balance N u s (e ∷ es) w h =
@@ -57,12 +56,12 @@ log-balance N u s (e ∷ es) w h =
     (times-append u (arrived_units e.1 s) (arrived_by (next s e) es))
     (joined _ _ _ _ _ _ _ _ _ _ _ _ _ _ _ (entry-balance N u e.0 e.1 s w.0 h.0) (log-balance N u (next s e) es w.1 h.1))
 
-settled : (x z given sent returned taken freed arrived : ℕ) → z + (given + sent + returned) ≡ x + (taken + freed + arrived) → x ≡ 0 → z ≡ 0 → freed ≡ given → arrived ≡ sent → returned ≡ taken
-settled x z given sent returned taken freed arrived h p q f a = omega (arith, h, p, q, f, a)
+emptied : (x z a b c d e f : ℕ) → z + (a + b + c) ≡ x + (d + e + f) → x ≡ 0 → z ≡ 0 → a + b + c ≡ d + e + f
+emptied x z a b c d e f h p q = omega (arith, h, p, q)
 
--- where all is empty at the end, each unit that is freed as often as given, and arrives as often as it is sent, is returned as
--- often as it is taken
-pub returned-taken : (p u : ℕ) (log : Log) (last : State ℕ) → Leaves p log last → Emptied last → times u (named_in freed_units log) ≡ times u (named_in given_units log) → times u (arrived_by (opening p) log) ≡ times u (named_in sent_units log) → times u (named_in returned_units log) ≡ times u (named_in taken_units log)
-returned-taken p u log last h m f a =
+-- where nothing is left, what came in has gone out
+pub balanced : (p u : ℕ) (log : Log) → LeavesNothing p log →
+    times u (named_in given_units log) + times u (named_in sent_units log) + times u (named_in returned_units log) ≡ times u (named_in taken_units log) + times u (named_in freed_units log) + times u (arrived_by (opening p) log)
+balanced p u log h =
     let N : ℕ = reach log in
-    settled _ _ _ _ _ _ _ _ (log-balance N u (opening p) log (all-within log) h.named) (held-opening N u p) (ap (held N u) h.lists ∙ held-emptied N u last m) f a
+    emptied _ _ _ _ _ _ _ _ (log-balance N u (opening p) log (all-within log) h.1.named) (held-opening N u p) (ap (held N u) h.1.lists ∙ held-emptied N u h.0 h.2)

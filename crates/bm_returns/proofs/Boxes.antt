@@ -1,5 +1,5 @@
 -- What a log that fits the law of parcels sends, and what it takes out of its inboxes.
-use Rattle.std.proofs.Common.{◌≡◌, ◌≢◌, ◌<◌, ℕ, ◌+◌, ◌++◌, List, [], ◌∷◌, drop, refl, sym, ◌∙◌, ap, subst, arith, eq-eqb, ne_eqb, inl, inr}
+use Rattle.std.proofs.Common.{◌≡◌, ◌≢◌, ℕ, ◌+◌, ◌++◌, List, [], ◌∷◌, drop, refl, sym, ◌∙◌, ap, subst, arith, eq-eqb, ne_eqb, inl, inr}
 use Rattle.std.specs.List.{concat}
 use Rattle.std.proofs.lemmas.List.{append-nil}
 use Rattle.std.proofs.lemmas.List.Folds.{concat-append}
@@ -9,14 +9,13 @@ use Rattle.bm_journal.specs.declared.entry.Entry.TheVariants as entry
 use Rattle.bm_journal.specs.EntryText.{unit_list}
 use Rattle.bm_law.specs.State.{State, opening}
 use Rattle.bm_law.specs.Lists.{Log, brought, next}
-use Rattle.bm_law.specs.Stands.{sum_to, times, class_named}
-use Rattle.bm_law.proofs.Stands.{sum-same, sum-update, sum-zero, times-append}
+use Rattle.bm_law.specs.Stands.{times, class_named}
+use Rattle.bm_law.proofs.Stands.{times-append}
 use Rattle.bm_deferred.specs.Inboxes.{Inboxes, inboxes_after, oldest}
 use Rattle.bm_lawful.specs.Parcels.{ParcelFits, ParcelLaw, ParcelsFit, no_parcels}
 use Rattle.bm_lives.specs.Together.{beside, named_in}
 use Rattle.bm_lives.specs.Returns.{in_class, sent_to, unpacked, unpacked_by}
-use Rattle.bm_returns.specs.Units.{arrived_by, arrived_units, sent_units}
-use Rattle.bm_returns.proofs.Held.{AllWithin, all-within, reach}
+use Rattle.bm_returns.specs.Units.{arrived_units, sent_units}
 
 -- ---- the inbox of the class that an entry names, and the others
 
@@ -41,48 +40,13 @@ other-inbox p k (entry.Receive c us) s boxes h d = rw (ne_eqb k c d) refl
 other-inbox p k (entry.Sweep c us) s boxes h d = rw (ne_eqb k c d) refl
 other-inbox p k _ s boxes h d = refl
 
--- ---- all inboxes of N classes together
-
-unfoldable boxed : ℕ → ℕ → Inboxes → ℕ
-boxed N u boxes = sum_to N (λ c. times u (concat (boxes c)))
-
-boxed-none : (N u : ℕ) (boxes : Inboxes) → ((c : ℕ) → boxes c ≡ []) → boxed N u boxes ≡ 0
-unfolding boxed
-boxed-none N u boxes h = sum-same N (λ _. 0) (λ c. times u (concat (boxes c))) (λ k _. ap (λ v. times u (concat v)) (h k)) ∙ sum-zero N
-
-change : (x y f g a s : ℕ) → y + f ≡ x + g → g + a ≡ f + s → y + a ≡ x + s
-change x y f g a s p q = omega (arith, p, q)
-
-boxed-entry : (N p u : ℕ) (e : Entry) (s : State ℕ) (boxes : Inboxes) → class_named e < N → ParcelFits p e s boxes →
-    boxed N u (inboxes_after p e boxes) + times u (arrived_units e s) ≡ boxed N u boxes + times u (sent_units e)
-unfolding boxed
-boxed-entry N p u e s boxes k h =
-    let c : ℕ = class_named e in
-    let f : ℕ → ℕ = λ k. times u (concat (boxes k)) in
-    let g : ℕ → ℕ = λ k. times u (concat (inboxes_after p e boxes k)) in
-    let same : (k : ℕ) → k ≢ c → g k ≡ f k = λ k d. ap (λ v. times u (concat v)) (other-inbox p k e s boxes h d) in
-    change (sum_to N f) (sum_to N g) (f c) (g c) (times u (arrived_units e s)) (times u (sent_units e)) (sum-update N c f g k same) (own-inbox p u e s boxes h)
+-- ---- the inbox of one class
 
 later : (a b x y s v w : ℕ) → y + a ≡ x + s → b ≡ y + w → v ≡ a + b → v ≡ x + (s + w)
 later a b x y s v w p q r = omega (arith, p, q, r)
 
-boxed-log : (N p u : ℕ) (log : Log) (s : State ℕ) (boxes : Inboxes) → AllWithin N log → ParcelsFit p s boxes log →
-    times u (arrived_by s log) ≡ boxed N u boxes + times u (named_in sent_units log)
-boxed-log N p u [] s boxes w h = omega (arith, boxed-none N u boxes h)
-boxed-log N p u (e ∷ es) s boxes w h =
-    later _ _ _ _ _ _ _ (boxed-entry N p u e.1 s boxes w.0.class h.0) (boxed-log N p u es (next s e) (inboxes_after p e.1 boxes) w.1 h.1) (times-append u (arrived_units e.1 s) (arrived_by (next s e) es))
-    ∙ ap (λ x. boxed N u boxes + x) (sym (times-append u (sent_units e.1) (named_in sent_units es)))
-
 past-none : (a x s : ℕ) → a ≡ x + s → x ≡ 0 → a ≡ s
 past-none a x s p q = omega (arith, p, q)
-
--- what is sent arrives as often
-pub arrived-sent : (p u : ℕ) (log : Log) → ParcelLaw p log → times u (arrived_by (opening p) log) ≡ times u (named_in sent_units log)
-arrived-sent p u log h =
-    let N : ℕ = reach log in
-    past-none _ _ _ (boxed-log N p u log (opening p) no_parcels (all-within log) h) (boxed-none N u no_parcels (λ c. refl))
-
--- ---- the inbox of one class
 
 beside-same : (c : ℕ) (us : List ℕ) → beside c (in_class c us) ≡ us
 beside-same c [] = refl

@@ -29,7 +29,7 @@ pub reach : Log → ℕ
 reach [] = 0
 reach (e ∷ es) = e.0 + class_named e.1 + 1 + reach es
 
-within-reach : (N : ℕ) (log : Log) → reach log ≤ N → AllWithin N log
+pub within-reach : (N : ℕ) (log : Log) → reach log ≤ N → AllWithin N log
 unfolding reach
 within-reach N [] h = tt
 within-reach N (e ∷ es) h = (record { level = omega (arith, h); class = omega (arith, h) }, within-reach N es (omega (arith, h)))

@@ -1,47 +1,93 @@
--- The law of returns of a journal of one processor.
-use Rattle.std.proofs.Common.{◌≡◌, ◌<◌, ℕ, ◌++◌, Bool, true, false, not, ◌||◌, Some, length, slice_get, List, [], ◌∷◌, refl, sym, ◌∙◌, ap, subst, arith, inl, inr}
+-- The law of returns.
+use Rattle.std.proofs.Common.{◌≡◌, ◌<◌, ℕ, suc, ◌+◌, ◌++◌, Some, length, slice_get, List, [], ◌∷◌, true, refl, sym, ◌∙◌, ap, subst, arith}
 use Rattle.std.proofs.lemmas.List.{append-nil}
-use Rattle.std.proofs.lemmas.Bool.Decides.{eqb_tells}
 use Rattle.bm_journal.specs.declared.entry.Entry.{Entry}
 use Rattle.bm_journal.specs.declared.entry.Entry.TheVariants as entry
 use Rattle.bm_journal.specs.declared.journal.Journal.{Journal}
 use Rattle.bm_lang.specs.declared.scenario.Parts.{Parts}
 use Rattle.bm_law.specs.State.{State, opening}
-use Rattle.bm_law.specs.Lists.{Leaves, Log, next}
+use Rattle.bm_law.specs.Lists.{Log, next}
 use Rattle.bm_law.specs.Stands.{times}
-use Rattle.bm_law.specs.Worked.{Emptied}
+use Rattle.bm_law.proofs.Stands.{sum-same, times-append}
 use Rattle.bm_deferred.specs.Inboxes.{Inboxes, inboxes_after}
 use Rattle.bm_lawful.specs.Lawful.{LawfulLogs, LawfulLog}
 use Rattle.bm_lawful.specs.Parcels.{ParcelFits, ParcelLaw, ParcelsFit, no_parcels, sends_alone}
 use Rattle.bm_lives.specs.Together as together
-use Rattle.bm_lives.specs.Together.{Each, EachLog, beside, named, named_in}
+use Rattle.bm_lives.specs.Together.{Each, EachLog, LogsFrom, beside, named, named_in}
 use Rattle.bm_lives.specs.Returns.{ParcelsArrive, ReturnsLaw, receiver, returned_units, sent_to, taken_units, unpacked_by}
-use Rattle.bm_returns.specs.Units.{ArrivedAsSent, FreedAsGiven, ReturnedAsTaken, arrived_by, freed_units, given_units, sent_units}
-use Rattle.bm_returns.proofs.Balance.{returned-taken}
-use Rattle.bm_returns.proofs.Boxes.{arrived-sent, unpacked-sent}
+use Rattle.bm_returns.specs.Units.{FreedAsGiven, LeavesNothing, arrived_by, freed_units, given_units, sent_units}
+use Rattle.bm_returns.proofs.Balance.{balanced}
+use Rattle.bm_returns.proofs.Boxes.{unpacked-sent}
+use Rattle.bm_returns.proofs.Classes.{EachWithin, arrived-all, each-within, over-classes, reaches, seconds, sent-all, unpacked-all}
+use Rattle.bm_returns.proofs.Counted.{as-counted, as-told}
+use Rattle.bm_returns.proofs.Held.{AllWithin}
+use Rattle.bm_returns.proofs.Receivers.{spread, spread-logs}
 
--- both ways of counting count the same
-counted : (u : ℕ) (xs : List ℕ) → together.times u xs ≡ times u xs
-counted u [] = refl
-counted u (x ∷ xs) =
-    elim (eqb_tells u x) [
-      | inl y ↦ rw y.0 (omega (arith, counted u xs))
-      | inr y ↦ rw y.0 (omega (arith, counted u xs))
-    ]
+-- ---- all logs together
 
-as-counted : (u : ℕ) (v w : List ℕ) → times u v ≡ times u w → together.times u v ≡ together.times u w
-as-counted u v w h = counted u v ∙ h ∙ sym (counted u w)
+-- the units that logs take out of inboxes, where the first one is that of processor p
+abbrev arrived : ℕ → List Log → List ℕ
+arrived p [] = []
+arrived p (log ∷ logs) = arrived_by (opening p) log ++ arrived (p + 1) logs
 
-as-told : (u : ℕ) (v w : List ℕ) → together.times u v ≡ together.times u w → times u v ≡ times u w
-as-told u v w h = sym (counted u v) ∙ h ∙ counted u w
+two : (a b c d e f a' b' c' d' e' f' A B C D E F : ℕ) → A ≡ a + a' → B ≡ b + b' → C ≡ c + c' → D ≡ d + d' → E ≡ e + e' → F ≡ f + f' → a + b + c ≡ d + e + f → a' + b' + c' ≡ d' + e' + f' → A + B + C ≡ D + E + F
+two a b c d e f a' b' c' d' e' f' A B C D E F p q r t v w h k = omega (arith, p, q, r, t, v, w, h, k)
 
-pub returned : (p : ℕ) (log : Log) (last : State ℕ) → Leaves p log last → Emptied last → FreedAsGiven log → ArrivedAsSent p log → ReturnedAsTaken log
-returned p log last h m f a u =
-    as-counted u (named_in returned_units log) (named_in taken_units log)
-    (returned-taken p u log last h m (as-told u (named_in freed_units log) (named_in given_units log) (f u)) (as-told u (arrived_by (opening p) log) (named_in sent_units log) (a u)))
+-- what came in has gone out
+balance : (u p : ℕ) (logs : List Log) → LogsFrom p LeavesNothing logs →
+    times u (named given_units logs) + times u (named sent_units logs) + times u (named returned_units logs) ≡ times u (named taken_units logs) + times u (named freed_units logs) + times u (arrived p logs)
+balance u p [] h = refl
+balance u p (log ∷ logs) h =
+    two _ _ _ _ _ _ _ _ _ _ _ _ _ _ _ _ _ _
+    (times-append u (named_in given_units log) (named given_units logs))
+    (times-append u (named_in sent_units log) (named sent_units logs))
+    (times-append u (named_in returned_units log) (named returned_units logs))
+    (times-append u (named_in taken_units log) (named taken_units logs))
+    (times-append u (named_in freed_units log) (named freed_units logs))
+    (times-append u (arrived_by (opening p) log) (arrived (p + 1) logs))
+    (balanced p u log h.0) (balance u (p + 1) logs h.1)
 
-pub arrived : (p : ℕ) (log : Log) → ParcelLaw p log → ArrivedAsSent p log
-arrived p log h u = as-counted u (arrived_by (opening p) log) (named_in sent_units log) (arrived-sent p u log h)
+-- what is sent to a processor it takes out of its inboxes
+came : (N u p : ℕ) (all : List Log) (log : Log) → EachWithin N all → AllWithin N log → ParcelsArrive all p log → times u (arrived_by (opening p) log) ≡ times u (seconds (named (sent_to p) all))
+came N u p all log w v h =
+    let f : ℕ → ℕ = λ c. times u (beside c (named (sent_to p) all)) in
+    let g : ℕ → ℕ = λ c. times u (beside c (unpacked_by (opening p) log)) in
+    let same : (c : ℕ) → c < N → g c ≡ f c = λ c k. sym (as-told u (beside c (named (sent_to p) all)) (beside c (unpacked_by (opening p) log)) (h c u)) in
+    ap (times u) (sym (arrived-all (opening p) log)) ∙ sym (over-classes N u (unpacked_by (opening p) log) (unpacked-all N (opening p) log v)) ∙ sum-same N f g same ∙ over-classes N u (named (sent_to p) all) (sent-all N p all w)
+
+sums : (x y a b z : ℕ) → z ≡ x + y → x ≡ a → y ≡ b → z ≡ a + b
+sums x y a b z h p q = omega (arith, h, p, q)
+
+came-all : (N u p : ℕ) (all logs : List Log) → EachWithin N all → EachWithin N logs → LogsFrom p (ParcelsArrive all) logs → times u (arrived p logs) ≡ spread u (λ q. named (sent_to q) all) p (length logs)
+came-all N u p all [] w v h = refl
+came-all N u p all (log ∷ logs) w v h = sums _ _ _ _ _ (times-append u (arrived_by (opening p) log) (arrived (p + 1) logs)) (came N u p all log w v.0 h.0) (came-all N u (p + 1) all logs w v.1 h.1)
+
+left : (given sent returned taken freed arrived : ℕ) → given + sent + returned ≡ taken + freed + arrived → freed ≡ given → arrived ≡ sent → returned ≡ taken
+left given sent returned taken freed arrived h f a = omega (arith, h, f, a)
+
+pub returns : (logs : List Log) → EachLog LeavesNothing logs → FreedAsGiven logs → Each (λ to. to < length logs) (named receiver logs) → EachLog (ParcelsArrive logs) logs → ReturnsLaw logs
+returns logs h f r a =
+    let w = each-within logs in
+    let sent : (u : ℕ) → times u (arrived 0 logs) ≡ times u (named sent_units logs) = λ u. came-all (reaches logs) u 0 logs logs w w a ∙ spread-logs u (length logs) logs r in
+    record {
+      returned = λ u. as-counted u (named returned_units logs) (named taken_units logs) (left _ _ _ _ _ _ (balance u 0 logs h) (as-told u (named freed_units logs) (named given_units logs) (f u)) (sent u));
+      receivers = r;
+      arrive = a;
+    }
+
+-- ---- a lawful journal
+
+leave-nothing : (s : Parts) (p : ℕ) (logs : List Log) → ((i : ℕ) (log : Log) → slice_get logs i ≡ Some log → LawfulLog s (p + i) log) → LogsFrom p LeavesNothing logs
+leave-nothing s p [] h = tt
+leave-nothing s p (log ∷ logs) h =
+    let l : LawfulLog s p log = subst (λ q. LawfulLog s q log) (omega arith) (h 0 log refl) in
+    let rest : (i : ℕ) (other : Log) → slice_get logs i ≡ Some other → LawfulLog s ((p + 1) + i) other = λ i other e. subst (λ q. LawfulLog s q other) (omega arith) (h (suc i) other e) in
+    ((l.last, l.lists, l.emptied), leave-nothing s (p + 1) logs rest)
+
+pub journal-returns : (s : Parts) (j : Journal) → LawfulLogs s j → FreedAsGiven j.logs → Each (λ to. to < length j.logs) (named receiver j.logs) → EachLog (ParcelsArrive j.logs) j.logs → ReturnsLaw j.logs
+journal-returns s j h f r a = returns j.logs (leave-nothing s 0 j.logs (λ i log e. subst (λ q. LawfulLog s q log) (omega arith) (h.logs i log e))) f r a
+
+-- ---- one log, by the law of parcels
 
 -- the entries of one log are all that there are
 alone : {A : Type 0} (names : Entry → List A) (log : Log) → named names (log ∷ []) ≡ named_in names log
@@ -75,34 +121,13 @@ log-receivers p s boxes (e ∷ es) h =
 pub receivers : (p : ℕ) (log : Log) → ParcelLaw p log → Each (λ to. to ≡ p) (named_in receiver log)
 receivers p log h = log-receivers p (opening p) no_parcels log h
 
--- ---- the law
+-- ---- a lawful log of the one processor
 
 below-one : (to : ℕ) → to ≡ 0 → to < 1
 below-one to e = omega (arith, e)
 
-pub returns : (log : Log) (last : State ℕ) → Leaves 0 log last → Emptied last → ParcelLaw 0 log → FreedAsGiven log → ReturnsLaw (log ∷ [])
-returns log last h m q f = record {
-  returned = λ u. ap (together.times u) (alone returned_units log) ∙ returned 0 log last h m f (arrived 0 log q) u ∙ ap (together.times u) (sym (alone taken_units log));
-  receivers = subst (Each (λ to. to < 1)) (sym (alone receiver log)) (each-map (λ to. to ≡ 0) (λ to. to < 1) below-one (named_in receiver log) (receivers 0 log q));
-  arrive = (arrive 0 log q, tt);
-}
-
-pub lawful-returns : (s : Parts) (log : Log) → LawfulLog s 0 log → sends_alone s ≡ true → FreedAsGiven log → ReturnsLaw (log ∷ [])
-lawful-returns s log h a f = returns log h.last h.lists h.emptied (h.parcels a) f
-
--- ---- a journal of one processor
-
-one-processor : (s : Parts) → s.processors ≡ 1 → sends_alone s ≡ true
-one-processor s e = rw e (either s.deferred)
-  where
-    either : (b : Bool) → (not b || true) ≡ true
-    either true = refl
-    either false = refl
-
-one-log : (s : Parts) (logs : List Log) → length logs ≡ 1 → sends_alone s ≡ true → ((p : ℕ) (log : Log) → slice_get logs p ≡ Some log → LawfulLog s p log) → EachLog (λ p log. FreedAsGiven log) logs → ReturnsLaw logs
-one-log s [] e a h f = absurd (omega (arith, e))
-one-log s (log ∷ []) e a h f = lawful-returns s log (h 0 log refl) a f.0
-one-log s (log ∷ other ∷ logs) e a h f = absurd (omega (arith, e))
-
-pub journal-returns : (s : Parts) (j : Journal) → LawfulLogs s j → s.processors ≡ 1 → EachLog (λ p log. FreedAsGiven log) j.logs → ReturnsLaw j.logs
-journal-returns s j h e f = one-log s j.logs (h.count ∙ e) (one-processor s e) h.logs f
+pub lawful-returns : (s : Parts) (log : Log) → LawfulLog s 0 log → sends_alone s ≡ true → FreedAsGiven (log ∷ []) → ReturnsLaw (log ∷ [])
+lawful-returns s log h a f =
+    let q = h.parcels a in
+    let to : Each (λ to. to < 1) (named receiver (log ∷ [])) = subst (Each (λ to. to < 1)) (sym (alone receiver log)) (each-map (λ to. to ≡ 0) (λ to. to < 1) below-one (named_in receiver log) (receivers 0 log q)) in
+    returns (log ∷ []) ((h.last, h.lists, h.emptied), tt) f to (arrive 0 log q, tt)

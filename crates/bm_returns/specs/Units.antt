@@ -1,13 +1,12 @@
--- What the log of one processor says of units, each counted as often as it is named.
+-- What logs say of units, each counted as often as it is named.
 use Rattle.std.specs.Prelude.{◌≡◌, ℕ, List, [], ◌∷◌, ◌++◌}
 use Rattle.bm_journal.specs.declared.entry.Entry.{Entry}
 use Rattle.bm_journal.specs.declared.entry.Entry.TheVariants as entry
 use Rattle.bm_journal.specs.EntryText.{unit_list}
-use Rattle.bm_law.specs.State.{State, opening}
-use Rattle.bm_law.specs.Lists.{Log, brought, next}
-use Rattle.bm_lives.specs.Together.{times, named_in}
-pub use Rattle.bm_lived.specs.Units.{freed_units, given_units}
-use Rattle.bm_lives.specs.Returns.{returned_units, taken_units}
+use Rattle.bm_law.specs.State.{State}
+use Rattle.bm_law.specs.Lists.{Leaves, Log, brought, next}
+use Rattle.bm_law.specs.Worked.{Emptied}
+pub use Rattle.bm_lived.specs.Units.{FreedAsGiven, freed_units, given_units}
 
 -- The units that an entry sends, to whichever processor. (This project's own: parcels are.)
 abbrev pub sent_units : Entry → List ℕ
@@ -26,13 +25,6 @@ abbrev pub arrived_by : State ℕ → Log → List ℕ
 arrived_by s [] = []
 arrived_by s (e ∷ es) = arrived_units e.1 s ++ arrived_by (next s e) es
 
--- Each unit is freed as often as it is given; what is sent arrives as often; and what is taken from the stock is returned as
--- often. (This project's own.)
-abbrev pub FreedAsGiven : Log → Type 0
-FreedAsGiven log = (u : ℕ) → times u (named_in freed_units log) ≡ times u (named_in given_units log)
-
-abbrev pub ArrivedAsSent : ℕ → Log → Type 0
-ArrivedAsSent p log = (u : ℕ) → times u (arrived_by (opening p) log) ≡ times u (named_in sent_units log)
-
-abbrev pub ReturnedAsTaken : Log → Type 0
-ReturnedAsTaken log = (u : ℕ) → times u (named_in returned_units log) ≡ times u (named_in taken_units log)
+-- The log of processor p names what is there, and leaves nothing in its lists and hands.
+abbrev pub LeavesNothing : ℕ → Log → Type 0
+LeavesNothing p log = (last : State ℕ) × Leaves p log last × Emptied last

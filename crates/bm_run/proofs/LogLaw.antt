@@ -37,13 +37,11 @@ use Rattle.bm_lawful.specs.Parcels.{ParcelLaw, sends_alone}
 use Rattle.bm_mail.specs.LeavesParcels.{LeavesParcels}
 use Rattle.bm_mail.specs.SweepsTold.{ClosingTold, SweepsTold}
 use Rattle.bm_closing.specs.EndsBegun.{EndsBegun}
-use Rattle.bm_lives.specs.Together.{named as named_all, named_in, times as times_in}
 use Rattle.bm_lives.specs.Lives.{WholeLives}
 use Rattle.bm_lived.specs.AreLived.{AreLived}
 use Rattle.bm_lived.specs.Lived.{Lived, no_lives}
 use Rattle.bm_lived.specs.Told.{LivesOn}
-use Rattle.bm_lived.specs.Units.{freed_units, given_units}
-use Rattle.bm_returns.specs.Units.{FreedAsGiven}
+use Rattle.bm_lived.specs.Units.{FreedAsGiven}
 use Rattle.bm_levels.specs.AtProcessor.{lists_of, log_of}
 use Rattle.bm_levels.specs.AtTie.{TiedAt}
 use Rattle.bm_levels.specs.Here.{position_of}
@@ -341,16 +339,13 @@ abbrev pub AllLived : Type 0
 AllLived = (a : Lived) (logs : List Log) → AreLived a logs → ((u : ℕ) → a.homes u ≡ None) → WholeLives logs
 
 abbrev pub AllFreed : Type 0
-AllFreed = (a : Lived) (logs : List Log) → AreLived a logs → ((u : ℕ) → a.homes u ≡ None) → (u : ℕ) → times_in u (named_all freed_units logs) ≡ times_in u (named_all given_units logs)
-
-one-freed : (log : Log) → ((u : ℕ) → times_in u (named_all freed_units (log ∷ [])) ≡ times_in u (named_all given_units (log ∷ []))) → FreedAsGiven log
-one-freed log h u = ap (times_in u) (sym (append-nil (named_in freed_units log))) ∙ h u ∙ ap (times_in u) (append-nil (named_in given_units log))
+AllFreed = (a : Lived) (logs : List Log) → AreLived a logs → ((u : ℕ) → a.homes u ≡ None) → FreedAsGiven logs
 
 -- a log that tells of no life at its end
-pub lived-run : (final : Log) (lived : Lived) → OneLived → AllLived → AllFreed → LivesOn 0 no_lives lived final → ((u : ℕ) → lived.homes u ≡ None) → WholeLives (final ∷ []) × FreedAsGiven final
+pub lived-run : (final : Log) (lived : Lived) → OneLived → AllLived → AllFreed → LivesOn 0 no_lives lived final → ((u : ℕ) → lived.homes u ≡ None) → WholeLives (final ∷ []) × FreedAsGiven (final ∷ [])
 lived-run final lived one all freed lives none =
     let are : AreLived lived (final ∷ []) = one lived final lives in
-    (all lived (final ∷ []) are none, one-freed final (freed lived (final ∷ []) are none))
+    (all lived (final ∷ []) are none, freed lived (final ∷ []) are none)
 
 or-right : (a b : Bool) → b ≡ true → (a || b) ≡ true
 or-right true b e = refl

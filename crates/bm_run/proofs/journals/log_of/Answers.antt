@@ -3,7 +3,7 @@ use Rattle.std.proofs.Common.{◌≡◌, ◌≤◌, ◌%◌, ℕ, [], ◌∷◌,
 use Rattle.bm_grace.specs.Known.{Lives, Objects, side}
 use Rattle.bm_law.specs.Lists.{Log}
 use Rattle.bm_lives.specs.Lives.{WholeLives}
-use Rattle.bm_returns.specs.Units.{FreedAsGiven}
+use Rattle.bm_lived.specs.Units.{FreedAsGiven}
 use Rattle.bm_world.specs.LivingState.{LivingState, known_living, lives_of}
 use Rattle.bm_exec.specs.Lists.{Behind}
 use Rattle.bm_exec.specs.Living.{home_of}
@@ -129,7 +129,7 @@ returns-clause-lawful g c = both-if-ok c.close.result _ _ _ c.close.ensures.clos
     let words = c.journal_law.ensures.words pages (final ∷ []) (whole [] (final ∷ [])) (lit≤ tt) (c.whole_law.ensures [] (final ∷ [])) (laid-whole [] pages final h.0) in
     lawful-run c.args.scenario.now r.0 c.in_ok-own.own c.run_lines.new.own c.begin_closing.new.own final c.handled_law.ensures.rows c.handled_law.ensures.null c.sweeps_law.ensures c.parcels_law.ensures r.1 words.0)
 
-lived-log : (g : Over) (c : goal.After-close g) → IfOk c.close.result (λ final. WholeLives (final ∷ []) × FreedAsGiven final)
+lived-log : (g : Over) (c : goal.After-close g) → IfOk c.close.result (λ final. WholeLives (final ∷ []) × FreedAsGiven (final ∷ []))
 lived-log g c = both-if-ok c.close.result _ _ _ c.close.ensures.closed c.close.ensures.tied (λ final x t.
     let r = run-left g c final x in
     let objects = (known_living t.world).objects in

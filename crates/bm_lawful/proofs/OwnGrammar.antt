@@ -16,7 +16,7 @@ use Rattle.bm_lawful.specs.Held.{Names, no_names, OwnsNothing}
 use Rattle.bm_lawful.specs.Fills.{AreFills, fresh_stock}
 use Rattle.bm_lawful.specs.Opened.{opened_classes}
 use Rattle.bm_lawful.specs.SectionWords.{SectionWords}
-use Rattle.bm_lawful.specs.OwnRuns.{RunsBlock}
+use Rattle.bm_lawful.proofs.OwnRuns.{RunsBlock}
 use Rattle.bm_lawful.specs.Closing.{close_of, SweepOf}
 use Rattle.bm_lawful.specs.Grammar.{lines_of}
 
