@@ -11,7 +11,7 @@
 set -u
 top=$(cd "$(dirname "$(readlink -f "$0")")/.." && pwd) || exit 4
 limit=40
-below="bm_word bm_class bm_page bm_journal bm_law bm_deferred bm_law_order bm_cache_lists bm_cache"
+below="bm_word bm_class bm_page bm_journal bm_law bm_law_work bm_law_order bm_cache_lists bm_cache"
 
 copy=$(mktemp -d) || exit 4
 trap 'rm -rf "$copy"' EXIT

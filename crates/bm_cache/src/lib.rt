@@ -7,7 +7,7 @@
 //! - `Host` is what runs a call: it owns or borrows the caches, and runs handlers at its points.
 //! - `alloc`, `free` and `free_delayed` are the three calls, generic over a host; `Given` is what an allocation answers.
 //!
-//! The program's desk (`bm_desk`) and deferred work (`bm_work`) call the steps; machines call the three calls.
+//! The program's desk (`bm_work`) and deferred work (`bm_work_lists`) call the steps; machines call the three calls.
 //!
 //! What must hold between two steps is `Placed`: no unit is anywhere twice, each is on a list of its class, the free counts
 //! agree with Free, and the recorder's counts and its log agree with the lists. Each step needs and leaves it. What handlers may do

@@ -19,12 +19,12 @@ use Rattle.bm_cache.specs.Shown.{shown}
 use Rattle.bm_cache.specs.Span.{Face, Fine}
 use Rattle.bm_cache.specs.Tests.{Tests, Proper}
 use Rattle.bm_cache.specs.declared.caches.Caches.{Caches}
-use Rattle.bm_desk.specs.DeskTests.{tests_by}
-use Rattle.bm_desk.specs.Goes.{Alike}
-use Rattle.bm_desk.specs.Onward.{Onward}
-use Rattle.bm_desk.proofs.Onward.{fine-on}
-use Rattle.bm_desk.proofs.Sides.{onward-same}
-use Rattle.bm_desk.proofs.Tests.{ages-onward}
+use Rattle.bm_work.specs.DeskTests.{tests_by}
+use Rattle.bm_work.specs.Goes.{Alike}
+use Rattle.bm_work.specs.Onward.{Onward}
+use Rattle.bm_work.proofs.Onward.{fine-on}
+use Rattle.bm_work.proofs.Sides.{onward-same}
+use Rattle.bm_work.proofs.Tests.{ages-onward}
 use Rattle.bm_closing.specs.AtEnd.{AtEnd, ended_at}
 
 -- a period that the side had in progress has ended

@@ -21,14 +21,14 @@ use Rattle.bm_cache.specs.Span.{Face}
 use Rattle.bm_cache.specs.Tokens.{Token, number_of}
 use Rattle.bm_cache.specs.declared.caches.Caches.{Caches}
 use Rattle.bm_cache.proofs.Moments.{goes-join}
-use Rattle.bm_deferred.specs.Grown.{GrewBy}
-use Rattle.bm_deferred.specs.Inboxes.{Inboxes}
-use Rattle.bm_deferred.specs.Parts.{Part, Then}
-use Rattle.bm_deferred.proofs.Grown.{grew-none}
-use Rattle.bm_work.proofs.Grown.{grew-parts, grew-then}
-use Rattle.bm_desk.specs.Still.{alike-joined, alike-still}
-use Rattle.bm_lawful.specs.Closing.{AreSweeps, SweepWhere}
-use Rattle.bm_mail.specs.SweepsTold.{SweepsTold}
+use Rattle.bm_law_work.specs.Grown.{GrewBy}
+use Rattle.bm_law_work.specs.Inboxes.{Inboxes}
+use Rattle.bm_law_work.specs.Parts.{Part, Then}
+use Rattle.bm_law_work.proofs.Grown.{grew-none}
+use Rattle.bm_work_lists.proofs.Grown.{grew-parts, grew-then}
+use Rattle.bm_work.specs.Still.{alike-joined, alike-still}
+use Rattle.bm_law_scenario.specs.Closing.{AreSweeps, SweepWhere}
+use Rattle.bm_law_logs.specs.SweepsTold.{SweepsTold}
 use Rattle.bm_closing.specs.Arrived.{emptied}
 use Rattle.bm_closing.specs.Sweeps.{Sweeps}
 use Rattle.bm_closing.specs.SweepsEach.{SweepsEach, all_emptied}

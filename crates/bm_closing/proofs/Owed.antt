@@ -20,8 +20,8 @@ use Rattle.bm_post.specs.Rights.{number_of, numbers}
 use Rattle.bm_cache.specs.Span.{Face}
 use Rattle.bm_cache.specs.Tests.{Tests}
 use Rattle.bm_cache.specs.declared.caches.Caches.{Caches}
-use Rattle.bm_desk.specs.Rested.{HasStamp}
-use Rattle.bm_desk.proofs.Owing.{shows}
+use Rattle.bm_work.specs.Rested.{HasStamp}
+use Rattle.bm_work.proofs.Owing.{shows}
 use Rattle.bm_closing.specs.AtEnd.{AtEnd}
 use Rattle.bm_closing.specs.Gathered.{gathering}
 use Rattle.bm_closing.specs.Told.{at_once, passed_at_once, receives_all, waiting}

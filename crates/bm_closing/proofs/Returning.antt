@@ -25,10 +25,10 @@ use Rattle.bm_cache.specs.declared.caches.Caches.{Caches}
 use Rattle.bm_cache.proofs.Each.{each-effect}
 use Rattle.bm_cache.proofs.Lent.{return-lent}
 use Rattle.bm_cache.proofs.Stretch.{targets-effect}
-use Rattle.bm_desk.specs.DeskTests.{tests_by}
-use Rattle.bm_desk.specs.Onward.{Onward}
-use Rattle.bm_desk.proofs.Came.{split}
-use Rattle.bm_desk.proofs.Gone.{each-apart, proper-apart, returned-active}
+use Rattle.bm_work.specs.DeskTests.{tests_by}
+use Rattle.bm_work.specs.Onward.{Onward}
+use Rattle.bm_work.proofs.Came.{split}
+use Rattle.bm_work.proofs.Gone.{each-apart, proper-apart, returned-active}
 use Rattle.bm_closing.specs.AtEnd.{AtEnd}
 use Rattle.bm_closing.specs.SentBack.{SentBack}
 

@@ -24,9 +24,9 @@ use Rattle.bm_cache.specs.Tests.{Tests, Either, Proper, Suits}
 use Rattle.bm_cache.specs.Tokens.{Token}
 use Rattle.bm_cache.specs.declared.caches.Caches.{Caches}
 use Rattle.bm_cache.proofs.Each.{each-effect}
-use Rattle.bm_desk.specs.DeskTests.{tests_by}
-use Rattle.bm_desk.proofs.Came.{split}
-use Rattle.bm_desk.proofs.Tests.{and-of}
+use Rattle.bm_work.specs.DeskTests.{tests_by}
+use Rattle.bm_work.proofs.Came.{split}
+use Rattle.bm_work.proofs.Tests.{and-of}
 use Rattle.bm_closing.specs.AtEnd.{AtEnd}
 use Rattle.bm_closing.specs.Arrived.{Arrived}
 use Rattle.bm_closing.specs.Waited.{AllRipe}

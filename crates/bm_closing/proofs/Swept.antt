@@ -25,12 +25,12 @@ use Rattle.bm_cache.specs.Span.{Face, Goes}
 use Rattle.bm_cache.specs.Tokens.{Token, number_of}
 use Rattle.bm_cache.specs.declared.caches.Caches.{Caches}
 use Rattle.bm_cache.proofs.Moments.{goes-join}
-use Rattle.bm_deferred.specs.Grown.{GrewBy}
-use Rattle.bm_deferred.specs.Parts.{Say}
-use Rattle.bm_deferred.proofs.Grown.{grew-map, grew-none, grew-say}
-use Rattle.bm_desk.specs.Goes.{Alike}
-use Rattle.bm_desk.specs.Still.{alike-joined}
-use Rattle.bm_lawful.specs.Closing.{SweepOf, SweepWhere}
+use Rattle.bm_law_work.specs.Grown.{GrewBy}
+use Rattle.bm_law_work.specs.Parts.{Say}
+use Rattle.bm_law_work.proofs.Grown.{grew-map, grew-none, grew-say}
+use Rattle.bm_work.specs.Goes.{Alike}
+use Rattle.bm_work.specs.Still.{alike-joined}
+use Rattle.bm_law_scenario.specs.Closing.{SweepOf, SweepWhere}
 use Rattle.bm_closing.specs.Arrived.{Arrived, Came}
 use Rattle.bm_closing.specs.Emptied.{Emptied}
 use Rattle.bm_closing.specs.Gathered.{Gathered, gathering, swept}

@@ -11,9 +11,9 @@ use Rattle.bm_cache.specs.Tokens.{number_of}
 use Rattle.bm_cache.specs.Shown.{shown}
 use Rattle.bm_cache.specs.Span.{Face, Goes}
 use Rattle.bm_cache.specs.declared.caches.Caches.{Caches}
-use Rattle.bm_deferred.specs.Grown.{GrewBy}
-use Rattle.bm_desk.specs.Goes.{Alike}
-use Rattle.bm_lawful.specs.Closing.{SweepWhere}
+use Rattle.bm_law_work.specs.Grown.{GrewBy}
+use Rattle.bm_work.specs.Goes.{Alike}
+use Rattle.bm_law_scenario.specs.Closing.{SweepWhere}
 use Rattle.bm_closing.specs.Arrived.{emptied}
 
 -- All units of a class's lists and of its inbox went back to the stock, by a sweep where there were any, and by nothing at all

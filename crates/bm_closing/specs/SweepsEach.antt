@@ -11,11 +11,11 @@ use Rattle.bm_cache.specs.Tokens.{number_of}
 use Rattle.bm_cache.specs.Shown.{shown}
 use Rattle.bm_cache.specs.Span.{Face, Goes}
 use Rattle.bm_cache.specs.declared.caches.Caches.{Caches}
-use Rattle.bm_deferred.specs.Grown.{GrewBy}
-use Rattle.bm_deferred.specs.Inboxes.{Inboxes}
-use Rattle.bm_desk.specs.Goes.{Alike}
-use Rattle.bm_lawful.specs.Closing.{AreSweeps}
-use Rattle.bm_mail.specs.SweepsTold.{SweepsTold}
+use Rattle.bm_law_work.specs.Grown.{GrewBy}
+use Rattle.bm_law_work.specs.Inboxes.{Inboxes}
+use Rattle.bm_work.specs.Goes.{Alike}
+use Rattle.bm_law_scenario.specs.Closing.{AreSweeps}
+use Rattle.bm_law_logs.specs.SweepsTold.{SweepsTold}
 use Rattle.bm_closing.specs.Arrived.{emptied}
 
 -- the inboxes of these classes without a parcel

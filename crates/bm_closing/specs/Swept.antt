@@ -10,10 +10,10 @@ use Rattle.bm_cache.specs.Tokens.{number_of}
 use Rattle.bm_cache.specs.Shown.{shown}
 use Rattle.bm_cache.specs.Span.{Face, Goes}
 use Rattle.bm_cache.specs.declared.caches.Caches.{Caches}
-use Rattle.bm_deferred.specs.Grown.{GrewBy}
-use Rattle.bm_deferred.specs.Parts.{Say}
-use Rattle.bm_desk.specs.Goes.{Alike}
-use Rattle.bm_lawful.specs.Closing.{SweepOf}
+use Rattle.bm_law_work.specs.Grown.{GrewBy}
+use Rattle.bm_law_work.specs.Parts.{Say}
+use Rattle.bm_work.specs.Goes.{Alike}
+use Rattle.bm_law_scenario.specs.Closing.{SweepOf}
 
 -- They went back by a sweep, and the inboxes and the other classes are as before.
 pub record Swept {H R : Type 0} (log : R → Option Log) (faces : H → Face) (waits : H → ℕ) (stays : H → H → Type 0) (holds : H → Caches R) (known : H → Known) (c : ℕ) (units : List UnitState) (before now : H) : Type 0 where

@@ -9,10 +9,10 @@ ghost use Rattle.bm_law.specs.Alone.{Adds};
 ghost use Rattle.bm_law_order.specs.Act.{Act};
 ghost use Rattle.bm_law_order.specs.Chunk.{Shows};
 ghost use Rattle.bm_cache.specs.declared.caches.Caches.{Caches};
-ghost use Rattle.bm_desk.specs.Rested.{HasStamp};
+ghost use Rattle.bm_work.specs.Rested.{HasStamp};
 ghost use Rattle.bm_closing.specs.Told.{at_once, passed_at_once};
 
-use bm_desk::Desk;
+use bm_work::Desk;
 use bm_journal::Recorder;
 
 /// A desk whose processor has ended, so that no handler runs on it any more, and no step is asked for: entries come one after the

@@ -6,7 +6,7 @@ ghost use Rattle.bm_journal.specs.declared.ids.Domain.TheVariants.{Plain, Tracin
 ghost use Rattle.bm_grace.specs.Rest.{MovesNumber};
 ghost use Rattle.bm_grace.specs.Known.{side};
 ghost use Rattle.bm_grace.specs.Rights.{Ages};
-ghost use Rattle.bm_desk.specs.Goes.{Alike};
+ghost use Rattle.bm_work.specs.Goes.{Alike};
 ghost use Rattle.bm_law_order.specs.Act as act;
 ghost use Rattle.bm_closing.specs.Told.{waiting};
 ghost use Rattle.bm_closing.specs.Waited.{AllRipe, WaitedAt};

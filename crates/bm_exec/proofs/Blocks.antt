@@ -5,8 +5,8 @@ use mathlib.Core.Former.{Count}
 use Rattle.bm_lang.specs.declared.scenario.Block.{Block, Block', Row_of-Statement, end_of-Statement, more_of-Statement, items-the_row-Statement}
 use Rattle.bm_lang.specs.declared.scenario.TypeDeclaration.{TypeDeclaration}
 use Rattle.bm_lang.specs.Limits.{action_cost, block_cost, row_cost}
-use Rattle.bm_lawful.specs.Held.{Names}
-use Rattle.bm_lawful.specs.Runs.{Followed, RunsBlock, RunsRow}
+use Rattle.bm_law_scenario.specs.Held.{Names}
+use Rattle.bm_law_scenario.specs.Runs.{Followed, RunsBlock, RunsRow}
 use Rattle.bm_check.specs.Statements.{Setting}
 use Rattle.bm_check.specs.Values.{Store, SafeAction, SafeBlock, SafeRow}
 use Rattle.bm_exec.specs.Stores.{store_of}

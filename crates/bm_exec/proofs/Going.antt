@@ -6,9 +6,9 @@ use Rattle.bm_lang.specs.declared.scenario.TypeDeclaration.{TypeDeclaration}
 use Rattle.bm_lang.specs.Limits.{action_cost}
 use Rattle.bm_law.specs.State.{State}
 use Rattle.bm_law.specs.Lists.{Log}
-use Rattle.bm_deferred.proofs.Grown.{grew-none, grew-map}
-use Rattle.bm_lawful.specs.Runs.{Followed}
-use Rattle.bm_lawful.specs.Held.{Held, Nothing, Null, Object, Names, OwnsNothing}
+use Rattle.bm_law_work.proofs.Grown.{grew-none, grew-map}
+use Rattle.bm_law_scenario.specs.Runs.{Followed}
+use Rattle.bm_law_scenario.specs.Held.{Held, Nothing, Null, Object, Names, OwnsNothing}
 use Rattle.bm_check.specs.Statements.{Setting}
 use Rattle.bm_check.specs.Values as safe
 use Rattle.bm_exec.specs.declared.frame.Open.{Open}

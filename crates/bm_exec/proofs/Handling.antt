@@ -10,10 +10,10 @@ use Rattle.bm_lang.specs.declared.scenario.TypeDeclaration.{TypeDeclaration}
 use Rattle.bm_lang.specs.declared.scenario.TypeId.{TypeId}
 use Rattle.bm_law.specs.State.{State}
 use Rattle.bm_law.specs.Lists.{Log, Leaves}
-use Rattle.bm_deferred.specs.Grown.{GrewBy}
-use Rattle.bm_deferred.proofs.Grown.{grew-none, grew-map, grew-join}
-use Rattle.bm_lawful.specs.Held.{Null, Object, Names, no_names}
-use Rattle.bm_lawful.specs.Runs.{Done, Followed, Times, RunsAction, RunsBlock}
+use Rattle.bm_law_work.specs.Grown.{GrewBy}
+use Rattle.bm_law_work.proofs.Grown.{grew-none, grew-map, grew-join}
+use Rattle.bm_law_scenario.specs.Held.{Null, Object, Names, no_names}
+use Rattle.bm_law_scenario.specs.Runs.{Done, Followed, Times, RunsAction, RunsBlock}
 use Rattle.bm_check.specs.Statements.{Setting}
 use Rattle.bm_check.specs.Values as safe
 use Rattle.bm_exec.specs.declared.frame.Open.{Open}

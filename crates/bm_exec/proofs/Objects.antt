@@ -6,9 +6,9 @@ use Rattle.bm_journal.specs.declared.ids.ObjId.{ObjId}
 use Rattle.bm_lang.specs.declared.scenario.TypeDeclaration.{TypeDeclaration}
 use Rattle.bm_lang.specs.declared.scenario.TypeId.{TypeId}
 use Rattle.bm_class.specs.Sizes.{class_of_size}
-use Rattle.bm_lawful.specs.Held.{Held, Nothing, Null, Object, Names, with_name, OwnsNothing}
-use Rattle.bm_lawful.specs.Opened.{OfClass, object_size}
-use Rattle.bm_lawful.specs.Calls.{answered}
+use Rattle.bm_law_scenario.specs.Held.{Held, Nothing, Null, Object, Names, with_name, OwnsNothing}
+use Rattle.bm_law_scenario.specs.Opened.{OfClass, object_size}
+use Rattle.bm_law_scenario.specs.Calls.{answered}
 use Rattle.bm_check.specs.Values as safe
 use Rattle.bm_exec.specs.Runnable.{Classes}
 use Rattle.bm_exec.specs.Stores.{store_of, value_of}

@@ -10,12 +10,12 @@ use Rattle.bm_lang.specs.declared.scenario.TypeDeclaration.{TypeDeclaration}
 use Rattle.bm_lang.specs.declared.scenario.TypeId.{TypeId}
 use Rattle.bm_law.specs.State.{State}
 use Rattle.bm_law.specs.Lists.{Log, Leaves}
-use Rattle.bm_lawful.specs.Held.{Nothing, Null, Object, Names, with_name}
-use Rattle.bm_lawful.specs.Opened.{OfClass}
-use Rattle.bm_deferred.specs.Grown.{GrewBy}
-use Rattle.bm_deferred.proofs.Grown.{grew-say, grew-map, grew-join}
-use Rattle.bm_lawful.specs.Calls.{answered, RunsNew, RunsDrop}
-use Rattle.bm_lawful.specs.Runs.{Done, Followed, Leaving, Times, RunsAction, RunsBlock}
+use Rattle.bm_law_scenario.specs.Held.{Nothing, Null, Object, Names, with_name}
+use Rattle.bm_law_scenario.specs.Opened.{OfClass}
+use Rattle.bm_law_work.specs.Grown.{GrewBy}
+use Rattle.bm_law_work.proofs.Grown.{grew-say, grew-map, grew-join}
+use Rattle.bm_law_scenario.specs.Calls.{answered, RunsNew, RunsDrop}
+use Rattle.bm_law_scenario.specs.Runs.{Done, Followed, Leaving, Times, RunsAction, RunsBlock}
 use Rattle.bm_check.specs.Statements.{Setting}
 use Rattle.bm_check.specs.Values as safe
 use Rattle.bm_exec.specs.declared.frame.Open.{Open}

@@ -6,10 +6,10 @@ use Rattle.std.specs.Option.{option_to_list}
 use Rattle.bm_lang.specs.declared.scenario.Statement.{Statement}
 use Rattle.bm_lang.specs.declared.scenario.TypeDeclaration.{TypeDeclaration}
 use Rattle.bm_lang.specs.Limits.{action_cost, block_cost}
-use Rattle.bm_lawful.specs.Held.{Names}
+use Rattle.bm_law_scenario.specs.Held.{Names}
 use Rattle.bm_law.specs.State.{State}
 use Rattle.bm_law.specs.Lists.{Log}
-use Rattle.bm_lawful.specs.Runs.{Done, Followed, Times, RunsBlock}
+use Rattle.bm_law_scenario.specs.Runs.{Done, Followed, Times, RunsBlock}
 use Rattle.bm_check.specs.Statements.{Setting}
 use Rattle.bm_check.specs.Values as safe
 use Rattle.bm_exec.specs.declared.frame.Open.{Open}

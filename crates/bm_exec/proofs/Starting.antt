@@ -3,10 +3,10 @@ use Rattle.std.proofs.Common.{◌≡◌, true, ◌&&◌, List, [], refl, sym, �
 use Rattle.bm_lang.specs.declared.scenario.Block.{Block}
 use Rattle.bm_lang.specs.declared.scenario.TypeDeclaration.{TypeDeclaration}
 use Rattle.bm_lang.specs.Limits.{block_cost}
-use Rattle.bm_lawful.specs.Held.{Names, no_names}
+use Rattle.bm_law_scenario.specs.Held.{Names, no_names}
 use Rattle.bm_law.specs.State.{State}
 use Rattle.bm_law.specs.Lists.{Log}
-use Rattle.bm_lawful.specs.Runs.{RunsBlock}
+use Rattle.bm_law_scenario.specs.Runs.{RunsBlock}
 use Rattle.bm_check.specs.Statements.{Setting}
 use Rattle.bm_check.specs.Values as safe
 use Rattle.bm_exec.specs.declared.frame.Open.{Open}

@@ -5,7 +5,7 @@ use mathlib.Core.Path.{fun_ext}
 use Rattle.std.specs.List.{list_any, position_or_len}
 use Rattle.std.specs.Str.{bytes_eq}
 use Rattle.std.proofs.lemmas.Slice.Eq.{bytes_eq-Decides}
-use Rattle.bm_lawful.specs.Held.{Names, no_names, with_name, Nothing as NothingHeld}
+use Rattle.bm_law_scenario.specs.Held.{Names, no_names, with_name, Nothing as NothingHeld}
 use Rattle.bm_exec.specs.declared.holding.Holding.{Holding}
 use Rattle.bm_exec.specs.declared.holding.Holding.TheVariants.{Nothing}
 use Rattle.bm_exec.specs.Seen.{held_of, looked_up, words_of}

@@ -3,8 +3,8 @@ use Rattle.std.proofs.Common.{◌≡◌, ℕ, [], ◌++◌, refl, sym, ap, ◌�
 use Rattle.bm_law.specs.State.{State}
 use Rattle.bm_law.specs.Lists.{Log, after}
 use Rattle.bm_law.proofs.Folds.{after-append}
-use Rattle.bm_lawful.specs.Held.{Names}
-use Rattle.bm_lawful.specs.Runs.{Run, Done, Followed}
+use Rattle.bm_law_scenario.specs.Held.{Names}
+use Rattle.bm_law_scenario.specs.Runs.{Run, Done, Followed}
 
 -- what nothing is left of runs
 pub done-first : (a : Run) (names last : Names) (s : State ℕ) (part : Log) → a names last s part → Followed Done a names last s part

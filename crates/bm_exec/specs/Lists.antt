@@ -7,9 +7,9 @@ use Rattle.bm_lang.specs.declared.scenario.Statement.{Statement}
 use Rattle.bm_lang.specs.declared.scenario.TypeDeclaration.{TypeDeclaration}
 use Rattle.bm_check.specs.Statements.{Setting}
 use Rattle.bm_check.specs.Values.{Store, SafeAction}
-use Rattle.bm_deferred.specs.Parts.{Part, Nothing}
-use Rattle.bm_lawful.specs.Works.{UntilDown}
-use Rattle.bm_lawful.specs.Runs.{Run, Leaving, Done, Followed, RunsAction}
+use Rattle.bm_law_work.specs.Parts.{Part, Nothing}
+use Rattle.bm_law_scenario.specs.Works.{UntilDown}
+use Rattle.bm_law_scenario.specs.Runs.{Run, Leaving, Done, Followed, RunsAction}
 
 -- the statements of a block
 abbrev pub block_list : Block → List Statement

@@ -9,9 +9,9 @@ pub use Rattle.bm_grace.specs.Known.{Living, Lives}
 use Rattle.bm_law.specs.Lists.{Log}
 use Rattle.bm_law.specs.Phrases.{FreePhrase}
 use Rattle.bm_law.specs.Spans.{Records}
-use Rattle.bm_lawful.specs.Held.{Names, Object}
-use Rattle.bm_lawful.specs.Opened.{OfClass}
-use Rattle.bm_lawful.specs.Calls.{Allocates}
+use Rattle.bm_law_scenario.specs.Held.{Names, Object}
+use Rattle.bm_law_scenario.specs.Opened.{OfClass}
+use Rattle.bm_law_scenario.specs.Calls.{Allocates}
 
 abbrev pub with_life : ℕ → Option Living → Lives → Lives
 with_life u l lives = λ v. if eqb u v then l else lives v

@@ -6,7 +6,7 @@ use Rattle.bm_lang.specs.declared.scenario.Action.{Action, New, Drop, Acquire, G
 use Rattle.bm_lang.specs.declared.scenario.Block.{Block, Block', Row_of-Statement, end_of-Statement, more_of-Statement}
 use Rattle.bm_lang.specs.declared.scenario.Statement.{Statement}
 use Rattle.bm_lang.specs.declared.scenario.TypeDeclaration.{TypeDeclaration}
-use Rattle.bm_lawful.specs.Opened.{object_size}
+use Rattle.bm_law_scenario.specs.Opened.{object_size}
 use Rattle.bm_exec.specs.declared.frame.Open.{Open}
 
 abbrev mutual

@@ -7,9 +7,9 @@ use Rattle.bm_lang.specs.declared.scenario.TypeDeclaration.{TypeDeclaration}
 use Rattle.bm_lang.specs.Limits.{action_cost}
 use Rattle.bm_law.specs.State.{State}
 use Rattle.bm_law.specs.Lists.{Log}
-use Rattle.bm_deferred.specs.Grown.{GrewBy}
-use Rattle.bm_lawful.specs.Held.{Names, no_names, OwnsNothing}
-use Rattle.bm_lawful.specs.Runs.{Followed, RunsBlock}
+use Rattle.bm_law_work.specs.Grown.{GrewBy}
+use Rattle.bm_law_scenario.specs.Held.{Names, no_names, OwnsNothing}
+use Rattle.bm_law_scenario.specs.Runs.{Followed, RunsBlock}
 use Rattle.bm_check.specs.Statements.{Setting}
 use Rattle.bm_check.specs.Values.{SafeAction}
 use Rattle.bm_exec.specs.declared.frame.Open.{Open}

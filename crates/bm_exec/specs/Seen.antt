@@ -3,7 +3,7 @@ use Rattle.std.specs.Prelude.{ℕ, Bool, List, [], ◌∷◌, map, if◌then◌e
 use Rattle.std.specs.Global.{Vec}
 use Rattle.std.specs.List.{list_any}
 use Rattle.std.specs.Str.{bytes_eq}
-use Rattle.bm_lawful.specs.Held as held
+use Rattle.bm_law_scenario.specs.Held as held
 use Rattle.bm_exec.specs.declared.holding.Holding.{Holding}
 use Rattle.bm_exec.specs.declared.holding.Holding.TheVariants.{Nothing, Null, Object}
 use Rattle.bm_exec.specs.declared.names.NameTable.{NameTable}

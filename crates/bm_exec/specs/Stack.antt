@@ -4,7 +4,7 @@ use Rattle.bm_lang.specs.declared.scenario.TypeDeclaration.{TypeDeclaration}
 use Rattle.bm_check.specs.declared.name_state.HeldLock.TheVariants.{Nothing as NoLock}
 use Rattle.bm_check.specs.Statements.{Setting}
 use Rattle.bm_check.specs.Values as safe
-use Rattle.bm_lawful.specs.Runs.{Run, Leaving, Done, Followed, Times, RunsBlock}
+use Rattle.bm_law_scenario.specs.Runs.{Run, Leaving, Done, Followed, Times, RunsBlock}
 use Rattle.bm_exec.specs.declared.frame.Open.{Open}
 use Rattle.bm_exec.specs.Lists.{Behind, RunsList, SafeList}
 

@@ -7,8 +7,8 @@ use Rattle.bm_lang.specs.declared.scenario.TypeDeclaration.{TypeDeclaration}
 use Rattle.bm_lang.specs.Limits.{action_cost}
 use Rattle.bm_law.specs.State.{State}
 use Rattle.bm_law.specs.Lists.{Log}
-use Rattle.bm_lawful.specs.Held.{Names}
-use Rattle.bm_lawful.specs.Runs.{Followed}
+use Rattle.bm_law_scenario.specs.Held.{Names}
+use Rattle.bm_law_scenario.specs.Runs.{Followed}
 use Rattle.bm_check.specs.Statements.{Setting}
 use Rattle.bm_check.specs.Values.{SafeAction, OwnsNothing}
 use Rattle.bm_exec.specs.declared.frame.Open.{Open}

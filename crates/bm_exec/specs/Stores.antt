@@ -1,7 +1,7 @@
 -- A running script's names as the law of accepted scripts has them.
 use Rattle.bm_check.specs.declared.name_state.HeldLock.TheVariants.{Nothing as NoLock}
 use Rattle.bm_check.specs.Values.{Value, Empty, Null, Owning, Store}
-use Rattle.bm_lawful.specs.Held as held
+use Rattle.bm_law_scenario.specs.Held as held
 
 abbrev pub value_of : held.Held → Value
 value_of held.Nothing = Empty

@@ -78,7 +78,7 @@ impl NameTable {
     ghost use Rattle.std.specs.Prelude.{IfOk};
     ghost use Rattle.std.specs.List.{list_all};
     ghost use Rattle.bm_lang.specs.declared.scenario.Script.{Script};
-    ghost use Rattle.bm_lawful.specs.Held.{no_names};
+    ghost use Rattle.bm_law_scenario.specs.Held.{no_names};
 
     /// A table for some scripts: each name that one of them binds is there, and holds nothing. Want of memory is the only
     /// refusal.

@@ -3,7 +3,7 @@
 ghost use Rattle.std.specs.Prelude.{◌≡◌, ◌+◌, ◌*◌, ◌≤◌, ◌<◌, ◌∷◌, [], IfOk, OnOk, true, Some, None, ℕ, List, reverse, length};
 ghost use Rattle.bm_journal.specs.declared.entry.Entry.{Entry};
 ghost use Rattle.bm_lang.specs.declared.scenario.TypeDeclaration.{TypeDeclaration};
-ghost use Rattle.bm_lawful.specs.Held.{Names, no_names};
+ghost use Rattle.bm_law_scenario.specs.Held.{Names, no_names};
 ghost use Rattle.bm_check.specs.Statements.{Setting};
 ghost use Rattle.bm_check.specs.Values.{Store};
 ghost use Rattle.bm_exec.specs.Seen.{names_of};

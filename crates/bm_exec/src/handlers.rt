@@ -2,11 +2,11 @@
 
 ghost use Rattle.std.specs.Prelude.{◌≡◌, ◌+◌, ◌*◌, ◌<◌, ◌≤◌, ◌^◌, true, None, ℕ, List};
 ghost use Rattle.bm_lang.specs.Limits.{action_cost, block_cost};
-ghost use Rattle.bm_lawful.specs.Runs.{RunsAction, RunsBlock};
+ghost use Rattle.bm_law_scenario.specs.Runs.{RunsAction, RunsBlock};
 ghost use Rattle.bm_check.specs.Scripts.{Accepted};
 ghost use Rattle.bm_check.specs.Statements.{Setting};
 ghost use Rattle.bm_check.specs.Values.{SafeAction, SafeBlock};
-ghost use Rattle.bm_deferred.specs.Grown.{GrewBy};
+ghost use Rattle.bm_law_work.specs.Grown.{GrewBy};
 ghost use Rattle.bm_exec.specs.declared.frame.Open.{Open};
 ghost use Rattle.bm_exec.specs.Bindings.{binds_by, binds_among};
 ghost use Rattle.bm_exec.specs.Handling.{Again};

@@ -1,7 +1,7 @@
 //! What a script's name holds.
 
 ghost use Rattle.std.specs.Prelude.{◌≡◌};
-ghost use Rattle.bm_lawful.specs.Calls.{answered};
+ghost use Rattle.bm_law_scenario.specs.Calls.{answered};
 ghost use Rattle.bm_exec.specs.Living.{reply_of};
 ghost use Rattle.bm_exec.specs.Seen.{held_of};
 

@@ -3,7 +3,7 @@
 ghost use Rattle.std.specs.Prelude.{◌≡◌, ◌+◌, ◌<◌, ◌≤◌, ◌^◌, [], ℕ, IfSome, IsOk, List, None, OnOk, Option};
 ghost use Rattle.bm_law.specs.State.{State};
 ghost use Rattle.bm_law.specs.Lists.{Log, Leaves};
-ghost use Rattle.bm_deferred.specs.Grown.{GrewBy};
+ghost use Rattle.bm_law_work.specs.Grown.{GrewBy};
 ghost use Rattle.bm_exec.specs.Lists.{Behind};
 ghost use Rattle.bm_exec.specs.Living.{Lives, Created, Disposed, LivesAs};
 

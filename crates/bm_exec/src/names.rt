@@ -38,7 +38,7 @@ fn clear_all(holdings: &mut [Holding])
 
 impl NameTable {
     ghost use Rattle.std.specs.Prelude.{ℕ, List, true, IsOk, OnOk};
-    ghost use Rattle.bm_lawful.specs.Held.{no_names, with_name};
+    ghost use Rattle.bm_law_scenario.specs.Held.{no_names, with_name};
     ghost use Rattle.bm_exec.specs.Seen.{held_of, names_of, has_name};
 
     /// A table without names.

@@ -5,7 +5,7 @@ ghost use Rattle.bm_lang.specs.declared.scenario.Action.TheVariants as action;
 ghost use Rattle.bm_lang.specs.declared.scenario.TypeDeclaration.{TypeDeclaration};
 ghost use Rattle.bm_lang.specs.Limits.{block_cost};
 ghost use Rattle.bm_check.specs.Scripts.{Accepted};
-ghost use Rattle.bm_lawful.specs.Held.{Held};
+ghost use Rattle.bm_law_scenario.specs.Held.{Held};
 ghost use Rattle.bm_check.specs.Statements.{Setting};
 ghost use Rattle.bm_check.specs.Values.{SafeAction, is_owning};
 ghost use Rattle.bm_exec.specs.Seen.{names_of, has_name};

@@ -8,26 +8,26 @@ use Rattle.bm_law_order.specs.Orders.{IsLaid, Order}
 use Rattle.bm_law_order.specs.Polls.{IsPolled}
 use Rattle.bm_law_order.specs.Seals.{IsSealed}
 use Rattle.bm_law_order.specs.Whole.{whole}
-use Rattle.bm_lawful.specs.Lawful.{LawfulLogs}
-use Rattle.bm_lives.specs.GraceLaw.{WholeGrace}
-use Rattle.bm_lives.specs.Lives.{WholeLives}
-use Rattle.bm_lives.specs.Returns.{ReturnsLaw}
-use Rattle.bm_lives.specs.StampLaw.{StampLaw}
+use Rattle.bm_law_scenario.specs.Lawful.{LawfulLogs}
+use Rattle.bm_law_lives.specs.GraceLaw.{WholeGrace}
+use Rattle.bm_law_lives.specs.Lives.{WholeLives}
+use Rattle.bm_law_lives.specs.Returns.{ReturnsLaw}
+use Rattle.bm_law_lives.specs.StampLaw.{StampLaw}
 
 -- ---- lawful
 
 pub record Lawful (s : Parts) (j : Journal) : Type 0 where
   -- Its heading names what the scenario declares; each log is made of the phrases of its processor's scripts, of their handlers and of
   -- deferred work, names what is on its lists, and leaves them empty; fewer units come than were wanted only where the pages are used up;
-  -- and its totals are the sums over its logs. (bm_lawful, specs/Lawful)
+  -- and its totals are the sums over its logs. (bm_law_scenario, specs/Lawful)
   pub logs : LawfulLogs s j
-  -- Each life of a unit is given once, ends once, and its free names the processor that gave it. (bm_lives, specs/Lives)
+  -- Each life of a unit is given once, ends once, and its free names the processor that gave it. (bm_law_lives, specs/Lives)
   pub lives : WholeLives j.logs
-  -- Each unit goes back to the stock as often as it was taken, and each parcel arrives. (bm_lives, specs/Returns)
+  -- Each unit goes back to the stock as often as it was taken, and each parcel arrives. (bm_law_lives, specs/Returns)
   pub returns : ReturnsLaw j.logs
-  -- No grace period ends while a section goes on that was there when it began, and each ends. (bm_lives, specs/GraceLaw)
+  -- No grace period ends while a section goes on that was there when it began, and each ends. (bm_law_lives, specs/GraceLaw)
   pub grace : WholeGrace j.logs
-  -- What waits for a grace period waits for one that began after it, and is given again with its number. (bm_lives, specs/StampLaw)
+  -- What waits for a grace period waits for one that began after it, and is given again with its number. (bm_law_lives, specs/StampLaw)
   pub stamps : StampLaw j.logs
 
 -- ---- laid

@@ -5,7 +5,7 @@
 //! - `Laid` is what the one order of its entries says, which the scenario's turns make.
 //! - `worked_lawful`: a journal that is lawful, made by hand, and logs that no such journal has.
 //!
-//! The laws themselves are stated in `bm_lawful`, `bm_lives` and `bm_law_order`, each with worked examples, right ones and wrong
+//! The laws themselves are stated in `bm_law_scenario`, `bm_law_lives` and `bm_law_order`, each with worked examples, right ones and wrong
 //! ones. Nothing in this crate runs. That a run's journal is lawful and laid is proved where the run is (`bm_run`).
 #![tactic(auto)]
 

@@ -1,7 +1,7 @@
 -- What holds of each of some numbers, and of each log.
 use Rattle.std.proofs.Common.{◌≡◌, ℕ, zero, suc, ◌+◌, ◌<◌, List, [], ◌∷◌, ◌++◌, length, get_or, subst, arith}
 use Rattle.bm_law.specs.Lists.{Log}
-use Rattle.bm_lives.specs.Together.{Each, EachBelow, EachLog, LogsFrom}
+use Rattle.bm_law_lives.specs.Together.{Each, EachBelow, EachLog, LogsFrom}
 
 module _ (P : ℕ → Type 0) where
   pub each-both : (xs ys : List ℕ) → Each P xs → Each P ys → Each P (xs ++ ys)

@@ -4,7 +4,7 @@ use Rattle.std.proofs.lemmas.List.{get_or-replicate}
 use Rattle.bm_journal.specs.declared.ids.Domain.{Domain}
 use Rattle.bm_journal.specs.declared.ids.Domain.TheVariants.{Plain, Tracing}
 use Rattle.bm_law.specs.Lists.{Log}
-use Rattle.bm_lives.specs.GraceLaw.{DomainLaw, GraceLaw, PeriodsFit, SectionsFit, last_word, last_words, no_driver}
+use Rattle.bm_law_lives.specs.GraceLaw.{DomainLaw, GraceLaw, PeriodsFit, SectionsFit, last_word, last_words, no_driver}
 use Rattle.bm_law_order.specs.ByDomain.{of}
 use Rattle.bm_law_order.specs.Words.{Words, first_words, words_after}
 use Rattle.bm_law_order.specs.Numbers.{first_numbers}

@@ -4,7 +4,7 @@ use Rattle.bm_journal.specs.declared.ids.Domain.{Domain}
 use Rattle.bm_journal.specs.declared.ids.Domain.TheVariants.{Plain, Tracing}
 use Rattle.bm_journal.specs.declared.entry.Entry.{Entry}
 use Rattle.bm_journal.specs.declared.entry.Entry.TheVariants as entry
-use Rattle.bm_lives.specs.GraceLaw.{NoneAbove, words_of}
+use Rattle.bm_law_lives.specs.GraceLaw.{NoneAbove, words_of}
 use Rattle.bm_law_order.specs.Words.{Words, WordsFit, words_after}
 use Rattle.bm_law_order.specs.Looks.{in_turn, looked_at}
 use Rattle.bm_law_order.specs.Shared.{Shared, found, shared_after}

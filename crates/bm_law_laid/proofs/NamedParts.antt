@@ -3,7 +3,7 @@ use Rattle.std.proofs.Common.{◌≡◌, ◌≢◌, ℕ, zero, suc, ◌+◌, ◌
 use Rattle.std.proofs.lemmas.Bool.Decides.{eqb_tells}
 use Rattle.bm_journal.specs.declared.entry.Entry.{Entry}
 use Rattle.bm_law.specs.Lists.{Log}
-use Rattle.bm_lives.specs.Together.{named, named_in, times}
+use Rattle.bm_law_lives.specs.Together.{named, named_in, times}
 use Rattle.bm_law_order.specs.Orders.{Event, Order, part_of}
 use Rattle.bm_law_laid.specs.Once.{named_by}
 use Rattle.bm_law_laid.specs.OrderOf.{AllBelow, IsOrderOf}

@@ -3,7 +3,7 @@ use Rattle.std.proofs.Common.{◌≡◌, ◌≢◌, ℕ, ◌+◌, ◌≤◌, Lis
 use Rattle.std.proofs.lemmas.Bool.{cases_eq}
 use Rattle.std.proofs.lemmas.Bool.Decides.{eqb_tells}
 use Rattle.std.proofs.lemmas.List.{reverse-append}
-use Rattle.bm_lives.specs.Together.{times}
+use Rattle.bm_law_lives.specs.Together.{times}
 use Rattle.bm_law_laid.specs.Once.{Once}
 
 pub times-here : (x : ℕ) (xs : List ℕ) → times x (x ∷ xs) ≡ times x xs + 1

@@ -6,10 +6,10 @@ use Rattle.bm_journal.specs.declared.ids.Domain.TheVariants.{Plain, Tracing}
 use Rattle.bm_journal.specs.declared.entry.Entry.{Entry}
 use Rattle.bm_journal.specs.declared.entry.Entry.TheVariants as entry
 use Rattle.bm_law.specs.Lists.{Log}
-use Rattle.bm_lives.specs.Together.{AreOnce, Each, beside, named, named_in, times}
-use Rattle.bm_lives.specs.GraceLaw.{AllEnded, NumbersFit, begun_number, ended_number}
-use Rattle.bm_lives.specs.Lives.{given_object, lives_given}
-use Rattle.bm_lives.specs.Returns.{receiver, returned_units, taken_units}
+use Rattle.bm_law_lives.specs.Together.{AreOnce, Each, beside, named, named_in, times}
+use Rattle.bm_law_lives.specs.GraceLaw.{AllEnded, NumbersFit, begun_number, ended_number}
+use Rattle.bm_law_lives.specs.Lives.{given_object, lives_given}
+use Rattle.bm_law_lives.specs.Returns.{receiver, returned_units, taken_units}
 use Rattle.bm_law_order.specs.ByDomain.{of}
 use Rattle.bm_law_order.specs.Numbers.{Numbers, first_numbers, numbers_after}
 use Rattle.bm_law_order.specs.Lives.{first_lives, lives_after}

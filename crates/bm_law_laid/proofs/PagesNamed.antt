@@ -1,5 +1,5 @@
 -- Fewer units came than were wanted only where each page gave one.
-use Rattle.std.proofs.Common.{◌≡◌, ◌⊎◌, ◌/◌, ◌<◌, ◌+◌, ◌++◌, ℕ, zero, suc, Bool, true, false, List, [], ◌∷◌, length, length-set, map, reverse, replicate, set, if◌then◌else◌, is_none, is_some, refl, sym, ◌∙◌, ap, append_assoc, subst, inl, inr, arith, eq-eqb, Option, Some, None, length-append}
+use Rattle.std.proofs.Common.{◌≡◌, ◌⊎◌, ◌/◌, ◌<◌, ◌++◌, ℕ, zero, suc, Bool, true, false, List, [], ◌∷◌, length, length-set, map, reverse, replicate, set, if◌then◌else◌, is_none, is_some, refl, sym, ◌∙◌, ap, append_assoc, subst, inl, inr, arith, eq-eqb, Option, Some, None, length-append}
 use Rattle.std.specs.Prelude.{nat_lt, slice_set}
 use Rattle.std.proofs.lemmas.Bool.{cases_eq, false≢true, lt-ltb, ltb-true}
 use Rattle.std.proofs.lemmas.Bool.Decides.{eqb_tells}
@@ -14,11 +14,11 @@ use Rattle.bm_page.specs.Stock.{Stock, any_out, class_at, least_stock, lowest_pa
 use Rattle.bm_page.proofs.Least.{least_below-None}
 use Rattle.bm_page.proofs.StockLemmas.{class_at-inside, class_at-other, class_at-same}
 use Rattle.bm_page.proofs.FetchLemmas.{fetched-zero, fetched-none, fetched-next, number-unit_given}
-use Rattle.bm_deferred.specs.Pages.{HasShort, IsShort, NamesPage, all_given, prefill, units_given, wanted}
-use Rattle.bm_deferred.proofs.Pages.{names-first, names-last}
-use Rattle.bm_lawful.specs.Short.{JournalShort, all_entries}
-use Rattle.bm_lives.specs.Together.{named, named_in}
-use Rattle.bm_lives.specs.Together as together
+use Rattle.bm_law_work.specs.Pages.{HasShort, IsShort, NamesPage, all_given, prefill, units_given, wanted}
+use Rattle.bm_law_work.proofs.Pages.{names-first, names-last}
+use Rattle.bm_law_scenario.specs.Short.{JournalShort, all_entries}
+use Rattle.bm_law_lives.specs.Together.{named, named_in}
+use Rattle.bm_law_lives.specs.Together as together
 use Rattle.bm_law_order.specs.Orders.{AllFit, IsLaid, Order}
 use Rattle.bm_law_order.specs.Pages.{PagesFit, all_back, bare, fresh_pages, pages_after, unit_numbers}
 use Rattle.bm_law_order.specs.Shared.{fresh}

@@ -3,10 +3,10 @@ use Rattle.std.proofs.Common.{◌≡◌, ℕ, ◌+◌, List, [], ◌∷◌, reve
 use Rattle.bm_journal.specs.EntryText.{unit_list}
 use Rattle.bm_journal.specs.declared.entry.Entry.{Entry}
 use Rattle.bm_journal.specs.declared.entry.Entry.TheVariants as entry
-use Rattle.bm_deferred.specs.Pages.{prefill}
+use Rattle.bm_law_work.specs.Pages.{prefill}
 use Rattle.bm_page.specs.Stock.{Stock, fetched}
-use Rattle.bm_lives.specs.Together.{times}
-use Rattle.bm_lives.specs.Returns.{returned_units, taken_units}
+use Rattle.bm_law_lives.specs.Together.{times}
+use Rattle.bm_law_lives.specs.Returns.{returned_units, taken_units}
 use Rattle.bm_law_order.specs.Pages.{PagesFit, fetches, pages_after}
 use Rattle.bm_law_order.specs.Shared.{Shared}
 use Rattle.bm_law_order.specs.Orders.{AllFit, AllShared, Order, over, shared_over}

@@ -10,7 +10,7 @@ use Rattle.bm_page.specs.Stock.{Fetched, Stock, any_out, class_at, fetched, give
 use Rattle.bm_page.proofs.Least.{least_below-Some}
 use Rattle.bm_page.proofs.StockLemmas.{any_out-false, class_at-other, class_at-same, false_from, is_stock_of-parts, out_inside, stocked_at-other, stocked_at-same}
 use Rattle.bm_page.proofs.FetchLemmas.{fetched-next, fetched-none, fetched-zero, number-unit_given}
-use Rattle.bm_lives.specs.Together.{times}
+use Rattle.bm_law_lives.specs.Together.{times}
 use Rattle.bm_law_order.specs.Pages.{AllOut, all_back, bare, fresh_pages, unit_numbers}
 use Rattle.bm_law_laid.specs.UnitsOut.{IsSettled, times_out}
 use Rattle.bm_law_laid.proofs.Onces.{times-append}

@@ -5,11 +5,11 @@ use Rattle.bm_journal.specs.declared.ids.Domain.{Domain}
 use Rattle.bm_journal.specs.declared.ids.Domain.TheVariants.{Plain, Tracing}
 use Rattle.bm_journal.specs.declared.entry.Entry.{Entry}
 use Rattle.bm_journal.specs.declared.entry.Entry.TheVariants as entry
-use Rattle.bm_deferred.specs.Begun.{for_domain}
+use Rattle.bm_law_work.specs.Begun.{for_domain}
 use Rattle.bm_law.specs.Lists.{Log}
-use Rattle.bm_lives.specs.Together.{Each, EachLog, named}
-use Rattle.bm_lives.specs.GraceLaw.{begun_number}
-use Rattle.bm_lives.specs.StampLaw.{SeenFit, StampFits, StampsFit, named_number, seen_number, waits_for}
+use Rattle.bm_law_lives.specs.Together.{Each, EachLog, named}
+use Rattle.bm_law_lives.specs.GraceLaw.{begun_number}
+use Rattle.bm_law_lives.specs.StampLaw.{SeenFit, StampFits, StampsFit, named_number, seen_number, waits_for}
 use Rattle.bm_law_order.specs.ByDomain.{of, with_of}
 use Rattle.bm_law_order.specs.Numbers.{Numbers, NumbersFit, ended, first_numbers, next, numbers_after}
 use Rattle.bm_law_order.specs.Shared.{fresh}

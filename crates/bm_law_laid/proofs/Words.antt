@@ -5,7 +5,7 @@ use Rattle.bm_journal.specs.declared.ids.Domain.{Domain}
 use Rattle.bm_journal.specs.declared.ids.Domain.TheVariants.{Plain, Tracing}
 use Rattle.bm_journal.specs.declared.entry.Entry.{Entry}
 use Rattle.bm_journal.specs.declared.entry.Entry.TheVariants as entry
-use Rattle.bm_lives.specs.GraceLaw.{SectionFits, SectionsFit, last_word, word_after}
+use Rattle.bm_law_lives.specs.GraceLaw.{SectionFits, SectionsFit, last_word, word_after}
 use Rattle.bm_law_order.specs.ByDomain.{of}
 use Rattle.bm_law_order.specs.Words.{Words, WordsFit, with_word, words_after}
 use Rattle.bm_law_order.specs.Orders.{AllFit, Order, over, part_of}

@@ -1,8 +1,8 @@
 -- The lives that an order gives a unit. (That lives are counted is this project's own.)
 use Rattle.std.specs.Prelude.{◌≤◌, ℕ, List}
 use Rattle.bm_journal.specs.declared.entry.Entry.{Entry}
-use Rattle.bm_lives.specs.Together.{beside}
-use Rattle.bm_lives.specs.Lives.{given_object}
+use Rattle.bm_law_lives.specs.Together.{beside}
+use Rattle.bm_law_lives.specs.Lives.{given_object}
 use Rattle.bm_law_order.specs.Orders.{Order}
 use Rattle.bm_law_laid.specs.Once.{Any, Once, named_by}
 

@@ -1,7 +1,7 @@
 -- What an order names, and numbers that it names once. (This project's own: journals are.)
 use Rattle.std.specs.Prelude.{◌≡◌, ◌⊎◌, ◌<◌, ◌≤◌, ◌%◌, ℕ, List, [], ◌∷◌, ◌++◌}
 use Rattle.bm_journal.specs.declared.entry.Entry.{Entry}
-use Rattle.bm_lives.specs.Together.{times}
+use Rattle.bm_law_lives.specs.Together.{times}
 use Rattle.bm_law_order.specs.Orders.{Order}
 
 -- what the entries of an order name, in order

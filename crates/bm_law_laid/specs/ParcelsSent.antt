@@ -4,7 +4,7 @@ use Rattle.std.specs.List.{concat}
 use Rattle.bm_journal.specs.EntryText.{unit_list}
 use Rattle.bm_journal.specs.declared.entry.Entry.{Entry}
 use Rattle.bm_journal.specs.declared.entry.Entry.TheVariants as entry
-use Rattle.bm_lives.specs.Together.{times}
+use Rattle.bm_law_lives.specs.Together.{times}
 use Rattle.bm_law_order.specs.Parcels.{Boxes, boxes_after}
 use Rattle.bm_law_order.specs.Orders.{Order}
 

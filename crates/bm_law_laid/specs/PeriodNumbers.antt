@@ -2,7 +2,7 @@
 -- in progress.)
 use Rattle.std.specs.Prelude.{◌≤◌, ℕ}
 use Rattle.bm_journal.specs.declared.ids.Domain.{Domain}
-use Rattle.bm_lives.specs.GraceLaw.{begun_number, ended_number}
+use Rattle.bm_law_lives.specs.GraceLaw.{begun_number, ended_number}
 use Rattle.bm_law_order.specs.Orders.{Order}
 use Rattle.bm_law_laid.specs.Once.{Even, Odd, Once, named_by}
 

@@ -4,7 +4,7 @@ use Rattle.std.specs.Prelude.{List, [], ◌∷◌, ◌++◌}
 use Rattle.bm_journal.specs.declared.ids.Domain.TheVariants.{Plain}
 use Rattle.bm_journal.specs.declared.entry.Entry.{Entry}
 use Rattle.bm_journal.specs.declared.entry.Entry.TheVariants as entry
-use Rattle.bm_lives.specs.Worked.{batches, delays, gives, opens, period, sends}
+use Rattle.bm_law_lives.specs.Worked.{batches, delays, gives, opens, period, sends}
 use Rattle.bm_law_order.specs.Orders.{Order}
 use Rattle.bm_law_laid.specs.WorkedOrders.{entries}
 

@@ -3,8 +3,8 @@
 ghost use Rattle.bm_journal.specs.declared.ids.Domain.{Domain};
 ghost use Rattle.std.specs.Prelude.{◌≡◌, ℕ, ◌+◌};
 ghost use Rattle.bm_page.specs.Stock.{Stock};
-ghost use Rattle.bm_lives.specs.Returns.{returned_units, taken_units};
-ghost use Rattle.bm_lives.specs.Together.{times};
+ghost use Rattle.bm_law_lives.specs.Returns.{returned_units, taken_units};
+ghost use Rattle.bm_law_lives.specs.Together.{times};
 ghost use Rattle.bm_law_order.specs.ByDomain.{of};
 ghost use Rattle.bm_law_order.specs.Numbers.{Numbers, NumbersFit, numbers_after};
 ghost use Rattle.bm_law_order.specs.Lives.{Lives, LivesFit, first_lives, lives_after};

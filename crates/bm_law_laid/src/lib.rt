@@ -9,7 +9,7 @@
 //! - `numbers_law`, `lives_given_law`, `lives_ended_law`, `references_law`, `parcels_law`, `returns_law`: the laws,
 //!   over an order.
 //! - `whole_law`, `named_law`: an order of logs, as a run's one order is, names what the logs name.
-//! - `journal_law`: what bm_lives says of logs, as far as it follows from an order of them that is laid.
+//! - `journal_law`: what bm_law_lives says of logs, as far as it follows from an order of them that is laid.
 //! - `worked_orders`: orders that are laid, and wrong ones beside them; `worked_journal`: a whole journal that is laid.
 //! - `worked_polls`, `worked_seals`: orders in which polls have rested and units have waited, and wrong ones beside them.
 //!

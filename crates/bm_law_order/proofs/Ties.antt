@@ -1,9 +1,9 @@
 -- A tie lasts.
 use Rattle.std.proofs.Common.{◌≡◌, ℕ, true, false, List, [], ◌∷◌, ◌++◌, Option, Some, None, refl, sym, ◌∙◌, ap, subst, append_assoc, append-nil}
-use Rattle.std.proofs.lemmas.List.{map-append}
 use Rattle.bm_journal.specs.declared.entry.Entry.{Entry}
 use Rattle.bm_journal.specs.Recording.{Appends}
 use Rattle.bm_law.specs.Lists.{Log}
+use Rattle.bm_law.proofs.Alone.{level-append}
 use Rattle.bm_law_order.specs.Quiet.{is_quiet}
 use Rattle.bm_law_order.specs.Act.{Act}
 use Rattle.bm_law_order.specs.Chunk.{Chunk, Shows, acts_of, entries_of, is_judged}
@@ -65,22 +65,30 @@ module _ {W : Type 0} (judge : ℕ → Log → Chunk → Type 0) (free : (l : �
     log_is =
         ap (λ z. z ++ (l, e) ∷ []) t.log_is
         ∙ (append_assoc since (lines t.story ++ at_level l es) ((l, e) ∷ [])
-        ∙ ap (λ z. since ++ z) (append_assoc (lines t.story) (at_level l es) ((l, e) ∷ []) ∙ ap (λ z. lines t.story ++ z) (sym (map-append (λ (x : Entry). (l, x)) es (e ∷ [])))));
+        ∙ ap (λ z. since ++ z) (append_assoc (lines t.story) (at_level l es) ((l, e) ∷ []) ∙ ap (λ z. lines t.story ++ z) (sym (level-append l es (e ∷ [])))));
     done_is = t.done_is;
   }
 
-  -- The entries stand for what was done, by a chunk that is judged so behind whatever log stands before them.
-  pub tie-judged : (l : ℕ) (done : List Act) (es : List Entry) (log : Log) (w : W) (c : Chunk) → acts_of c ≡ done → entries_of c ≡ es → ((before : Log) → log ≡ before ++ at_level l es → judge l before c) → Tied judge does since start l done es log w → Tied judge does since start l [] [] log w
-  tie-judged l done es log w c a e o t =
+  -- The first entries stand for the first acts, by a chunk that is judged so behind whatever log stands before them.
+  pub tie-first : (l : ℕ) (done more : List Act) (es others : List Entry) (log : Log) (w : W) (c : Chunk) → acts_of c ≡ done → entries_of c ≡ es →
+      ((before : Log) → log ≡ before ++ (at_level l es ++ at_level l others) → judge l before c) → Tied judge does since start l (done ++ more) (es ++ others) log w → Tied judge does since start l more others log w
+  tie-first l done more es others log w c a e o t =
       let x : Told = record { level = l; chunk = c } in
       let said : lines (t.story ++ x ∷ []) ≡ lines t.story ++ at_level l es = one-more t.story x ∙ ap (λ z. lines t.story ++ at_level l z) e in
       let did : deeds (t.story ++ x ∷ []) ≡ deeds t.story ++ done = one-deed t.story x ∙ ap (λ z. deeds t.story ++ z) a in
+      let log_is : log ≡ since ++ (lines t.story ++ (at_level l es ++ at_level l others)) = t.log_is ∙ ap (λ z. since ++ (lines t.story ++ z)) (level-append l es others) in
       record {
         story = t.story ++ x ∷ [];
-        judged = one-judged since t.story x t.judged (o (since ++ lines t.story) (t.log_is ∙ sym (append_assoc since (lines t.story) (at_level l es))));
-        log_is = t.log_is ∙ ap (λ z. since ++ z) (sym said ∙ sym (append-nil (lines (t.story ++ x ∷ []))));
-        done_is = subst (λ z. does z start w) (sym did ∙ sym (append-nil (deeds (t.story ++ x ∷ [])))) t.done_is;
+        judged = one-judged since t.story x t.judged (o (since ++ lines t.story) (log_is ∙ sym (append_assoc since (lines t.story) (at_level l es ++ at_level l others))));
+        log_is = log_is ∙ ap (λ z. since ++ z) (sym (append_assoc (lines t.story) (at_level l es) (at_level l others)) ∙ ap (λ z. z ++ at_level l others) (sym said));
+        done_is = subst (λ z. does z start w) (sym (append_assoc (deeds t.story) done more) ∙ ap (λ z. z ++ more) (sym did)) t.done_is;
       }
+
+  -- the same of all of them
+  pub tie-judged : (l : ℕ) (done : List Act) (es : List Entry) (log : Log) (w : W) (c : Chunk) → acts_of c ≡ done → entries_of c ≡ es → ((before : Log) → log ≡ before ++ at_level l es → judge l before c) → Tied judge does since start l done es log w → Tied judge does since start l [] [] log w
+  tie-judged l done es log w c a e o t =
+      let P : List Act → List Entry → Type 0 = λ d x. Tied judge does since start l d x log w in
+      tie-first l done [] es [] log w c a e (λ before q. o before (q ∙ ap (λ z. before ++ z) (append-nil (at_level l es)))) (subst (λ d. P d (es ++ [])) (sym (append-nil done)) (subst (λ x. P done x) (sym (append-nil es)) t))
 
   -- the same by a chunk that no log judges
   pub tie-closed : (l : ℕ) (done : List Act) (es : List Entry) (log : Log) (w : W) → Shows done es → Tied judge does since start l done es log w → Tied judge does since start l [] [] log w

@@ -1,8 +1,8 @@
 -- Chunks of acts and entries, one after the other, each at a level of one processor.
-use Rattle.std.specs.Prelude.{◌≡◌, ◌≢◌, ◌⊎◌, ℕ, None, List, [], ◌∷◌, ◌++◌, map}
+use Rattle.std.specs.Prelude.{◌≡◌, ◌≢◌, ◌⊎◌, ℕ, None, List, [], ◌∷◌, ◌++◌}
 use Rattle.std.specs.List.{All}
 use Rattle.bm_journal.specs.declared.ids.Domain.{Domain}
-use Rattle.bm_journal.specs.declared.entry.Entry.{Entry}
+pub use Rattle.bm_law.specs.Alone.{at_level}
 use Rattle.bm_law.specs.Lists.{Log}
 use Rattle.bm_law_order.specs.ByDomain.{of}
 use Rattle.bm_law_order.specs.Looks.{Looked, Looks}
@@ -16,10 +16,6 @@ pub record Told : Type 0 where
 
 abbrev pub Story : Type 0
 Story = List Told
-
--- entries of one level
-abbrev pub at_level : ℕ → List Entry → Log
-at_level l es = map (λ e. (l, e)) es
 
 abbrev pub lines_of : Told → Log
 lines_of t = at_level t.level (entries_of t.chunk)

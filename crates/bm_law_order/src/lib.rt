@@ -12,7 +12,7 @@
 //! - `Tie` ties a log to a world since some time: the log has grown by entries that stand for what was done.
 //!
 //! The traits of grace periods and of the post (`bm_grace`, `bm_post`) tell acts, and the world on one thread (`bm_world`) shows
-//! that each act is a step of this state. The machines of a processor (`bm_levels`) are tied to their log, and so a run
+//! that each act is a step of this state. The machines of a processor (`bm_exec_levels`) are tied to their log, and so a run
 //! (`bm_run`) is proved to leave a journal that is laid.
 //! Nothing here runs. The definitions stand in `specs/`; a README.md says how they hang together.
 #![tactic(auto)]

@@ -1,13 +1,12 @@
 -- The steps that have numbers are those that the handlers are planned by.
-use Rattle.std.proofs.Common.{◌≡◌, ◌↔◌, ◌∙◌, ℕ, ◌+◌, Bool, true, false, cond, List, [], ◌∷◌, Option, Some, None, refl, sym, ap, arith}
-use Rattle.bm_journal.specs.declared.ids.Domain.TheVariants.{Plain, Tracing}
+use Rattle.std.proofs.Common.{◌≡◌, ◌∙◌, ℕ, ◌+◌, Bool, true, false, cond, [], ◌∷◌, refl, sym, ap, arith}
 use Rattle.bm_journal.specs.declared.entry.Entry.{Entry}
 use Rattle.bm_journal.specs.declared.entry.Entry.TheVariants as entry
 use Rattle.bm_journal.specs.declared.total.Total.TheVariants as total
 use Rattle.bm_journal.specs.Totals.{counts_of, share_of, total_in}
 use Rattle.bm_law.specs.Lists.{Log}
 use Rattle.bm_cache.specs.Steps.{is_step, steps_in}
-use Rattle.bm_due.specs.Standing.{Steps, Stays, kind_of}
+use Rattle.bm_due.specs.Standing.{kind_of}
 use Rattle.bm_due.proofs.Counting.{counted, first-stays, finish-stays, pop-back-stays, pop-front-stays, steps_of}
 
 pub step-kind : (e : Entry) → steps_of (kind_of e) ≡ cond (is_step e) 1 0

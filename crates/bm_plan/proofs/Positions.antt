@@ -1,8 +1,6 @@
 -- What entries make of a position.
-use Rattle.std.proofs.Common.{◌≡◌, ◌∙◌, ℕ, ◌+◌, ◌-◌, ◌^◌, ◌<◌, min, Bool, true, false, List, [], ◌∷◌, ◌++◌, Option, Some, None, length, map, refl, sym, ap, subst, arith}
-use Rattle.std.specs.Prelude.{All, IfNone, IfSome}
+use Rattle.std.proofs.Common.{◌≡◌, ◌∙◌, ℕ, ◌+◌, Bool, true, false, List, [], ◌∷◌, ◌++◌, Option, Some, None, map, refl, sym, ap, arith}
 use Rattle.std.specs.List.{slice_get}
-use Rattle.std.specs.Option.{option_map}
 use Rattle.std.proofs.lemmas.Bool.{and_from, not_from_false}
 use Rattle.bm_journal.specs.declared.entry.Entry.{Entry}
 use Rattle.bm_journal.specs.declared.entry.Entry.TheVariants as entry
@@ -10,9 +8,9 @@ use Rattle.bm_journal.specs.declared.total.Total.TheVariants as total
 use Rattle.bm_journal.specs.Totals.{total_in}
 use Rattle.bm_lang.specs.declared.scenario.AtLine.{AtLine}
 use Rattle.bm_law.specs.Lists.{Log}
-use Rattle.bm_cache.specs.Steps.{next_number, steps_in}
+use Rattle.bm_cache.specs.Steps.{steps_in}
 use Rattle.bm_due.specs.Due.{due_handler, left_after}
-use Rattle.bm_due.specs.Plan.{Plan, due_of, plan_after}
+use Rattle.bm_due.specs.Plan.{due_of, plan_after}
 use Rattle.bm_due.specs.Standing.{Standing, Stays, Steps, at_first, due_in, handlers_stand, is_nobody, is_ordinary, kind_of, left_in, level_of, standing_after}
 use Rattle.bm_due.specs.Told.{told_of}
 use Rattle.bm_due.specs.declared.planned.Due.{Due}

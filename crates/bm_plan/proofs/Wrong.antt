@@ -1,5 +1,5 @@
 -- A log leads to one standing alone.
-use Rattle.std.proofs.Common.{◌≡◌, ◌≢◌, ◌∙◌, ℕ, true, false, List, [], ◌∷◌, Option, Some, None, map, sym, ap, subst}
+use Rattle.std.proofs.Common.{◌≡◌, ◌≢◌, ◌∙◌, true, false, List, Some, None, map, sym, ap}
 use Rattle.bm_law.specs.Lists.{Log}
 use Rattle.bm_lang.specs.declared.scenario.AtLine.{AtLine}
 use Rattle.bm_due.specs.Standing.{Standing, at_first, due_in, standing_after}

@@ -1,6 +1,6 @@
 -- Where code is in a log of its processor, in which the handlers stand where they are due. (This project's own: it is what a
 -- machine knows of its processor's log.)
-use Rattle.std.specs.Prelude.{◌≡◌, ℕ, false, List, [], ◌∷◌, map, Option, Some, None}
+use Rattle.std.specs.Prelude.{◌≡◌, ℕ, false, List, [], ◌∷◌, map, Some, None}
 use Rattle.bm_lang.specs.declared.scenario.AtLine.{AtLine}
 use Rattle.bm_lang.specs.declared.scenario.Script.{Script}
 use Rattle.bm_law.specs.Lists.{Log}

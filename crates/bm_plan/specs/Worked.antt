@@ -1,5 +1,5 @@
 -- Worked positions: a processor for which two handlers are planned, at levels 1 and 2, in front of its third step.
-use Rattle.std.specs.Prelude.{ℕ, false, List, [], ◌∷◌, ◌++◌, codes}
+use Rattle.std.specs.Prelude.{false, List, [], ◌∷◌, ◌++◌, codes}
 use Rattle.bm_journal.specs.declared.entry.Entry.TheVariants as entry
 use Rattle.bm_lang.specs.declared.scenario.AtLine.{AtLine}
 use Rattle.bm_law.specs.Lists.{Log}

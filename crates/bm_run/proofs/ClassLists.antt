@@ -5,7 +5,7 @@ use Rattle.std.proofs.lemmas.List.{take_more}
 use Rattle.bm_class.specs.Sizes.{class_of_size}
 use Rattle.bm_lang.specs.declared.scenario.TypeDeclaration.{TypeDeclaration}
 use Rattle.std.proofs.lemmas.Bool.{cases_eq}
-use Rattle.bm_lawful.specs.Opened.{object_size, is_class, uses_class}
+use Rattle.bm_law_scenario.specs.Opened.{object_size, is_class, uses_class}
 
 turned : (c x : ℕ) → nat_eq c x ≡ nat_eq x c
 turned c x = elim (cases_eq c x) [

@@ -17,20 +17,20 @@ use Rattle.bm_law.specs.State.{State, seven_lists}
 use Rattle.bm_law.specs.SweepPhrases.{MayBegin, MayFinish, PollPhrase, SweepPhrase}
 use Rattle.bm_law.proofs.Alone.{at-own}
 use Rattle.bm_cache.specs.Steps.{steps_in}
-use Rattle.bm_deferred.specs.Begun.{begun_by}
-use Rattle.bm_deferred.specs.Inboxes.{Inboxes, on_inbox}
-use Rattle.bm_deferred.specs.Parts.{Then}
-use Rattle.bm_deferred.proofs.Each.{AllOf, PartOf, of-append, part-nothing, part-say, part-then}
+use Rattle.bm_law_work.specs.Begun.{begun_by}
+use Rattle.bm_law_work.specs.Inboxes.{Inboxes, on_inbox}
+use Rattle.bm_law_work.specs.Parts.{Then}
+use Rattle.bm_law_work.proofs.Each.{AllOf, PartOf, of-append, part-nothing, part-say, part-then}
 use Rattle.bm_due.specs.Due.{due_handler}
 use Rattle.bm_due.specs.Plan.{Plan, due_of}
 use Rattle.bm_due.specs.Standing.{Stays, Steps, kind_of, step_or_not}
-use Rattle.bm_lawful.specs.Closing.{AreSweeps, Closing, EndsOne, EndsPeriods, SweepOf, SweepWhere, in_progress}
-use Rattle.bm_lawful.specs.Handlers.{HandlersDone}
-use Rattle.bm_lawful.proofs.GoneBack.{done-grow}
+use Rattle.bm_law_scenario.specs.Closing.{AreSweeps, Closing, EndsOne, EndsPeriods, SweepOf, SweepWhere, in_progress}
+use Rattle.bm_law_scenario.specs.Handlers.{HandlersDone}
+use Rattle.bm_law_scenario.proofs.GoneBack.{done-grow}
 use Rattle.bm_plan.specs.Position.{Position, StandsAt, level_in}
 use Rattle.bm_plan.proofs.Positions.{asks-none, stays-here, steps-here}
-use Rattle.bm_mail.specs.SweepsTold.{ClosingTold, SweepsTold}
-use Rattle.bm_levels.specs.Growing.{IsInner, no-back}
+use Rattle.bm_law_logs.specs.SweepsTold.{ClosingTold, SweepsTold}
+use Rattle.bm_exec_levels.specs.Growing.{IsInner, no-back}
 use Rattle.bm_closing.specs.EndsBegun.{EndsBegun}
 
 -- ---- behind its begin

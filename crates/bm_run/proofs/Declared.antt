@@ -9,8 +9,8 @@ use Rattle.bm_lang.specs.Names.{TypeForm, has_size, runs_as}
 use Rattle.bm_lang.specs.Spelling.{type_form, script_form}
 use Rattle.bm_due.specs.Due.{planned_for}
 use Rattle.bm_lang.specs.declared.scenario.AtLine.{AtLine}
-use Rattle.bm_levels.specs.Ready.{left_cost}
-use Rattle.bm_opening.proofs.Bounds.{Within, cost-kept}
+use Rattle.bm_exec_levels.specs.Ready.{left_cost}
+use Rattle.bm_run.proofs.Bounds.{Within, cost-kept}
 use Rattle.bm_run.specs.Lines.{AllDeclared, lines_cost}
 
 both : (a b : Bool) → a ≡ true → b ≡ true → (a && b) ≡ true

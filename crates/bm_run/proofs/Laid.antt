@@ -17,8 +17,8 @@ use Rattle.bm_law_order.proofs.TiesLead.{tied-leads}
 use Rattle.bm_world.specs.LivingState.{LivingState}
 use Rattle.bm_world.specs.Told.{IsSideOf}
 use Rattle.bm_world.specs.ToldLiving.{LivingDoes, told_living}
-use Rattle.bm_opening.specs.Opened.{outset}
-use Rattle.bm_opening.proofs.FreshTold.{outset-told}
+use Rattle.bm_run.specs.Opened.{outset}
+use Rattle.bm_run.proofs.FreshTold.{outset-told}
 use Rattle.bm_run.specs.ClosingTie.{IsIdle}
 use Rattle.bm_run.specs.IdleAfter.{IsIdleAfter}
 

@@ -1,3 +1,10 @@
+pub mod OpeningResults
+pub mod Fillings
+pub mod OpeningLemmas
+pub mod Bounds
+pub mod Begun
+pub mod Started
+pub mod FreshTold
 pub mod ClassLists
 pub mod Closes
 pub mod Declared

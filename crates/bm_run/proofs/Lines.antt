@@ -12,22 +12,22 @@ use Rattle.bm_lang.specs.declared.scenario.TypeDeclaration.{TypeDeclaration}
 use Rattle.bm_lang.specs.Limits.{cost_on, script_cost, block_cost}
 use Rattle.bm_law.specs.Lists.{Log}
 use Rattle.bm_law.specs.State.{State}
-use Rattle.bm_deferred.specs.Parts.{Part, Nothing, Stand, Then, If}
-use Rattle.bm_deferred.specs.Grown.{GrewBy}
-use Rattle.bm_deferred.proofs.Grown.{grew-join, grew-none}
-use Rattle.bm_lawful.specs.Grammar.{behind_script, behind_statement, AreScripts, IsBody, IsScript, lines_of}
-use Rattle.bm_lawful.specs.Held.{no_names}
-use Rattle.bm_lawful.specs.Opened.{opened_classes}
-use Rattle.bm_lawful.specs.Runs.{RunsBlock}
-use Rattle.bm_lawful.specs.Works.{UntilDown, WorkBehind, lowest_raised}
+use Rattle.bm_law_work.specs.Parts.{Part, Nothing, Stand, Then, If}
+use Rattle.bm_law_work.specs.Grown.{GrewBy}
+use Rattle.bm_law_work.proofs.Grown.{grew-join, grew-none}
+use Rattle.bm_law_scenario.specs.Grammar.{behind_script, behind_statement, AreScripts, IsBody, IsScript, lines_of}
+use Rattle.bm_law_scenario.specs.Held.{no_names}
+use Rattle.bm_law_scenario.specs.Opened.{opened_classes}
+use Rattle.bm_law_scenario.specs.Runs.{RunsBlock}
+use Rattle.bm_law_scenario.specs.Works.{UntilDown, WorkBehind, lowest_raised}
 use Rattle.bm_exec.specs.Lists.{Behind, behind_of}
 use Rattle.bm_exec.specs.Running.{RanScript}
-use Rattle.bm_levels.specs.AtProcessor.{lists_of, log_of}
-use Rattle.bm_levels.specs.Ordinary.{Ordinary}
-use Rattle.bm_levels.specs.Sound.{Sound}
-use Rattle.bm_levels.specs.Stated.{ordinary-joined, ordinary-same}
-use Rattle.bm_levels.specs.declared.processor.Processor.{Processor}
-use Rattle.bm_levels.specs.declared.program.Program.{Program}
+use Rattle.bm_exec_levels.specs.AtProcessor.{lists_of, log_of}
+use Rattle.bm_exec_levels.specs.Ordinary.{Ordinary}
+use Rattle.bm_exec_levels.specs.Sound.{Sound}
+use Rattle.bm_exec_levels.specs.Stated.{ordinary-joined, ordinary-same}
+use Rattle.bm_exec_levels.specs.declared.processor.Processor.{Processor}
+use Rattle.bm_exec_levels.specs.declared.program.Program.{Program}
 use Rattle.bm_run.specs.Lines.{lines_cost, when_on, works_for, BehindScript, Wrote}
 use Rattle.bm_run.proofs.Written.{told-of, wrote-map, wrote-then}
 

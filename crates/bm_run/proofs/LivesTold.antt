@@ -7,10 +7,10 @@ use Rattle.bm_journal.specs.declared.entry.Entry.TheVariants as entry
 use Rattle.bm_law.specs.Lists.{Log}
 use Rattle.bm_page.specs.UnitState.{UnitState}
 use Rattle.bm_page.specs.declared.units.Seal.{Seal}
-use Rattle.bm_lived.specs.Lifeless.{SaysNoLife}
-use Rattle.bm_lived.specs.Lived.{Lived, no_lives, with_dropped, with_given}
-use Rattle.bm_lived.specs.Told.{LivesOn}
-use Rattle.bm_lived.proofs.Stretches as stretch
+use Rattle.bm_law_logs.specs.Lifeless.{SaysNoLife}
+use Rattle.bm_law_logs.specs.Lived.{Lived, no_lives, with_dropped, with_given}
+use Rattle.bm_law_logs.specs.Told.{LivesOn}
+use Rattle.bm_law_logs.proofs.Stretches as stretch
 use Rattle.bm_law_order.specs.Act.{Act}
 use Rattle.bm_law_order.specs.Act as act
 use Rattle.bm_law_order.specs.Acts.{ActsFit, IsOnly, acts_over}
@@ -27,8 +27,8 @@ use Rattle.bm_world.specs.Slots.{unit_at}
 use Rattle.bm_world.specs.ToldLiving.{LivingDoes, life_of, told_living}
 use Rattle.bm_exec.specs.Living.{home_of}
 use Rattle.bm_grace.specs.Known.{Objects}
-use Rattle.bm_opening.specs.Opened.{outset}
-use Rattle.bm_opening.proofs.FreshTold.{outset-told}
+use Rattle.bm_run.specs.Opened.{outset}
+use Rattle.bm_run.proofs.FreshTold.{outset-told}
 use Rattle.bm_run.proofs.Laid.{outset-side}
 
 -- what is known of lives, of what processors share

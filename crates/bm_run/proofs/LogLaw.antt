@@ -21,44 +21,44 @@ use Rattle.bm_law.proofs.Seen.{map-seven}
 use Rattle.bm_cache.specs.Opening.{Fills, fill_log, named}
 use Rattle.bm_cache.specs.Shown.{shown}
 use Rattle.bm_cache.specs.Tokens.{Token, number_of}
-use Rattle.bm_deferred.specs.Begun.{begun_by}
-use Rattle.bm_deferred.specs.Grown.{GrewBy, GrewPart}
-use Rattle.bm_deferred.specs.Inboxes.{Inboxes}
-use Rattle.bm_deferred.specs.Parts.{Part, Say, Stand, Then}
-use Rattle.bm_lawful.specs.Closing.{AreSweeps, EndsPeriods, in_progress}
-use Rattle.bm_lawful.specs.Fills.{AreFills, fresh_stock, prefill}
+use Rattle.bm_law_work.specs.Begun.{begun_by}
+use Rattle.bm_law_work.specs.Grown.{GrewBy, GrewPart}
+use Rattle.bm_law_work.specs.Inboxes.{Inboxes}
+use Rattle.bm_law_work.specs.Parts.{Part, Say, Stand, Then}
+use Rattle.bm_law_scenario.specs.Closing.{AreSweeps, EndsPeriods, in_progress}
+use Rattle.bm_law_scenario.specs.Fills.{AreFills, fresh_stock, prefill}
 use Rattle.bm_due.specs.Standing.{HandlersStand}
-use Rattle.bm_lawful.specs.Grammar.{AreScripts, Front, IsLog, lines_of}
-use Rattle.bm_lawful.specs.Handlers.{HandlersDone}
-use Rattle.bm_lawful.specs.SectionWords.{SectionWords}
-use Rattle.bm_lawful.specs.Lawful.{LawfulLog}
-use Rattle.bm_lawful.specs.Opened.{opened_classes, uses_class}
-use Rattle.bm_lawful.specs.Parcels.{ParcelLaw, sends_alone}
-use Rattle.bm_mail.specs.LeavesParcels.{LeavesParcels}
-use Rattle.bm_mail.specs.SweepsTold.{ClosingTold, SweepsTold}
+use Rattle.bm_law_scenario.specs.Grammar.{AreScripts, Front, IsLog, lines_of}
+use Rattle.bm_law_scenario.specs.Handlers.{HandlersDone}
+use Rattle.bm_law_scenario.specs.SectionWords.{SectionWords}
+use Rattle.bm_law_scenario.specs.Lawful.{LawfulLog}
+use Rattle.bm_law_scenario.specs.Opened.{opened_classes, uses_class}
+use Rattle.bm_law_scenario.specs.Parcels.{ParcelLaw, sends_alone}
+use Rattle.bm_law_logs.specs.LeavesParcels.{LeavesParcels}
+use Rattle.bm_law_logs.specs.SweepsTold.{ClosingTold, SweepsTold}
 use Rattle.bm_closing.specs.EndsBegun.{EndsBegun}
-use Rattle.bm_lives.specs.Lives.{WholeLives}
-use Rattle.bm_lived.specs.AreLived.{AreLived}
-use Rattle.bm_lived.specs.Lived.{Lived, no_lives}
-use Rattle.bm_lived.specs.Told.{LivesOn}
-use Rattle.bm_lived.specs.Units.{FreedAsGiven}
-use Rattle.bm_levels.specs.AtProcessor.{lists_of, log_of}
-use Rattle.bm_levels.specs.AtTie.{TiedAt}
-use Rattle.bm_levels.specs.Here.{position_of}
-use Rattle.bm_levels.specs.Logged.{Tells}
-use Rattle.bm_levels.specs.Ready.{known_of}
-use Rattle.bm_levels.specs.Sound.{Sound}
-use Rattle.bm_levels.specs.declared.processor.Processor.{Processor}
-use Rattle.bm_levels.specs.declared.program.Program.{Program}
+use Rattle.bm_law_lives.specs.Lives.{WholeLives}
+use Rattle.bm_law_logs.specs.AreLived.{AreLived}
+use Rattle.bm_law_logs.specs.Lived.{Lived, no_lives}
+use Rattle.bm_law_logs.specs.Told.{LivesOn}
+use Rattle.bm_law_logs.specs.Units.{FreedAsGiven}
+use Rattle.bm_exec_levels.specs.AtProcessor.{lists_of, log_of}
+use Rattle.bm_exec_levels.specs.AtTie.{TiedAt}
+use Rattle.bm_exec_levels.specs.Here.{position_of}
+use Rattle.bm_exec_levels.specs.Logged.{Tells}
+use Rattle.bm_exec_levels.specs.Ready.{known_of}
+use Rattle.bm_exec_levels.specs.Sound.{Sound}
+use Rattle.bm_exec_levels.specs.declared.processor.Processor.{Processor}
+use Rattle.bm_exec_levels.specs.declared.program.Program.{Program}
 use Rattle.bm_plan.specs.Position.{Position, StandsAt}
 use Rattle.bm_plan.proofs.Positions.{whole}
 use Rattle.bm_world.specs.LivingState.{LivingState, lives_of}
-use Rattle.bm_opening.specs.Filling.{filling}
-use Rattle.bm_opening.specs.Opened.{IsOpen, outset}
+use Rattle.bm_run.specs.Filling.{filling}
+use Rattle.bm_run.specs.Opened.{IsOpen, outset}
 use Rattle.bm_run.specs.Closed.{Closed}
 use Rattle.bm_run.specs.Lines.{Wrote}
 use Rattle.bm_law_order.specs.Tie.{TiedBy}
-use Rattle.bm_levels.specs.AtPolls.{polled}
+use Rattle.bm_exec_levels.specs.AtPolls.{polled}
 use Rattle.bm_world.specs.ToldLiving.{LivingDoes}
 use Rattle.bm_run.proofs.Laid.{tied-led}
 use Rattle.bm_run.proofs.ParcelsTold.{tied-parcels}

@@ -7,8 +7,8 @@ use Rattle.bm_class.proofs.SizeLemmas.{class_below, class_of_size-least}
 use Rattle.bm_lang.specs.declared.scenario.TypeDeclaration.{TypeDeclaration}
 use Rattle.bm_law.specs.Stands.{times}
 use Rattle.std.proofs.lemmas.Bool.{cases_eq}
-use Rattle.bm_lawful.specs.Opened.{object_size, is_class, uses_class, opened_classes}
-use Rattle.bm_opening.specs.Opened.{ascends}
+use Rattle.bm_law_scenario.specs.Opened.{object_size, is_class, uses_class, opened_classes}
+use Rattle.bm_run.specs.Opened.{ascends}
 
 abbrev pub all : List ℕ
 all = 0 ∷ 1 ∷ 2 ∷ 3 ∷ 4 ∷ 5 ∷ 6 ∷ 7 ∷ 8 ∷ 9 ∷ 10 ∷ []

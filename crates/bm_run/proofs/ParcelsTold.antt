@@ -8,13 +8,13 @@ use Rattle.bm_law_order.specs.Story.{plainly}
 use Rattle.bm_law_order.specs.Chunk.{Chunk}
 use Rattle.bm_law_order.specs.Tie.{Tied}
 use Rattle.bm_law_laid.proofs.Parts.{boxes-fit, boxes-over}
-use Rattle.bm_mail.specs.LeavesParcels.{LeavesParcels}
+use Rattle.bm_law_logs.specs.LeavesParcels.{LeavesParcels}
 use Rattle.bm_post.specs.PostState.{PostState, inbox, told_in}
 use Rattle.bm_post.specs.Rights.{numbers}
 use Rattle.bm_world.specs.LivingState.{LivingState}
 use Rattle.bm_world.specs.Told.{told_boxes}
 use Rattle.bm_world.specs.ToldLiving.{LivingDoes, told_living}
-use Rattle.bm_opening.specs.Opened.{outset}
+use Rattle.bm_run.specs.Opened.{outset}
 use Rattle.bm_run.proofs.Laid.{outset-side, tied-led}
 
 -- those of processor 0, whose side it is

@@ -31,13 +31,13 @@ use Rattle.bm_law_order.proofs.Along.{by-append, fit-append, fit-front, fit-rest
 use Rattle.bm_law_order.proofs.Ties.{tie-judged}
 use Rattle.bm_grace.specs.Answers.{ArePassed}
 use Rattle.bm_grace.specs.Known.{side}
-use Rattle.bm_desk.specs.Rested.{Fails, IsIdle}
+use Rattle.bm_work.specs.Rested.{Fails, IsIdle}
 use Rattle.bm_world.specs.LivingState.{LivingState, known_living}
 use Rattle.bm_world.specs.Told.{IsSideOf}
 use Rattle.bm_world.specs.ToldLiving.{LivingDoes, living-join, living-same, told_living}
-use Rattle.bm_levels.specs.AtPolls.{Idle, Idles, IsDue, WaitsIn, WasIdle, polled, waits-whole}
-use Rattle.bm_levels.specs.AtPolls as idle
-use Rattle.bm_opening.specs.Opened.{outset}
+use Rattle.bm_exec_levels.specs.AtPolls.{Idle, Idles, IsDue, WaitsIn, WasIdle, polled, waits-whole}
+use Rattle.bm_exec_levels.specs.AtPolls as idle
+use Rattle.bm_run.specs.Opened.{outset}
 use Rattle.bm_run.proofs.Laid.{outset-side, tied-led, whole-one}
 use Rattle.bm_run.proofs.StampsBound.{Bound, bound-over}
 

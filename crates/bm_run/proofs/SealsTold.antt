@@ -5,8 +5,8 @@ use Rattle.bm_journal.specs.declared.entry.Entry.{Entry}
 use Rattle.bm_journal.specs.declared.entry.Entry.TheVariants as entry
 use Rattle.bm_law.specs.Lists.{Log}
 use Rattle.bm_law.specs.Spans.{own_entries}
-use Rattle.bm_lives.specs.Lives.{is_last}
-use Rattle.bm_lives.specs.StampLaw.{GivenFits, SealsFit, delayed_parts, is_delay_of, is_delayed, part_behind, parts_behind}
+use Rattle.bm_law_lives.specs.Lives.{is_last}
+use Rattle.bm_law_lives.specs.StampLaw.{GivenFits, SealsFit, delayed_parts, is_delay_of, is_delayed, part_behind, parts_behind}
 use Rattle.bm_law_order.specs.Chunk.{Chunk}
 use Rattle.bm_law_order.specs.Orders.{Order, by}
 use Rattle.bm_law_order.specs.Seals.{IsSealed, NothingWaits}
@@ -16,7 +16,7 @@ use Rattle.bm_law_order.specs.Whole.{whole}
 use Rattle.bm_law_order.proofs.Unwaited.{ArePlain, IsPlain, story-plain, story-sealed}
 use Rattle.bm_world.specs.LivingState.{LivingState}
 use Rattle.bm_world.specs.ToldLiving.{LivingDoes}
-use Rattle.bm_opening.specs.Opened.{outset}
+use Rattle.bm_run.specs.Opened.{outset}
 use Rattle.bm_run.proofs.Laid.{whole-one}
 
 pub tied-sealed : (judge : ℕ → Log → Chunk → Type 0) (pages : ℕ) (log : Log) (world : LivingState) → Tied judge LivingDoes [] (outset pages) 0 [] [] log world → IsSealed (by 0 log)

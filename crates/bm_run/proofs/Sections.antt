@@ -18,8 +18,8 @@ use Rattle.bm_cache.specs.Shown.{shown}
 use Rattle.bm_cache.specs.Tokens.{Token}
 use Rattle.bm_law.specs.State.{State}
 use Rattle.bm_cache.specs.declared.caches.Caches.{Caches}
-use Rattle.bm_desk.specs.Dated.{Dated}
-use Rattle.bm_desk.specs.DeskTests.{tests_by}
+use Rattle.bm_work.specs.Dated.{Dated}
+use Rattle.bm_work.specs.DeskTests.{tests_by}
 use Rattle.bm_due.specs.Plan.{Plan}
 use Rattle.bm_due.specs.Standing as standing
 use Rattle.bm_due.specs.Standing.{kind_of}
@@ -29,17 +29,17 @@ use Rattle.bm_plan.specs.Position.{StandsAt}
 use Rattle.bm_plan.specs.declared.handlers.Handlers.{Handlers}
 use Rattle.bm_plan.proofs.Positions.{ends-here}
 use Rattle.bm_world.specs.LivingState.{rights_living}
-use Rattle.bm_levels.specs.AtProcessor.{FineAt, IsAt, log_of, tests_of}
-use Rattle.bm_levels.specs.Growing.{IsInner, tells-inner}
-use Rattle.bm_levels.specs.Here.{Running, position_of}
-use Rattle.bm_levels.specs.Hosting.{at-say}
-use Rattle.bm_levels.specs.Logged.{Tells}
-use Rattle.bm_levels.specs.Ready.{IsReady, known_of, left_of, word_of}
-use Rattle.bm_levels.specs.Sound.{Sound}
-use Rattle.bm_levels.specs.Turns.{told-more}
-use Rattle.bm_levels.specs.declared.processor.Processor.{Processor}
-use Rattle.bm_levels.specs.declared.program.Program.{Program}
-use Rattle.bm_levels.specs.Ordinary.{Ordinary}
+use Rattle.bm_exec_levels.specs.AtProcessor.{FineAt, IsAt, log_of, tests_of}
+use Rattle.bm_exec_levels.specs.Growing.{IsInner, tells-inner}
+use Rattle.bm_exec_levels.specs.Here.{Running, position_of}
+use Rattle.bm_exec_levels.specs.Hosting.{at-say}
+use Rattle.bm_exec_levels.specs.Logged.{Tells}
+use Rattle.bm_exec_levels.specs.Ready.{IsReady, known_of, left_of, word_of}
+use Rattle.bm_exec_levels.specs.Sound.{Sound}
+use Rattle.bm_exec_levels.specs.Turns.{told-more}
+use Rattle.bm_exec_levels.specs.declared.processor.Processor.{Processor}
+use Rattle.bm_exec_levels.specs.declared.program.Program.{Program}
+use Rattle.bm_exec_levels.specs.Ordinary.{Ordinary}
 
 -- ---- a section word that moved
 

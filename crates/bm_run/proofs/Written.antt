@@ -6,16 +6,16 @@ use Rattle.bm_law.specs.Lists.{Leaves, Log, after}
 use Rattle.bm_law.specs.Spans.{own_entries}
 use Rattle.bm_law.specs.State.{State}
 use Rattle.bm_law.proofs.Spans.{Records-one, from-append, own-append}
-use Rattle.bm_deferred.specs.Parts.{Part, Stand, Then}
-use Rattle.bm_deferred.proofs.Grown.{grew-join, grew-map, grew-stand}
+use Rattle.bm_law_work.specs.Parts.{Part, Stand, Then}
+use Rattle.bm_law_work.proofs.Grown.{grew-join, grew-map, grew-stand}
 use Rattle.bm_plan.specs.declared.handlers.Handlers.{Handlers}
-use Rattle.bm_levels.specs.AtProcessor.{FineAt, lists_of, log_of}
-use Rattle.bm_levels.specs.Ordinary.{Ordinary}
-use Rattle.bm_levels.specs.Ready.{known_of}
-use Rattle.bm_levels.specs.Sound.{Sound}
-use Rattle.bm_levels.specs.Stated.{ordinary-joined}
-use Rattle.bm_levels.specs.declared.processor.Processor.{Processor}
-use Rattle.bm_levels.specs.declared.program.Program.{Program}
+use Rattle.bm_exec_levels.specs.AtProcessor.{FineAt, lists_of, log_of}
+use Rattle.bm_exec_levels.specs.Ordinary.{Ordinary}
+use Rattle.bm_exec_levels.specs.Ready.{known_of}
+use Rattle.bm_exec_levels.specs.Sound.{Sound}
+use Rattle.bm_exec_levels.specs.Stated.{ordinary-joined}
+use Rattle.bm_exec_levels.specs.declared.processor.Processor.{Processor}
+use Rattle.bm_exec_levels.specs.declared.program.Program.{Program}
 use Rattle.bm_run.specs.Lines.{Wrote}
 
 -- ---- what the log of the one processor tells

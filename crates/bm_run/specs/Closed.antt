@@ -7,14 +7,14 @@ use Rattle.bm_law.specs.Stands.{times}
 use Rattle.bm_law.specs.State.{State, seen, seven_lists}
 use Rattle.bm_cache.specs.Shown.{shown}
 use Rattle.bm_cache.specs.Tokens.{Token, number_of}
-use Rattle.bm_deferred.specs.Grown.{GrewBy}
-use Rattle.bm_deferred.specs.Parts.{Then}
+use Rattle.bm_law_work.specs.Grown.{GrewBy}
+use Rattle.bm_law_work.specs.Parts.{Then}
 use Rattle.bm_post.specs.PostState.{told_in}
-use Rattle.bm_mail.specs.SweepsTold.{SweepsTold}
+use Rattle.bm_law_logs.specs.SweepsTold.{SweepsTold}
 use Rattle.bm_closing.specs.EndsBegun.{EndsBegun}
-use Rattle.bm_levels.specs.AtProcessor.{lists_of, log_of}
-use Rattle.bm_levels.specs.Ready.{known_of}
-use Rattle.bm_levels.specs.declared.processor.Processor.{Processor}
+use Rattle.bm_exec_levels.specs.AtProcessor.{lists_of, log_of}
+use Rattle.bm_exec_levels.specs.Ready.{known_of}
+use Rattle.bm_exec_levels.specs.declared.processor.Processor.{Processor}
 
 -- The processor was closed, and its log is this one: the periods in progress ended, and each of these classes was swept. At the
 -- end nothing stands in their lists; the other classes are as they were, and no call is in a cache or has anything in hand.

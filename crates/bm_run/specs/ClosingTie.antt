@@ -21,13 +21,13 @@ use Rattle.bm_law_order.specs.Story.{at_level, deeds, lines}
 use Rattle.bm_law_order.specs.Tie.{Tied, TiedBy, whatever}
 use Rattle.bm_law_order.proofs.ActsJoin.{acts-append, acts-before}
 use Rattle.bm_law_order.proofs.Unwaited.{waits-front as nothing-front}
-use Rattle.bm_law_order.proofs.Ties.{law-closed, law-done, law-quiet, law-said, law-stepped, tie-unjudged}
+use Rattle.bm_law_order.proofs.Ties.{law-closed, law-done, law-quiet, law-said, law-stepped, tie-first, tie-unjudged}
 use Rattle.bm_grace.specs.PlainState.{domain_in}
 use Rattle.bm_closing.specs.Told.{at_once, passed_at_once}
-use Rattle.bm_levels.specs.AtPolls.{IsDue, WaitsIn, WasIdle, polled, unpolled}
-use Rattle.bm_levels.specs.AtPolls as idle
-use Rattle.bm_levels.specs.AtTie.{as-judged, first-told}
-use Rattle.bm_levels.specs.declared.processor.Processor.{Processor}
+use Rattle.bm_exec_levels.specs.AtPolls.{IsDue, WaitsIn, WasIdle, polled, unpolled}
+use Rattle.bm_exec_levels.specs.AtPolls as idle
+use Rattle.bm_exec_levels.specs.AtTie.{as-judged}
+use Rattle.bm_exec_levels.specs.declared.processor.Processor.{Processor}
 use Rattle.bm_world.specs.LivingState.{LivingState, known_living}
 use Rattle.bm_world.specs.ToldLiving.{LivingDoes, living-join, living-same, told_living}
 
@@ -104,7 +104,7 @@ ends-noted since start done es more (Some log) (Some now) side a t =
 -- the first acts and entries are told
 pub ends-told : (since : Log) (start : LivingState) (done more : List Act) (es others : List Entry) (told : Option Log) (side : LivingState) → Shows done es → Ends since start (done ++ more) (es ++ others) told side → Ends since start more others told side
 ends-told since start done more es others None side s t = tt
-ends-told since start done more es others (Some log) side s t = first-told since start 0 done more es others log side s.chunk s.acts_are s.entries_are (λ before q. unpolled since start 0 before s.chunk s.free) t
+ends-told since start done more es others (Some log) side s t = tie-first (polled since start) (unpolled since start) LivingDoes living-same living-join since start 0 done more es others log side s.chunk s.acts_are s.entries_are (λ before q. unpolled since start 0 before s.chunk s.free) t
 
 -- ---- a period that was waited for
 
@@ -133,7 +133,7 @@ waits-ended c d x m log before e w = ap (λ (s : State ℕ). stamp_of d (s.rows 
 waited : (since : Log) (start : LivingState) (d : Domain) (x n m c : ℕ) (ws : List ℕ) (p : Period) (log : Log) (side : LivingState) → p.domain ≡ d → n ≤ x → WaitsIn c d x log → Tied (polled since start) LivingDoes since start 0 (at_once d x n m ws p) (passed_at_once d n m c p) log side → TiedBy (polled since start) LivingDoes since start 0 [] [] (Some log) side
 waited since start d x n m c ws p log side q b w t =
     as-judged since start 0 (act.Reads d x m ∷ []) (entry.Pass c d m ∷ []) (Some log) side (chunk.Passing c d x m) refl refl was
-    (first-told since start 0 begun (act.Reads d x m ∷ []) said (entry.Pass c d m ∷ []) log side (chunk.WholePeriod n ws p) (ap (λ k. act.Begins k n ∷ act.Looks k ws ∷ act.Finishes p ∷ []) q) (ap (λ k. entry.Begin k n ∷ entry.Finish p ∷ []) q) due t)
+    (tie-first (polled since start) (unpolled since start) LivingDoes living-same living-join since start 0 begun (act.Reads d x m ∷ []) said (entry.Pass c d m ∷ []) log side (chunk.WholePeriod n ws p) (ap (λ k. act.Begins k n ∷ act.Looks k ws ∷ act.Finishes p ∷ []) q) (ap (λ k. entry.Begin k n ∷ entry.Finish p ∷ []) q) due t)
   where
     begun : List Act
     begun = act.Begins d n ∷ act.Looks d ws ∷ act.Finishes p ∷ []

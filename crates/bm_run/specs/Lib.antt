@@ -1,3 +1,5 @@
+pub mod Filling
+pub mod Opened
 pub mod Lines
 pub mod Closed
 pub mod ClosingTie

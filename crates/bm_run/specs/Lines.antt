@@ -5,13 +5,13 @@ use Rattle.bm_lang.specs.declared.scenario.RunLine.{RunLine}
 use Rattle.bm_lang.specs.declared.scenario.Parts.{Parts}
 use Rattle.bm_lang.specs.declared.scenario.Script.{Script}
 use Rattle.bm_lang.specs.Limits.{cost_on, script_cost}
-use Rattle.bm_deferred.specs.Parts.{Part, Nothing}
-use Rattle.bm_deferred.specs.Grown.{GrewBy}
-use Rattle.bm_lawful.specs.Opened.{opened_classes}
-use Rattle.bm_lawful.specs.Works.{WorkBehind}
-use Rattle.bm_levels.specs.AtProcessor.{lists_of, log_of}
-use Rattle.bm_levels.specs.Ordinary.{Ordinary}
-use Rattle.bm_levels.specs.declared.processor.Processor.{Processor}
+use Rattle.bm_law_work.specs.Parts.{Part, Nothing}
+use Rattle.bm_law_work.specs.Grown.{GrewBy}
+use Rattle.bm_law_scenario.specs.Opened.{opened_classes}
+use Rattle.bm_law_scenario.specs.Works.{WorkBehind}
+use Rattle.bm_exec_levels.specs.AtProcessor.{lists_of, log_of}
+use Rattle.bm_exec_levels.specs.Ordinary.{Ordinary}
+use Rattle.bm_exec_levels.specs.declared.processor.Processor.{Processor}
 
 -- how many statements some lines run on processor 0 at most
 abbrev pub lines_cost : List Script → List RunLine → ℕ

@@ -7,7 +7,7 @@ ghost use Rattle.bm_class.specs.Watermarks.{marks_of_size};
 ghost use Rattle.bm_lang.specs.Names.{has_size, node_size};
 ghost use Rattle.bm_lang.specs.Spelling.{type_form};
 ghost use Rattle.bm_lang.specs.declared.scenario.TypeDeclaration.{TypeDeclaration};
-ghost use Rattle.bm_lawful.specs.Opened.{object_size, opened_classes};
+ghost use Rattle.bm_law_scenario.specs.Opened.{object_size, opened_classes};
 
 use bm_class::{Class, Marks, class_of, marks};
 use bm_lang::{Node, TypeDeclaration};

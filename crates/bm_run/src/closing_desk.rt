@@ -5,19 +5,19 @@ ghost use Rattle.std.proofs.Common.{◌∙◌, ap, subst, sym};
 ghost use Rattle.std.proofs.lemmas.Bool.{and_parts};
 ghost use Rattle.bm_cache.specs.Span.{Face};
 ghost use Rattle.bm_cache.specs.Steps.{is_reply, is_step};
-ghost use Rattle.bm_desk.specs.DeskTests.{tests_by};
-ghost use Rattle.bm_desk.specs.Goes.{Alike};
-ghost use Rattle.bm_desk.specs.Still.{alike-joined, alike-still, goes-still};
+ghost use Rattle.bm_work.specs.DeskTests.{tests_by};
+ghost use Rattle.bm_work.specs.Goes.{Alike};
+ghost use Rattle.bm_work.specs.Still.{alike-joined, alike-still, goes-still};
 ghost use Rattle.bm_law_order.specs.Quiet.{is_quiet};
 ghost use Rattle.bm_world.specs.LivingState.{known_living, rights_living};
-ghost use Rattle.bm_levels.specs.AtRests.{RestedBy, RestsBy, law-kept, law-passed, law-rested_done, rests-begun, rests-looked, rests-missed, rests-read, rests-tied, rests-whole, waits-in};
+ghost use Rattle.bm_exec_levels.specs.AtRests.{RestedBy, RestsBy, law-kept, law-passed, law-rested_done, rests-begun, rests-looked, rests-missed, rests-read, rests-tied, rests-whole, waits-in};
 ghost use Rattle.bm_run.specs.ClosingTie.{EndsOne, IsOne, ends-back, ends-closed, ends-did, ends-noted, ends-quiet, ends-said, ends-stepped, ends-told, ends-waited};
 
 use bm_cache::{Caches, Host};
 use bm_closing::Ended;
-use bm_desk::Desk;
+use bm_work::Desk;
 use bm_journal::{Keep, Level};
-use bm_levels::Since;
+use bm_exec_levels::Since;
 use bm_world::LivingSide;
 use std::marker::PhantomData;
 

@@ -7,23 +7,23 @@ ghost use Rattle.bm_journal.specs.Recording.{Appends};
 ghost use Rattle.bm_grace.specs.Calls.{entered, left};
 ghost use Rattle.bm_cache.specs.Shown.{shown};
 ghost use Rattle.bm_cache.specs.Steps.{is_note};
-ghost use Rattle.bm_deferred.specs.Parts.{Stand};
+ghost use Rattle.bm_law_work.specs.Parts.{Stand};
 ghost use Rattle.bm_due.specs.Standing.{Stays as StaysKind, kind_of};
 ghost use Rattle.bm_exec.specs.Lists.{Behind, behind_of};
-ghost use Rattle.bm_levels.specs.AtProcessor.{FineAt, SameLives, lists_of, log_of};
+ghost use Rattle.bm_exec_levels.specs.AtProcessor.{FineAt, SameLives, lists_of, log_of};
 ghost use Rattle.bm_law.specs.Lists.{Log};
 ghost use Rattle.bm_law_order.specs.Quiet.{is_quiet};
 ghost use Rattle.bm_world.specs.LivingState.{LivingState};
-ghost use Rattle.bm_levels.specs.AtTie.{TiedAt};
-ghost use Rattle.bm_levels.specs.Growing.{IsInner};
-ghost use Rattle.bm_levels.specs.Ordinary.{Statements};
-ghost use Rattle.bm_levels.specs.Ready.{asked_of, known_of, left_of, word_of};
-ghost use Rattle.bm_levels.specs.Sound.{Sound};
-ghost use Rattle.bm_levels.specs.declared.program.Program.{Program as ProgramValue};
+ghost use Rattle.bm_exec_levels.specs.AtTie.{TiedAt};
+ghost use Rattle.bm_exec_levels.specs.Growing.{IsInner};
+ghost use Rattle.bm_exec_levels.specs.Ordinary.{Statements};
+ghost use Rattle.bm_exec_levels.specs.Ready.{asked_of, known_of, left_of, word_of};
+ghost use Rattle.bm_exec_levels.specs.Sound.{Sound};
+ghost use Rattle.bm_exec_levels.specs.declared.program.Program.{Program as ProgramValue};
 ghost use Rattle.bm_run.specs.Lines.{BehindScript, Wrote};
 
 use bm_journal::{Entry, Level};
-use bm_levels::{Deferred, Processor, Program, Since, enter_section, leave_section, settle_script};
+use bm_exec_levels::{Deferred, Processor, Program, Since, enter_section, leave_section, settle_script};
 use bm_word::{Name, NoMemory};
 
 // Records an entry of ordinary code that moves nothing.

@@ -4,7 +4,7 @@ use Rattle.bm_law.specs.Lists.{Log}
 use Rattle.bm_cache.specs.Tests.{Tests}
 use Rattle.bm_cache.specs.Span.{Came, Face, Goes}
 use Rattle.bm_cache.specs.declared.caches.Caches.{Caches}
-use Rattle.bm_work.proofs.Spans.{came-join}
+use Rattle.bm_work_lists.proofs.Spans.{came-join}
 
 -- What came over all of them: a call of a host at its level, after others.
 module _ {H R : Type 0} (log : R → Option Log) (tests : H → Tests) (faces : H → Face) (waits : H → ℕ) (stays : H → H → Type 0) (holds : H → Caches R) where

@@ -17,8 +17,8 @@ use Rattle.bm_cache.specs.Tests.{Reusable, Tests}
 use Rattle.bm_cache.specs.Tokens.{Token}
 use Rattle.bm_cache.specs.declared.caches.Caches.{Caches}
 use Rattle.bm_cache.proofs.Opened.{fine-opened}
-use Rattle.bm_desk.specs.Dated.{DatedRow}
-use Rattle.bm_desk.specs.Rests.{Rests}
+use Rattle.bm_work.specs.Dated.{DatedRow}
+use Rattle.bm_work.specs.Rests.{Rests}
 
 -- how many periods may still begin, of both domains
 pub same-begins : (a b : Known) (d : Domain) → b.grace ≡ a.grace → (side d b).begins ≡ (side d a).begins

@@ -5,17 +5,17 @@
 ghost use Rattle.std.specs.Prelude.{◌≤◌, ◌+◌, ◌*◌, length};
 ghost use Rattle.bm_journal.specs.declared.ids.Domain.{Domain};
 ghost use Rattle.bm_grace.specs.Known.{side};
-ghost use Rattle.bm_behind.specs.Settled.{Settled};
+ghost use Rattle.bm_exec_levels.specs.Settled.{Settled};
 
 use crate::desks::desk_over;
 use crate::lent::Lent;
 use crate::logs::has_log;
 use crate::openings::{give_up, side_over};
 use crate::still_desk::{Gives, StillDesk};
-use bm_behind::{until_down, work_behind};
+use bm_exec_levels::{until_down, work_behind};
 use bm_cache::{Given, alloc};
 use bm_class::Class;
-use bm_desk::Desk;
+use bm_work::Desk;
 use bm_journal::{Keep, Recorder};
 use bm_word::NoMemory;
 use std::process::Abort;

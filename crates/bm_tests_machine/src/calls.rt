@@ -6,14 +6,14 @@ ghost use Rattle.bm_cache.specs.Shown.{shown};
 ghost use Rattle.bm_cache.specs.Tests.{Waits};
 ghost use Rattle.bm_cache.specs.Tokens.{number_of};
 ghost use Rattle.bm_cache.specs.declared.allocate.Given.TheVariants as given;
-ghost use Rattle.bm_desk.specs.Rests.{Rests};
+ghost use Rattle.bm_work.specs.Rests.{Rests};
 ghost use Rattle.bm_law.specs.Stands.{stands};
 ghost use Rattle.bm_law.specs.State.{seen};
-ghost use Rattle.bm_desk.specs.declared.deferred.Worked.TheVariants as ended;
+ghost use Rattle.bm_work.specs.declared.deferred.Worked.TheVariants as ended;
 
 use bm_cache::{Given, Host, alloc, free_delayed};
 use bm_class::Class;
-use bm_desk::{Desk, Worked, work};
+use bm_work::{Desk, Worked, work};
 use bm_journal::Recorder;
 use bm_page::Unit;
 use std::process::Abort;

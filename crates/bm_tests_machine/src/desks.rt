@@ -8,9 +8,9 @@ ghost use Rattle.bm_cache.specs.Shown.{shown};
 ghost use Rattle.bm_cache.specs.Span.{Fine};
 ghost use Rattle.bm_grace.specs.Known.{side as side_of};
 ghost use Rattle.bm_law.specs.State.{opening};
-ghost use Rattle.bm_desk.specs.Dated.{Dated};
-ghost use Rattle.bm_desk.specs.DeskTests.{tests_by};
-ghost use Rattle.bm_desk.specs.Rests.{Rests};
+ghost use Rattle.bm_work.specs.Dated.{Dated};
+ghost use Rattle.bm_work.specs.DeskTests.{tests_by};
+ghost use Rattle.bm_work.specs.Rests.{Rests};
 
 use crate::handler_desk::{Ground, Kept};
 use crate::openings::{fetched, opened};

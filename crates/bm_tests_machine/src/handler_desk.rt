@@ -4,14 +4,14 @@
 ghost use Rattle.std.specs.Prelude.{◌≡◌, ℕ, ◌+◌, if◌then◌else◌, refl};
 ghost use Rattle.std.proofs.Common.{◌∙◌, ap};
 ghost use Rattle.bm_cache.specs.Span.{Came, Face, Fine, Goes};
-ghost use Rattle.bm_desk.specs.DeskTests.{tests_by};
-ghost use Rattle.bm_desk.specs.Goes.{Alike};
-ghost use Rattle.bm_desk.specs.Still.{alike-joined, alike-still, goes-still};
+ghost use Rattle.bm_work.specs.DeskTests.{tests_by};
+ghost use Rattle.bm_work.specs.Goes.{Alike};
+ghost use Rattle.bm_work.specs.Still.{alike-joined, alike-still, goes-still};
 
 use crate::still_desk::Gives;
 use bm_cache::{Caches, Given, Host, alloc};
 use bm_class::Class;
-use bm_desk::Desk;
+use bm_work::Desk;
 use bm_journal::{Level, Recorder};
 use bm_page::Unit;
 use bm_world::World;

@@ -5,8 +5,8 @@
 ghost use Rattle.std.specs.Prelude.{◌≡◌, ◌+◌, ◌<◌, ◌≤◌, ◌%◌};
 ghost use Rattle.bm_journal.specs.declared.ids.Domain.TheVariants.{Plain};
 ghost use Rattle.bm_grace.specs.Known.{side};
-ghost use Rattle.bm_desk.specs.DeskTests.{since_test};
-ghost use Rattle.bm_desk.specs.Works.{Called, Stands};
+ghost use Rattle.bm_work.specs.DeskTests.{since_test};
+ghost use Rattle.bm_work.specs.Works.{Called, Stands};
 ghost use Rattle.bm_cache.specs.Tests.{Either, Passes};
 ghost use Rattle.bm_cache.specs.Tokens.{Token};
 
@@ -16,7 +16,7 @@ use crate::logs::has_log;
 use crate::openings::{give_up, side_over, waiting_side};
 use crate::still_desk::StillDesk;
 use bm_class::Class;
-use bm_desk::{Desk, poll};
+use bm_work::{Desk, poll};
 use bm_grace::{Done, Grace};
 use bm_journal::{Domain, Keep, Recorder};
 use bm_world::World;

@@ -4,8 +4,8 @@
 ghost use Rattle.std.specs.Prelude.{◌≡◌, ◌≤◌};
 ghost use Rattle.bm_journal.specs.declared.ids.Domain.{Domain as DomainValue};
 ghost use Rattle.bm_grace.specs.Known.{side as side_of};
-ghost use Rattle.bm_desk.specs.DeskTests.{tests_by};
-ghost use Rattle.bm_desk.specs.Rests.{Rests};
+ghost use Rattle.bm_work.specs.DeskTests.{tests_by};
+ghost use Rattle.bm_work.specs.Rests.{Rests};
 ghost use Rattle.bm_post.specs.PostState.{rights_in};
 ghost use Rattle.bm_world.specs.SideState.{known_of};
 

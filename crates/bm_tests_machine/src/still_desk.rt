@@ -3,13 +3,13 @@
 ghost use Rattle.std.specs.Prelude.{◌≡◌, ℕ, refl};
 ghost use Rattle.std.proofs.Common.{◌∙◌, ap};
 ghost use Rattle.bm_cache.specs.Span.{Face};
-ghost use Rattle.bm_desk.specs.DeskTests.{tests_by};
-ghost use Rattle.bm_desk.specs.Goes.{Alike};
-ghost use Rattle.bm_desk.specs.Still.{alike-joined, alike-still, goes-still};
+ghost use Rattle.bm_work.specs.DeskTests.{tests_by};
+ghost use Rattle.bm_work.specs.Goes.{Alike};
+ghost use Rattle.bm_work.specs.Still.{alike-joined, alike-still, goes-still};
 
 use bm_cache::{Caches, Host};
 use bm_closing::Ended;
-use bm_desk::Desk;
+use bm_work::Desk;
 use bm_journal::{Level, Recorder};
 use bm_world::World;
 

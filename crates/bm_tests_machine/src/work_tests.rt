@@ -18,7 +18,7 @@ use bm_cache::{Caches, Given, Host, alloc, free_delayed};
 use bm_class::Class;
 use bm_journal::{Domain, Level, Recorder, Tally};
 use bm_page::{Pool, Unit};
-use bm_work::{
+use bm_work_lists::{
     begin_second, begin_work, drain_to_hand, gather_delayed, read_count, refill_from_lists,
 };
 use std::process::Abort;

@@ -1,6 +1,6 @@
 //! The first form of a text that can't be run so far.
 
-use bm_built::first_unbuilt;
+use bm_run_yet::first_unbuilt;
 use bm_lang::{BadKind, BadText, Place};
 use std::alloc::Global;
 use std::test::Fail;

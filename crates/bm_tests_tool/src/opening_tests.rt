@@ -6,8 +6,8 @@ use bm_class::Class;
 use bm_exec::Types;
 use bm_journal::Recorder;
 use bm_lang::{limits, read_scenario};
-use bm_levels::{Processor, Program};
-use bm_opening::open;
+use bm_exec_levels::{Processor, Program};
+use bm_run::open;
 use std::process::Abort;
 use std::test::Fail;
 
@@ -25,7 +25,7 @@ fn two_classes(rt: &impl Abort) -> [Class; 2]
 /// What its log tells is counted here, entry by entry: units 0, 1, 2 and 3 filled the least class. Its page was the only one, so
 /// none was left for the greatest. No handler is planned, and there is a table for each of three.
 #[test]
-#[tactic(auto, using(bm_opening::proofs::Started::idle_program))]
+#[tactic(auto, using(bm_run::proofs::Started::idle_program))]
 fn the_first_class_takes_the_only_page(rt: HostRuntime) -> Result<(), Fail> {
     let classes = two_classes(&rt);
     let scenario = read_scenario(rt.alloc(), TEXT)?;

@@ -6,7 +6,7 @@ use Rattle.bm_lang.specs.declared.scenario.Script.{Script}
 use Rattle.bm_lang.specs.Limits.{first_limit}
 use Rattle.bm_lang.specs.Scenarios.{Reads}
 use Rattle.bm_lang.specs.Tokens.{tokens, start}
-use Rattle.bm_built.specs.Unbuilt.{unbuilt_before}
+use Rattle.bm_run_yet.specs.Unbuilt.{unbuilt_before}
 use Rattle.bm_command.specs.declared.command.Command.{Command}
 use Rattle.bm_command.specs.declared.command.Command.TheVariants.{Replay}
 use Rattle.bm_tool.specs.declared.refusal.Refusal.{Refusal}

@@ -14,7 +14,7 @@ use Rattle.bm_lang.specs.Scenarios.{Reads}
 use Rattle.bm_lang.specs.Tokens.{tokens, start}
 use Rattle.bm_check.specs.declared.rule.Rule.{Rule}
 use Rattle.bm_check.specs.Scripts.{IsRejected}
-use Rattle.bm_built.specs.Unbuilt.{unbuilt_before, not_yet}
+use Rattle.bm_run_yet.specs.Unbuilt.{unbuilt_before, not_yet}
 use Rattle.bm_command.specs.declared.command.Command.{Command}
 use Rattle.bm_command.specs.declared.command.Command.TheVariants.{Replay, Check}
 use Rattle.bm_command.specs.Words.{command_of}

@@ -1,8 +1,17 @@
-pub mod Fits
-pub mod FromLists
-pub mod Grown
-pub mod Lists
-pub mod Ranges
-pub mod Spans
+pub mod Rests
+pub mod Tests
+pub mod Onward
+pub mod Alike
+pub mod Points
 pub mod Steps
-pub mod Takes
+mod Turning
+pub mod Mail
+pub mod Batches
+pub mod Came
+pub mod Moved
+pub mod Gone
+pub mod Sealed
+pub mod Passings
+pub mod Thens
+pub mod Sides
+pub mod Owing

@@ -1,5 +1,11 @@
-pub mod Grown
-pub mod Fit
-pub mod WorkSpan
-pub mod FromLists
-pub mod Takes
+pub mod Goes
+pub mod Periods
+pub mod DeskTests
+pub mod Dated
+pub mod Onward
+pub mod Rests
+pub mod Stops
+pub mod Still
+pub mod Works
+pub mod Owed
+pub mod Rested

@@ -1,25 +1,20 @@
-//! What deferred work does to the caches of one processor: units move between the lists and the hand of its level, with
-//! whatever handlers run at the points.
+//! Deferred work on a desk: the caches of a processor together with its side of all that processors share.
 #![tactic(auto)]
 
-mod add;
-mod batch;
-mod bring;
-mod count;
-mod drain;
-mod extra;
-mod law;
-mod refill;
-mod second;
-mod take;
+mod deferred;
+mod desk;
+mod fetches;
+mod leaving;
+mod lists;
+mod loans;
+mod parcels;
+mod period;
+mod polls;
+mod returns;
+mod sends;
+mod stages;
+mod stamps;
 
-pub use add::add_unit;
-pub use batch::gather_delayed;
-pub use bring::{bring_ready, bring_second};
-pub use count::{begin_work, read_count};
-pub use drain::{drain_to_hand, unload};
-pub use extra::take_all_extra;
-pub use law::whole_refill;
-pub use refill::refill_from_lists;
-pub use second::begin_second;
-pub use take::take_one;
+pub use deferred::{Worked, work};
+pub use desk::Desk;
+pub use polls::poll;

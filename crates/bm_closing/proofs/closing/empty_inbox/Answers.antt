@@ -7,15 +7,15 @@ use Rattle.bm_post.specs.Rights.{numbers}
 use Rattle.bm_cache.specs.Shown.{shown}
 use Rattle.bm_cache.specs.Tests.{Tests, Proper}
 use Rattle.bm_cache.specs.Tokens.{number_of}
-use Rattle.bm_desk.specs.DeskTests.{tests_by}
-use Rattle.bm_desk.specs.Goes.{Alike}
-use Rattle.bm_desk.specs.Onward.{Onward}
-use Rattle.bm_desk.specs.Owed.{Whatever}
-use Rattle.bm_desk.proofs.Owing.{owes-called}
+use Rattle.bm_work.specs.DeskTests.{tests_by}
+use Rattle.bm_work.specs.Goes.{Alike}
+use Rattle.bm_work.specs.Onward.{Onward}
+use Rattle.bm_work.specs.Owed.{Whatever}
+use Rattle.bm_work.proofs.Owing.{owes-called}
 use Rattle.bm_law_order.specs.Act.{Act}
 use Rattle.bm_closing.specs.Told.{ReceivesAll, receives_all}
 use Rattle.bm_closing.proofs.Owed.{at-end-with}
-use Rattle.bm_desk.proofs.Came.{lasting-onward}
+use Rattle.bm_work.proofs.Came.{lasting-onward}
 use Rattle.bm_closing.specs.Arrived.{Came}
 use Rattle.bm_closing.proofs.AtEnds.{alike-graces, at-end-on, came-apart, when-ok}
 use Rattle.bm_closing.proofs.closing.empty_inbox.Goals as goal

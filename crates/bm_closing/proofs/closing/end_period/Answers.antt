@@ -7,9 +7,9 @@ use Rattle.bm_grace.specs.Known.{side}
 use Rattle.bm_grace.specs.Rest.{MovesNumber}
 use Rattle.bm_cache.specs.Shown.{shown}
 use Rattle.bm_cache.specs.declared.caches.Caches.{Caches}
-use Rattle.bm_desk.proofs.Sides.{ages-same, alike-same}
-use Rattle.bm_desk.specs.Owed.{Whatever}
-use Rattle.bm_desk.proofs.Owing.{owes-called, owes-noted}
+use Rattle.bm_work.proofs.Sides.{ages-same, alike-same}
+use Rattle.bm_work.specs.Owed.{Whatever}
+use Rattle.bm_work.proofs.Owing.{owes-called, owes-noted}
 use Rattle.bm_closing.specs.AtEnd.{ended_at}
 use Rattle.bm_closing.proofs.Owed.{at-end-with, finishing}
 use Rattle.bm_closing.proofs.AtEnds.{alike-moved, at-end-called, at-end-noted, odd-ended}

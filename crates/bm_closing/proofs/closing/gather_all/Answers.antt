@@ -10,10 +10,10 @@ use Rattle.bm_cache.specs.Tokens.{Token, number_of}
 use Rattle.bm_cache.specs.declared.caches.Caches.{Caches}
 use Rattle.bm_journal.specs.declared.ids.Domain.TheVariants.{Tracing}
 use Rattle.bm_cache.specs.Span.{Face}
-use Rattle.bm_desk.specs.Goes.{Alike}
-use Rattle.bm_desk.specs.DeskTests.{tests_by}
-use Rattle.bm_desk.specs.Owed.{Whatever}
-use Rattle.bm_desk.proofs.Owing.{owes-called, has-stamp}
+use Rattle.bm_work.specs.Goes.{Alike}
+use Rattle.bm_work.specs.DeskTests.{tests_by}
+use Rattle.bm_work.specs.Owed.{Whatever}
+use Rattle.bm_work.proofs.Owing.{owes-called, has-stamp}
 use Rattle.bm_closing.specs.Arrived.{Arrived}
 use Rattle.bm_closing.specs.Gathered.{swept}
 use Rattle.bm_closing.specs.Told.{receives_all, waiting}

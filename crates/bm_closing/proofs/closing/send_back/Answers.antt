@@ -16,15 +16,15 @@ use Rattle.bm_cache.specs.Span.{Face}
 use Rattle.bm_cache.specs.Tests.{Tests, Proper}
 use Rattle.bm_cache.specs.Tokens.{Token, number_of}
 use Rattle.bm_cache.specs.declared.caches.Caches.{Caches}
-use Rattle.bm_desk.specs.DeskTests.{tests_by}
-use Rattle.bm_desk.specs.Goes.{Alike}
-use Rattle.bm_desk.specs.Onward.{Onward}
-use Rattle.bm_desk.specs.Owed.{Whatever}
-use Rattle.bm_desk.proofs.Alike.{alike-posts}
-use Rattle.bm_desk.proofs.Came.{lasting-onward}
-use Rattle.bm_desk.proofs.Gone.{returned-apart, returned-once}
-use Rattle.bm_desk.proofs.Owing.{owes-called, shows, units-sealed}
-use Rattle.bm_desk.proofs.Sides.{tests-shared}
+use Rattle.bm_work.specs.DeskTests.{tests_by}
+use Rattle.bm_work.specs.Goes.{Alike}
+use Rattle.bm_work.specs.Onward.{Onward}
+use Rattle.bm_work.specs.Owed.{Whatever}
+use Rattle.bm_work.proofs.Alike.{alike-posts}
+use Rattle.bm_work.proofs.Came.{lasting-onward}
+use Rattle.bm_work.proofs.Gone.{returned-apart, returned-once}
+use Rattle.bm_work.proofs.Owing.{owes-called, shows, units-sealed}
+use Rattle.bm_work.proofs.Sides.{tests-shared}
 use Rattle.bm_closing.specs.SentBack.{SentBack}
 use Rattle.bm_closing.proofs.Returning.{at-end-returned, second-held, sent-back}
 use Rattle.bm_closing.proofs.closing.send_back.Goals as goal

@@ -6,8 +6,8 @@ use Rattle.bm_law.specs.State.{seven_lists}
 use Rattle.bm_post.specs.Rights.{Loses, numbers}
 use Rattle.bm_law_order.specs.Act as act
 use Rattle.bm_law_order.specs.Chunk as chunk
-use Rattle.bm_desk.specs.Owed.{Whatever}
-use Rattle.bm_desk.proofs.Owing.{shows}
+use Rattle.bm_work.specs.Owed.{Whatever}
+use Rattle.bm_work.proofs.Owing.{shows}
 use Rattle.bm_closing.specs.Told.{receives_all}
 use Rattle.bm_closing.proofs.Owed.{at-end-with}
 use Rattle.bm_cache.specs.Shown.{shown}

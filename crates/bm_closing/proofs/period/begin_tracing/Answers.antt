@@ -2,7 +2,7 @@ use Rattle.std.proofs.Common.{[], ◌∷◌, subst}
 use Rattle.bm_journal.specs.declared.ids.Domain.TheVariants.{Tracing}
 use Rattle.bm_grace.specs.Begins.{begin_act}
 use Rattle.bm_grace.specs.declared.answer.Began.{Began}
-use Rattle.bm_desk.proofs.Alike.{alike-began}
+use Rattle.bm_work.proofs.Alike.{alike-began}
 use Rattle.bm_closing.proofs.AtEnds.{alike-told}
 use Rattle.bm_closing.proofs.period.begin_tracing.Goals as goal
 

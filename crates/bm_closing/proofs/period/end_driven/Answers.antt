@@ -1,8 +1,8 @@
 use Rattle.std.proofs.Common.{◌∙◌, [], ◌∷◌, ap}
 use Rattle.bm_law_order.specs.Act as act
 use Rattle.bm_grace.specs.Known.{Known, side}
-use Rattle.bm_desk.specs.Still.{alike-joined}
-use Rattle.bm_desk.proofs.Alike.{alike-finished, alike-looked}
+use Rattle.bm_work.specs.Still.{alike-joined}
+use Rattle.bm_work.proofs.Alike.{alike-finished, alike-looked}
 use Rattle.bm_closing.proofs.AtEnds.{alike-told}
 use Rattle.bm_closing.proofs.Classes.{other-changed}
 use Rattle.bm_closing.proofs.period.end_driven.Goals as goal

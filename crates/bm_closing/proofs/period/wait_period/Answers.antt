@@ -3,8 +3,8 @@ use Rattle.bm_journal.specs.declared.ids.Domain.TheVariants.{Plain, Tracing}
 use Rattle.bm_grace.specs.Answers.{number_in}
 use Rattle.bm_grace.specs.Known.{Known, side}
 use Rattle.bm_law_order.specs.Act as act
-use Rattle.bm_desk.specs.Still.{alike-joined}
-use Rattle.bm_desk.proofs.Alike.{alike-read}
+use Rattle.bm_work.specs.Still.{alike-joined}
+use Rattle.bm_work.proofs.Alike.{alike-read}
 use Rattle.bm_closing.proofs.AtEnds.{alike-told}
 use Rattle.bm_closing.proofs.period.wait_period.Goals as goal
 

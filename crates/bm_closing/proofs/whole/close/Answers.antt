@@ -1,6 +1,6 @@
-use Rattle.bm_lawful.specs.Closing.{AreSweeps}
+use Rattle.bm_law_scenario.specs.Closing.{AreSweeps}
 use Rattle.bm_law.proofs.Alone.{Alone-join}
-use Rattle.bm_work.proofs.Grown.{grew-then}
+use Rattle.bm_work_lists.proofs.Grown.{grew-then}
 use Rattle.bm_closing.specs.EndsBegun.{EndsBegun}
 use Rattle.bm_closing.proofs.AtEnds.{when-ok, with-ok}
 use Rattle.bm_closing.proofs.Classes.{told-behind}

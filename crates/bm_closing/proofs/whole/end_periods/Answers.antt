@@ -5,10 +5,10 @@ use Rattle.bm_law.specs.State.{seen}
 use Rattle.bm_law.proofs.Alone.{Alone-join}
 use Rattle.bm_cache.specs.Shown.{shown}
 use Rattle.bm_cache.specs.Tokens.{number_of}
-use Rattle.bm_deferred.specs.Begun.{begun_by}
-use Rattle.bm_deferred.specs.Grown.{GrewBy}
-use Rattle.bm_lawful.specs.Closing.{EndsOne}
-use Rattle.bm_work.proofs.Grown.{grew-then}
+use Rattle.bm_law_work.specs.Begun.{begun_by}
+use Rattle.bm_law_work.specs.Grown.{GrewBy}
+use Rattle.bm_law_scenario.specs.Closing.{EndsOne}
+use Rattle.bm_work_lists.proofs.Grown.{grew-then}
 use Rattle.bm_closing.specs.AtEnd.{ended_at}
 use Rattle.bm_closing.proofs.Classes.{plain-tracing, tracing-plain}
 use Rattle.bm_closing.proofs.whole.end_periods.Goals as goal

@@ -1,11 +1,11 @@
 use Rattle.std.proofs.Common.{◌≡◌, ℕ, ◌+◌, ◌*◌, ◌-◌, ◌≤◌, List, Option, None, drop}
 use Rattle.bm_law.specs.Lists.{Log}
 use Rattle.bm_lang.specs.Limits.{block_cost}
-use Rattle.bm_lawful.specs.Held.{Names}
-use Rattle.bm_lawful.specs.Runs.{Times, RunsBlock}
+use Rattle.bm_law_scenario.specs.Held.{Names}
+use Rattle.bm_law_scenario.specs.Runs.{Times, RunsBlock}
 use Rattle.bm_check.specs.Statements.{Setting}
 use Rattle.bm_check.specs.Values.{SafeBlock}
-use Rattle.bm_deferred.specs.Grown.{GrewBy}
+use Rattle.bm_law_work.specs.Grown.{GrewBy}
 use Rattle.bm_exec.specs.declared.frame.Open.{Open}
 use Rattle.bm_exec.specs.Cost.{list_cost}
 use Rattle.bm_exec.specs.Handling.{Again}

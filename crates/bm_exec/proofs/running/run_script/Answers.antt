@@ -1,6 +1,6 @@
 use Rattle.std.proofs.Common.{arith}
 use Rattle.bm_check.specs.Statements.{setting_of}
-use Rattle.bm_deferred.proofs.Grown.{grew-map}
+use Rattle.bm_law_work.proofs.Grown.{grew-map}
 use Rattle.bm_exec.proofs.Results.{not-err}
 use Rattle.bm_exec.proofs.Starting.{start-cost, start-can, start-safe, start-runs, start-holds}
 use Rattle.bm_exec.proofs.running.run_script.Goals as goal

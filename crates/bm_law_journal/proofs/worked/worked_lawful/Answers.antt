@@ -1,8 +1,8 @@
 use Rattle.std.proofs.Common.{subst}
-use Rattle.bm_lives.specs.GraceLaw.{WholeGrace}
-use Rattle.bm_lives.specs.Lives.{WholeLives}
-use Rattle.bm_lives.specs.Returns.{ReturnsLaw}
-use Rattle.bm_lives.specs.StampLaw.{StampLaw}
+use Rattle.bm_law_lives.specs.GraceLaw.{WholeGrace}
+use Rattle.bm_law_lives.specs.Lives.{WholeLives}
+use Rattle.bm_law_lives.specs.Returns.{ReturnsLaw}
+use Rattle.bm_law_lives.specs.StampLaw.{StampLaw}
 use Rattle.bm_law_journal.proofs.worked.worked_lawful.Goals as goal
 
 pub returns-clause-one_block : goal.returns-clause-one_block

@@ -1,8 +1,6 @@
-use Rattle.std.proofs.Common.{◌≡◌, ◌≢◌, List, [], ◌∷◌, refl}
+use Rattle.std.proofs.Common.{◌≢◌, List, [], ◌∷◌, refl}
 use Rattle.bm_lang.specs.declared.scenario.AtLine.{AtLine}
 use Rattle.bm_due.specs.declared.planned.Due.{Due}
-use Rattle.bm_due.specs.Worked.{at_step}
-use Rattle.bm_plan.specs.Worked.{handler_g, two_planned}
 use Rattle.bm_plan.proofs.Wrong.{has-returned, never-stands, one-is-due, others-left, others-run}
 use Rattle.bm_plan.proofs.worked.wrong_positions.Goals as goal
 

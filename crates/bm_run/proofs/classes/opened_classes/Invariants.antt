@@ -1,6 +1,6 @@
 use Rattle.std.proofs.Common.{◌≡◌, take}
 use Rattle.std.specs.List.{list_any, filter}
-use Rattle.bm_lawful.specs.Opened.{uses_class}
+use Rattle.bm_law_scenario.specs.Opened.{uses_class}
 use Rattle.bm_run.proofs.classes.opened_classes.Given as goal
 
 abbrev pub invariant-loop-class : goal.invariant-loop-class

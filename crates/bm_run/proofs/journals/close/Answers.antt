@@ -5,13 +5,13 @@ use Rattle.bm_law.specs.Lists.{Leaves, Log}
 use Rattle.bm_law.specs.State.{seen}
 use Rattle.bm_cache.specs.Shown.{shown}
 use Rattle.bm_cache.specs.Tokens.{number_of}
-use Rattle.bm_deferred.specs.Grown.{GrewBy}
-use Rattle.bm_deferred.specs.Parts.{Then}
+use Rattle.bm_law_work.specs.Grown.{GrewBy}
+use Rattle.bm_law_work.specs.Parts.{Then}
 use Rattle.bm_post.specs.PostState.{told_in}
-use Rattle.bm_mail.specs.SweepsTold.{SweepsTold}
+use Rattle.bm_law_logs.specs.SweepsTold.{SweepsTold}
 use Rattle.bm_closing.specs.EndsBegun.{EndsBegun}
-use Rattle.bm_levels.specs.AtProcessor.{lists_of, log_of}
-use Rattle.bm_levels.specs.Ready.{known_of}
+use Rattle.bm_exec_levels.specs.AtProcessor.{lists_of, log_of}
+use Rattle.bm_exec_levels.specs.Ready.{known_of}
 use Rattle.bm_run.specs.ClosingTie.{Ends}
 use Rattle.bm_run.proofs.Results.{not-err, if-told}
 use Rattle.bm_run.proofs.Sections.{ends-even}

@@ -11,15 +11,15 @@ use Rattle.bm_law_journal.specs.Lawful.{named_turns}
 use Rattle.bm_run.proofs.Laid.{laid-whole, whole-one}
 use Rattle.bm_run.proofs.PollsTold.{polled-whole}
 use Rattle.bm_run.proofs.SealsTold.{sealed-whole}
-use Rattle.bm_lawful.specs.Lawful.{LawfulLog}
-use Rattle.bm_lawful.specs.Short.{JournalShort}
-use Rattle.bm_lawful.proofs.Told.{one-log}
+use Rattle.bm_law_scenario.specs.Lawful.{LawfulLog}
+use Rattle.bm_law_scenario.specs.Short.{JournalShort}
+use Rattle.bm_law_scenario.proofs.Told.{one-log}
 use Rattle.bm_journal.specs.declared.ids.Domain.{Domain}
 use Rattle.bm_journal.specs.declared.ids.Domain.TheVariants.{Plain, Tracing}
-use Rattle.bm_lives.specs.GraceLaw.{WholeGrace}
-use Rattle.bm_lives.specs.Lives.{WholeLives}
-use Rattle.bm_lives.specs.StampLaw.{StampLaw}
-use Rattle.bm_lives.specs.Returns.{ReturnsLaw}
+use Rattle.bm_law_lives.specs.GraceLaw.{WholeGrace}
+use Rattle.bm_law_lives.specs.Lives.{WholeLives}
+use Rattle.bm_law_lives.specs.StampLaw.{StampLaw}
+use Rattle.bm_law_lives.specs.Returns.{ReturnsLaw}
 use Rattle.bm_run.proofs.journals.journal_of.Goals as goal
 
 pub returns-clause-lawful : goal.returns-clause-lawful

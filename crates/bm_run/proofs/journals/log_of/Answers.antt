@@ -2,23 +2,23 @@ use Rattle.std.specs.Prelude.{None}
 use Rattle.std.proofs.Common.{◌≡◌, ◌≤◌, ◌%◌, ℕ, [], ◌∷◌, IfOk, ap, lit≤, sym, subst, ◌∙◌, arith}
 use Rattle.bm_grace.specs.Known.{Lives, Objects, side}
 use Rattle.bm_law.specs.Lists.{Log}
-use Rattle.bm_lives.specs.Lives.{WholeLives}
-use Rattle.bm_lived.specs.Units.{FreedAsGiven}
+use Rattle.bm_law_lives.specs.Lives.{WholeLives}
+use Rattle.bm_law_logs.specs.Units.{FreedAsGiven}
 use Rattle.bm_world.specs.LivingState.{LivingState, known_living, lives_of}
 use Rattle.bm_exec.specs.Lists.{Behind}
 use Rattle.bm_exec.specs.Living.{home_of}
 use Rattle.bm_law_order.specs.Orders.{IsLaid, by}
 use Rattle.bm_law_order.specs.Whole.{whole}
 use Rattle.bm_law_order.specs.Tie.{Tied}
-use Rattle.bm_levels.specs.AtPolls.{polled}
+use Rattle.bm_exec_levels.specs.AtPolls.{polled}
 use Rattle.bm_world.specs.ToldLiving.{LivingDoes}
-use Rattle.bm_opening.specs.Opened.{outset}
-use Rattle.bm_levels.specs.AtProcessor.{lists_of}
-use Rattle.bm_levels.specs.AtTie.{TiedAt}
-use Rattle.bm_levels.specs.Ready.{known_of, left_of}
-use Rattle.bm_levels.specs.declared.processor.Processor.{Processor}
-use Rattle.bm_levels.specs.declared.program.Program.{Program}
-use Rattle.bm_opening.proofs.Bounds.{few-planned, within}
+use Rattle.bm_run.specs.Opened.{outset}
+use Rattle.bm_exec_levels.specs.AtProcessor.{lists_of}
+use Rattle.bm_exec_levels.specs.AtTie.{TiedAt}
+use Rattle.bm_exec_levels.specs.Ready.{known_of, left_of}
+use Rattle.bm_exec_levels.specs.declared.processor.Processor.{Processor}
+use Rattle.bm_exec_levels.specs.declared.program.Program.{Program}
+use Rattle.bm_run.proofs.Bounds.{few-planned, within}
 use Rattle.bm_run.specs.Closed.{Closed}
 use Rattle.bm_run.specs.IdleAfter.{IsIdleAfter}
 use Rattle.bm_run.specs.Lines.{lines_cost}

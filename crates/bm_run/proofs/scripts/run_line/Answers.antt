@@ -2,11 +2,11 @@ use Rattle.std.proofs.Common.{◌≡◌, ◌∙◌, ◌+◌, [], ◌∷◌, refl
 use Rattle.std.specs.Prelude.{◌%◌}
 use Rattle.bm_journal.specs.declared.entry.Entry.TheVariants as entry
 use Rattle.bm_journal.specs.declared.ids.Domain.TheVariants.{Plain}
-use Rattle.bm_deferred.specs.Parts.{Stand}
+use Rattle.bm_law_work.specs.Parts.{Stand}
 use Rattle.bm_grace.specs.Known.{Known, side}
 use Rattle.bm_exec.specs.Lists.{behind_of}
-use Rattle.bm_levels.specs.Ready.{word_of}
-use Rattle.bm_levels.specs.declared.processor.Processor.{Processor}
+use Rattle.bm_exec_levels.specs.Ready.{word_of}
+use Rattle.bm_exec_levels.specs.declared.processor.Processor.{Processor}
 use Rattle.bm_run.specs.Lines.{Wrote}
 use Rattle.bm_run.proofs.Lines.{body-wrote, script-wrote}
 use Rattle.bm_run.proofs.Results.{on-ok}

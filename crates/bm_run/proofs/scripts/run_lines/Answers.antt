@@ -1,7 +1,7 @@
 use Rattle.std.proofs.Common.{◌∙◌, ◌+◌, ◌*◌, arith, length, refl}
 use Rattle.std.proofs.lemmas.List.{drop_all}
 use Rattle.bm_journal.specs.declared.ids.Domain.TheVariants.{Plain}
-use Rattle.bm_levels.specs.Ready.{asked_of, left_of, word_of}
+use Rattle.bm_exec_levels.specs.Ready.{asked_of, left_of, word_of}
 use Rattle.bm_run.proofs.Lines.{line-room, other-room, lines-line, lines-other, lines-all, wrote-none}
 use Rattle.bm_run.proofs.Results.{get-is, not-there}
 use Rattle.bm_run.proofs.scripts.run_lines.Goals.{then-run-eq0+in-Some+in_ok-run_line, else-run-eq0}

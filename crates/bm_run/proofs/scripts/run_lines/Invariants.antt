@@ -2,10 +2,10 @@ use Rattle.std.proofs.Common.{◌≡◌, ◌≤◌, ◌+◌, ◌*◌, ◌%◌, [
 use Rattle.bm_journal.specs.declared.ids.Domain.{Domain}
 use Rattle.bm_journal.specs.declared.ids.Domain.TheVariants.{Plain}
 use Rattle.bm_exec.specs.Lists.{Behind, behind_of}
-use Rattle.bm_levels.specs.AtProcessor.{SameLives, lists_of}
-use Rattle.bm_levels.specs.AtTie.{TiedAt}
-use Rattle.bm_levels.specs.Ready.{asked_of, left_of, word_of}
-use Rattle.bm_levels.specs.Sound.{Sound}
+use Rattle.bm_exec_levels.specs.AtProcessor.{SameLives, lists_of}
+use Rattle.bm_exec_levels.specs.AtTie.{TiedAt}
+use Rattle.bm_exec_levels.specs.Ready.{asked_of, left_of, word_of}
+use Rattle.bm_exec_levels.specs.Sound.{Sound}
 use Rattle.bm_run.specs.Lines.{lines_cost}
 use Rattle.bm_run.proofs.Lines.{Wrote_so_far}
 use Rattle.bm_run.proofs.scripts.run_lines.Given as goal

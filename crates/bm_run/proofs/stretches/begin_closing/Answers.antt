@@ -1,6 +1,6 @@
 use Rattle.std.proofs.Common.{[], ◌∷◌, refl}
 use Rattle.bm_journal.specs.declared.entry.Entry.TheVariants as entry
-use Rattle.bm_levels.specs.declared.processor.Processor.{Processor}
+use Rattle.bm_exec_levels.specs.declared.processor.Processor.{Processor}
 use Rattle.bm_run.proofs.Sections.{sound-ended}
 use Rattle.bm_run.proofs.Written.{wrote-before, wrote-stands}
 use Rattle.bm_run.proofs.stretches.begin_closing.Goals as goal

@@ -1,9 +1,9 @@
 use Rattle.std.proofs.Common.{[], ◌∷◌, ◌+◌, ap, refl, subst}
 use Rattle.bm_journal.specs.declared.entry.Entry.TheVariants as entry
 use Rattle.bm_journal.specs.declared.ids.Domain.TheVariants.{Plain}
-use Rattle.bm_deferred.specs.Parts.{Stand}
-use Rattle.bm_levels.specs.Ready.{word_of}
-use Rattle.bm_levels.specs.declared.processor.Processor.{Processor}
+use Rattle.bm_law_work.specs.Parts.{Stand}
+use Rattle.bm_exec_levels.specs.Ready.{word_of}
+use Rattle.bm_exec_levels.specs.declared.processor.Processor.{Processor}
 use Rattle.bm_run.specs.Lines.{Wrote}
 use Rattle.bm_run.proofs.Written.{wrote-stands}
 use Rattle.bm_run.proofs.stretches.begin_script.Goals as goal

@@ -1,8 +1,8 @@
 use Rattle.std.proofs.Common.{[], ◌∷◌, ◌+◌, refl}
 use Rattle.bm_journal.specs.declared.entry.Entry.TheVariants as entry
 use Rattle.bm_journal.specs.declared.ids.Domain.TheVariants.{Plain}
-use Rattle.bm_levels.specs.Ready.{word_of}
-use Rattle.bm_levels.specs.declared.processor.Processor.{Processor}
+use Rattle.bm_exec_levels.specs.Ready.{word_of}
+use Rattle.bm_exec_levels.specs.declared.processor.Processor.{Processor}
 use Rattle.bm_run.proofs.Written.{wrote-stands}
 use Rattle.bm_run.proofs.stretches.end_script.Goals as goal
 

@@ -2,8 +2,8 @@ use Rattle.std.proofs.Common.{◌+◌, ap}
 use Rattle.bm_grace.specs.declared.step.StepKind.TheVariants.{Leave}
 use Rattle.bm_journal.specs.declared.entry.Entry.TheVariants as entry
 use Rattle.bm_journal.specs.declared.ids.Domain.TheVariants.{Plain}
-use Rattle.bm_levels.specs.Ready.{left_of, word_of}
-use Rattle.bm_levels.specs.declared.processor.Processor.{Processor}
+use Rattle.bm_exec_levels.specs.Ready.{left_of, word_of}
+use Rattle.bm_exec_levels.specs.declared.processor.Processor.{Processor}
 use Rattle.bm_run.proofs.Sections.{sound-moved, ordinary-moved}
 use Rattle.bm_run.proofs.Written.{wrote-one}
 use Rattle.bm_run.proofs.stretches.go_out.Goals as goal

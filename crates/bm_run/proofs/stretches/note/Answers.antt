@@ -1,7 +1,7 @@
 use Rattle.std.proofs.Common.{refl}
-use Rattle.bm_levels.specs.declared.processor.Processor.{Processor}
-use Rattle.bm_levels.specs.AtTie.{tied-quiet}
-use Rattle.bm_levels.proofs.Noted.{fine-noted}
+use Rattle.bm_exec_levels.specs.declared.processor.Processor.{Processor}
+use Rattle.bm_exec_levels.specs.AtTie.{tied-quiet}
+use Rattle.bm_exec_levels.proofs.Noted.{fine-noted}
 use Rattle.bm_run.proofs.Sections.{sound-noted}
 use Rattle.bm_run.proofs.Written.{wrote-one}
 use Rattle.bm_run.proofs.stretches.note.Goals as goal

@@ -9,8 +9,8 @@ use Rattle.bm_cache.specs.Shown.{shown}
 use Rattle.bm_cache.specs.Span.{Came, Face, Fine}
 use Rattle.bm_cache.specs.declared.caches.Caches.{Caches}
 use Rattle.bm_cache.proofs.Steady.{sound-by}
-use Rattle.bm_desk.proofs.Points.{stands-point}
-use Rattle.bm_behind.specs.Settled.{Settled}
+use Rattle.bm_work.proofs.Points.{stands-point}
+use Rattle.bm_exec_levels.specs.Settled.{Settled}
 use Rattle.bm_tests_machine.proofs.behind_tests.asks.Goals as goal
 
 -- a call of the desk's level on its caches has left it so

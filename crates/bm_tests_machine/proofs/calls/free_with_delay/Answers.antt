@@ -1,4 +1,4 @@
-use Rattle.bm_desk.proofs.Rests.{rests-called}
+use Rattle.bm_work.proofs.Rests.{rests-called}
 use Rattle.bm_tests_machine.proofs.calls.free_with_delay.Goals as goal
 
 pub returns-clause-rests : goal.returns-clause-rests

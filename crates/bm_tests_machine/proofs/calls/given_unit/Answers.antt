@@ -1,5 +1,5 @@
 use Rattle.std.proofs.Common.{◌+◌}
-use Rattle.bm_desk.proofs.Rests.{rests-called}
+use Rattle.bm_work.proofs.Rests.{rests-called}
 use Rattle.bm_tests_machine.proofs.calls.given_unit.Goals as goal
 
 pub returns-clause-rests : goal.returns-clause-rests

@@ -1,6 +1,6 @@
 use Rattle.std.proofs.Common.{arith}
-use Rattle.bm_deferred.specs.WorkPhrases.{Work}
-use Rattle.bm_desk.proofs.Rests.{rests-worked}
+use Rattle.bm_law_work.specs.WorkPhrases.{Work}
+use Rattle.bm_work.proofs.Rests.{rests-worked}
 use Rattle.bm_tests_machine.proofs.calls.work_once.Goals as goal
 
 pub work-requires-clause-active : goal.work-requires-clause-active

@@ -3,7 +3,7 @@ use Rattle.bm_journal.specs.declared.ids.Domain.TheVariants.{Tracing}
 use Rattle.bm_grace.specs.Known.{Known, side}
 use Rattle.bm_post.specs.PostState.{rights_in}
 use Rattle.bm_world.specs.SideState.{SideAtRest, SideState, known_of}
-use Rattle.bm_desk.proofs.Came.{takes-reusable}
+use Rattle.bm_work.proofs.Came.{takes-reusable}
 use Rattle.bm_tests_machine.proofs.closing_tests.all_units_of_a_class_are_swept.Goals as goal
 
 -- what an answer tells that is no error

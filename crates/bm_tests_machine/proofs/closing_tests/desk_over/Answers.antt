@@ -1,6 +1,6 @@
 use Rattle.std.proofs.Common.{[], ◌∷◌, arith}
 use Rattle.bm_cache.proofs.Opened.{fine-opened}
-use Rattle.bm_desk.specs.DeskTests.{tests_by}
+use Rattle.bm_work.specs.DeskTests.{tests_by}
 use Rattle.bm_tests_machine.proofs.closing_tests.desk_over.Goals as goal
 
 pub returns-clause-fine : goal.returns-clause-fine

@@ -1,4 +1,4 @@
-use Rattle.bm_desk.specs.DeskTests.{tests_by}
+use Rattle.bm_work.specs.DeskTests.{tests_by}
 use Rattle.bm_tests_machine.proofs.Opened.{fine-none}
 use Rattle.bm_tests_machine.proofs.desks.desk_over.Goals as goal
 

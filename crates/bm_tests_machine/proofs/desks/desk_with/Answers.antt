@@ -1,8 +1,8 @@
 use Rattle.std.proofs.Common.{◌≡◌, ◌≤◌, ap, sym, ◌∙◌, refl, arith, subst}
 use Rattle.bm_journal.specs.declared.ids.Domain.{Domain}
 use Rattle.bm_grace.specs.Known.{Sides, side}
-use Rattle.bm_desk.specs.DeskTests.{tests_by}
-use Rattle.bm_desk.proofs.Came.{takes-reusable}
+use Rattle.bm_work.specs.DeskTests.{tests_by}
+use Rattle.bm_work.proofs.Came.{takes-reusable}
 use Rattle.bm_tests_machine.proofs.Opened.{rests-opened, same-begins}
 use Rattle.bm_tests_machine.proofs.desks.desk_with.Goals as goal
 

@@ -2,9 +2,9 @@ use Rattle.std.proofs.Common.{◌≡◌, ◌%◌, ◌+◌, ℕ, [], refl, ◌∙
 use Rattle.bm_journal.specs.declared.ids.Domain.TheVariants.{Plain}
 use Rattle.bm_grace.specs.Known.{Known, side}
 use Rattle.bm_cache.specs.Span.{Face}
-use Rattle.bm_desk.specs.DeskTests.{tests_by}
-use Rattle.bm_desk.proofs.Sides.{stands-side}
-use Rattle.bm_desk.proofs.Tests.{ages-onward}
+use Rattle.bm_work.specs.DeskTests.{tests_by}
+use Rattle.bm_work.proofs.Sides.{stands-side}
+use Rattle.bm_work.proofs.Tests.{ages-onward}
 use Rattle.bm_tests_machine.proofs.poll_tests.a_section_holds_it_up.Goals as goal
 
 pub stamp_and_poll-requires-clause-stands : goal.stamp_and_poll-requires-clause-stands

@@ -1,9 +1,9 @@
 use Rattle.std.proofs.Common.{◌≡◌, ◌∙◌, sym, ap, subst, arith}
 use Rattle.bm_cache.specs.Tests.{Tests, Either, Passes}
-use Rattle.bm_desk.specs.DeskTests.{since_test, tests_by}
-use Rattle.bm_desk.proofs.Alike.{alike-read}
-use Rattle.bm_desk.proofs.Sides.{stands-knows}
-use Rattle.bm_desk.proofs.Tests.{since-tests}
+use Rattle.bm_work.specs.DeskTests.{since_test, tests_by}
+use Rattle.bm_work.proofs.Alike.{alike-read}
+use Rattle.bm_work.proofs.Sides.{stands-knows}
+use Rattle.bm_work.proofs.Tests.{since-tests}
 use Rattle.bm_tests_machine.proofs.poll_tests.read_stamp.Goals as goal
 
 pub returns-clause-positive : goal.returns-clause-positive

@@ -3,8 +3,8 @@ use Rattle.std.specs.List.{All}
 use Rattle.bm_law.specs.Stands.{times}
 use Rattle.bm_cache.specs.Each.{Sits}
 use Rattle.bm_cache.specs.Tokens.{Token, number_of}
-use Rattle.bm_work.proofs.Ranges.{once-more, lower}
-use Rattle.bm_work.proofs.Takes.{all-more}
+use Rattle.bm_work_lists.proofs.Ranges.{once-more, lower}
+use Rattle.bm_work_lists.proofs.Takes.{all-more}
 use Rattle.bm_tests_machine.proofs.work_tests.between.Goals as goal
 
 pub units-preserved : goal.units-preserved

@@ -11,7 +11,7 @@ use Rattle.bm_law.proofs.Stands.{stands-effect}
 use Rattle.bm_cache.specs.Shown.{shown}
 use Rattle.bm_cache.specs.Tokens.{Token, number_of}
 use Rattle.bm_cache.proofs.Stretch.{targets-effect}
-use Rattle.bm_work.proofs.Ranges.{ready-row}
+use Rattle.bm_work_lists.proofs.Ranges.{ready-row}
 use Rattle.bm_tests_machine.proofs.work_tests.set_second.Goals as goal
 
 pub returns-clause-ready : goal.returns-clause-ready

@@ -5,7 +5,7 @@ use Rattle.bm_law.specs.State.{seen}
 use Rattle.bm_cache.specs.Shown.{shown}
 use Rattle.bm_cache.specs.Tokens.{Token, number_of}
 use Rattle.bm_cache.proofs.Outside.{stands-filled}
-use Rattle.bm_work.proofs.Ranges.{apart, three-apart}
+use Rattle.bm_work_lists.proofs.Ranges.{apart, three-apart}
 use Rattle.bm_tests_machine.proofs.work_tests.set_up.Goals as goal
 
 pub receive-requires-clause-fresh : goal.receive-requires-clause-fresh

@@ -1,7 +1,7 @@
 use Rattle.std.proofs.Common.{◌≡◌, true, take}
 use Rattle.std.specs.List.{list_all}
 use Rattle.bm_lang.specs.declared.scenario.Script.{Script}
-use Rattle.bm_lawful.specs.Held.{no_names}
+use Rattle.bm_law_scenario.specs.Held.{no_names}
 use Rattle.bm_exec.specs.Bindings.{binds_among}
 use Rattle.bm_exec.specs.Seen.{names_of, has_name}
 use Rattle.bm_exec.proofs.names.NameTable.for_scripts.Given as goal

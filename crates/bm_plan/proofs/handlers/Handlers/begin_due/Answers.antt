@@ -1,6 +1,6 @@
-use Rattle.std.proofs.Common.{ℕ, ◌+◌}
+use Rattle.std.proofs.Common.{◌+◌}
 use Rattle.bm_cache.specs.Steps.{steps_in}
-use Rattle.bm_plan.proofs.Begins.{none-asked, none-same, same-handlers, script-among, some-begun, takes-line}
+use Rattle.bm_plan.proofs.Begins.{none-asked, none-same, script-among, some-begun, takes-line}
 use Rattle.bm_plan.proofs.handlers.Handlers.begin_due.Goals as goal
 
 pub returns-clause-none : goal.returns-clause-none

@@ -1,4 +1,0 @@
-mod Toward
-mod Left
-mod Going
-mod Each

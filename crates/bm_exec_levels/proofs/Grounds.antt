@@ -1,0 +1,90 @@
+-- What ordinary code leaves of its processor, statement by statement.
+use Rattle.std.proofs.Common.{◌≡◌, ◌∙◌, ◌≤◌, ◌+◌, ◌*◌, ℕ, false, Result, Ok, Err, OnOk, sym, subst, arith}
+use Rattle.std.specs.Prelude.{length}
+use Rattle.std.proofs.lemmas.Nat.{mul-le}
+use Rattle.bm_journal.specs.declared.ids.Domain.{Domain}
+use Rattle.bm_journal.specs.declared.ids.Domain.TheVariants.{Plain, Tracing}
+use Rattle.bm_grace.specs.Known.{Known, side}
+use Rattle.bm_law.specs.Kept.{Ready}
+use Rattle.bm_law.specs.State.{Deferred}
+use Rattle.bm_law.specs.Lists.{is_unstamped}
+use Rattle.bm_cache.specs.Shown.{shown}
+use Rattle.bm_cache.specs.Tokens.{Token}
+use Rattle.bm_work.specs.Dated.{Dated}
+use Rattle.bm_work.proofs.Points.{dated-kept}
+use Rattle.bm_plan.specs.Position.{StandsAt}
+use Rattle.bm_exec_levels.specs.AtProcessor.{Between, FineAt, IsAt, Stays, tests_of}
+use Rattle.bm_exec_levels.specs.Ordinary.{Ordinary, Statements}
+use Rattle.bm_exec_levels.specs.Ready.{known_of, left_of}
+use Rattle.bm_exec_levels.specs.Sound.{Sound}
+use Rattle.bm_exec_levels.specs.declared.processor.Processor.{Processor}
+use Rattle.bm_exec_levels.specs.declared.program.Program.{Program}
+
+pub on-ok : {X E : Type 0} (r : Result X E) (A B : Type 0) → OnOk r A → (A → B) → OnOk r B
+on-ok (Ok x) A B a f = f a
+on-ok (Err e) A B a f = tt
+
+pub both-ok : {X E : Type 0} (r : Result X E) (A B : Type 0) → OnOk r A → OnOk r B → OnOk r (A × B)
+both-ok (Ok x) A B a b = (a, b)
+both-ok (Err e) A B a b = tt
+
+-- a call of ordinary code for an object, or to end one, with the handlers between its steps
+pub statements-still : (asks : ℕ) (p : Program) (a b : Processor) → Between asks 0 0 p a b → Statements a b
+statements-still asks p a b x = record {
+  ordinary = record { processors = x.goes.processors; processor = x.goes.processor };
+  fewer = x.fewer;
+  running = x.stays.running;
+  inside = x.stays.inside;
+  parity = x.stays.parity;
+  inner = x.stays.inner;
+  words = (let w = x.stays.words_most in omega (arith, w));
+}
+
+-- and ordinary code runs on it again
+pub sound-still : (asks : ℕ) (p : Program) (a b : Processor) → Between asks 0 0 p a b → IsAt StandsAt 0 p b → Sound p a → Sound p b
+sound-still asks p a b x at s = record {
+  at = at;
+  fine = x.fine;
+  dated = dated-kept 0 (tests_of a) (tests_of b) (shown a.caches) (shown b.caches) (λ k. (x.came.kept.rows k).deferred) x.came.lasting s.dated;
+  stamped = λ k. let D : Deferred Token → Type 0 = λ d. is_unstamped d.plain ≡ false in subst D (sym (x.came.kept.rows k).deferred) (s.stamped k);
+  begins = λ d.
+      let h = s.begins d in
+      let same = x.goes.begins d in
+      let fewer = x.fewer in
+      let settled = x.stays.settled in
+      omega (arith, h, same, fewer, settled);
+}
+
+-- works were done, of a processor that was asked for them once more
+pub statements-worked : (p : Program) (a b : Processor) → Stays 0 0 p (record a { settled = a.settled + 1 }) b → length (left_of b) ≤ length (left_of a) → Ordinary a b → Statements a b
+statements-worked p a b s fewer o = record {
+  ordinary = o;
+  fewer = fewer;
+  running = s.running;
+  inside = s.inside;
+  parity = s.parity;
+  inner = s.inner;
+  words = (let w = s.words_most in omega (arith, w));
+}
+
+begins-of : (n : ℕ) (a b : Known) → a.grace.plain.begins ≤ b.grace.plain.begins + n → a.grace.tracing.begins ≤ b.grace.tracing.begins + n → (d : Domain) → (side d a).begins ≤ (side d b).begins + n
+begins-of n a b p t Plain = p
+begins-of n a b p t Tracing = t
+
+-- at most eleven classes have works, and one more stands for the last look at their flags
+pub begun-few : (classes n : ℕ) → classes ≤ 11 → (classes + 1) * n ≤ 12 * n
+begun-few classes n few = mul-le (classes + 1) n 12 n (omega (arith, few)) (omega arith)
+
+-- and ordinary code runs on it again
+pub sound-worked : (p : Program) (a b : Processor) (n : ℕ) → n + 12 * length (left_of b) ≤ 23 + 12 * length (left_of a) → b.settled ≡ a.settled + 1 → IsAt StandsAt 0 p b → FineAt 1 b → Ready 0 (shown b.caches) → Dated (tests_of b) (shown b.caches) → ((c : ℕ) → is_unstamped ((shown b.caches).rows c).deferred.plain ≡ false) →
+    (known_of a).grace.plain.begins ≤ (known_of b).grace.plain.begins + n → (known_of a).grace.tracing.begins ≤ (known_of b).grace.tracing.begins + n → Sound p a → Sound p b
+sound-worked p a b n few counted at fine quiet dated stamped plain tracing s = record {
+  at = at;
+  fine = record { placed = fine.placed; ready = quiet; proper = fine.proper; aimed = fine.aimed };
+  dated = dated;
+  stamped = stamped;
+  begins = λ d.
+      let h = s.begins d in
+      let began = begins-of n (known_of a) (known_of b) plain tracing d in
+      omega (arith, h, began, few, counted);
+}

@@ -1,0 +1,17 @@
+pub mod Each
+pub mod GoingAfter
+pub mod Left
+pub mod Toward
+pub mod Came
+pub mod Dues
+pub mod Turn
+pub mod Going
+pub mod Ran
+pub mod Lifetimes
+pub mod Noted
+pub mod Made
+pub mod Words
+pub mod Phrases
+pub mod PhraseSections
+pub mod Begun
+pub mod Grounds

@@ -1,0 +1,16 @@
+use Rattle.std.proofs.Common.{◌∙◌, refl}
+use Rattle.bm_cache.proofs.Steady.{sound-silent}
+use Rattle.bm_work.proofs.Sides.{onward-same, stands-side}
+use Rattle.bm_exec_levels.proofs.GoingAfter.{settled-asked}
+use Rattle.bm_exec_levels.proofs.flags.lowest_raised.Goals as goal
+
+pub returns-clause-at_rest : goal.returns-clause-at_rest
+returns-clause-at_rest g c =
+    let h = c.args.host.now in
+    let z = c.caches.result.now in
+    let k = g.H.Host.with_held h z in
+    let e = g.met.H.Host.held_back h z ∙ c.caches.ensures.held in
+    let f = g.met.H.Host.face_back h z in
+    settled-asked g.R.Recorder.log g.R.Recorder.counts g.H.Host.sound g.H.Host.tests g.H.Host.face g.H.Host.held h k e f
+    (stands-side g.R.Recorder.log g.R.Recorder.counts g.H.Host.sound g.H.Host.tests g.H.Host.face g.H.Host.held h k e f (sound-silent g.H.Host.held g.H.Host.with_held g.R.Recorder.log g.H.Host.sound g.met.H.Host.sound_back h z z c.requires.at_rest.stands.sound c.caches.ensures.held refl) (onward-same (g.H.Host.tests h) (g.H.Host.tests k) (g.met.H.Host.tests_back h z)) c.requires.at_rest.stands)
+    c.requires.at_rest

@@ -1,0 +1,48 @@
+use Rattle.std.proofs.Common.{◌≡◌, ◌*◌, ◌++◌, ◌∷◌, [], Some, ap, refl, ◌∙◌}
+use Rattle.bm_journal.specs.declared.entry.Entry.TheVariants as entry
+use Rattle.bm_journal.specs.declared.ids.Domain.TheVariants.{Plain}
+use Rattle.bm_lang.specs.Limits.{script_cost}
+use Rattle.bm_exec_levels.specs.AtProcessor.{Between, due_cost, lists_of, log_of}
+use Rattle.bm_exec_levels.specs.AtTie.{TiedAt, tied-turned}
+use Rattle.bm_exec_levels.specs.Ready.{known_of, word_of}
+use Rattle.bm_exec_levels.specs.declared.processor.Processor.{Processor}
+use Rattle.bm_exec_levels.proofs.Ran.{between-as, cost-is, has-phrase, ran}
+use Rattle.bm_exec_levels.proofs.handlers.run_one.Goals as goal
+
+pub end_handler-requires-clause-phrase : goal.end_handler-requires-clause-phrase
+end_handler-requires-clause-phrase g c =
+    let s = c.args.program.now.scenario.now in
+    let m = c.args.own.now in
+    let b = c.begin_handler-table.new.own in
+    let e = c.begin_handler-table.ensures in
+    let l = c.args.due.now.level in
+    has-phrase g.L.Rank.number l s c.script_of-script.result.now.name (known_of m) (word_of Plain b) (lists_of b) (log_of m) (log_of b) (log_of c.run_inside.new.own) c.requires.level (ap (λ (y : Processor). word_of Plain y) e.same) c.requires.due.1.tells e.said c.run_inside.ensures.phrase
+
+pub returns-clause-at : goal.returns-clause-at
+returns-clause-at g c k d =
+    c.end_handler.ensures.at c.args.own.now k d (c.run_inside.ensures.between.stays.running ∙ c.begin_handler-table.ensures.running)
+
+pub returns-clause-between : goal.returns-clause-between
+returns-clause-between g c =
+    let p = c.args.program.now in
+    let due = c.args.due.now in
+    let x = c.script_of-script.result.now in
+    let m = c.args.own.now in
+    let b = c.begin_handler-table.new.own in
+    let z = c.run_inside.new.own in
+    let d = c.end_handler.new.own in
+    let e = c.begin_handler-table.ensures in
+    let f = c.end_handler.ensures in
+    let inside : Between (due_cost p due) 2 due.level p b z = between-as (2 * script_cost (Some x)) (due_cost p due) g.L.Rank.number due.level p b z (cost-is p due x c.script_of-script.ensures) c.requires.level c.run_inside.ensures.between in
+    let runs : z.running.items ≡ m.running.items ++ due ∷ [] = c.run_inside.ensures.between.stays.running ∙ e.running in
+    ran (due_cost p due) due.level p due m b z d e.same f.same inside e.came f.came f.fine (f.running m.running.items runs) e.tables f.tables
+
+pub run_inside-requires-clause-tied : goal.run_inside-requires-clause-tied
+run_inside-requires-clause-tied g c =
+    let e = c.begin_handler-table.ensures in
+    tied-turned g.B.Since.since g.B.Since.start c.args.due.now.level c.args.own.now c.begin_handler-table.new.own (entry.Handler c.script_of-script.result.now.name) refl e.said (ap (λ (y : Processor). y.side) e.same) c.requires.tied
+
+pub returns-clause-tied : goal.returns-clause-tied
+returns-clause-tied g c =
+    let f = c.end_handler.ensures in
+    tied-turned g.B.Since.since g.B.Since.start c.args.due.now.level c.run_inside.new.own c.end_handler.new.own (entry.Back c.script_of-script.result.now.name) refl f.said (ap (λ (y : Processor). y.side) f.same) c.run_inside.ensures.tied

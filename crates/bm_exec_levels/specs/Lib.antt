@@ -1,0 +1,15 @@
+pub mod Settled
+pub mod Here
+pub mod Turns
+pub mod Logged
+pub mod Ready
+pub mod AtProcessor
+pub mod Growing
+pub mod Hosting
+pub mod AtPolls
+pub mod AtTie
+pub mod AtRests
+pub mod RunsOn
+pub mod Sound
+pub mod Ordinary
+pub mod Stated

@@ -1,0 +1,58 @@
+//! The machine on which handlers run.
+
+use crate::calls::{give_up, make};
+use crate::host::At;
+use crate::ranks::Rank;
+use crate::since::Since;
+use bm_class::Class;
+use bm_exec::Machine;
+use bm_journal::{ObjId, Values};
+use bm_word::{Name, NoMemory};
+
+impl<'a, 's, B: Since, L: Rank> Machine for At<'a, 's, B, L> {
+    ghost use Rattle.std.specs.Prelude.{◌≡◌, None, refl};
+    ghost use Rattle.std.proofs.Common.{◌∙◌};
+    ghost use Rattle.bm_plan.specs.Position.{StandsAt};
+    ghost use Rattle.bm_exec_levels.specs.AtProcessor.{FineAt, IsAt, lists_of, log_of};
+    ghost use Rattle.bm_exec_levels.specs.AtTie.{TiedAt};
+    ghost use Rattle.bm_exec_levels.specs.Ready.{asked_of, known_of};
+    ghost use Rattle.bm_exec_levels.specs.RunsOn.{RunsOn, runs-joined, runs-same};
+
+    ghost log = { λ m. log_of m.own.now };
+
+    ghost lists = { λ m. lists_of m.own.now };
+
+    ghost processor = { λ m. m.own.now.caches.processor };
+
+    ghost level = { λ m. L.number };
+
+    ghost lives = { λ m. (known_of m.own.now).objects.lives };
+
+    ghost asked = { λ m. asked_of m.program.now.scenario.now m.own.now };
+
+    ghost behind = { λ m. None };
+
+    ghost through = { λ m. m.own.ghost_name };
+
+    ghost sound = { λ m. IsAt StandsAt L.number m.program.now m.own.now × FineAt L.number m.own.now × TiedAt B.since B.start m.own.now };
+
+    ghost keeps = { λ a b. RunsOn L.number a.program.now a.own.now b.own.now × (b.program.now ≡ a.program.now) };
+
+    fn create(&mut self, class: Class, name: Name, values: Values) -> Option<ObjId> {
+        make::<B, L>(self.own, self.program, class, name, values)
+    }
+
+    fn dispose(&mut self, object: ObjId) {
+        give_up::<B, L>(self.own, self.program, object);
+    }
+
+    fn settle(&mut self) -> Result<(), NoMemory> {
+        Ok(())
+    }
+
+    ghost told = { λ m s. s.1.placed.told };
+
+    ghost keeps_same = { λ m. (runs-same L.number m.program.now m.own.now, refl) };
+
+    ghost keeps_join = { λ a b c x y. (runs-joined L.number a.program.now b.program.now a.own.now b.own.now c.own.now x.1 x.0 y.0, y.1 ∙ x.1) };
+}

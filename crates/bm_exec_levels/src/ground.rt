@@ -1,0 +1,165 @@
+//! The machine of ordinary code.
+
+ghost use Rattle.std.specs.Prelude.{◌≤◌, ◌+◌, ◌<◌, ◌^◌, [], OnOk, length};
+ghost use Rattle.bm_law_work.specs.Grown.{GrewBy};
+ghost use Rattle.bm_exec.specs.Lists.{Behind};
+ghost use Rattle.bm_law_scenario.specs.Works.{UntilDown, WorkBehind};
+ghost use Rattle.bm_exec_levels.specs.AtProcessor.{SameLives, lists_of, log_of};
+ghost use Rattle.bm_exec_levels.specs.AtTie.{TiedAt};
+ghost use Rattle.bm_exec_levels.specs.Ordinary.{Statements};
+ghost use Rattle.bm_exec_levels.specs.Ready.{asked_of};
+ghost use Rattle.bm_exec_levels.specs.Sound.{Sound};
+
+use crate::calls::{give_up, make};
+use crate::host::At;
+use crate::processor::Processor;
+use crate::program::Program;
+use crate::ranks::Ordinary;
+use crate::since::Since;
+use crate::behind::{until_down, work_behind};
+use bm_class::Class;
+use bm_exec::Machine;
+use bm_journal::{ObjId, Values};
+use bm_word::{Name, NoMemory};
+use std::marker::PhantomData;
+
+/// The classes for which deferred work runs behind statements and scripts; none where none runs.
+#[derive(Clone, Copy)]
+pub struct Deferred<'s> {
+    pub behind: Option<&'s [Class]>,
+}
+
+/// Ordinary code on a processor, which it borrows.
+pub struct Ground<'a, 's, B> {
+    pub own: &'a mut Processor,
+    pub program: &'s Program<'s>,
+    /// The work behind its statements.
+    pub deferred: &'s Deferred<'s>,
+    pub since: PhantomData<B>,
+}
+
+// Deferred work behind a statement, until no flag of these classes is up. Want of memory is the only refusal.
+fn settle_statement<'s, B: Since>(
+    own: &mut Processor,
+    program: &'s Program<'s>,
+    classes: &'s [Class],
+) -> Result<(), NoMemory>
+    requires sound { Sound program.now own.old }
+    requires tied { TiedAt B.since B.start own.old }
+    requires few { length classes.now ≤ 11 }
+    requires room { asked_of program.now.scenario.now own.old + 1 < 2 ^ 22 }
+    ensures grew { OnOk result (GrewBy (UntilDown classes.now) (lists_of own.old) (log_of own.old) (log_of own.new)) }
+    ensures down { OnOk result (Behind (Some classes.now) (lists_of own.new) []) }
+    ensures lives { OnOk result (SameLives own.old own.new) }
+    ensures asked { OnOk result (asked_of program.now.scenario.now own.new ≤ asked_of program.now.scenario.now own.old + 1) }
+    ensures statements { OnOk result (Statements own.old own.new) }
+    ensures sound { OnOk result (Sound program.now own.new) }
+    ensures tied { OnOk result (TiedAt B.since B.start own.new) }
+{
+    own.settled += 1;
+    let alloc = own.alloc;
+    let mut at = At::<B, Ordinary> {
+        own,
+        program,
+        of: PhantomData,
+        since: PhantomData,
+    };
+    let settled = until_down(alloc, &mut at, classes);
+    let At {
+        own: _,
+        program: _,
+        of: _,
+        since: _,
+    } = at;
+    settled
+}
+
+/// Deferred work behind a script: the work of each of these classes, and then until no flag is up. Want of memory is the only
+/// refusal; the processor is of no further use then.
+pub fn settle_script<'s, B: Since>(
+    own: &mut Processor,
+    program: &'s Program<'s>,
+    classes: &'s [Class],
+) -> Result<(), NoMemory>
+    requires sound { Sound program.now own.old }
+    requires tied { TiedAt B.since B.start own.old }
+    requires few { length classes.now ≤ 11 }
+    requires room { asked_of program.now.scenario.now own.old + 1 < 2 ^ 22 }
+    ensures grew { OnOk result (GrewBy (WorkBehind classes.now) (lists_of own.old) (log_of own.old) (log_of own.new)) }
+    ensures down { OnOk result (Behind (Some classes.now) (lists_of own.new) []) }
+    ensures lives { OnOk result (SameLives own.old own.new) }
+    ensures asked { OnOk result (asked_of program.now.scenario.now own.new ≤ asked_of program.now.scenario.now own.old + 1) }
+    ensures statements { OnOk result (Statements own.old own.new) }
+    ensures sound { OnOk result (Sound program.now own.new) }
+    ensures tied { OnOk result (TiedAt B.since B.start own.new) }
+{
+    own.settled += 1;
+    let alloc = own.alloc;
+    let mut at = At::<B, Ordinary> {
+        own,
+        program,
+        of: PhantomData,
+        since: PhantomData,
+    };
+    let settled = work_behind(alloc, &mut at, classes);
+    let At {
+        own: _,
+        program: _,
+        of: _,
+        since: _,
+    } = at;
+    settled
+}
+
+impl<'a, 's, B: Since> Machine for Ground<'a, 's, B> {
+    ghost use Rattle.std.specs.Prelude.{◌≡◌, ◌≤◌, IfSome, length, refl};
+    ghost use Rattle.std.proofs.Common.{◌∙◌};
+    ghost use Rattle.bm_exec.specs.Lists.{behind_of};
+    ghost use Rattle.bm_exec_levels.specs.AtProcessor.{lists_of, log_of};
+    ghost use Rattle.bm_exec_levels.specs.AtTie.{TiedAt};
+    ghost use Rattle.bm_exec_levels.specs.Ordinary.{Statements};
+    ghost use Rattle.bm_exec_levels.specs.Stated.{statements-joined, statements-same};
+    ghost use Rattle.bm_exec_levels.specs.Ready.{asked_of, known_of};
+    ghost use Rattle.bm_exec_levels.specs.Sound.{Sound};
+
+    ghost log = { λ m. log_of m.own.now };
+
+    ghost lists = { λ m. lists_of m.own.now };
+
+    ghost processor = { λ m. m.own.now.caches.processor };
+
+    ghost level = { λ _. 0 };
+
+    ghost lives = { λ m. (known_of m.own.now).objects.lives };
+
+    ghost asked = { λ m. asked_of m.program.now.scenario.now m.own.now };
+
+    ghost behind = { λ m. behind_of m.deferred.now.behind };
+
+    ghost through = { λ m. m.own.ghost_name };
+
+    ghost sound = { λ m. Sound m.program.now m.own.now × IfSome m.deferred.now.behind (λ classes. length classes.now ≤ 11) × TiedAt B.since B.start m.own.now };
+
+    ghost keeps = { λ a b. Statements a.own.now b.own.now × (b.program.now ≡ a.program.now) };
+
+    fn create(&mut self, class: Class, name: Name, values: Values) -> Option<ObjId> {
+        make::<B, Ordinary>(self.own, self.program, class, name, values)
+    }
+
+    fn dispose(&mut self, object: ObjId) {
+        give_up::<B, Ordinary>(self.own, self.program, object);
+    }
+
+    fn settle(&mut self) -> Result<(), NoMemory> {
+        let Some(classes) = self.deferred.behind else {
+            return Ok(());
+        };
+        settle_statement::<B>(self.own, self.program, classes)
+    }
+
+    ghost told = { λ m s. s.0.fine.placed.told };
+
+    ghost keeps_same = { λ m. (statements-same m.own.now, refl) };
+
+    ghost keeps_join = { λ a b c x y. (statements-joined a.own.now b.own.now c.own.now x.0 y.0, y.1 ∙ x.1) };
+}

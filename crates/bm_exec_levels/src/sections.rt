@@ -1,0 +1,60 @@
+//! Plain sections.
+
+ghost use Rattle.std.specs.Prelude.{◌≡◌, ◌+◌, ◌*◌, ◌%◌, ◌<◌, ◌^◌, false, length};
+ghost use Rattle.bm_journal.specs.declared.entry.Entry.TheVariants as entry;
+ghost use Rattle.bm_journal.specs.declared.ids.Domain.TheVariants.{Plain};
+ghost use Rattle.bm_journal.specs.Recording.{Appends};
+ghost use Rattle.bm_grace.specs.Calls.{entered, left};
+ghost use Rattle.bm_cache.specs.Shown.{shown};
+ghost use Rattle.bm_exec_levels.specs.AtProcessor.{CameAt, FineAt, IsAt, log_of};
+ghost use Rattle.bm_exec_levels.specs.AtTie.{TiedAt};
+ghost use Rattle.bm_law.specs.Lists.{Log};
+ghost use Rattle.bm_exec_levels.specs.Ready.{known_of, left_of, word_of};
+ghost use Rattle.bm_exec_levels.specs.declared.program.Program.{Program as ProgramValue};
+ghost use Rattle.bm_plan.specs.Position.{StandsAt};
+ghost use Rattle.bm_world.specs.LivingState.{LivingState, rights_living};
+
+use crate::processor::Processor;
+use bm_grace::Grace;
+use bm_journal::{Domain, Entry, Level};
+
+/// Begins a plain section at a level, where there is none, and records it. It takes no memory but the recorder's. It stands for
+/// rcu_read_lock of include/linux/rcupdate.h.
+pub fn enter_section(own: &mut Processor, level: Level)
+    requires fine { FineAt level own.old }
+    requires outside { word_of Plain own.old % 2 ≡ 0 }
+    requires room { word_of Plain own.old + 1 < 2 ^ 28 }
+    ensures said { Appends (log_of own.old) level (entry.In Plain (word_of Plain own.old + 1)) (log_of own.new) }
+    ensures at { (p : ProgramValue) → IsAt StandsAt level p own.old → word_of Plain own.old + 2 * length (left_of own.old) + 1 < 2 ^ 28 → IsAt StandsAt level p own.new }
+    ensures tied { (since : Log) (start : LivingState) → TiedAt since start own.old → TiedAt since start own.new }
+    ensures fine { FineAt level own.new }
+    ensures came { CameAt level own.old own.new }
+    ensures lists { shown own.new.caches ≡ shown own.old.caches }
+    ensures known { known_of own.new ≡ entered false Plain (known_of own.old) }
+    ensures rights { rights_living own.new.side ≡ rights_living own.old.side }
+    ensures same { own.new ≡ record own.old { caches = own.new.caches; side = own.new.side; inside = own.new.inside } }
+{
+    let word = own.side.enter(Domain::Plain);
+    own.inside = true;
+    own.caches.note(level, Entry::In(Domain::Plain, word));
+}
+
+/// Ends the plain section at a level, and records it. It takes no memory but the recorder's. It stands for rcu_read_unlock of
+/// include/linux/rcupdate.h.
+pub fn leave_section(own: &mut Processor, level: Level)
+    requires fine { FineAt level own.old }
+    requires inside { word_of Plain own.old % 2 ≡ 1 }
+    ensures said { Appends (log_of own.old) level (entry.Out Plain (word_of Plain own.old + 1)) (log_of own.new) }
+    ensures at { (p : ProgramValue) → IsAt StandsAt level p own.old → word_of Plain own.old + 2 * length (left_of own.old) + 1 < 2 ^ 28 → IsAt StandsAt level p own.new }
+    ensures tied { (since : Log) (start : LivingState) → TiedAt since start own.old → TiedAt since start own.new }
+    ensures fine { FineAt level own.new }
+    ensures came { CameAt level own.old own.new }
+    ensures lists { shown own.new.caches ≡ shown own.old.caches }
+    ensures known { known_of own.new ≡ left false Plain (known_of own.old) }
+    ensures rights { rights_living own.new.side ≡ rights_living own.old.side }
+    ensures same { own.new ≡ record own.old { caches = own.new.caches; side = own.new.side; inside = own.new.inside } }
+{
+    let word = own.side.leave(Domain::Plain);
+    own.inside = false;
+    own.caches.note(level, Entry::Out(Domain::Plain, word));
+}

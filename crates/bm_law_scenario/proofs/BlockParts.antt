@@ -1,0 +1,26 @@
+-- A run of a block by parts is a run of its list of statements.
+use Rattle.std.proofs.Common.{◌≡◌, ℕ, List, [], ◌∷◌, refl, ap, ◌∙◌}
+use Rattle.std.specs.Global.{Vec}
+use mathlib.Core.Former.{Count}
+use Rattle.bm_lang.specs.declared.scenario.Action.{Action}
+use Rattle.bm_lang.specs.declared.scenario.Action.TheOpen.{Block-F}
+use Rattle.bm_lang.specs.declared.scenario.Action.TheBlock.{hidden-the_row-Statement-0}
+use Rattle.bm_lang.specs.declared.scenario.Block.{Block, roll-Block, rolls-Block', Row_of-Statement, end_of-Statement, more_of-Statement, items-the_row-Statement, items_hidden-the_row-Statement-0}
+use Rattle.bm_lang.specs.declared.scenario.Statement.{Statement}
+use Rattle.bm_lang.specs.declared.scenario.TypeDeclaration.{TypeDeclaration}
+use Rattle.bm_law_work.specs.Parts.{Part}
+use Rattle.bm_law_scenario.specs.Runs.{Run, Leaving, Done, Followed, RunsAction, RunsBlock, RunsRow}
+
+-- statements, one after the other
+abbrev pub RunsList : List TypeDeclaration → ℕ → Part → List Statement → Run
+RunsList types l behind [] = Done
+RunsList types l behind (s ∷ ss) = Followed (Followed (RunsAction types l behind s.action) (Leaving behind)) (RunsList types l behind ss)
+
+row-runs : (types : List TypeDeclaration) (l : ℕ) (behind : Part) (n : Count) (row : Row_of-Statement n) → RunsRow types l behind row ≡ RunsList types l behind (items-the_row-Statement n row)
+row-runs types l behind _ end_of-Statement = refl
+row-runs types l behind _ (more_of-Statement line action rest) = ap (Followed (Followed (RunsAction types l behind action) (Leaving behind))) (row-runs types l behind _ rest)
+
+pub block-parts : (types : List TypeDeclaration) (l : ℕ) (behind : Part) (v : Vec Statement) (end : ℕ) → RunsBlock types l behind (roll-Block (record { statements = v; end_line = end })) ≡ RunsList types l behind v.items
+block-parts types l behind v end =
+    let b : Block-F Action Block Statement = record { statements = v; end_line = end } in
+    ap (RunsBlock types l behind) (rolls-Block' b) ∙ (row-runs types l behind _ (hidden-the_row-Statement-0 v) ∙ ap (RunsList types l behind) (items_hidden-the_row-Statement-0 v))

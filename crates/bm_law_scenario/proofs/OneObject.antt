@@ -1,0 +1,125 @@
+-- The journal of one object made and dropped is lawful.
+use Rattle.std.proofs.Common.{ℕ, inl, inr, List, [], ◌∷◌, ◌++◌, refl, sym, ap, codes, lit≤}
+use Rattle.std.proofs.lemmas.Bool.Decides.{eqb_tells}
+use Rattle.bm_class.specs.Sizes.{class_of_size, size_of_class}
+use Rattle.bm_class.specs.Watermarks.{low_of_size, high_of_size, batch_of_size}
+use Rattle.bm_journal.specs.declared.ids.Domain.TheVariants.{Plain, Tracing}
+use Rattle.bm_journal.specs.declared.units.Units.TheVariants.{Whole}
+use Rattle.bm_journal.specs.declared.entry.Entry.{Entry}
+use Rattle.bm_journal.specs.declared.entry.Entry.TheVariants as entry
+use Rattle.bm_law.specs.State.{State, opening}
+use Rattle.bm_law.specs.Lists.{AllName, Leaves, after}
+use Rattle.bm_law.specs.Null.{Nothing, NullLaw, RepliesFit}
+use Rattle.bm_law.specs.Spans.{own_entries}
+use Rattle.bm_law.specs.SweepPhrases.{SweepPhrase}
+use Rattle.bm_law.specs.Worked.{Emptied}
+use Rattle.bm_law.proofs.Null.{pops-fit}
+use Rattle.bm_law_scenario.proofs.Opening.{first-four}
+use Rattle.bm_law_scenario.specs.Ordinary.{ordinary}
+use Rattle.bm_law_scenario.specs.Grammar.{IsLog, lines_of}
+use Rattle.bm_law_scenario.specs.Parcels.{ParcelLaw}
+use Rattle.bm_law_scenario.specs.SectionWords.{SectionWords}
+use Rattle.bm_law_scenario.specs.Lawful.{HeadingOf, LawfulLog, LawfulLogs}
+use Rattle.bm_law_scenario.specs.Short.{all_entries}
+use Rattle.bm_law_work.proofs.Pages.{short-named}
+use Rattle.bm_law_scenario.specs.WorkedJournal.{asks, one_page, asked, took, gave, ended, swept, sweep_period, one_object, one_object_log, one_object_journal}
+use Rattle.bm_law_scenario.proofs.Ran.{dropped, object-runs, dropped-owns_nothing}
+use Rattle.bm_law_scenario.proofs.Ordinary.{all-ordinary, says, stands, then-of}
+use Rattle.bm_law_scenario.proofs.SameLogs.{scripts-told}
+use Rattle.bm_law_scenario.proofs.Unplanned.{done-ordinary}
+use Rattle.bm_law_scenario.proofs.Told.{one-log}
+
+-- the lists that the log leaves
+abbrev last : State ℕ
+last = after (opening 0) one_object_log
+
+named : AllName (opening 0) one_object_log
+named = (tt, (tt, (tt, (tt, (refl, (refl, ((refl, refl), (refl, (tt, (refl, (tt, (tt, (tt, (refl, (refl, ((refl, refl), (refl, (tt, (tt, (tt, (tt, (refl, (refl, (tt, (tt, (tt, ((refl, refl), tt)))))))))))))))))))))))))))
+
+leaves : Leaves 0 one_object_log last
+leaves = record { named = named; lists = refl }
+
+emptied : Emptied last
+emptied = record {
+  lists = λ c. elim (eqb_tells c 0) [ inl y ↦ rw y.1 refl | inr y ↦ rw y.0 refl ];
+  hands = λ l. elim (eqb_tells l 0) [ inl y ↦ rw y.1 refl | inr y ↦ rw y.0 refl ];
+  active = λ c. elim (eqb_tells c 0) [ inl y ↦ rw y.1 refl | inr y ↦ rw y.0 refl ];
+}
+
+replies : RepliesFit Nothing (own_entries 0 one_object_log)
+replies = (tt, (tt, (tt, (refl, (tt, (tt, (tt, (tt, (tt, (refl, (tt, (tt, (tt, (tt, (tt, (tt, (tt, (tt, (tt, (tt, (tt, (tt, (tt, (tt, (tt, (tt, (tt, tt)))))))))))))))))))))))))))
+
+null : NullLaw 0 one_object_log
+null = record {
+  pops = pops-fit (opening 0) one_object_log named;
+  replies = λ l. elim (eqb_tells 0 l) [ inl y ↦ rw (← y.1) replies | inr y ↦ rw y.0 tt ];
+}
+
+parcels : ParcelLaw 0 one_object_log
+parcels = (tt, (tt, (tt, (tt, (tt, (tt, (tt, (tt, (tt, (tt, (tt, (tt, (tt, (tt, (tt, (tt, (tt, (tt, (tt, (tt, (tt, (refl, (tt, (tt, (tt, (tt, (tt, λ c. elim (eqb_tells c 0) [ inl y ↦ rw y.1 refl | inr y ↦ rw y.0 refl ])))))))))))))))))))))))))))
+
+heading : HeadingOf one_object one_object_journal
+unfolding class_of_size size_of_class low_of_size high_of_size batch_of_size
+heading = record { processors = refl; pages = refl; types = refl; maps = refl; scripts = refl; classes = refl }
+
+unfoldable pub sweep : SweepPhrase 0 (swept (3 ∷ 2 ∷ 1 ∷ 0 ∷ []))
+sweep = record {
+  swept = 3 ∷ 2 ∷ 1 ∷ 0 ∷ [];
+  returned = 3 ∷ 2 ∷ 1 ∷ 0 ∷ [];
+  stamp = 2;
+  poll = entry.Begin Tracing 1 ∷ entry.Finish sweep_period ∷ entry.Pass 0 Tracing 2 ∷ [];
+  own_is = refl;
+  polls = record {
+    ended = [];
+    begun = entry.Begin Tracing 1 ∷ entry.Finish sweep_period ∷ [];
+    seen = 2;
+    own_is = refl;
+    may_finish = inl refl;
+    may_begin = inr (1, entry.Finish sweep_period ∷ [], refl, inr (entry.Finish sweep_period, refl, (sweep_period, refl, refl)));
+  };
+}
+
+-- the script's part of the log, and that of the sweep
+abbrev part : List Entry
+part = entry.Script (codes "main") ∷ entry.In Plain 1 ∷ asks ∷ took 3 ++ gave 3 4 ++ entry.Out Plain 2 ∷ entry.Done (codes "main") ∷ []
+
+abbrev sweeps : List Entry
+sweeps = swept (3 ∷ 2 ∷ 1 ∷ 0 ∷ [])
+
+is-log : IsLog one_object 0 one_object_log
+unfolding class_of_size sweep
+is-log = record {
+  front = ordinary (entry.Fill 0 (Whole one_page) ∷ part);
+  closing = ordinary (entry.Ended ∷ entry.Close ∷ swept (3 ∷ 2 ∷ 1 ∷ 0 ∷ []));
+  log_is = refl;
+  is_front = then-of _ _ (opening 0) (entry.Fill 0 (Whole one_page) ∷ []) part (says _ _ _ ([], ap (λ units. entry.Fill 0 (Whole units) ∷ []) (sym first-four), refl)) (scripts-told one_object refl (lines_of 0 one_object.runs) _ part (_, refl, (1, part, [], refl, record { part = asks ∷ took 3 ++ gave 3 4; after = dropped; own_is = refl; runs = object-runs 7 8 9; owns_nothing = dropped-owns_nothing }, refl)));
+  is_closing = then-of _ _ _ (entry.Ended ∷ entry.Close ∷ []) sweeps (stands _ _)
+      (then-of _ _ _ [] sweeps (then-of _ _ _ [] [] refl refl) ([], then-of _ _ _ sweeps [] (says _ _ _ (record { phrase = sweep; taken = refl; waited = lit≤ tt; given = refl })) refl));
+}
+
+words : SectionWords one_object_log
+words Plain = refl
+words Tracing = refl
+
+log-lawful : LawfulLog one_object 0 one_object_log
+log-lawful = record {
+  handlers = refl;
+  phrases = done-ordinary _ _ (all-ordinary (asked one_page ++ took 3 ++ gave 3 4 ++ ended ++ swept (3 ∷ 2 ∷ 1 ∷ 0 ∷ []))) refl;
+  is_log = is-log;
+  words = words;
+  last = last;
+  lists = leaves;
+  emptied = emptied;
+  null = null;
+  parcels = λ q. parcels;
+}
+
+pub one_object-lawful : LawfulLogs one_object one_object_journal
+one_object-lawful = record {
+  heading = heading;
+  count = refl;
+  logs = one-log one_object one_object_log log-lawful;
+  short = short-named 1 (all_entries one_object_journal.logs) refl;
+  graphs = refl;
+  totals = refl;
+}

@@ -1,0 +1,59 @@
+-- The closing of a processor, behind its scripts: what it leaves in the log. (free_mem_alloc and drain_mem_cache in
+-- kernel/bpf/memalloc.c empty all lists of a cache after the last grace periods. That a tracing period stands behind each
+-- sweep, the order of the lists, and that periods are finished by those who began them are this project's own.)
+use Rattle.std.specs.Prelude.{◌≡◌, ◌≤◌, ℕ, zero, suc, ◌+◌, Option, Some, None, List, [], ◌∷◌, ◌++◌}
+use Rattle.bm_journal.specs.declared.ids.Domain.{Domain}
+use Rattle.bm_journal.specs.declared.ids.Domain.TheVariants.{Plain, Tracing}
+use Rattle.bm_journal.specs.declared.period.Period.{Period}
+use Rattle.bm_journal.specs.declared.entry.Entry.{Entry}
+use Rattle.bm_journal.specs.declared.entry.Entry.TheVariants as entry
+use Rattle.bm_law.specs.State.{seven_lists}
+use Rattle.bm_law.specs.Lists.{Log}
+use Rattle.bm_law.specs.SweepPhrases.{SweepPhrase}
+pub use Rattle.bm_law_work.specs.Begun.{begun_after}
+use Rattle.bm_law_work.specs.Parts.{Part, Nothing, Stand, Say, Then}
+
+-- processor 0 begins the closing
+abbrev pub close_of : ℕ → List Entry
+close_of zero = entry.Close ∷ []
+close_of (suc p) = []
+
+-- the number with which the period of this domain that is in progress began, if one is, after a log
+abbrev pub in_progress : Domain → Option ℕ → Log → Option ℕ
+in_progress d begun [] = begun
+in_progress d begun (e ∷ es) = in_progress d (begun_after d begun e.1) es
+
+-- the end of the period that began with number n
+abbrev pub IsEnd : Domain → ℕ → List Entry → Type 0
+IsEnd d n own = (period : Period) × (period.domain ≡ d) × (period.number ≡ n + 1) × (own ≡ entry.Finish period ∷ [])
+
+-- the end of a period exactly where one is in progress
+abbrev pub EndsOne : Domain → Option ℕ → Part
+EndsOne d None = Nothing
+EndsOne d (Some n) = Say 0 (IsEnd d n)
+
+-- the periods that a processor has in progress after this log end, first the plain one
+abbrev pub EndsPeriods : Log → Part
+EndsPeriods log = Then (EndsOne Plain (in_progress Plain None log)) (EndsOne Tracing (in_progress Tracing None log))
+
+-- A sweep that takes exactly these units, waits until its stamp is reached, and gives exactly these units back to the stock.
+pub record SweepOf (c : ℕ) (units : List ℕ) (own : List Entry) : Type 0 where
+  pub phrase : SweepPhrase c own
+  pub taken : phrase.swept ≡ units
+  pub waited : phrase.stamp ≤ phrase.polls.seen
+  pub given : phrase.returned ≡ units
+
+-- a sweep exactly where there are units
+abbrev pub SweepWhere : ℕ → List ℕ → Part
+SweepWhere c [] = Nothing
+SweepWhere c (u ∷ us) = Say 0 (SweepOf c (u ∷ us))
+
+-- One class after the other: a sweep where its lists or its inbox hold a unit. It takes those of the lists, and then
+-- those of the inbox, of which the law of parcels tells.
+abbrev pub AreSweeps : List ℕ → Part
+AreSweeps [] s part = Nothing s part
+AreSweeps (c ∷ cs) s part = (inbox : List ℕ) × Then (SweepWhere c (seven_lists (s.rows c) ++ inbox)) (AreSweeps cs) s part
+
+-- the closing of processor p after this log
+abbrev pub Closing : ℕ → List ℕ → Log → Part
+Closing p classes log = Then (Stand 0 (entry.Ended ∷ close_of p)) (Then (EndsPeriods log) (AreSweeps classes))

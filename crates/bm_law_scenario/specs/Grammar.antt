@@ -1,0 +1,57 @@
+-- What a processor's log is made of. (This project's own.)
+use Rattle.std.specs.Prelude.{◌≡◌, ℕ, ◌+◌, List, [], ◌∷◌, ◌++◌, Some, nat_eq, slice_get}
+use Rattle.std.specs.List.{filter}
+use Rattle.bm_journal.specs.declared.ids.Domain.TheVariants.{Plain}
+use Rattle.bm_journal.specs.declared.entry.Entry.TheVariants as entry
+use Rattle.bm_lang.specs.declared.scenario.RunLine.{RunLine}
+use Rattle.bm_lang.specs.declared.scenario.Parts.{Parts}
+use Rattle.bm_lang.specs.declared.scenario.Script.{Script}
+use Rattle.bm_law.specs.State.{opening}
+use Rattle.bm_law.specs.Lists.{Log, after}
+use Rattle.bm_law_work.specs.Parts.{Part, Nothing, Stand, Say, Then, If}
+use Rattle.bm_law_scenario.specs.Held.{Names, no_names, OwnsNothing}
+use Rattle.bm_law_scenario.specs.Fills.{AreFills, fresh_stock}
+use Rattle.bm_law_scenario.specs.Opened.{opened_classes}
+use Rattle.bm_law_scenario.specs.Works.{UntilDown, WorkBehind}
+use Rattle.bm_law_scenario.specs.Runs.{RunsBlock}
+use Rattle.bm_law_scenario.specs.Closing.{Closing}
+
+-- the deferred work behind each statement of a script, and behind the script: with `deferred off` none runs
+abbrev pub behind_statement : Parts → Part
+behind_statement s = If s.deferred (UntilDown (opened_classes s.types)) Nothing
+
+abbrev pub behind_script : Parts → Part
+behind_script s = If s.deferred (WorkBehind (opened_classes s.types)) Nothing
+
+-- A script's block runs from names that hold nothing to names that own nothing.
+abbrev pub IsBody : Parts → Script → Part
+IsBody s script l part = (names : Names) × RunsBlock s.types 0 (behind_statement s) script.body no_names names l part × ((x : List ℕ) → OwnsNothing (names x))
+
+-- A script in its plain section, whose word is w inside, and the deferred work behind it.
+abbrev pub IsScript : Parts → Script → ℕ → Part
+IsScript s script w =
+    Then (Stand 0 (entry.Script script.name ∷ entry.In Plain w ∷ []))
+    (Then (IsBody s script)
+    (Then (Stand 0 (entry.Out Plain (w + 1) ∷ entry.Done script.name ∷ [])) (behind_script s)))
+
+-- The scripts that these lines run, in order. Which word each section has, the words of the whole log tell: handlers in the
+-- deferred work behind a script have sections of their own.
+abbrev pub AreScripts : Parts → List RunLine → Part
+AreScripts s [] l part = Nothing l part
+AreScripts s (r ∷ rs) l part = (script : Script) × (slice_get s.scripts r.script.0 ≡ Some script) × (w : ℕ) × Then (IsScript s script w) (AreScripts s rs) l part
+
+-- the `run` lines of processor p
+abbrev pub lines_of : ℕ → List RunLine → List RunLine
+lines_of p runs = filter (λ r. nat_eq r.processor p) runs
+
+-- the opening of a cache for each class from a fresh stock, and the scripts of processor p
+abbrev pub Front : Parts → ℕ → Part
+Front s p = Then (Say 0 (AreFills (opened_classes s.types) (fresh_stock s.pages))) (AreScripts s (lines_of p s.runs))
+
+-- The log of processor p, while there is one: the opening, its scripts, and the closing.
+pub record IsLog (s : Parts) (p : ℕ) (log : Log) : Type 0 where
+  pub front : Log
+  pub closing : Log
+  pub log_is : log ≡ front ++ closing
+  pub is_front : Front s p (opening p) front
+  pub is_closing : Closing p (opened_classes s.types) front (after (opening p) front) closing

@@ -1,0 +1,84 @@
+-- What the statements of a script leave in the log, and in the script's names. Between the entries of a call those of
+-- handlers may stand, which are of higher levels. (This project's own language.)
+use Rattle.std.specs.Prelude.{◌≡◌, ℕ, zero, suc, List}
+use Rattle.bm_journal.specs.declared.entry.Entry.{Entry}
+use Rattle.bm_lang.specs.declared.scenario.Action.{Action, New, Drop, Acquire, Get, Exchange, If', Repeat, Section, Lock, Unlock, Yield, PushFront, PushBack, PopFront, PopBack, Add, First, Remove, Held-Action-If-2, None', Some'}
+use Rattle.bm_lang.specs.declared.scenario.Block.{Block, Block', Row_of-Statement, end_of-Statement, more_of-Statement}
+use Rattle.bm_lang.specs.declared.scenario.TypeDeclaration.{TypeDeclaration}
+use Rattle.bm_law.specs.State.{opening}
+use Rattle.bm_law_work.specs.Parts.{Part, Say, Then}
+use Rattle.bm_law_work.specs.Parts as part
+use Rattle.bm_law_scenario.specs.Held.{Held, Nothing, Null, Object, Names}
+use Rattle.bm_law_scenario.specs.Calls.{RunsNew, RunsDrop}
+use Rattle.bm_law_scenario.specs.Ordinary.{ordinary}
+
+-- from these names to those names, a part of a log
+abbrev pub Run : Type 1
+Run = Names → Names → Part
+
+-- this part, and the names hold what they held
+abbrev pub Leaving : Part → Run
+Leaving stands names after s part = (after ≡ names) × stands s part
+
+-- nothing
+abbrev pub Done : Run
+Done = Leaving part.Nothing
+
+-- one run, and then another one, from the names and the lists that the first one leaves
+abbrev pub Followed : Run → Run → Run
+Followed first second names after s part = (middle : Names) × Then (first names middle) (second middle after) s part
+
+-- n times
+abbrev pub Times : Run → ℕ → Run
+Times run zero = Done
+Times run (suc n) = Followed run (Times run n)
+
+-- a call of level l
+abbrev pub Calls : ℕ → (Names → List Entry → Names → Type 0) → Run
+Calls l call names after = Say l (λ own. call names own after)
+
+-- `if x`: the first block where x holds an object, the other where it holds null
+abbrev pub Chosen : Held → Run → Run → Run
+Chosen Nothing first other = λ names after s part. ⊥
+Chosen Null first other = other
+Chosen (Object t u life) first other = first
+
+-- The statements that run by now, each at level l. No journal has any of the others. After each statement, also one that
+-- holds others, stands what `behind` says: deferred work, or nothing.
+abbrev mutual
+  pub RunsAction : List TypeDeclaration → ℕ → Part → Action → Run
+  RunsAction types l behind (New x t values) = Calls l (RunsNew types x t values)
+  RunsAction types l behind (Drop x) = Calls l (RunsDrop types x)
+  RunsAction types l behind (If' x body otherwise) = λ names. Chosen (names x) (RunsBlock types l behind body) (RunsElse types l behind otherwise) names
+  RunsAction types l behind (Repeat n body) = Times (RunsBlock types l behind body) n
+  RunsAction types l behind (Section body) = λ names after s part. ⊥
+  RunsAction types l behind (Acquire y x) = λ names after s part. ⊥
+  RunsAction types l behind (Get x field) = λ names after s part. ⊥
+  RunsAction types l behind (Exchange y slot x) = λ names after s part. ⊥
+  RunsAction types l behind (Lock graph) = λ names after s part. ⊥
+  RunsAction types l behind Unlock = λ names after s part. ⊥
+  RunsAction types l behind Yield = λ names after s part. ⊥
+  RunsAction types l behind (PushFront list x) = λ names after s part. ⊥
+  RunsAction types l behind (PushBack list x) = λ names after s part. ⊥
+  RunsAction types l behind (PopFront x list) = λ names after s part. ⊥
+  RunsAction types l behind (PopBack x list) = λ names after s part. ⊥
+  RunsAction types l behind (Add tree x) = λ names after s part. ⊥
+  RunsAction types l behind (First x tree) = λ names after s part. ⊥
+  RunsAction types l behind (Remove y tree x) = λ names after s part. ⊥
+
+  -- an absent `else` is an empty block
+  pub RunsElse : List TypeDeclaration → ℕ → Part → Held-Action-If-2 → Run
+  RunsElse types l behind None' = Done
+  RunsElse types l behind (Some' body) = RunsBlock types l behind body
+
+  pub RunsBlock : List TypeDeclaration → ℕ → Part → Block → Run
+  RunsBlock types l behind (Block' shape row end_line) = RunsRow types l behind row
+
+  -- statements, one after the other
+  pub RunsRow : List TypeDeclaration → ℕ → Part → {m : _} → Row_of-Statement m → Run
+  RunsRow types l behind end_of-Statement = Done
+  RunsRow types l behind (more_of-Statement line action rest) = Followed (Followed (RunsAction types l behind action) (Leaving behind)) (RunsRow types l behind rest)
+
+-- A block leaves these entries of one level, where nothing stands behind a statement: from which lists doesn't matter then.
+abbrev pub RunsAlone : List TypeDeclaration → Block → Names → List Entry → Names → Type 0
+RunsAlone types body names own after = RunsBlock types 0 part.Nothing body names after (opening 0) (ordinary own)

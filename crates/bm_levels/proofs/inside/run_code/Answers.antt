@@ -1,6 +1,0 @@
-use Rattle.bm_levels.proofs.Phrases.{script-bound}
-use Rattle.bm_levels.proofs.inside.run_code.Goals as goal
-
-pub run_handler-requires-clause-bound : goal.run_handler-requires-clause-bound
-run_handler-requires-clause-bound g c =
-    script-bound c.args.program.now.scenario.now.scripts c.requires.found.0 c.args.script.now c.args.table.now c.requires.bound c.requires.found.1

@@ -1,3 +1,0 @@
-pub mod LeavesParcels
-pub mod SweepsTold
-pub mod WorkedInboxes

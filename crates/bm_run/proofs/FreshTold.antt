@@ -1,0 +1,124 @@
+-- A processor that has been opened is tied to its log since the outset: its fills are what was fetched.
+use Rattle.std.specs.Prelude.{◌≡◌, ◌+◌, ◌*◌, ◌&&◌, ◌++◌, ℕ, zero, suc, Bool, true, false, List, [], ◌∷◌, map, replicate, nat_lt, Option, None, Some, IfSome, get_or, if◌then◌else◌}
+use Rattle.std.proofs.Common.{◌∙◌, ap, append-nil, refl, subst, sym}
+use Rattle.bm_law.specs.Lists.{Log}
+use mathlib.Core.Path.{fun_ext}
+use Rattle.bm_page.specs.UnitState.{UnitState}
+use Rattle.bm_page.specs.declared.units.Stocked.{Stocked}
+use Rattle.bm_page.specs.Stock.{Stock, fetched, unborn}
+use Rattle.bm_cache.specs.Opening.{fill_log, named}
+use Rattle.bm_journal.specs.declared.entry.Entry.TheVariants as entry
+use Rattle.bm_law_scenario.specs.Fills.{fresh_stock, prefill}
+use Rattle.bm_law_order.specs.Act as act
+use Rattle.bm_law_order.specs.Acts.{ActsLead, act_after}
+use Rattle.bm_law_order.specs.Bare.{bare_pool, bare_unit}
+use Rattle.bm_law_order.specs.Chunk as chunk
+use Rattle.bm_law_order.specs.Lives.{Life}
+use Rattle.bm_law_order.specs.Looks.{first_looks}
+use Rattle.bm_law_order.specs.Numbers.{first_numbers}
+use Rattle.bm_law_order.specs.Pages.{fetches}
+use Rattle.bm_law_order.specs.Seals.{NothingWaits}
+use Rattle.bm_law_order.specs.Shared.{Shared, fresh}
+use Rattle.bm_law_order.specs.Story.{AllJudged, Story, deeds, lines}
+use Rattle.bm_law_order.specs.Tie.{TiedBy}
+use Rattle.bm_law_order.specs.Words.{first_words}
+use Rattle.bm_law_order.proofs.BarePool.{fetched-bare}
+use Rattle.bm_post.specs.PostState.{no_parcels}
+use Rattle.bm_post.specs.Rights.{numbers}
+use Rattle.bm_world.specs.LivingState.{LivingState, begun_at}
+use Rattle.bm_world.specs.Slots.{AllEmpty, unit_at}
+use Rattle.bm_world.specs.Told.{told_boxes}
+use Rattle.bm_world.specs.ToldLiving.{LivingDoes, life_of, told_living}
+use Rattle.bm_run.specs.Filling.{filling}
+use Rattle.bm_exec_levels.specs.AtPolls.{polled}
+use Rattle.bm_run.specs.Opened.{fresh_side, outset}
+use Rattle.bm_run.proofs.OpeningLemmas.{living_side, none-at}
+
+bare-unborn : (n : ℕ) → map bare_unit (replicate n unborn) ≡ replicate n unborn
+bare-unborn zero = refl
+bare-unborn (suc n) = ap (λ us. unborn ∷ us) (bare-unborn n)
+
+no-boxes : (pool : Stock) (p c : ℕ) → told_boxes (fresh_side pool).post p c ≡ []
+no-boxes pool p c = none (nat_lt p 8 && nat_lt c 11)
+  where
+    none : (b : Bool) → (if b then map numbers (get_or no_parcels (11 * p + c) []) else []) ≡ []
+    none true = ap (map numbers) (none-at 88 (11 * p + c))
+    none false = refl
+
+-- what is told where nobody did anything but take units from the stock
+fresh-told : (pages : ℕ) (pool : Stock) (slots : List (Option UnitState)) (begun : List ℕ) → AllEmpty slots → ((n : ℕ) → begun_at begun n ≡ 0) → told_living (living_side pool slots begun) ≡ record (fresh 1 pages) { pool = bare_pool pool }
+fresh-told pages pool slots begun e z =
+    let F : (ℕ → ℕ → List (List ℕ)) → (ℕ → ℕ) → (ℕ → Option Life) → Shared = λ b g h. record { processors = 1; words = first_words; numbers = first_numbers; looks = first_looks; lives = record { begun = g; holds = h; dropping = λ p l. None }; pool = bare_pool pool; boxes = b } in
+    let B : ℕ → ℕ → List (List ℕ) = λ p c. [] in
+    ap (λ b. F b (begun_at begun) (λ n. life_of (unit_at slots n))) (fun_ext (λ p. fun_ext (λ c. no-boxes pool p c)))
+    ∙ (ap (λ g. F B g (λ n. life_of (unit_at slots n))) (fun_ext z)
+    ∙ ap (λ h. F B (λ u. 0) h) (fun_ext (λ n. ap life_of (e n))))
+
+no-slots : AllEmpty []
+no-slots zero = refl
+no-slots (suc n) = refl
+
+no-lives : (n : ℕ) → begun_at [] n ≡ 0
+no-lives zero = refl
+no-lives (suc n) = refl
+
+pub outset-told : (pages : ℕ) → told_living (outset pages) ≡ fresh 1 pages
+outset-told pages =
+    let F : List Stocked → Shared = λ us. record (fresh 1 pages) { pool = record { classes = replicate pages None; units = us } } in
+    fresh-told pages (fresh_stock pages) [] [] no-slots no-lives ∙ ap F (bare-unborn (256 * pages))
+
+-- the fills of some classes from a stock
+abbrev fill_story : List ℕ → Stock → Story
+fill_story [] pool = []
+fill_story (c ∷ cs) pool = let f = fetched c (prefill c) pool in record { level = 0; chunk = chunk.Filling c (numbers f.units) } ∷ fill_story cs f.pool
+
+fill-lines : (cs : List ℕ) (pool : Stock) → lines (fill_story cs pool) ≡ fill_log (filling cs pool).fills
+fill-lines [] pool = refl
+fill-lines (c ∷ cs) pool = let f = fetched c (prefill c) pool in ap (λ es. (0, entry.Fill c (named f.units)) ∷ es) (fill-lines cs f.pool)
+
+fill-judged : (start : LivingState) (log : Log) (cs : List ℕ) (pool : Stock) → AllJudged (polled [] start) log (fill_story cs pool)
+fill-judged start log [] pool = tt
+fill-judged start log (c ∷ cs) pool = let f = fetched c (prefill c) pool in (tt, fill-judged start (log ++ (0, entry.Fill c (named f.units)) ∷ []) cs f.pool)
+
+-- they lead from what is told of the stock to what they leave of it
+fill-leads : (p : ℕ) (cs : List ℕ) (pool : Stock) (s : Shared) → s.pool ≡ bare_pool pool → ActsLead p (deeds (fill_story cs pool)) s (record s { pool = bare_pool (filling cs pool).pool })
+fill-leads p [] pool s e = record { fit = tt; now_is = ap (λ q. let x : Shared = record s { pool = q } in x) e }
+fill-leads p (c ∷ cs) pool s e =
+    let f = fetched c (prefill c) pool in
+    let same = fetched-bare c (prefill c) pool in
+    let now : Shared = act_after p (act.Fetches c (prefill c) (numbers f.units)) s in
+    let pools : now.pool ≡ bare_pool f.pool = ap (λ q. (fetched c (prefill c) q).pool) e ∙ sym same.pools in
+    let rest = fill-leads p cs f.pool now pools in
+    record { fit = (same.units ∙ ap (fetches c (prefill c)) (sym e), rest.fit); now_is = rest.now_is }
+
+fill-waits : (cs : List ℕ) (pool : Stock) → NothingWaits (deeds (fill_story cs pool))
+fill-waits [] pool = tt
+fill-waits (c ∷ cs) pool = (tt, fill-waits cs (fetched c (prefill c) pool).pool)
+
+fill-does : (cs : List ℕ) (pages : ℕ) (pool : Stock) (slots : List (Option UnitState)) (begun : List ℕ) → pool ≡ (filling cs (fresh_stock pages)).pool → AllEmpty slots → ((n : ℕ) → begun_at begun n ≡ 0) →
+    LivingDoes (deeds (fill_story cs (fresh_stock pages))) (outset pages) (living_side pool slots begun)
+fill-does cs pages pool slots begun q e z = record {
+  waits = fill-waits cs (fresh_stock pages);
+  did = λ p s.
+      let first = fresh-told pages (fresh_stock pages) [] [] no-slots no-lives in
+      let start : Shared = record (fresh 1 pages) { pool = bare_pool (fresh_stock pages) } in
+      let lead = fill-leads p cs (fresh_stock pages) start refl in
+      let now = fresh-told pages pool slots begun e z ∙ ap (λ x. let y : Shared = record (fresh 1 pages) { pool = bare_pool x } in y) q in
+      record {
+        leads = subst (λ x. ActsLead p (deeds (fill_story cs (fresh_stock pages))) x (told_living (living_side pool slots begun))) (sym first) (subst (ActsLead p (deeds (fill_story cs (fresh_stock pages))) start) (sym now) lead);
+        stays = record { post_is = s.post_is; grace_is = s.grace_is; agree = s.agree; turn = s.turn; most = s.most; boxes = s.boxes; plain_words = s.plain_words; tracing_words = s.tracing_words };
+      };
+}
+
+pub opened-tied : (cs : List ℕ) (pages : ℕ) (pool : Stock) (slots : List (Option UnitState)) (begun : List ℕ) (told : Option Log) → pool ≡ (filling cs (fresh_stock pages)).pool → AllEmpty slots → ((n : ℕ) → begun_at begun n ≡ 0) → IfSome told (λ es. es ≡ fill_log (filling cs (fresh_stock pages)).fills) →
+    TiedBy (polled [] (outset pages)) LivingDoes [] (outset pages) 0 [] [] told (living_side pool slots begun)
+opened-tied cs pages pool slots begun None q e z t = tt
+opened-tied cs pages pool slots begun (Some log) q e z t =
+    let story = fill_story cs (fresh_stock pages) in
+    let world : LivingState = living_side pool slots begun in
+    record {
+      story = story;
+      judged = fill-judged (outset pages) [] cs (fresh_stock pages);
+      log_is = t ∙ (sym (fill-lines cs (fresh_stock pages)) ∙ sym (append-nil (lines story)));
+      done_is = subst (λ as'. LivingDoes as' (outset pages) world) (sym (append-nil (deeds story))) (fill-does cs pages pool slots begun q e z);
+    }

@@ -1,0 +1,198 @@
+-- The processor after its opening.
+use Rattle.std.proofs.Common.{◌≡◌, ◌≢◌, ◌≤◌, ◌<◌, ℕ, suc, zero, ◌+◌, ◌*◌, Bool, true, false, not, if◌then◌else◌, List, [], ◌∷◌, ◌++◌, length, get_or, map, refl, sym, ap, subst, ◌∙◌, Option, Some, None, arith, eq-eqb, eqb, ne_eqb, nat_lt, is_none, is_some, inl, inr, replicate}
+use Rattle.std.specs.List.{All, AllPairs}
+use Rattle.std.proofs.lemmas.Bool.{and_from, and_parts, cases_eq, ltb-true}
+use Rattle.std.proofs.lemmas.Bool.Decides.{nat_tests}
+use Rattle.std.proofs.lemmas.List.{map-append}
+use Rattle.std.proofs.lemmas.List.Elements.{All-nil}
+use mathlib.Core.Path.{fun_ext}
+use Rattle.bm_journal.specs.declared.ids.Domain.{Domain}
+use Rattle.bm_journal.specs.declared.ids.Domain.TheVariants.{Plain, Tracing}
+use Rattle.bm_journal.specs.declared.entry.Entry.TheVariants as entry
+use Rattle.bm_page.specs.declared.units.Seal.{Seal}
+use Rattle.bm_page.specs.Stock.{Stock, stocked_at, fetched, unborn}
+use Rattle.bm_page.specs.UnitState.{UnitState}
+use Rattle.bm_page.specs.Out.{AreOut}
+use Rattle.bm_page.proofs.StockLemmas.{out_inside}
+use Rattle.bm_grace.specs.Known.{side}
+use Rattle.bm_post.specs.HasRoom.{has_room}
+use Rattle.bm_post.specs.Kept.{IsRoomy}
+use Rattle.bm_post.specs.PostState.{Parcels, PostState, is_mine, no_parcels, waits}
+use Rattle.bm_post.specs.Rights.{numbers}
+use Rattle.bm_post.proofs.Room.{room-is}
+use Rattle.bm_world.specs.LivingState.{HaveLived, LivingState, begun_at, known_living, lives_of, living_of, may_be_used, may_live, rights_living}
+use Rattle.bm_world.specs.Slots.{AllEmpty, unit_at}
+use Rattle.bm_law.specs.Effect.{effect}
+use Rattle.bm_law.specs.Lists.{is_unstamped}
+use Rattle.bm_law.specs.Stands.{times}
+use Rattle.bm_law.specs.State.{Deferred, Row, State, no_deferred, opening}
+use Rattle.bm_cache.specs.Opening.{Fills, Ascending, FillsSuit, filled, named, numbers_in}
+use Rattle.bm_cache.specs.Tests.{Reusable, Tests}
+use Rattle.bm_cache.specs.Tokens.{Token, number_of}
+use Rattle.bm_work.specs.Dated.{Dated, DatedRow}
+use Rattle.bm_work.specs.DeskTests.{tests_by}
+use Rattle.bm_law_scenario.specs.Fills.{prefill, fresh_stock}
+use Rattle.bm_run.specs.Filling.{filling, units_in, IsUnborn, NeverLived}
+use Rattle.bm_run.specs.Opened.{ascends, fresh_side}
+
+pub ascending : (cs : List ℕ) (pool : Stock) → ascends cs ≡ true → Ascending (filling cs pool).fills
+ascending [] pool h = tt
+ascending (c ∷ []) pool h = grind (arith, nat_tests, h)
+ascending (c ∷ d ∷ cs) pool h =
+    let both = and_parts (nat_lt c d) (ascends (d ∷ cs)) h in
+    (ltb-true c d both.0, ascending (d ∷ cs) (fetched c (prefill c) pool).pool both.1)
+
+numbers-units : (fs : Fills) → numbers_in fs ≡ map number_of (units_in fs)
+numbers-units [] = refl
+numbers-units (f ∷ fs) = ap (λ l. map number_of f.1 ++ l) (numbers-units fs) ∙ sym (map-append number_of f.1 (units_in fs))
+
+-- units with different numbers
+distinct-tail : (u : Token) (us : List Token) → AllPairs (λ (a b : Token). a.number ≢ b.number) (u ∷ us) → AllPairs (λ (a b : Token). a.number ≢ b.number) us
+distinct-tail u us h i j d lt le = h (suc i) (suc j) d (omega arith) (omega arith)
+
+absent : (n : ℕ) (us : List Token) → ((i : ℕ) (d : Token) → i < length us → n ≢ (get_or us i d).number) → times n (map number_of us) ≡ 0
+absent n [] h = refl
+absent n (u ∷ us) h = let rest = absent n us (λ i d lt. h (suc i) d (omega arith)) in rw (ne_eqb n u.number (h 0 u (omega arith))) (omega (arith, rest))
+
+some-once : (us : List Token) → AllPairs (λ (a b : Token). a.number ≢ b.number) us → (n : ℕ) → times n (map number_of us) ≤ 1
+some-once [] h n = omega arith
+some-once (u ∷ us) h n =
+    let r = some-once us (distinct-tail u us h) n in
+    elim (cases_eq n u.number) [
+      | inl same ↦ (let z = absent n us (λ i d lt. (λ f. h 0 (suc i) d (omega arith) (omega arith) (sym same ∙ f))) in rw (eq-eqb n u.number same) (omega (arith, z)))
+      | inr other ↦ rw (ne_eqb n u.number other) (omega (arith, r))
+    ]
+
+pub fills-once : (fs : Fills) (pool : Stock) → AreOut pool (units_in fs) → (n : ℕ) → times n (numbers_in fs) ≤ 1
+fills-once fs pool o n = subst (λ (l : List ℕ). times n l ≤ 1) (sym (numbers-units fs)) (some-once (units_in fs) o.distinct n)
+
+-- ---- the side
+
+-- no parcel waits in an empty inbox
+pub none-at : (k i : ℕ) → get_or (replicate k (let x : Parcels = [] in x)) i [] ≡ []
+none-at zero i = refl
+none-at (suc k) zero = refl
+none-at (suc k) (suc i) = none-at k i
+
+no-waits : (k n : ℕ) → waits n (replicate k (let x : Parcels = [] in x)) ≡ 0
+no-waits zero n = refl
+no-waits (suc k) n = no-waits k n
+
+pub roomy : (pool : Stock) → IsUnborn pool.units → IsRoomy pool
+roomy pool h = record {
+  size = let s = h.size in omega (arith, s);
+  lives = λ n. let z = (h.each n).0 in omega (arith, z);
+}
+
+pub unlived : (post : PostState) → IsUnborn post.pool.units → post.inboxes ≡ no_parcels → HaveLived [] post
+unlived post h e = record {
+  stock = λ n out. h.each n;
+  boxes = λ i. let none : get_or post.inboxes i [] ≡ [] = ap (λ (z : List Parcels). get_or z i []) e ∙ none-at 88 i in rw none (All-nil _);
+}
+
+-- the side with nothing alive
+abbrev pub living_side : Stock → List (Option UnitState) → List ℕ → LivingState
+living_side pool slots begun = record { side = fresh_side pool; slots = slots; begun = begun; asked = 0 }
+
+pub side-is : (world : LivingState) (pool : Stock) → world.side ≡ fresh_side pool → world.asked ≡ 0 → world ≡ living_side pool world.slots world.begun
+side-is world pool e z =
+    ap (λ s. let w : LivingState = record { side = s; slots = world.slots; begun = world.begun; asked = world.asked } in w) e ∙
+    ap (λ a. let w : LivingState = record { side = fresh_side pool; slots = world.slots; begun = world.begun; asked = a } in w) z
+
+pub none-live : (slots : List (Option UnitState)) → AllEmpty slots → (u : ℕ) → lives_of slots u ≡ None
+none-live slots e u = ap living_of (e u)
+
+pub no-numbers : (pool : Stock) (slots : List (Option UnitState)) (begun : List ℕ) (d : Domain) → (side d (known_living (living_side pool slots begun))).number ≡ 0
+no-numbers pool slots begun Plain = refl
+no-numbers pool slots begun Tracing = refl
+
+pub no-words : (pool : Stock) (slots : List (Option UnitState)) (begun : List ℕ) (d : Domain) → (side d (known_living (living_side pool slots begun))).word ≡ 0
+no-words pool slots begun Plain = refl
+no-words pool slots begun Tracing = refl
+
+pub all-begins : (pool : Stock) (slots : List (Option UnitState)) (begun : List ℕ) (d : Domain) → (side d (known_living (living_side pool slots begun))).begins ≡ 134217728
+all-begins pool slots begun Plain = refl
+all-begins pool slots begun Tracing = refl
+
+-- ---- each unit may be used again
+
+mine-here : (pool : Stock) (slots : List (Option UnitState)) (begun : List ℕ) (n : ℕ) → AllEmpty slots → (stocked_at pool.units n).out ≡ true → (rights_living (living_side pool slots begun)).mine n ≡ true
+mine-here pool slots begun n e o =
+    let none : not (is_some (unit_at slots n)) ≡ true = ap (λ x. not (is_some x)) (e n) in
+    let alone : eqb (waits n no_parcels) 0 ≡ true = ap (λ k. eqb k 0) (no-waits 88 n) in
+    and_from (is_mine (fresh_side pool).post n) (not (is_some (unit_at slots n))) (and_from (stocked_at pool.units n).out (eqb (waits n no_parcels) 0) o alone) none
+
+settled-here : (begun : List ℕ) (n life : ℕ) (seal : Option Seal) → n < 65536 → NeverLived life seal → begun_at begun n ≡ 0 → may_be_used begun n life seal ≡ true
+settled-here begun n life seal lt new none =
+    let z = new.0 in
+    and_from (may_live begun n life) (is_none seal)
+    (and_from (has_room n life) (eqb life (begun_at begun n)) (room-is n life (omega (arith, lt)) (omega (arith, z))) (eq-eqb life (begun_at begun n) (z ∙ sym none)))
+    (ap is_none new.1)
+
+reusable : (pool : Stock) (slots : List (Option UnitState)) (begun : List ℕ) (u : Token) → AllEmpty slots → ((n : ℕ) → begun_at begun n ≡ 0) → IsUnborn pool.units → NeverLived u.life u.seal → (stocked_at pool.units u.number).out ≡ true → Reusable (tests_by (rights_living (living_side pool slots begun))) u
+reusable pool slots begun u e none born z o =
+    let inside = out_inside pool.units u.number o in
+    let size = born.size in
+    and_from ((rights_living (living_side pool slots begun)).mine u.number) (may_be_used begun u.number u.life u.seal) (mine-here pool slots begun u.number e o) (settled-here begun u.number u.life u.seal (omega (arith, inside, size)) z (none u.number))
+
+all-front : (P : Token → Type 0) (xs ys : List Token) → All P (xs ++ ys) → All P xs
+all-front P [] ys h i d lt = absurd (omega arith)
+all-front P (x ∷ xs) ys h zero d lt = h 0 d (omega arith)
+all-front P (x ∷ xs) ys h (suc i) d lt = all-front P xs ys (λ k e l. h (suc k) e (omega arith)) i d (omega arith)
+
+all-back : (P : Token → Type 0) (xs ys : List Token) → All P (xs ++ ys) → All P ys
+all-back P [] ys h = h
+all-back P (x ∷ xs) ys h = all-back P xs ys (λ k e l. h (suc k) e (omega arith))
+
+suits : (t : Tests) (fs : Fills) → All (Reusable t) (units_in fs) → FillsSuit t fs
+suits t [] h = tt
+suits t (f ∷ fs) h = (all-front (Reusable t) f.1 (units_in fs) h, suits t fs (all-back (Reusable t) f.1 (units_in fs) h))
+
+pub fills-suit : (pool : Stock) (slots : List (Option UnitState)) (begun : List ℕ) (fs : Fills) → AllEmpty slots → ((n : ℕ) → begun_at begun n ≡ 0) → IsUnborn pool.units → All (λ (u : Token). NeverLived u.life u.seal) (units_in fs) → AreOut pool (units_in fs) → FillsSuit (tests_by (rights_living (living_side pool slots begun))) fs
+fills-suit pool slots begun fs e none born z o =
+    suits (tests_by (rights_living (living_side pool slots begun))) fs (λ i d lt. reusable pool slots begun (get_or (units_in fs) i d) e none born (z i d lt) (o.each i d lt).out)
+
+-- ---- no deferred work is in progress
+
+either-row : (b : Bool) (r q : Row Token) (d : Deferred Token) → r.deferred ≡ d → q.deferred ≡ d → (if b then r else q).deferred ≡ d
+either-row true r q d e f = e
+either-row false r q d e f = f
+
+deferred-filled : (fs : Fills) (s : State Token) → ((k : ℕ) → (s.rows k).deferred ≡ no_deferred) → (k : ℕ) → ((filled fs s).rows k).deferred ≡ no_deferred
+deferred-filled [] s h = h
+deferred-filled (f ∷ fs) s h = deferred-filled fs (effect 0 (entry.Fill f.0 (named f.1)) f.1 s) (λ k. either-row (eqb k f.0) _ (s.rows k) no_deferred (h f.0) (h k))
+
+either-flag : (b : Bool) (r q : Row Token) → r.raised ≡ false → q.raised ≡ false → (if b then r else q).raised ≡ false
+either-flag true r q e f = e
+either-flag false r q e f = f
+
+lowered-filled : (fs : Fills) (s : State Token) → ((k : ℕ) → (s.rows k).raised ≡ false) → (k : ℕ) → ((filled fs s).rows k).raised ≡ false
+lowered-filled [] s h = h
+lowered-filled (f ∷ fs) s h = lowered-filled fs (effect 0 (entry.Fill f.0 (named f.1)) f.1 s) (λ k. either-flag (eqb k f.0) _ (s.rows k) (h f.0) (h k))
+
+pub lowered : (fs : Fills) (s : State Token) → s ≡ filled fs (opening 0) → (c : ℕ) → (s.rows c).raised ≡ false
+lowered fs s e c = ap (λ (x : State Token). (x.rows c).raised) e ∙ lowered-filled fs (opening 0) (λ i. refl) c
+
+no-dates : (t : Tests) → DatedRow t no_deferred
+no-dates t = record {
+  plain = λ x e. absurd (clash e);
+  tracing = λ x e. absurd (clash e);
+  some = λ x e. absurd (clash e);
+  settled = All-nil (Reusable t);
+}
+  where
+    clash : {x : ℕ} → ◌≡◌ {A = Option ℕ} None (Some x) → ⊥
+    clash e = cc
+
+pub dated : (t : Tests) (fs : Fills) (s : State Token) → s ≡ filled fs (opening 0) → Dated t s
+dated t fs s e k =
+    let d : (s.rows k).deferred ≡ no_deferred = ap (λ (x : State Token). (x.rows k).deferred) e ∙ deferred-filled fs (opening 0) (λ i. refl) k in
+    subst (DatedRow t) (sym d) (no-dates t)
+
+pub stamped : (fs : Fills) (s : State Token) → s ≡ filled fs (opening 0) → (c : ℕ) → is_unstamped (s.rows c).deferred.plain ≡ false
+stamped fs s e c =
+    let d : (s.rows c).deferred ≡ no_deferred = ap (λ (x : State Token). (x.rows c).deferred) e ∙ deferred-filled fs (opening 0) (λ i. refl) c in
+    ap (λ (x : Deferred Token). is_unstamped x.plain) d
+
+pub opened-pool : (pool : Stock) (pages : ℕ) → pool.classes ≡ replicate pages None → pool.units ≡ replicate (256 * pages) unborn → pool ≡ fresh_stock pages
+opened-pool pool pages e f = ap (λ l. let s : Stock = record { classes = l; units = pool.units } in s) e ∙ ap (λ l. let s : Stock = record { classes = replicate pages None; units = l } in s) f

@@ -1,0 +1,110 @@
+-- The processor before its first script.
+use Rattle.std.proofs.Common.{◌≡◌, ◌≤◌, ℕ, ◌+◌, ◌*◌, ◌%◌, Bool, false, if◌then◌else◌, List, [], ◌∷◌, length, refl, sym, ap, subst, ◌∙◌, Option, Some, None, IfSome, slice_get, arith, vec_capacity}
+use Rattle.std.specs.Prelude.{All}
+use Rattle.bm_journal.specs.declared.ids.Domain.{Domain}
+use Rattle.bm_journal.specs.declared.ids.Domain.TheVariants.{Plain}
+use Rattle.bm_lang.specs.declared.scenario.Parts.{Parts}
+use Rattle.bm_lang.specs.declared.scenario.TypeDeclaration.{TypeDeclaration}
+use Rattle.bm_lang.specs.Fine.{HasConditions}
+use Rattle.bm_law.specs.Lists.{Log}
+use Rattle.bm_cache.specs.Opening.{Fills, fill_log}
+use Rattle.bm_due.specs.Due.{planned_for}
+use Rattle.bm_due.specs.Plan.{Plan}
+use Rattle.bm_due.specs.declared.planned.Due.{Due}
+use Rattle.bm_plan.specs.Position.{StandsAt, names_in}
+use Rattle.bm_exec.specs.Runnable.{Classes}
+use Rattle.bm_exec_levels.specs.AtProcessor.{IsAt, log_of}
+use Rattle.bm_exec_levels.specs.Here.{Running, position_of}
+use Rattle.bm_exec_levels.specs.Logged.{Tells}
+use Rattle.bm_exec_levels.specs.Ready.{BindsAll, IsHandlerLine, IsProgram, IsReady, known_of, left_cost, left_of, word_of}
+use Rattle.bm_exec_levels.specs.declared.processor.Processor.{Processor}
+use Rattle.bm_exec_levels.specs.declared.program.Program.{Program}
+use Rattle.bm_run.proofs.Begun.{stands-filled, tells-filled, where-told}
+use Rattle.bm_run.proofs.Bounds.{Within, asks-few, few-planned, handler-lines}
+
+-- the plan of a scenario's handlers, none of which has run
+abbrev pub whole_plan : Parts → Plan
+whole_plan s = record { left = planned_for 0 s; ended = false }
+
+-- A processor on which nothing has run: what handlers need is there, and nothing was asked for, lived or entered.
+pub record IsFresh (s : Parts) (m : Processor) : Type 0 where
+  pub planned : m.handlers.planned ≡ whole_plan s
+  pub scripts : m.handlers.scripts ≡ length s.scripts
+  pub running : m.running.items ≡ []
+  pub room_running : 3 ≤ vec_capacity m.running
+  pub bound : All (BindsAll s.scripts) m.tables.items
+  pub tables : length m.tables.items ≡ 3
+  pub room_tables : 3 ≤ vec_capacity m.tables
+  pub inside : m.inside ≡ false
+  pub one : (known_of m).grace.processors ≡ 1
+  pub first : (known_of m).grace.processor ≡ 0
+  pub words : (d : Domain) → word_of d m ≡ 0
+  pub asked : (known_of m).objects.asked + m.settled ≡ 0
+  pub begun : (u : ℕ) → (known_of m).objects.begun u ≡ 0
+  pub lives : (u : ℕ) → (known_of m).objects.lives u ≡ None
+
+pub left-is : (s : Parts) (m : Processor) → IsFresh s m → left_of m ≡ planned_for 0 s
+left-is s m f = ap (λ (plan : Plan). plan.left) f.planned
+
+-- ordinary code is there
+stands : (p : ℕ) (s : Parts) (plan : Plan) (running : List Due) (log : Option Log) (fs : Fills) → p ≡ 0 → plan ≡ whole_plan s → running ≡ [] → IfSome log (λ es. es ≡ fill_log fs) → Running StandsAt 0 p s plan running log
+stands p s plan running log fs e f g told =
+    let at : IfSome log (StandsAt (position_of 0 s (whole_plan s) [])) = where-told (StandsAt (position_of 0 s (whole_plan s) [])) log (fill_log fs) told (stands-filled (names_in s.scripts) (planned_for 0 s) fs) in
+    let here : Running StandsAt 0 0 s (whole_plan s) [] log = record { at = at; level = refl; deep = omega arith } in
+    subst (λ q. Running StandsAt 0 q s plan running log) (sym e) (subst (λ x. Running StandsAt 0 0 s x running log) (sym f) (subst (λ x. Running StandsAt 0 0 s (whole_plan s) x log) (sym g) here))
+
+outside : (w : ℕ) (b : Bool) → w ≡ 0 → b ≡ false → w % 2 ≡ (if b then 1 else 0)
+outside w b e f = rw (e, f) refl
+
+-- handlers can run
+ready : (p : Program) (m : Processor) → IsProgram p → HasConditions p.scenario.now → Within p.scenario.now → IsFresh p.scenario.now m → IsReady p m
+ready p m fits fine within f =
+    let s = p.scenario.now in
+    let left = left-is s m f in
+    let few = few-planned s within in
+    let cost = asks-few s within in
+    let none = f.asked in
+    let word = f.words Plain in
+    record {
+      fits = fits;
+      one = f.one;
+      first = f.first;
+      scripts = f.scripts;
+      planned = subst (All (IsHandlerLine s)) (sym left) (handler-lines s fine);
+      bound = f.bound;
+      tables = (let t = f.tables in let r = ap length f.running in omega (arith, t, r));
+      room_running = f.room_running;
+      room_tables = f.room_tables;
+      asks = (let c = ap (left_cost s) left in omega (arith, none, c, cost));
+      words = (let l = ap length left in omega (arith, word, l, few));
+      inside = outside (word_of Plain m) m.inside word f.inside;
+    }
+
+pub fresh-at : (p : Program) (m : Processor) (fs : Fills) → IsProgram p → HasConditions p.scenario.now → Within p.scenario.now → IsFresh p.scenario.now m → IfSome (log_of m) (λ es. es ≡ fill_log fs) → IsAt StandsAt 0 p m
+fresh-at p m fs fits fine within f told = record {
+  at = stands (known_of m).grace.processor p.scenario.now m.handlers.planned m.running.items (log_of m) fs f.first f.planned f.running told;
+  tells = where-told (Tells p.scenario.now (known_of m)) (log_of m) (fill_log fs) told (tells-filled p.scenario.now (known_of m) fs f.words);
+  ready = ready p m fits fine within f;
+}
+
+-- so few handlers are planned that each may begin the periods that it needs
+pub begins-enough : (s : Parts) (m : Processor) (begins : ℕ) → Within s → IsFresh s m → begins ≡ 134217728 → 24 * 4194304 + 12 * length (left_of m) ≤ begins
+begins-enough s m begins within f e = let l = ap length (left-is s m f) in let few = few-planned s within in omega (arith, l, few, e)
+
+-- ---- a scenario without types and scripts
+
+nothing-there : {A : Type 0} (xs : List A) (i : ℕ) (x : A) → length xs ≡ 0 → slice_get xs i ≡ Some x → ⊥
+nothing-there [] i x e h = absurd cc
+nothing-there (y ∷ ys) i x e h = absurd (omega (arith, e))
+
+no-types : (types : List TypeDeclaration) (classes : List ℕ) → length types ≡ 0 → classes ≡ [] → Classes types classes
+no-types [] classes e f = rw f (record { each = refl; plain = refl })
+no-types (t ∷ ts) classes e f = absurd (omega (arith, e))
+
+pub idle_program : (p : Program) → p.types.declared.now ≡ p.scenario.now.types → p.types.classes.now ≡ [] → length p.scenario.now.types ≡ 0 → length p.scenario.now.scripts ≡ 0 → IsProgram p
+idle_program p same none types scripts = record {
+  types = same;
+  classes = no-types p.types.declared.now p.types.classes.now (ap length same ∙ types) none;
+  accepted = λ i x h. absurd (nothing-there p.scenario.now.scripts i x scripts h);
+  can = λ i x h. absurd (nothing-there p.scenario.now.scripts i x scripts h);
+}

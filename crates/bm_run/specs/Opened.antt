@@ -1,0 +1,55 @@
+-- The one processor after its opening.
+use Rattle.std.specs.Prelude.{◌≡◌, ◌+◌, ◌&&◌, ℕ, Bool, true, false, List, [], ◌∷◌, None, Some, IfSome, nat_lt}
+use Rattle.bm_journal.specs.declared.ids.Domain.{Domain}
+use Rattle.bm_page.specs.Stock.{Stock}
+use Rattle.bm_grace.specs.Known.{side}
+use Rattle.bm_grace.specs.PlainState.{idle}
+use Rattle.bm_post.specs.PostState.{no_parcels}
+use Rattle.bm_world.specs.SideState.{SideState}
+use Rattle.bm_world.specs.LivingState.{LivingState, begun_at, lives_of}
+use Rattle.bm_law_scenario.specs.Fills.{fresh_stock}
+use Rattle.bm_cache.specs.Opening.{fill_log}
+use Rattle.bm_cache.specs.Shown.{shown}
+use Rattle.bm_due.specs.Due.{planned_for}
+use Rattle.bm_exec_levels.specs.AtTie.{TiedAt}
+use Rattle.bm_exec_levels.specs.Ready.{known_of, left_of}
+use Rattle.bm_exec_levels.specs.Sound.{Sound}
+use Rattle.bm_exec_levels.specs.declared.processor.Processor.{Processor}
+use Rattle.bm_exec_levels.specs.declared.program.Program.{Program}
+use Rattle.bm_run.specs.Filling.{Filling}
+
+-- some of the eleven classes, ascending
+abbrev pub ascends : List ℕ → Bool
+ascends [] = true
+ascends (c ∷ []) = nat_lt c 11
+ascends (c ∷ d ∷ cs) = nat_lt c d && ascends (d ∷ cs)
+
+-- The one processor's side of all that processors share, with this stock: nobody has sent a parcel, begun a period or entered a
+-- section. (This project's own.)
+abbrev pub fresh_side : Stock → SideState
+fresh_side pool = record {
+  post = record { pool = pool; processors = 1; processor = 0; inboxes = no_parcels };
+  grace = record { processors = 1; processor = 0; plain = idle; tracing = idle };
+}
+
+-- the world of one processor before its opening: all units are in stock
+abbrev pub outset : (pages : ℕ) → LivingState
+outset pages = record { side = fresh_side (fresh_stock pages); slots = []; begun = []; asked = 0 }
+
+-- The processor's caches were filled so: the log has a `fill` for each class, no flag is up, no object lives, no life began,
+-- none was asked for, no period is in progress, and no section was entered. No handler that the program plans for it has run, none
+-- runs, and it is in no section. Its log and its side are tied since the outset. (bpf_mem_alloc_init and prefill_mem_cache in
+-- kernel/bpf/memalloc.c; objects, periods, sections and planned handlers are this project's own.)
+pub record IsOpen (p : Program) (f : Filling) (m : Processor) : Type 0 where
+  pub sound : Sound p m
+  pub told : IfSome m.caches.recorder.told (λ es. es ≡ fill_log f.fills)
+  pub lowered : (c : ℕ) → ((shown m.caches).rows c).raised ≡ false
+  pub none : (u : ℕ) → lives_of m.side.slots u ≡ None
+  pub begun : (u : ℕ) → begun_at m.side.begun u ≡ 0
+  pub asked : (known_of m).objects.asked + m.settled ≡ 0
+  pub numbers : (d : Domain) → (side d (known_of m)).number ≡ 0
+  pub words : (d : Domain) → (side d (known_of m)).word ≡ 0
+  pub planned : left_of m ≡ planned_for 0 p.scenario.now
+  pub running : m.running.items ≡ []
+  pub inside : m.inside ≡ false
+  pub tied : TiedAt [] (outset p.scenario.now.pages) m

@@ -1,0 +1,126 @@
+-- A scenario in whose words no form begins that can't be run yet runs by now.
+use Rattle.std.proofs.Common.{◌≡◌, ◌≢◌, ℕ, zero, suc, Bool, true, false, not, ◌&&◌, ◌==◌, if◌then◌else◌, List, [], ◌∷◌, ◌++◌, map, length, nat_lt, Option, Some, None, slice_get, refl, subst, arith}
+use Rattle.std.specs.List.{list_all, flat_map}
+use Rattle.std.proofs.lemmas.Bool.Decides.{nat_tests}
+use Rattle.bm_lang.specs.declared.bounds.Limit.{Limit}
+use Rattle.bm_lang.specs.declared.scenario.Parts.{Parts}
+use Rattle.bm_lang.specs.declared.scenario.TypeDeclaration.{TypeDeclaration}
+use Rattle.bm_lang.specs.declared.scenario.MapDeclaration.{MapDeclaration}
+use Rattle.bm_lang.specs.declared.scenario.MapKind.{MapKind}
+use Rattle.bm_lang.specs.declared.scenario.MapKind.TheVariants as kind
+use Rattle.bm_lang.specs.declared.scenario.Node.{Node}
+use Rattle.bm_lang.specs.declared.scenario.Node.TheVariants as node
+use Rattle.bm_lang.specs.declared.scenario.Script.{Script}
+use Rattle.bm_lang.specs.declared.scenario.ScriptKind.{ScriptKind}
+use Rattle.bm_lang.specs.declared.scenario.ScriptKind.TheVariants as script
+use Rattle.bm_lang.specs.Tokens.{Open, Close, End, tokens, start}
+use Rattle.bm_lang.specs.Names.{TypeForm, MapForm, ScriptForm}
+use Rattle.bm_lang.specs.Limits.{first_limit}
+use Rattle.bm_lang.specs.Fine.{FineScripts, HasConditions}
+use Rattle.bm_lang.specs.Scenarios.{Reads}
+use Rattle.bm_lang.specs.Spelling.{Word, any, name, reserved, declared, type_form, script_form, script_word, map_word, counted_words, node_words, pad_words, on_or_off, spell_block, spell_type, spell_map, spell_script, spell_run, spell_at, spell_turns, spell_scenario}
+use Rattle.bm_exec.specs.Runnable.{can_run_block}
+use Rattle.bm_run_yet.specs.Unbuilt.{is_unbuilt_word, unbuilt_before}
+use Rattle.bm_run_yet.specs.Yet.{RunsYet}
+use Rattle.bm_run_yet.proofs.Words.{built, spelled, both}
+use Rattle.bm_run_yet.proofs.Statements.{has_many, along, block_runs}
+
+pad_built : (pad : Option ℕ) (rest : List Word) → built false ((pad_words pad ++ any Close ∷ []) ++ rest) ≡ true → built false rest ≡ true
+pad_built None rest b = b
+pad_built (Some n) rest b = b
+
+fields_built : (fields : List (List ℕ)) (pad : Option ℕ) (rest : List Word) → built false ((map name fields ++ (pad_words pad ++ any Close ∷ [])) ++ rest) ≡ true → built false rest ≡ true
+fields_built [] pad rest b = pad_built pad rest b
+fields_built (f ∷ fs) pad rest b = fields_built fs pad rest b
+
+type_built : (counted : Bool) (n : Option Node) (fields : List (List ℕ)) (pad : Option ℕ) (rest : List Word) → built false ((counted_words counted ++ (node_words n ++ any Open ∷ (map name fields ++ (pad_words pad ++ any Close ∷ [])))) ++ rest) ≡ true → (not counted ≡ true) × (built false rest ≡ true)
+type_built true n fields pad rest b = cc
+type_built false (Some node.List) fields pad rest b = cc
+type_built false (Some node.Tree) fields pad rest b = cc
+type_built false None fields pad rest b = (refl, fields_built fields pad rest b)
+
+types_built : (types : List TypeDeclaration) (rest : List Word) → built false (flat_map spell_type types ++ rest) ≡ true → (list_all (λ (t : TypeDeclaration). not t.counted) types ≡ true) × (built false rest ≡ true)
+types_built [] rest b = (refl, b)
+types_built (t ∷ ts) rest b =
+    let first = type_built t.counted t.node t.fields t.pad (flat_map spell_type ts ++ rest) (along (spell_type t) (flat_map spell_type ts) rest b) in
+    let others = types_built ts rest first.1 in
+    (both (not t.counted) (list_all (λ (t : TypeDeclaration). not t.counted) ts) first.0 others.0, others.1)
+
+map_begins : (k : MapKind) → is_unbuilt_word (map_word k) ≡ true
+map_begins kind.Slot = refl
+map_begins kind.List = refl
+map_begins kind.Tree = refl
+
+not_begun : (begins b : Bool) → begins ≡ true → (not begins && b) ≡ true → true ≡ false
+not_begun true b e h = cc
+not_begun false b e h = cc
+
+maps_built : (types : List TypeForm) (maps : List MapDeclaration) (rest : List Word) → built false (flat_map (spell_map types) maps ++ rest) ≡ true → (maps ≡ []) × (built false rest ≡ true)
+maps_built types [] rest b = (refl, b)
+maps_built types (m ∷ ms) rest b = let e : true ≡ false = not_begun (is_unbuilt_word (map_word m.kind)) _ (map_begins m.kind) b in cc
+
+kind_built : (k : ScriptKind) (rest : List Word) → built false (reserved (script_word k) ∷ rest) ≡ true → (k ≢ script.Sleepable) × (built false rest ≡ true)
+kind_built script.Plain rest b = (λ e. cc, b)
+kind_built script.Sleepable rest b = cc
+kind_built script.Handler rest b = (λ e. cc, b)
+
+-- what RunsYet asks of a script
+abbrev Runs : List TypeDeclaration → Script → Type 0
+Runs types x = (x.kind ≢ script.Sleepable) × (can_run_block types x.body ≡ true)
+
+script_built : (types : List TypeDeclaration) (maps : List MapForm) (before : List ScriptForm) (scripts : List Script) (rest : List Word) → has_many types ≡ false → FineScripts (map type_form types) maps before scripts → built false (flat_map (spell_script (map type_form types) maps) scripts ++ rest) ≡ true → ((i : ℕ) (x : Script) → slice_get scripts i ≡ Some x → Runs types x) × (built false rest ≡ true)
+script_built types maps before [] rest h fine b = (λ i x e. cc, b)
+script_built types maps before (s ∷ ss) rest h fine b =
+    let forms = map type_form types in
+    let more = flat_map (spell_script forms maps) ss in
+    let kind = kind_built s.kind (spell_block forms maps s.body ++ (more ++ rest)) (along (spell_script forms maps s) more rest b) in
+    let body = block_runs types maps 16 s.body (more ++ rest) h fine.1 kind.1 in
+    let others = script_built types maps (before ++ script_form s ∷ []) ss rest h fine.2 body.1 in
+    (found kind.0 body.0 others.0, others.1)
+  where
+    found : s.kind ≢ script.Sleepable → can_run_block types s.body ≡ true → ((i : ℕ) (x : Script) → slice_get ss i ≡ Some x → Runs types x) → (i : ℕ) (x : Script) → slice_get (s ∷ ss) i ≡ Some x → Runs types x
+    found k r o zero x e = let same : s ≡ x = cc in subst (λ (y : Script). Runs types y) same (k, r)
+    found k r o (suc i) x e = o i x e
+
+switch_built : (deferred : Bool) (rest : List Word) → built false (reserved (on_or_off deferred) ∷ rest) ≡ true → built false rest ≡ true
+switch_built true rest b = b
+switch_built false rest b = b
+
+one : (n : ℕ) (b : Bool) → (not (not (n == 1)) && b) ≡ true → (n ≡ 1) × (b ≡ true)
+one n b h = grind (arith, nat_tests)
+
+-- no limit is exceeded, so no type has more than eight fields
+few_fields : (a b c d : Bool) (l m n k : Limit) (later : Option Limit) → (if a then Some l else (if b then Some m else (if c then Some n else (if d then Some k else later)))) ≡ None → d ≡ false
+few_fields true b c d l m n k later h = cc
+few_fields false true c d l m n k later h = cc
+few_fields false false true d l m n k later h = cc
+few_fields false false false true l m n k later h = cc
+few_fields false false false false l m n k later h = refl
+
+-- The parts of a scenario's words, from the front: what stands behind each is in parentheses, as `along` gives it.
+pub words_run : (s : Parts) → HasConditions s → first_limit s ≡ None → built false (spell_scenario s ++ any End ∷ []) ≡ true → RunsYet s
+words_run s fine limits b =
+    let d = declared s in
+    let end = any End ∷ [] in
+    let last = spell_turns s.turns ++ any Close ∷ [] in
+    let ats = flat_map (spell_at d.scripts) s.ats in
+    let runs = flat_map (spell_run d.scripts) s.runs in
+    let scripts = flat_map (spell_script d.types d.maps) s.scripts in
+    let maps = flat_map (spell_map d.types) s.maps in
+    let types = flat_map spell_type s.types in
+    let few = few_fields (nat_lt 8 s.processors) (nat_lt 256 s.pages) (nat_lt 32 (length s.types)) (has_many s.types) _ _ _ _ _ limits in
+    let alone = one s.processors _ b in
+    let switched = switch_built s.deferred ((types ++ (maps ++ (scripts ++ (runs ++ (ats ++ last))))) ++ end) alone.1 in
+    let uncounted = types_built s.types ((maps ++ (scripts ++ (runs ++ (ats ++ last)))) ++ end) (along types (maps ++ (scripts ++ (runs ++ (ats ++ last)))) end switched) in
+    let unmapped = maps_built d.types s.maps ((scripts ++ (runs ++ (ats ++ last))) ++ end) (along maps (scripts ++ (runs ++ (ats ++ last))) end uncounted.1) in
+    let awake = script_built s.types d.maps [] s.scripts ((runs ++ (ats ++ last)) ++ end) few fine.scripts (along scripts (runs ++ (ats ++ last)) end unmapped.1) in
+    record {
+      one = alone.0;
+      no_maps = unmapped.0;
+      uncounted = uncounted.0;
+      awake = λ i x e. (awake.0 i x e).0;
+      scripts = λ i x e. (awake.0 i x e).1;
+    }
+
+pub built_runs : (bytes : List ℕ) (s : Parts) → Reads bytes s → unbuilt_before None false (tokens start bytes) ≡ None → first_limit s ≡ None → RunsYet s
+built_runs bytes s reads none limits = words_run s reads.conditions limits (spelled false (tokens start bytes) (spell_scenario s ++ any End ∷ []) [] reads.spelled none)

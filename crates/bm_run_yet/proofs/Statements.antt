@@ -1,0 +1,59 @@
+-- Statements without a form that can't be run yet can be run.
+use Rattle.std.proofs.Common.{◌≡◌, ℕ, zero, suc, ◌-◌, Bool, true, false, ◌&&◌, ◌||◌, List, [], ◌∷◌, ◌++◌, map, length, nat_lt, nat_le, IsSomeAnd, is_some, slice_get, refl, subst, append_assoc, arith}
+use Rattle.std.specs.List.{list_any}
+use Rattle.std.proofs.lemmas.Bool.Decides.{nat_tests}
+use Rattle.bm_lang.specs.declared.scenario.Action.{Action, New, Drop, If', Repeat, Held-Action-If-2, None', Some'}
+use Rattle.bm_lang.specs.declared.scenario.Block.{Block, Block', Row_of-Statement, end_of-Statement, more_of-Statement}
+use Rattle.bm_lang.specs.declared.scenario.TypeDeclaration.{TypeDeclaration}
+use Rattle.bm_lang.specs.Tokens.{Close}
+use Rattle.bm_lang.specs.Names.{MapForm}
+use Rattle.bm_lang.specs.Spelling.{Word, on, type_form, spell_action, spell_else, spell_block, spell_row}
+use Rattle.bm_lang.specs.Fine.{FineAction, FineElse, FineBlock, FineRow}
+use Rattle.bm_exec.specs.Runnable.{can_run_action, can_run_else, can_run_block, can_run_row}
+use Rattle.bm_run_yet.proofs.Words.{built, numbers, both}
+
+-- no type has more than eight fields
+abbrev pub has_many : List TypeDeclaration → Bool
+has_many types = list_any (λ (t : TypeDeclaration). nat_lt 8 (length t.fields)) types
+
+few : (a b : ℕ) (more : Bool) → (nat_lt 8 b || more) ≡ false → a ≡ b → nat_le a 8 ≡ true
+few a b more h e = grind (arith, nat_tests)
+
+first_few : (a : Bool) (b : Bool) → (a || b) ≡ false → b ≡ false
+first_few true b h = cc
+first_few false b h = h
+
+new_runs : (types : List TypeDeclaration) (i : ℕ) (values : List ℕ) → has_many types ≡ false → IsSomeAnd (slice_get (map type_form types) i) (λ e. length values ≡ length e.fields) → (is_some (slice_get types i) && nat_le (length values) 8) ≡ true
+new_runs [] i values h fine = absurd fine
+new_runs (t ∷ ts) zero values h fine = few (length values) (length t.fields) (has_many ts) h fine
+new_runs (t ∷ ts) (suc i) values h fine = new_runs ts i values (first_few (nat_lt 8 (length t.fields)) (has_many ts) h) fine
+
+pub along : (a b rest : List Word) → built false ((a ++ b) ++ rest) ≡ true → built false (a ++ (b ++ rest)) ≡ true
+along a b rest h = subst (λ ws. built false ws ≡ true) (append_assoc a b rest) h
+
+mutual
+  action_runs : (types : List TypeDeclaration) (maps : List MapForm) (d l : ℕ) (a : Action) (rest : List Word) → has_many types ≡ false → FineAction (map type_form types) maps d a → built false (spell_action (map type_form types) maps l a ++ rest) ≡ true → (can_run_action types a ≡ true) × (built false rest ≡ true)
+  action_runs types maps d l (New x t values) rest h fine b = (new_runs types t.0 values h fine, numbers values rest b)
+  action_runs types maps d l (Drop x) rest h fine b = (refl, b)
+  action_runs types maps d l (If' x body otherwise) rest h fine b =
+      let forms = map type_form types in
+      let first = block_runs types maps d body (spell_else forms maps otherwise ++ rest) h fine.0 (along (spell_block forms maps body) (spell_else forms maps otherwise) rest b) in
+      let other = else_runs types maps d otherwise rest h fine.1 first.1 in
+      (both (can_run_block types body) (can_run_else types otherwise) first.0 other.0, other.1)
+  action_runs types maps d l (Repeat n body) rest h fine b = block_runs types maps d body rest h fine b
+  action_runs types maps d l a rest h fine b = cc
+
+  else_runs : (types : List TypeDeclaration) (maps : List MapForm) (d : ℕ) (o : Held-Action-If-2) (rest : List Word) → has_many types ≡ false → FineElse (map type_form types) maps d o → built false (spell_else (map type_form types) maps o ++ rest) ≡ true → (can_run_else types o ≡ true) × (built false rest ≡ true)
+  else_runs types maps d None' rest h fine b = (refl, b)
+  else_runs types maps d (Some' body) rest h fine b = block_runs types maps d body rest h fine b
+
+  pub block_runs : (types : List TypeDeclaration) (maps : List MapForm) (d : ℕ) (body : Block) (rest : List Word) → has_many types ≡ false → FineBlock (map type_form types) maps d body → built false (spell_block (map type_form types) maps body ++ rest) ≡ true → (can_run_block types body ≡ true) × (built false rest ≡ true)
+  block_runs types maps d (Block' shape row line) rest h fine b = row_runs types maps (d - 1) row (on line Close ∷ rest) h fine.1 (along (spell_row (map type_form types) maps row) (on line Close ∷ []) rest b)
+
+  row_runs : (types : List TypeDeclaration) (maps : List MapForm) (d : ℕ) {m : _} (row : Row_of-Statement m) (rest : List Word) → has_many types ≡ false → FineRow (map type_form types) maps d row → built false (spell_row (map type_form types) maps row ++ rest) ≡ true → (can_run_row types row ≡ true) × (built false rest ≡ true)
+  row_runs types maps d end_of-Statement rest h fine b = (refl, b)
+  row_runs types maps d (more_of-Statement line action more) rest h fine b =
+      let forms = map type_form types in
+      let first = action_runs types maps d line action (spell_row forms maps more ++ rest) h fine.0 (along (spell_action forms maps line action) (spell_row forms maps more) rest b) in
+      let other = row_runs types maps d more rest h fine.1 first.1 in
+      (both (can_run_action types action) (can_run_row types more) first.0 other.0, other.1)

@@ -1,6 +1,0 @@
-use Rattle.std.proofs.Common.{◌+◌}
-use Rattle.bm_cache.proofs.Moments.{came-none}
-use Rattle.bm_work.proofs.bring.ready_in.Goals as goal
-
-pub returns-then-not-holds_ready-clause-none : goal.returns-then-not-holds_ready-clause-none
-returns-then-not-holds_ready-clause-none g c = λ _. (c.holds_ready.ensures.none c.if-not-holds_ready.true, rw (c.holds_ready.ensures.tests, c.holds_ready.ensures.held) (came-none g.R.Recorder.log ((g.H.Host.face c.args.host.now).level + 1) (g.H.Host.tests c.args.host.now) (g.H.Host.held c.args.host.now)))

@@ -1,5 +1,0 @@
-use Rattle.bm_work.proofs.FromLists.{from-whole}
-use Rattle.bm_work.proofs.law.whole_refill.Goals as goal
-
-pub returns : goal.returns
-returns c = record { whole = from-whole }

@@ -1,0 +1,18 @@
+use Rattle.std.proofs.Common.{[], ℕ}
+use Rattle.bm_law.specs.Lists.{after}
+use Rattle.bm_law_work.specs.Parts.{Part, Say, Stand}
+use Rattle.bm_law_work.specs.WorkPhrases.{IsSend}
+use Rattle.bm_work_lists.proofs.Grown.{say-after}
+use Rattle.bm_work.proofs.Sides.{on-ok, posted-works, works-join}
+use Rattle.bm_work.proofs.leaving.send_hand.Goals as goal
+
+pub returns-clause-ok : goal.returns-clause-ok
+returns-clause-ok g c =
+    let j = g.met.H.Desk.stays_join in
+    let i = c.args.class in
+    let a = c.args.host.now in
+    let b = c.pause.new.host in
+    let x = c.room_for_hand.new.host in
+    let y = c.send_hand_now.new.host in
+    let P : ℕ → Part = λ l. Say l (IsSend i) in
+    on-ok c.send_hand_now.result (λ w. works-join g.R.Recorder.log g.R.Recorder.counts g.H.Host.face g.H.Host.pending g.H.Desk.stays g.H.Host.held (λ h. g.H.W.Knows.known (g.H.Desk.shared h)) j 0 0 0 0 (λ l. Stand l []) P P a b y (λ l s one two h k. say-after l (IsSend i) s (after s one) one two h k) c.requires.stands.fine.placed c.pause.ensures.stands.fine.placed c.pause.ensures.works (posted-works g.R.Recorder.log g.R.Recorder.counts g.H.Host.face g.H.Host.pending g.H.Desk.stays g.H.Host.held (λ h. g.H.W.Knows.known (g.H.Desk.shared h)) g.H.Host.tests j [] 0 0 P b x y c.pause.ensures.stands.fine.placed c.room_for_hand.ensures.stands.fine.placed c.room_for_hand.ensures.posted w)) c.send_hand_now.ensures.ok
