@@ -1,5 +1,5 @@
 //! The caches of one processor: lists of free units, on which a call may be interrupted at any step by a handler that
-//! allocates and frees on the same lists. From kernel/bpf/memalloc.c of Linux 6.12; docs/caches.md walks through the steps.
+//! allocates and frees on the same lists. From kernel/bpf/memalloc.c; docs/caches.md walks through the steps.
 //!
 //! - `Caches` has the lists of the eleven classes (`Rows` of `bm_cache_lists`), a hand for each of the four levels, the number of the
 //!   next step, and a recorder. Contracts see lists and hands as one value, `shown`.

@@ -22,7 +22,7 @@ use Rattle.bm_cache.specs.Tokens.{Token, number_of}
 use Rattle.bm_cache.specs.declared.caches.Caches.{Caches}
 use Rattle.bm_cache.proofs.Moments.{goes-join}
 use Rattle.bm_law_work.specs.Grown.{GrewBy}
-use Rattle.bm_law_work.specs.Inboxes.{Inboxes}
+use Rattle.bm_law.specs.Inboxes.{Inboxes}
 use Rattle.bm_law_work.specs.Parts.{Part, Then}
 use Rattle.bm_law_work.proofs.Grown.{grew-none}
 use Rattle.bm_work_lists.proofs.Grown.{grew-parts, grew-then}

@@ -1,5 +1,5 @@
 -- What a desk whose processor has ended owes, and what is told at once.
-use Rattle.std.proofs.Common.{◌≡◌, ◌≤◌, ◌++◌, ◌∷◌, [], false, ℕ, List, Option, Some, None, map, refl, sym, ◌∙◌, ap, subst, append-nil}
+use Rattle.std.proofs.Common.{◌≡◌, ◌≤◌, ◌++◌, ◌∷◌, [], ℕ, List, Option, Some, None, map, refl, sym, ◌∙◌, ap, subst, append-nil}
 use Rattle.std.specs.List.{concat, flat_map}
 use Rattle.std.proofs.lemmas.List.{map-append}
 use Rattle.bm_journal.specs.declared.counts.Counts.{Counts}

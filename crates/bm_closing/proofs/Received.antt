@@ -16,7 +16,7 @@ use Rattle.bm_law.specs.declared.mark.Mark.TheVariants as mark
 use Rattle.bm_law.proofs.Once as onces
 use Rattle.bm_law.proofs.Stands.{times-append}
 use Rattle.bm_post.specs.Calls.{IsOf, Takes, Receives}
-use Rattle.bm_law_work.specs.Inboxes.{Inboxes, oldest}
+use Rattle.bm_law.specs.Inboxes.{Inboxes, oldest}
 use Rattle.bm_post.specs.Parcels.{parcel_taken}
 use Rattle.bm_post.specs.Rights.{AreSame, Gains, IsSettled, Lasting, number_of, numbers}
 use Rattle.bm_post.proofs.Counts.{at-number, here-times, zero-or-more}

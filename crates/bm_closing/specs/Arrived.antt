@@ -7,7 +7,7 @@ use Rattle.bm_page.specs.UnitState.{UnitState}
 use Rattle.bm_grace.specs.Known.{Known}
 use Rattle.bm_grace.specs.Rights.{Rights}
 use Rattle.bm_post.specs.Calls.{IsOf}
-use Rattle.bm_law_work.specs.Inboxes.{Inboxes, on_inbox}
+use Rattle.bm_law.specs.Inboxes.{Inboxes, on_inbox}
 use Rattle.bm_post.specs.Rights.{Holds, IsSettled, numbers}
 
 -- Units are mine, of this class, and may be used again.

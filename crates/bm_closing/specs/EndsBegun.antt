@@ -1,7 +1,7 @@
 -- The ends of the periods that a side has in progress. (This project's own; see EndsPeriods, which reads the same from a log.)
 use Rattle.bm_journal.specs.declared.ids.Domain.TheVariants.{Plain, Tracing}
 use Rattle.bm_grace.specs.Known.{Known, side}
-use Rattle.bm_law_work.specs.Begun.{begun_by}
+use Rattle.bm_law.specs.Begun.{begun_by}
 use Rattle.bm_law_work.specs.Parts.{Part, Then}
 use Rattle.bm_law_scenario.specs.Closing.{EndsOne}
 

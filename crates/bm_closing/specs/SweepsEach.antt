@@ -12,7 +12,7 @@ use Rattle.bm_cache.specs.Shown.{shown}
 use Rattle.bm_cache.specs.Span.{Face, Goes}
 use Rattle.bm_cache.specs.declared.caches.Caches.{Caches}
 use Rattle.bm_law_work.specs.Grown.{GrewBy}
-use Rattle.bm_law_work.specs.Inboxes.{Inboxes}
+use Rattle.bm_law.specs.Inboxes.{Inboxes}
 use Rattle.bm_work.specs.Goes.{Alike}
 use Rattle.bm_law_scenario.specs.Closing.{AreSweeps}
 use Rattle.bm_law_logs.specs.SweepsTold.{SweepsTold}

@@ -15,7 +15,7 @@ ghost use Rattle.bm_law.specs.State.{seen, seven_lists};
 ghost use Rattle.bm_cache.specs.Shown.{shown};
 ghost use Rattle.bm_cache.specs.Span.{Goes};
 ghost use Rattle.bm_cache.specs.Tokens.{number_of};
-ghost use Rattle.bm_law_work.specs.Begun.{begun_by};
+ghost use Rattle.bm_law.specs.Begun.{begun_by};
 ghost use Rattle.bm_law_work.specs.Grown.{GrewBy};
 ghost use Rattle.bm_work.specs.Goes.{Alike};
 ghost use Rattle.bm_work.specs.Owed.{Whatever};
@@ -38,12 +38,12 @@ use crate::inbox::{give_up_parcels, give_up_units, numbers_of, receive_all};
 use crate::period::{end_driven, wait_period};
 use bm_cache::Host;
 use bm_class::Class;
-use bm_work::Desk;
 use bm_grace::Grace;
 use bm_journal::{Domain, Recorder};
 use bm_page::Unit;
 use bm_post::Post;
 use bm_word::NoMemory;
+use bm_work::Desk;
 use std::alloc::Global;
 
 /// Ends the period of a domain that this processor has in progress, if it has one: all of its words pass, since no section is

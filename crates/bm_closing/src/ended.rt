@@ -12,8 +12,8 @@ ghost use Rattle.bm_cache.specs.declared.caches.Caches.{Caches};
 ghost use Rattle.bm_work.specs.Rested.{HasStamp};
 ghost use Rattle.bm_closing.specs.Told.{at_once, passed_at_once};
 
-use bm_work::Desk;
 use bm_journal::Recorder;
+use bm_work::Desk;
 
 /// A desk whose processor has ended, so that no handler runs on it any more, and no step is asked for: entries come one after the
 /// other, and may come after all the acts that they stand for. This project's own.

@@ -1,5 +1,19 @@
 //! The closing of a processor whose scripts have ended, on a desk: the grace periods that it has in progress end, and all its
 //! units go back to the stock. No handler runs there.
+//!
+//! - `Ended` is the trait of a desk whose scripts have ended: no handler is due on it, and it tells its log what the closing did.
+//! - `close` is all of it: both domains, then class by class.
+//! - `end_period` ends the period of a domain that the processor has in progress, if it has one, by looks until all words pass.
+//! - `sweep` takes all units of a class, from its seven lists and then from its inbox, waits for a tracing period, and gives them
+//!   back.
+//!
+//! `bm_run` calls `close` after its last script, and tests call its parts.
+//!
+//! The closing leaves exactly its part of a log (`Closing` of `bm_law_scenario`): each sweep names exactly the units of the lists
+//! and then those of the inbox, and returns exactly these, after a pass that has reached its stamp. Out of memory is the only
+//! refusal, and nothing is said of the desk then.
+//!
+//! In kernel/bpf/memalloc.c it is bpf_mem_alloc_destroy with drain_mem_cache. The closing of several processors isn't here.
 #![tactic(auto)]
 
 mod closing;

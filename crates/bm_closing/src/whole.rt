@@ -24,9 +24,9 @@ use crate::Ended;
 use crate::closing::{end_period, sweep};
 use bm_cache::Host;
 use bm_class::Class;
-use bm_work::Desk;
 use bm_journal::{Domain, Recorder};
 use bm_word::NoMemory;
+use bm_work::Desk;
 use std::alloc::Global;
 
 /// Ends the periods that this processor has in progress, first that of the plain domain and then that of the tracing one.

@@ -1,4 +1,19 @@
-//! The machines that run scripts.
+//! The runner of scripts, over any machine.
+//!
+//! - `Machine` is the trait: what a statement needs of a processor. `create` asks for an object, `dispose` ends one, `settle` is
+//!   the work after a statement; `keeps` is what a call leaves as it was.
+//! - `Frame` is a running script: its position over the scenario's own blocks, with the blocks that are open (`Open`), and the
+//!   table of its names (`NameTable`). `Holding` is what a name holds.
+//! - `resume` runs the script of a frame to its end; `run_script` makes the frame first; `run_handler` runs a handler's script in
+//!   place, with no memory but the recorder's. `Stopped` says why a script stopped.
+//!
+//! `bm_exec_levels` has the machines; `bm_run_yet` says which forms have no statement here so far.
+//!
+//! A script that the checker accepted finds what it needs: no statement meets a name that holds nothing, and at its end the names
+//! own nothing. What it leaves in the log is a run of its block (`RunsBlock` of `bm_law_scenario`).
+//!
+//! The language is this project's own; the statements stand for bpf_obj_new and bpf_obj_drop of kernel/bpf/helpers.c. Yielding,
+//! references, slots and graphs aren't here so far.
 #![tactic(auto)]
 
 mod binding;

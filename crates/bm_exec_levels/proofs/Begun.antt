@@ -1,6 +1,6 @@
 -- Where code is, once a unit begins its life or ends it.
 use Rattle.std.proofs.Common.{◌≡◌, ◌∙◌, ◌<◌, ◌+◌, ℕ, [], ◌∷◌, ◌++◌, Option, Some, None, refl, sym, ap, subst, arith}
-use Rattle.std.specs.Prelude.{◌^◌, if◌then◌else◌, IfSome}
+use Rattle.std.specs.Prelude.{◌^◌, IfSome}
 use Rattle.bm_journal.specs.declared.entry.Entry.{Entry}
 use Rattle.bm_journal.specs.declared.entry.Entry.TheVariants as entry
 use Rattle.bm_journal.specs.Recording.{Appends, Kept as Recorded}

@@ -1,5 +1,5 @@
 -- What ordinary code leaves of its processor, statement by statement.
-use Rattle.std.proofs.Common.{◌≡◌, ◌∙◌, ◌≤◌, ◌+◌, ◌*◌, ℕ, false, Result, Ok, Err, OnOk, sym, subst, arith}
+use Rattle.std.proofs.Common.{◌≡◌, ◌≤◌, ◌+◌, ◌*◌, ℕ, false, Result, Ok, Err, OnOk, sym, subst, arith}
 use Rattle.std.specs.Prelude.{length}
 use Rattle.std.proofs.lemmas.Nat.{mul-le}
 use Rattle.bm_journal.specs.declared.ids.Domain.{Domain}

@@ -1,6 +1,6 @@
 -- What the script of a handler leaves, by the entries of its level, with the section around it.
 use Rattle.std.specs.Prelude.{slice_get}
-use Rattle.std.proofs.Common.{◌≡◌, ℕ, zero, suc, ◌+◌, List, [], ◌∷◌, ◌++◌, Option, Some, None, refl, sym, ap, subst, ◌∙◌, append-nil, arith}
+use Rattle.std.proofs.Common.{◌≡◌, ℕ, zero, suc, ◌+◌, List, [], ◌∷◌, ◌++◌, Option, Some, None, refl, sym, subst, arith}
 use Rattle.std.specs.Prelude.{◌%◌, Bool, true}
 use Rattle.std.specs.List.{list_all}
 use Rattle.std.proofs.lemmas.Bool.{and_parts}
@@ -8,24 +8,20 @@ use Rattle.bm_journal.specs.declared.entry.Entry.{Entry}
 use Rattle.bm_journal.specs.declared.entry.Entry.TheVariants as entry
 use Rattle.bm_journal.specs.declared.ids.Domain.TheVariants.{Plain}
 use Rattle.bm_journal.specs.Recording.{Appends}
-use Rattle.bm_lang.specs.declared.scenario.Action.{Action, New, Drop, Acquire, Get, Exchange, If', Repeat, Section, Lock, Unlock, Yield, PushFront, PushBack, PopFront, PopBack, Add, First, Remove, Held-Action-If-2, None', Some'}
-use Rattle.bm_lang.specs.declared.scenario.Block.{Block, Block', Row_of-Statement, end_of-Statement, more_of-Statement}
 use Rattle.bm_lang.specs.declared.scenario.Parts.{Parts}
 use Rattle.bm_lang.specs.declared.scenario.Script.{Script}
 use Rattle.bm_lang.specs.declared.scenario.ScriptKind.TheVariants as kind
 use Rattle.bm_lang.specs.declared.scenario.TypeDeclaration.{TypeDeclaration}
 use Rattle.bm_law.specs.State.{State}
-use Rattle.bm_law.specs.Lists.{Log, after}
+use Rattle.bm_law.specs.Lists.{Log}
 use Rattle.bm_law.specs.Spans.{Records, own_entries}
 use Rattle.bm_law.proofs.Spans.{Records-join, Records-one}
 use Rattle.bm_law_work.specs.Grown.{GrewBy}
 use Rattle.bm_law_work.specs.Parts.{Say}
-use Rattle.bm_law_work.specs.Parts as part
 use Rattle.bm_law_work.proofs.Grown.{grew-say}
 use Rattle.bm_law_scenario.specs.Handlers.{HandlerPhrase, enclosed}
-use Rattle.bm_law_scenario.specs.Held.{Held, Nothing, Null, Object, Names, OwnsNothing, no_names}
+use Rattle.bm_law_scenario.specs.Held.{Names, OwnsNothing, no_names}
 use Rattle.bm_law_scenario.specs.Runs.{RunsAlone}
-use Rattle.bm_law_scenario.specs.Calls.{RunsNew, RunsDrop}
 use Rattle.bm_exec.specs.Bindings.{binds_among}
 use Rattle.bm_exec.specs.Running.{RanScript}
 use Rattle.bm_exec.specs.Seen.{has_name}

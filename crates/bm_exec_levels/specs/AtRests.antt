@@ -1,6 +1,6 @@
 -- When a tied host rests: what its level did last says why a poll has nothing to do.
-use Rattle.std.specs.Prelude.{◌≡◌, ◌<◌, ◌≤◌, ◌+◌, ℕ, IfSome, List, [], ◌∷◌, ◌++◌, Option, None, Some}
-use Rattle.std.proofs.Common.{◌∙◌, append_assoc, append-nil, ap, arith, refl, subst, sym}
+use Rattle.std.specs.Prelude.{◌≡◌, ◌≤◌, ◌+◌, ℕ, IfSome, List, [], ◌∷◌, ◌++◌, Option, None, Some}
+use Rattle.std.proofs.Common.{◌∙◌, ap, arith, refl, subst, sym}
 use Rattle.std.proofs.lemmas.List.{append_cancel_right}
 use Rattle.bm_journal.specs.declared.ids.Domain.{Domain}
 use Rattle.bm_journal.specs.declared.period.Period.{Period}
@@ -8,12 +8,11 @@ use Rattle.bm_journal.specs.declared.entry.Entry.{Entry}
 use Rattle.bm_journal.specs.declared.entry.Entry.TheVariants as entry
 use Rattle.bm_journal.specs.Recording.{Appends, Kept as Recorded}
 use Rattle.bm_law.specs.Lists.{Log, after, stamp_of}
-use Rattle.bm_law.specs.State.{State, opening}
+use Rattle.bm_law.specs.State.{opening}
 use Rattle.bm_law.specs.Spans.{Above, AllFrom}
 use Rattle.bm_law_order.specs.Act.{Act}
 use Rattle.bm_law_order.specs.Act as act
 use Rattle.bm_law_order.specs.Chunk as chunk
-use Rattle.bm_law_order.specs.Story.{at_level}
 use Rattle.bm_law_order.specs.Tie.{Tied, TiedBy}
 use Rattle.bm_law_order.proofs.Ties.{law-said, tie-done, tie-first, tie-unjudged}
 use Rattle.bm_cache.specs.declared.caches.Caches.{Caches}

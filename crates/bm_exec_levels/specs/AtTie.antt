@@ -1,7 +1,6 @@
 -- The log of a processor and its side, tied since a time.
-use Rattle.std.specs.Prelude.{◌≡◌, ◌⊎◌, ◌+◌, ℕ, ◌&&◌, nat_eq, true, false, List, [], ◌∷◌, Option, Some, None, IsSome, ◌++◌}
-use Rattle.std.proofs.Common.{◌∙◌, ap, append_assoc, append-nil, eq-eqb, inl, inr, refl, subst, sym}
-use Rattle.std.proofs.lemmas.List.{map-append}
+use Rattle.std.specs.Prelude.{◌≡◌, ◌⊎◌, ℕ, nat_eq, true, false, List, [], ◌∷◌, Option, Some, None, IsSome, ◌++◌}
+use Rattle.std.proofs.Common.{◌∙◌, ap, append_assoc, eq-eqb, inl, inr, refl, subst, sym}
 use Rattle.std.proofs.lemmas.Bool.{and_parts, eqb-true, false≢true}
 use Rattle.bm_journal.specs.declared.entry.Entry.{Entry}
 use Rattle.bm_journal.specs.declared.entry.Entry.TheVariants as entry
@@ -14,13 +13,13 @@ use Rattle.bm_law_order.specs.Act.{Act}
 use Rattle.bm_law_order.specs.Act as act
 use Rattle.bm_grace.specs.PlainState.{idle}
 use Rattle.bm_post.specs.PostState.{no_parcels}
-use Rattle.bm_cache.specs.Steps.{is_free, is_own_reply, is_own_step, is_reply, is_step}
+use Rattle.bm_cache.specs.Steps.{is_free}
 use Rattle.bm_cache.specs.Tests.{SuitsFree, Waits}
 use Rattle.bm_cache.specs.Tokens.{Token}
 use Rattle.bm_cache.specs.declared.caches.Caches.{Caches}
 use Rattle.bm_law_order.specs.Chunk.{Chunk, Shows, acts_of, entries_of, seal_told}
 use Rattle.bm_law_order.specs.Chunk as chunk
-use Rattle.bm_law_order.specs.Story.{AllJudged, Story, Told, at_level, deeds, lines, lines_of}
+use Rattle.bm_law_order.specs.Story.{at_level, lines}
 use Rattle.bm_law_order.specs.Tie.{Tied, TiedBy}
 use Rattle.bm_law.specs.Spans.{Records, own_entries}
 use Rattle.bm_law.proofs.Spans.{own-append}

@@ -13,9 +13,9 @@ ghost use Rattle.bm_exec_levels.specs.Settled.{Settled};
 use crate::flags::lowest_raised;
 use crate::once::{work_each, work_once};
 use bm_class::Class;
-use bm_work::Desk;
 use bm_journal::Recorder;
 use bm_word::NoMemory;
+use bm_work::Desk;
 use std::alloc::Global;
 
 /// Deferred work behind a statement of a script: the work of the first of these classes whose flag is up, and again, until no

@@ -10,8 +10,8 @@ ghost use Rattle.bm_exec_levels.specs.Settled.{Settled};
 
 use bm_cache::Caches;
 use bm_class::Class;
-use bm_work::Desk;
 use bm_journal::Recorder;
+use bm_work::Desk;
 
 /// The first of these classes for which deferred work is asked for.
 fn first_raised<R>(caches: &Caches<R>, classes: &[Class]) -> Option<Class>

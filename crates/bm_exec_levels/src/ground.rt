@@ -10,13 +10,13 @@ ghost use Rattle.bm_exec_levels.specs.Ordinary.{Statements};
 ghost use Rattle.bm_exec_levels.specs.Ready.{asked_of};
 ghost use Rattle.bm_exec_levels.specs.Sound.{Sound};
 
+use crate::behind::{until_down, work_behind};
 use crate::calls::{give_up, make};
 use crate::host::At;
 use crate::processor::Processor;
 use crate::program::Program;
 use crate::ranks::Ordinary;
 use crate::since::Since;
-use crate::behind::{until_down, work_behind};
 use bm_class::Class;
 use bm_exec::Machine;
 use bm_journal::{ObjId, Values};

@@ -6,8 +6,8 @@ use crate::program::Program;
 use crate::ranks::Rank;
 use crate::since::Since;
 use bm_cache::{Caches, Host};
-use bm_work::Desk;
 use bm_journal::{Keep, Level};
+use bm_work::Desk;
 use bm_world::LivingSide;
 use std::marker::PhantomData;
 

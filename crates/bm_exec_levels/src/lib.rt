@@ -1,5 +1,20 @@
-//! Machines of four levels, on which planned handlers run between any two steps, each on the machine of its own level, which
-//! borrows what the processor has; and the deferred work after each statement of a script, and after each script.
+//! Machines of four levels on a processor, on which planned handlers run between any two steps, each on the machine of its own
+//! level; and the deferred work after each statement of a script, and after each script.
+//!
+//! - `Processor` is what a processor has: caches, its side of the world with the units that live, the handlers that haven't run.
+//! - `At` is the machine of a level (`Ordinary`, `First`, `Second` or `Third`, by `Rank`), which borrows the processor: a host, a
+//!   desk, and what statements run on. Before each step its point asks which handler is due, and runs it whole.
+//! - `Ground` is ordinary code with `Deferred` work after its statements: `until_down` after each statement, `settle_script` and
+//!   `work_behind` after a script. `enter_section` and `leave_section` are the sections of scripts.
+//! - `Program` is what is run, `Since` the time since which a processor is tied to its log.
+//!
+//! `bm_run` opens a processor, runs scripts on it, and closes it.
+//!
+//! Between any two steps the log is one in which the handlers so far stand where they are due, and it is **tied** to the side
+//! (`TiedAt`): its lines and the side's acts tell one story (`bm_law_order`). Code leaves the handlers that run, the section, and
+//! the objects that live as they were (`Between`).
+//!
+//! Levels 1 to 3 stand for soft interrupts, hard interrupts and NMIs. Several processors aren't here so far.
 #![tactic(auto)]
 
 mod behind;

@@ -10,9 +10,9 @@ ghost use Rattle.bm_work.specs.Works.{Works};
 ghost use Rattle.bm_exec_levels.specs.Settled.{Settled};
 
 use bm_class::Class;
-use bm_work::{Desk, Worked, work};
 use bm_journal::Recorder;
 use bm_word::NoMemory;
+use bm_work::{Desk, Worked, work};
 use std::alloc::Global;
 
 /// The deferred work of one class. Want of memory is the only refusal.

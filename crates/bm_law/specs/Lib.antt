@@ -14,3 +14,7 @@ pub mod Waiting
 pub mod Worked
 pub mod WorkedDeferred
 pub mod Lengths
+pub mod Begun
+pub mod Inboxes
+pub mod Pages
+pub mod Ordinary

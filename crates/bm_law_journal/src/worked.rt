@@ -7,8 +7,8 @@ ghost use Rattle.bm_law_scenario.specs.WorkedDeferred.{one_block as block_made_a
 ghost use Rattle.bm_law_journal.specs.Lawful.{Lawful};
 ghost use Rattle.bm_law_lives.specs.Wrong.{ends_in_section, given_twice, never_ended, never_received, never_returned, other_home, returned_too_early, sealed_though_plain};
 
-use bm_law_scenario::worked_deferred;
 use bm_law_lives::{worked_grace, worked_lives, worked_returns, worked_stamps};
+use bm_law_scenario::worked_deferred;
 
 /// Lawful is the journal of a block that is made and dropped, with deferred work. Whatever its scenario, a journal isn't whose logs
 /// give a life twice, leave a life without its end, free a unit to another home, don't return a unit, send a parcel that nobody

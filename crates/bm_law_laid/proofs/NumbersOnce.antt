@@ -4,7 +4,7 @@ use Rattle.bm_journal.specs.declared.ids.Domain.{Domain}
 use Rattle.bm_journal.specs.declared.ids.Domain.TheVariants.{Plain, Tracing}
 use Rattle.bm_journal.specs.declared.entry.Entry.{Entry}
 use Rattle.bm_journal.specs.declared.entry.Entry.TheVariants as entry
-use Rattle.bm_law_work.specs.Begun.{for_domain}
+use Rattle.bm_law.specs.Begun.{for_domain}
 use Rattle.bm_law_lives.specs.GraceLaw.{begun_number, ended_number}
 use Rattle.bm_law_order.specs.ByDomain.{of, with_of}
 use Rattle.bm_law_order.specs.Numbers.{Course, Numbers, NumbersFit, ended, numbers_after}

@@ -14,7 +14,7 @@ use Rattle.bm_page.specs.Stock.{Stock, any_out, class_at, least_stock, lowest_pa
 use Rattle.bm_page.proofs.Least.{least_below-None}
 use Rattle.bm_page.proofs.StockLemmas.{class_at-inside, class_at-other, class_at-same}
 use Rattle.bm_page.proofs.FetchLemmas.{fetched-zero, fetched-none, fetched-next, number-unit_given}
-use Rattle.bm_law_work.specs.Pages.{HasShort, IsShort, NamesPage, all_given, prefill, units_given, wanted}
+use Rattle.bm_law.specs.Pages.{HasShort, IsShort, NamesPage, all_given, prefill, units_given, wanted}
 use Rattle.bm_law_work.proofs.Pages.{names-first, names-last}
 use Rattle.bm_law_scenario.specs.Short.{JournalShort, all_entries}
 use Rattle.bm_law_lives.specs.Together.{named, named_in}

@@ -7,7 +7,7 @@ use Rattle.std.proofs.lemmas.List.Folds.{concat-append}
 use Rattle.bm_journal.specs.EntryText.{unit_list}
 use Rattle.bm_journal.specs.declared.entry.Entry.{Entry}
 use Rattle.bm_journal.specs.declared.entry.Entry.TheVariants as entry
-use Rattle.bm_law_work.specs.Inboxes.{oldest}
+use Rattle.bm_law.specs.Inboxes.{oldest}
 use Rattle.bm_law_lives.specs.Together.{times}
 use Rattle.bm_law_order.specs.Parcels.{Boxes, BoxesFit, boxes_after}
 use Rattle.bm_law_order.specs.Shared.{Shared}

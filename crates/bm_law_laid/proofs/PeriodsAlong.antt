@@ -6,7 +6,7 @@ use Rattle.bm_journal.specs.declared.ids.Domain.TheVariants.{Plain, Tracing}
 use Rattle.bm_journal.specs.declared.period.Period.{Period}
 use Rattle.bm_journal.specs.declared.entry.Entry.{Entry}
 use Rattle.bm_journal.specs.declared.entry.Entry.TheVariants as entry
-use Rattle.bm_law_work.specs.Begun.{for_domain}
+use Rattle.bm_law.specs.Begun.{for_domain}
 use Rattle.bm_law_lives.specs.GraceLaw.{AllPass, Driver, InDomain, NoneAbove, PeriodFits, PeriodsFit, driver_after, first_after, word_after, words_now, words_of}
 use Rattle.bm_law_lives.specs.GraceLaw as grace
 use Rattle.bm_law_order.specs.ByDomain.{of, with_of}

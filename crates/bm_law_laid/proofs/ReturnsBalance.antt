@@ -3,7 +3,7 @@ use Rattle.std.proofs.Common.{◌≡◌, ℕ, ◌+◌, List, [], ◌∷◌, reve
 use Rattle.bm_journal.specs.EntryText.{unit_list}
 use Rattle.bm_journal.specs.declared.entry.Entry.{Entry}
 use Rattle.bm_journal.specs.declared.entry.Entry.TheVariants as entry
-use Rattle.bm_law_work.specs.Pages.{prefill}
+use Rattle.bm_law.specs.Pages.{prefill}
 use Rattle.bm_page.specs.Stock.{Stock, fetched}
 use Rattle.bm_law_lives.specs.Together.{times}
 use Rattle.bm_law_lives.specs.Returns.{returned_units, taken_units}

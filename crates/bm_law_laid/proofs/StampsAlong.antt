@@ -5,7 +5,7 @@ use Rattle.bm_journal.specs.declared.ids.Domain.{Domain}
 use Rattle.bm_journal.specs.declared.ids.Domain.TheVariants.{Plain, Tracing}
 use Rattle.bm_journal.specs.declared.entry.Entry.{Entry}
 use Rattle.bm_journal.specs.declared.entry.Entry.TheVariants as entry
-use Rattle.bm_law_work.specs.Begun.{for_domain}
+use Rattle.bm_law.specs.Begun.{for_domain}
 use Rattle.bm_law.specs.Lists.{Log}
 use Rattle.bm_law_lives.specs.Together.{Each, EachLog, named}
 use Rattle.bm_law_lives.specs.GraceLaw.{begun_number}

@@ -8,7 +8,7 @@ use Rattle.bm_journal.specs.declared.period.Period.{Period}
 use Rattle.bm_journal.specs.declared.entry.Entry.{Entry}
 use Rattle.bm_journal.specs.declared.entry.Entry.TheVariants as entry
 use Rattle.bm_law.specs.Lists.{Log}
-use Rattle.bm_law_work.specs.Begun.{for_domain, begun_after}
+use Rattle.bm_law.specs.Begun.{for_domain, begun_after}
 use Rattle.bm_law_lives.specs.Together.{AreOnce, named, EachLog}
 
 -- so, where the domains are the same one

@@ -11,7 +11,7 @@ use Rattle.bm_journal.specs.EntryText.{unit_list}
 use Rattle.bm_law.specs.State.{State, opening}
 use Rattle.bm_law.specs.Lists.{Log, next}
 use Rattle.bm_law.specs.Spans.{own_entries}
-use Rattle.bm_law_work.specs.Begun.{for_domain}
+use Rattle.bm_law.specs.Begun.{for_domain}
 use Rattle.bm_law_lives.specs.Together.{times, Each, named, EachLog}
 use Rattle.bm_law_lives.specs.Lives.{is_last}
 use Rattle.bm_law_lives.specs.GraceLaw.{InDomain, begun_number}

@@ -5,7 +5,7 @@ use Rattle.bm_journal.specs.declared.units.Units.TheVariants.{Whole}
 use Rattle.bm_journal.specs.declared.entry.Entry.{Entry}
 use Rattle.bm_journal.specs.declared.entry.Entry.TheVariants as entry
 use Rattle.bm_law.specs.Lists.{Log}
-use Rattle.bm_law_scenario.specs.Ordinary.{ordinary}
+use Rattle.bm_law.specs.Ordinary.{ordinary}
 use Rattle.bm_law_lives.specs.Worked.{opens, frees, delays, ends, period, batches, sends, seconds, returns, sweeps, first_life, first_stage, second_stage, given_second, second_life, lends, reader_of, borrows, hands_on, lends_and_sweeps}
 
 -- ---- lives

@@ -11,7 +11,7 @@ use Rattle.bm_law.specs.State.{State, opening}
 use Rattle.bm_law.specs.Lists.{Log, brought, next}
 use Rattle.bm_law.specs.Stands.{times, class_named}
 use Rattle.bm_law.proofs.Stands.{times-append}
-use Rattle.bm_law_work.specs.Inboxes.{Inboxes, inboxes_after, oldest}
+use Rattle.bm_law.specs.Inboxes.{Inboxes, inboxes_after, oldest}
 use Rattle.bm_law_scenario.specs.Parcels.{ParcelFits, ParcelLaw, ParcelsFit, no_parcels}
 use Rattle.bm_law_lives.specs.Together.{beside, named_in}
 use Rattle.bm_law_lives.specs.Returns.{in_class, sent_to, unpacked, unpacked_by}

@@ -14,10 +14,10 @@ use Rattle.bm_law.specs.Lists.{Log, brought, next, after}
 use Rattle.bm_law.specs.Spans.{own_entries}
 use Rattle.bm_law.proofs.Alone.{at-own, level-append, level-own}
 use Rattle.bm_law_work.specs.Parts.{Stand, Then}
-use Rattle.bm_law_work.specs.Inboxes.{Inboxes, on_inbox, inboxes_after}
+use Rattle.bm_law.specs.Inboxes.{Inboxes, on_inbox, inboxes_after}
 use Rattle.bm_law_work.proofs.Each.{part-stand}
 use Rattle.bm_law_logs.proofs.QuietEntries.{AllQuiet, IsQuiet}
-use Rattle.bm_law_scenario.specs.Ordinary.{ordinary}
+use Rattle.bm_law.specs.Ordinary.{ordinary}
 use Rattle.bm_law_scenario.specs.Closing.{close_of, EndsPeriods, SweepOf, SweepWhere, AreSweeps}
 use Rattle.bm_law_scenario.specs.Parcels.{ParcelsFit}
 use Rattle.bm_law_scenario.proofs.Ordinary.{parted, said}

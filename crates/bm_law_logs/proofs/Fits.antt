@@ -4,9 +4,9 @@ use Rattle.bm_journal.specs.declared.entry.Entry.{Entry}
 use Rattle.bm_journal.specs.declared.entry.Entry.TheVariants as entry
 use Rattle.bm_law.specs.State.{State}
 use Rattle.bm_law.specs.Lists.{Log, next, after}
-use Rattle.bm_law_work.specs.Inboxes.{Inboxes, inboxes_after}
+use Rattle.bm_law.specs.Inboxes.{Inboxes, inboxes_after}
 use Rattle.bm_law_logs.proofs.QuietEntries.{AllQuiet, IsQuiet, after-quiet}
-use Rattle.bm_law_scenario.specs.Ordinary.{ordinary}
+use Rattle.bm_law.specs.Ordinary.{ordinary}
 use Rattle.bm_law_scenario.specs.Parcels.{ParcelFits, ParcelsFit}
 
 quiet-fits : (e : Entry) (s : State ℕ) (boxes : Inboxes) → IsQuiet e → ParcelFits 0 e s boxes

@@ -8,7 +8,7 @@ use Rattle.bm_law.specs.Lists.{Log, next, after}
 use Rattle.bm_law.specs.Spans.{own_entries}
 use Rattle.bm_law_order.specs.Orders.{AllFit, by, over}
 use Rattle.bm_law_order.specs.Parcels.{Boxes, BoxesFit, boxes_after}
-use Rattle.bm_law_work.specs.Inboxes.{inboxes_after}
+use Rattle.bm_law.specs.Inboxes.{inboxes_after}
 use Rattle.bm_law_logs.proofs.QuietEntries.{IsQuiet}
 use Rattle.bm_law_scenario.specs.Parcels.{ParcelFits, ParcelsFit}
 use Rattle.bm_law_scenario.proofs.EachLevel.{AllAbove}

@@ -4,7 +4,7 @@ use Rattle.std.proofs.lemmas.Bool.Decides.{eqb_tells}
 use Rattle.bm_journal.specs.declared.entry.Entry.{Entry}
 use Rattle.bm_journal.specs.declared.entry.Entry.TheVariants as entry
 use Rattle.bm_journal.specs.EntryText.{unit_list}
-use Rattle.bm_law_work.specs.Inboxes.{Inboxes, on_inbox, inboxes_after}
+use Rattle.bm_law.specs.Inboxes.{Inboxes, on_inbox, inboxes_after}
 use Rattle.bm_law_scenario.proofs.PartLaws.{among}
 use Rattle.bm_law_logs.proofs.Sends.{SendsOf}
 

@@ -4,7 +4,7 @@ use Rattle.bm_journal.specs.declared.ids.Domain.{Domain}
 use Rattle.bm_journal.specs.declared.entry.Entry.{Entry}
 use Rattle.bm_journal.specs.declared.entry.Entry.TheVariants as entry
 use Rattle.bm_law.specs.SweepPhrases.{MayBegin, MayFinish, PollPhrase}
-use Rattle.bm_law_work.specs.Inboxes.{Inboxes, inboxes_after}
+use Rattle.bm_law.specs.Inboxes.{Inboxes, inboxes_after}
 use Rattle.bm_law_work.specs.Parts.{Part}
 use Rattle.bm_law_work.proofs.Each.{AllOf, PartOf, of-append}
 

@@ -2,7 +2,7 @@
 use Rattle.std.proofs.Common.{List, [], ◌++◌, refl, inl, inr, arith, replicate}
 use Rattle.std.proofs.lemmas.Bool.Decides.{eqb_tells}
 use Rattle.bm_law.specs.Lists.{Log}
-use Rattle.bm_law_scenario.specs.Ordinary.{ordinary}
+use Rattle.bm_law.specs.Ordinary.{ordinary}
 use Rattle.bm_law_lives.specs.Worked.{one_block, both_stages, two_processors, lends, borrows, hands_on, takes_back, swept_home}
 use Rattle.bm_law_lives.specs.Wrong.{never_ended}
 use Rattle.bm_law_logs.specs.Lived.{Lived, no_lives, lived_over}

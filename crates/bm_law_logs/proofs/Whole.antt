@@ -9,7 +9,7 @@ use Rattle.bm_law.specs.State.{State, opening}
 use Rattle.bm_law.specs.Lists.{Log, next}
 use Rattle.bm_law.specs.Stands.{times}
 use Rattle.bm_law.proofs.Stands.{sum-same, times-append}
-use Rattle.bm_law_work.specs.Inboxes.{Inboxes, inboxes_after}
+use Rattle.bm_law.specs.Inboxes.{Inboxes, inboxes_after}
 use Rattle.bm_law_scenario.specs.Lawful.{LawfulLogs, LawfulLog}
 use Rattle.bm_law_scenario.specs.Parcels.{ParcelFits, ParcelLaw, ParcelsFit, no_parcels, sends_alone}
 use Rattle.bm_law_lives.specs.Together as together

@@ -9,7 +9,7 @@ use Rattle.bm_law.specs.Lists.{Log, after}
 use Rattle.bm_law.specs.Spans.{own_entries}
 use Rattle.bm_law.proofs.Spans.{own-append}
 use Rattle.bm_law_work.specs.Parts.{Say}
-use Rattle.bm_law_work.specs.Inboxes.{Inboxes}
+use Rattle.bm_law.specs.Inboxes.{Inboxes}
 use Rattle.bm_law_logs.proofs.QuietEntries.{IsQuiet}
 use Rattle.bm_due.specs.Standing.{HandlersStand}
 use Rattle.bm_law_scenario.specs.CallEntries.{IsOfHandler}

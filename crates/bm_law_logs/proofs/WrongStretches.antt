@@ -1,6 +1,6 @@
 -- Logs and stretches whose lives are wrong.
 use Rattle.std.proofs.Common.{◌++◌}
-use Rattle.bm_law_scenario.specs.Ordinary.{ordinary}
+use Rattle.bm_law.specs.Ordinary.{ordinary}
 use Rattle.bm_law_lives.specs.Worked.{lends, borrows, hands_on}
 use Rattle.bm_law_lives.specs.Wrong.{given_twice, left_out, ended_twice, other_freed, not_freed}
 use Rattle.bm_law_logs.specs.Lived.{Lived, no_lives}

@@ -1,7 +1,7 @@
 -- The parcels that a log of the one processor that there is leaves. (Parcels are this project's own.)
 use Rattle.std.specs.Prelude.{◌≡◌, []}
 use Rattle.bm_law.specs.Lists.{Log}
-use Rattle.bm_law_work.specs.Inboxes.{Inboxes}
+use Rattle.bm_law.specs.Inboxes.{Inboxes}
 use Rattle.bm_law_order.specs.Orders.{AllFit, by, over}
 use Rattle.bm_law_order.specs.Parcels.{Boxes, BoxesFit, boxes_after}
 

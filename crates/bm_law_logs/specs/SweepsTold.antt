@@ -7,7 +7,7 @@ use Rattle.bm_journal.specs.declared.entry.Entry.TheVariants as entry
 use Rattle.bm_law.specs.State.{seven_lists}
 use Rattle.bm_law.specs.Lists.{Log}
 use Rattle.bm_law_work.specs.Parts.{Part, Nothing, Stand, Then}
-use Rattle.bm_law_work.specs.Inboxes.{Inboxes, on_inbox}
+use Rattle.bm_law.specs.Inboxes.{Inboxes, on_inbox}
 use Rattle.bm_law_scenario.specs.Closing.{close_of, EndsPeriods, SweepWhere}
 
 -- One class after the other: where its lists or its inbox hold a unit, a sweep of exactly those; the inbox is empty then. An

@@ -3,9 +3,9 @@ use Rattle.std.specs.Prelude.{ℕ, List, [], ◌∷◌, ◌++◌}
 use Rattle.bm_journal.specs.declared.units.Units.TheVariants.{Whole}
 use Rattle.bm_journal.specs.declared.entry.Entry.TheVariants as entry
 use Rattle.bm_law.specs.Lists.{Log}
-use Rattle.bm_law_work.specs.Inboxes.{Inboxes, on_inbox}
+use Rattle.bm_law.specs.Inboxes.{Inboxes, on_inbox}
 use Rattle.bm_law_scenario.specs.Parcels.{no_parcels}
-use Rattle.bm_law_scenario.specs.Ordinary.{ordinary}
+use Rattle.bm_law.specs.Ordinary.{ordinary}
 
 -- these parcels in the inbox of class 10, and none in the others
 abbrev pub waiting : List (List ℕ) → Inboxes

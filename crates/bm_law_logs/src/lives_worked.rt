@@ -1,7 +1,7 @@
 //! Worked logs whose lives are followed step by step, and wrong ones beside them.
 
 ghost use Rattle.std.specs.Prelude.{ℕ, ◌≡◌, ◌∷◌, [], ◌++◌, Some};
-ghost use Rattle.bm_law_scenario.specs.Ordinary.{ordinary};
+ghost use Rattle.bm_law.specs.Ordinary.{ordinary};
 ghost use Rattle.bm_law_lives.specs.Worked.{borrows, both_stages, hands_on, lends, one_block, two_processors};
 ghost use Rattle.bm_law_lives.specs.Wrong.{ended_twice, given_twice, left_out, never_ended, not_freed, other_freed};
 ghost use Rattle.bm_law_logs.specs.Lived.{Lived, lived_over, no_lives};

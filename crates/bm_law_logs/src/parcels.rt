@@ -5,7 +5,7 @@ ghost use Rattle.bm_lang.specs.declared.scenario.Parts.{Parts};
 ghost use Rattle.bm_law.specs.State.{opening};
 ghost use Rattle.bm_law.specs.Lists.{Log, after};
 ghost use Rattle.bm_law_work.specs.Parts.{Say};
-ghost use Rattle.bm_law_work.specs.Inboxes.{Inboxes};
+ghost use Rattle.bm_law.specs.Inboxes.{Inboxes};
 ghost use Rattle.bm_due.specs.Standing.{HandlersStand};
 ghost use Rattle.bm_law_scenario.specs.Fills.{AreFills, fresh_stock};
 ghost use Rattle.bm_law_scenario.specs.Grammar.{AreScripts, lines_of};

@@ -1,7 +1,7 @@
 //! Worked logs of parcels that come and leave, and wrong ones beside them.
 
 ghost use Rattle.std.specs.Prelude.{◌∷◌, []};
-ghost use Rattle.bm_law_work.specs.Inboxes.{Inboxes};
+ghost use Rattle.bm_law.specs.Inboxes.{Inboxes};
 ghost use Rattle.bm_law_scenario.specs.Parcels.{no_parcels};
 ghost use Rattle.bm_law_logs.specs.LeavesParcels.{LeavesParcels};
 ghost use Rattle.bm_law_logs.specs.WorkedInboxes.{newer_first, none_received, older_first, received_back, sent_away, two_sent, unit_received, waiting};

@@ -3,7 +3,7 @@
 ghost use Rattle.std.specs.Prelude.{ℕ, List};
 ghost use Rattle.bm_law.specs.State.{State};
 ghost use Rattle.bm_law.specs.Lists.{Log};
-ghost use Rattle.bm_law_work.specs.Inboxes.{Inboxes};
+ghost use Rattle.bm_law.specs.Inboxes.{Inboxes};
 ghost use Rattle.bm_law_scenario.specs.Closing.{AreSweeps};
 ghost use Rattle.bm_law_logs.specs.SweepsTold.{SweepsTold};
 

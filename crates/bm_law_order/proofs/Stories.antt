@@ -10,7 +10,7 @@ use Rattle.bm_journal.specs.declared.ids.Domain.TheVariants.{Plain, Tracing}
 use Rattle.bm_journal.specs.declared.period.Period.{Period}
 use Rattle.bm_journal.specs.declared.entry.Entry.{Entry}
 use Rattle.bm_journal.specs.declared.entry.Entry.TheVariants as entry
-use Rattle.bm_law_work.specs.Inboxes.{oldest}
+use Rattle.bm_law.specs.Inboxes.{oldest}
 use Rattle.bm_law.specs.Phrases.{given}
 use Rattle.bm_law_order.specs.ByDomain.{ByDomain, of, with_of}
 use Rattle.bm_law_order.specs.Numbers.{Course, IsBegin, Numbers, begun, ended}

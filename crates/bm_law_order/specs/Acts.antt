@@ -2,7 +2,7 @@
 use Rattle.std.specs.Prelude.{◌≡◌, ◌≢◌, ℕ, Some, None, List, [], ◌∷◌, ◌++◌, drop, reverse}
 use Rattle.bm_journal.specs.declared.ids.Domain.{Domain}
 use Rattle.bm_journal.specs.declared.period.Period.{Period}
-use Rattle.bm_law_work.specs.Inboxes.{oldest}
+use Rattle.bm_law.specs.Inboxes.{oldest}
 use Rattle.bm_law_order.specs.ByDomain.{of, with_of}
 use Rattle.bm_law_order.specs.Words.{IsNextWord, with_word}
 use Rattle.bm_law_order.specs.Numbers.{IsBegin, IsEnd, begun, ended, next}

@@ -6,7 +6,7 @@ use Rattle.bm_journal.specs.declared.period.Period.{Period}
 use Rattle.bm_journal.specs.declared.units.Units.TheVariants.{Whole}
 use Rattle.bm_journal.specs.declared.entry.Entry.{Entry}
 use Rattle.bm_journal.specs.declared.entry.Entry.TheVariants as entry
-use Rattle.bm_law_work.specs.Pages.{prefill}
+use Rattle.bm_law.specs.Pages.{prefill}
 use Rattle.bm_page.specs.declared.units.Seal.{Seal}
 use Rattle.bm_law.specs.Phrases.{given}
 use Rattle.bm_law_order.specs.Act.{Act, Sealed, units_of}

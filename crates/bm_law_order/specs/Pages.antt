@@ -6,7 +6,7 @@ use Rattle.bm_journal.specs.declared.entry.Entry.TheVariants as entry
 use Rattle.bm_journal.specs.EntryText.{unit_list}
 use Rattle.bm_page.specs.UnitState.{UnitState}
 use Rattle.bm_page.specs.Stock.{Stock, fetched, returned, stocked_at, unborn}
-use Rattle.bm_law_work.specs.Pages.{prefill}
+use Rattle.bm_law.specs.Pages.{prefill}
 
 -- all units of so many pages, none of which has a class
 abbrev pub fresh_pages : ℕ → Stock

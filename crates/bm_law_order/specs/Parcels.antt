@@ -5,7 +5,7 @@ use Rattle.std.specs.List.{concat}
 use Rattle.bm_journal.specs.declared.entry.Entry.{Entry}
 use Rattle.bm_journal.specs.declared.entry.Entry.TheVariants as entry
 use Rattle.bm_journal.specs.EntryText.{unit_list}
-use Rattle.bm_law_work.specs.Inboxes.{oldest}
+use Rattle.bm_law.specs.Inboxes.{oldest}
 
 -- by processor and class the parcels that wait, the oldest first, each by the numbers of its units
 abbrev pub Boxes : Type 0

@@ -5,7 +5,7 @@ use Rattle.bm_journal.specs.declared.ids.Domain.TheVariants.{Plain}
 use Rattle.bm_journal.specs.declared.entry.Entry.{Entry}
 use Rattle.bm_journal.specs.declared.entry.Entry.TheVariants as entry
 use Rattle.bm_journal.specs.EntryText.{unit_list}
-use Rattle.bm_law_work.specs.Begun.{for_domain}
+use Rattle.bm_law.specs.Begun.{for_domain}
 use Rattle.bm_law.specs.State.{State, opening}
 use Rattle.bm_law.specs.Lists.{next as lists_after}
 use Rattle.bm_law_order.specs.Act.{Act}

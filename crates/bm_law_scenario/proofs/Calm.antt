@@ -20,9 +20,9 @@ use Rattle.bm_law_scenario.specs.Held.{no_names}
 use Rattle.bm_law_scenario.specs.Calls.{Allocates}
 use Rattle.bm_law_scenario.specs.Fills.{AreFills, numbers_of, prefill}
 use Rattle.bm_law_scenario.specs.Closing.{close_of, begun_after, in_progress}
-use Rattle.bm_law_work.specs.Inboxes.{Inboxes, inboxes_after}
+use Rattle.bm_law.specs.Inboxes.{Inboxes, inboxes_after}
 use Rattle.bm_law_scenario.specs.Parcels.{ParcelFits, ParcelsFit}
-use Rattle.bm_law_scenario.specs.Ordinary.{ordinary}
+use Rattle.bm_law.specs.Ordinary.{ordinary}
 use Rattle.bm_law_scenario.proofs.OwnGrammar.{IsScript, AreScripts}
 use Rattle.bm_law_scenario.proofs.RunsAll.{Closed, block-all}
 use Rattle.bm_law_scenario.proofs.Spares.{Polled, poll-all}

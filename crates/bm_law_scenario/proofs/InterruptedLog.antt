@@ -22,7 +22,7 @@ use Rattle.bm_law_scenario.specs.Held.{no_names}
 use Rattle.bm_law_scenario.specs.Runs.{Run, RunsBlock}
 use Rattle.bm_law_scenario.specs.Parcels.{ParcelLaw}
 use Rattle.bm_law_scenario.specs.Grammar.{IsLog}
-use Rattle.bm_law_scenario.specs.Ordinary.{ordinary}
+use Rattle.bm_law.specs.Ordinary.{ordinary}
 use Rattle.bm_law_scenario.specs.SectionWords.{SectionWords}
 use Rattle.bm_law_scenario.specs.Handlers.{HandlersDone}
 use Rattle.bm_law_scenario.specs.Lawful.{HeadingOf, LawfulLogs, LawfulLog}

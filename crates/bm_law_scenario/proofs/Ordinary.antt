@@ -6,7 +6,7 @@ use Rattle.bm_law.specs.Alone.{AllAt}
 use Rattle.bm_law.specs.Lists.{Log, after}
 use Rattle.bm_law.proofs.Alone.{level-append, level-from, level-own}
 use Rattle.bm_law_work.specs.Parts.{Part, Stand, Say, Then}
-use Rattle.bm_law_scenario.specs.Ordinary.{ordinary}
+use Rattle.bm_law.specs.Ordinary.{ordinary}
 
 -- all of them are of level 0
 pub all-ordinary : (es : List Entry) → AllAt 0 (ordinary es)

@@ -7,7 +7,7 @@ use Rattle.bm_journal.specs.declared.entry.Entry.TheVariants as entry
 use Rattle.bm_law.specs.State.{opening}
 use Rattle.bm_law.specs.Spans.{own_entries}
 use Rattle.bm_law.proofs.Alone.{level-own}
-use Rattle.bm_law_scenario.specs.Ordinary.{ordinary}
+use Rattle.bm_law.specs.Ordinary.{ordinary}
 use Rattle.bm_law_scenario.specs.Closing.{EndsOne, EndsPeriods, IsEnd}
 use Rattle.bm_law_scenario.specs.WrongDeferred.{begun, ends}
 use Rattle.bm_law_scenario.proofs.Ordinary.{said, says, parted, then-of}

@@ -24,12 +24,12 @@ use Rattle.bm_law_scenario.specs.Opened.{opened_classes, uses_class}
 use Rattle.bm_law_scenario.specs.Works.{UntilDown, WorkBehind}
 use Rattle.bm_law_scenario.specs.Runs.{RunsBlock}
 use Rattle.bm_law_scenario.specs.Closing.{close_of, in_progress, EndsOne, EndsPeriods, SweepOf, SweepWhere, AreSweeps, Closing}
-use Rattle.bm_law_work.specs.Inboxes.{Inboxes, inboxes_after}
+use Rattle.bm_law.specs.Inboxes.{Inboxes, inboxes_after}
 use Rattle.bm_law_scenario.specs.Parcels.{no_parcels, ParcelsFit, sends_alone}
 use Rattle.bm_due.specs.Due.{planned_for}
 use Rattle.bm_law_scenario.proofs.Unplanned.{unplanned-at}
 use Rattle.bm_law_scenario.specs.Grammar.{behind_statement, behind_script, IsBody, IsScript, AreScripts, lines_of, Front}
-use Rattle.bm_law_scenario.specs.Ordinary.{ordinary}
+use Rattle.bm_law.specs.Ordinary.{ordinary}
 use Rattle.bm_law_scenario.proofs.OwnGrammar as own
 use Rattle.bm_law_scenario.specs.Lawful.{LawfulLog}
 use Rattle.bm_law_scenario.proofs.Ordinary.{stands, stood, said, then-of, parted, cut-of}

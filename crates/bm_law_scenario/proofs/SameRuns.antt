@@ -17,7 +17,7 @@ use Rattle.bm_law_scenario.specs.Held.{Held, Nothing, Null, Object, Names}
 use Rattle.bm_law_scenario.specs.Calls.{RunsNew, RunsDrop}
 use Rattle.bm_law_scenario.specs.Runs.{Run, Leaving, Done, Followed, Times, Calls, Chosen, RunsAction, RunsAlone, RunsElse, RunsBlock, RunsRow}
 use Rattle.bm_law_scenario.proofs.OwnRuns as own
-use Rattle.bm_law_scenario.specs.Ordinary.{ordinary}
+use Rattle.bm_law.specs.Ordinary.{ordinary}
 
 -- Each part of a run is of level l and above, and its entries of that level are a run by entries; and such entries alone are a
 -- run.

@@ -13,7 +13,7 @@ use Rattle.bm_law.specs.Lists.{next, after}
 use Rattle.bm_law.specs.Phrases.{given, raise_below, overtaken, FreePhrase}
 use Rattle.bm_law.specs.SweepPhrases.{Finishes, MayFinish, MayBegin, PollPhrase, SweepPhrase}
 use Rattle.bm_law_scenario.specs.Calls.{Allocates}
-use Rattle.bm_law_scenario.specs.Ordinary.{ordinary}
+use Rattle.bm_law.specs.Ordinary.{ordinary}
 
 -- an entry leaves the lists of class c as they are, of whatever level it is and whatever it brings
 abbrev pub Spares : ℕ → Entry → Type 0

@@ -15,7 +15,7 @@ use Rattle.bm_law.specs.Worked.{Emptied}
 use Rattle.bm_law.proofs.Null.{pops-fit}
 use Rattle.bm_law_scenario.proofs.Opening.{no-page}
 use Rattle.bm_law_scenario.specs.Held.{no_names}
-use Rattle.bm_law_scenario.specs.Ordinary.{ordinary}
+use Rattle.bm_law.specs.Ordinary.{ordinary}
 use Rattle.bm_law_scenario.specs.Grammar.{IsLog, lines_of}
 use Rattle.bm_law_scenario.specs.Parcels.{ParcelLaw}
 use Rattle.bm_law_scenario.specs.SectionWords.{SectionWords}

@@ -4,7 +4,7 @@ use Rattle.std.specs.Prelude.{◌||◌}
 use Rattle.std.proofs.lemmas.Bool.{ltb-true}
 use Rattle.bm_class.specs.Sizes.{size_of_class}
 use Rattle.bm_journal.specs.declared.entry.Entry.{Entry}
-use Rattle.bm_law_work.specs.Pages.{HasShort, all_given, units_given, wanted}
+use Rattle.bm_law.specs.Pages.{HasShort, all_given, units_given, wanted}
 use Rattle.bm_law_work.proofs.Pages.{any_short, not-named}
 use Rattle.bm_law_scenario.specs.Lawful.{LawfulLogs}
 use Rattle.bm_law_scenario.specs.Short.{all_entries}

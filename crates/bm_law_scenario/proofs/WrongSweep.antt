@@ -12,7 +12,7 @@ use Rattle.bm_law.specs.Phrases.{raise_below, alloc_took, alloc_empty, alloc_bus
 use Rattle.bm_law_scenario.specs.Held.{Names, Null, no_names, with_name}
 use Rattle.bm_law_scenario.specs.Calls.{Allocates, answered}
 use Rattle.bm_law_scenario.proofs.OwnRuns.{Run, Done, Then, RunsAction}
-use Rattle.bm_law_scenario.specs.Ordinary.{ordinary}
+use Rattle.bm_law.specs.Ordinary.{ordinary}
 use Rattle.bm_law_scenario.proofs.OwnGrammar.{Swept}
 use Rattle.bm_law_scenario.specs.Lawful.{LawfulLogs}
 use Rattle.bm_law_scenario.specs.WorkedJournal.{vector_of, types, x_name, item_id, makes_x, drops_x_unless_null, makes_and_drops, no_object, asks, took_none, ended, swept}

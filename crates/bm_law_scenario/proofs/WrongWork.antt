@@ -23,7 +23,7 @@ use Rattle.bm_law_scenario.specs.Works.{WorksBy, UntilDown, WorkEach, WorkBehind
 use Rattle.bm_law_scenario.specs.Runs.{Run, Leaving, Done, Followed, Calls, RunsBlock}
 use Rattle.bm_law_scenario.specs.Closing.{EndsPeriods, AreSweeps, Closing}
 use Rattle.bm_law_scenario.specs.Grammar.{IsBody, IsScript, AreScripts, Front, behind_script}
-use Rattle.bm_law_scenario.specs.Ordinary.{ordinary}
+use Rattle.bm_law.specs.Ordinary.{ordinary}
 use Rattle.bm_law_scenario.specs.Lawful.{LawfulLogs, LawfulLog}
 use Rattle.bm_law_scenario.specs.WorkedJournal.{vector_of, block_of, x_name, item_id, script_of, drops_x_unless_null}
 use Rattle.bm_law_scenario.specs.WorkedDeferred.{block, with_work, makes_block, makes_and_drops_block, one_block, makes_never, no_block, begins, takes, work_reads, refills, work_ends, stops, closes}

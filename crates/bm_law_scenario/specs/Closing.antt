@@ -10,7 +10,7 @@ use Rattle.bm_journal.specs.declared.entry.Entry.TheVariants as entry
 use Rattle.bm_law.specs.State.{seven_lists}
 use Rattle.bm_law.specs.Lists.{Log}
 use Rattle.bm_law.specs.SweepPhrases.{SweepPhrase}
-pub use Rattle.bm_law_work.specs.Begun.{begun_after}
+pub use Rattle.bm_law.specs.Begun.{begun_after}
 use Rattle.bm_law_work.specs.Parts.{Part, Nothing, Stand, Say, Then}
 
 -- processor 0 begins the closing

@@ -4,7 +4,7 @@ use Rattle.std.specs.Prelude.{◌≡◌, ℕ, ◌*◌, List, [], ◌∷◌, None
 use Rattle.bm_journal.specs.declared.units.Units.TheVariants.{Whole}
 use Rattle.bm_journal.specs.declared.entry.Entry.{Entry}
 use Rattle.bm_journal.specs.declared.entry.Entry.TheVariants as entry
-pub use Rattle.bm_law_work.specs.Pages.{prefill}
+pub use Rattle.bm_law.specs.Pages.{prefill}
 use Rattle.bm_page.specs.Stock.{Stock, fetched, unborn}
 use Rattle.bm_page.specs.UnitState.{UnitState}
 

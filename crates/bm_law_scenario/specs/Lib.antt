@@ -2,7 +2,6 @@ pub mod Held
 pub mod Opened
 pub mod Calls
 pub mod Works
-pub mod Ordinary
 pub mod Runs
 pub mod Fills
 pub mod Parcels

@@ -9,7 +9,7 @@ use Rattle.bm_journal.specs.EntryText.{unit_list}
 use Rattle.bm_lang.specs.declared.scenario.Parts.{Parts}
 use Rattle.bm_law.specs.State.{State, opening}
 use Rattle.bm_law.specs.Lists.{Log, brought, next}
-use Rattle.bm_law_work.specs.Inboxes.{Inboxes, inboxes_after, oldest}
+use Rattle.bm_law.specs.Inboxes.{Inboxes, inboxes_after, oldest}
 
 -- no inbox holds a parcel
 abbrev pub no_parcels : Inboxes

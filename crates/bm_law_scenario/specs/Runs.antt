@@ -10,7 +10,7 @@ use Rattle.bm_law_work.specs.Parts.{Part, Say, Then}
 use Rattle.bm_law_work.specs.Parts as part
 use Rattle.bm_law_scenario.specs.Held.{Held, Nothing, Null, Object, Names}
 use Rattle.bm_law_scenario.specs.Calls.{RunsNew, RunsDrop}
-use Rattle.bm_law_scenario.specs.Ordinary.{ordinary}
+use Rattle.bm_law.specs.Ordinary.{ordinary}
 
 -- from these names to those names, a part of a log
 abbrev pub Run : Type 1

@@ -6,7 +6,7 @@ use Rattle.bm_journal.specs.declared.ids.Domain.{Domain}
 use Rattle.bm_journal.specs.declared.entry.Entry.{Entry}
 use Rattle.bm_journal.specs.declared.entry.Entry.TheVariants as entry
 use Rattle.bm_law.specs.Lists.{Log}
-use Rattle.bm_law_work.specs.Begun.{for_domain}
+use Rattle.bm_law.specs.Begun.{for_domain}
 
 -- the word is even
 abbrev pub is_outside : ℕ → Bool

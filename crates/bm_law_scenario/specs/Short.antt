@@ -2,7 +2,7 @@
 use Rattle.std.specs.Prelude.{ℕ, List, [], ◌∷◌, ◌++◌, map}
 use Rattle.bm_journal.specs.declared.entry.Entry.{Entry}
 use Rattle.bm_law.specs.Lists.{Log}
-pub use Rattle.bm_law_work.specs.Pages.{NamesPage, ShortLaw}
+pub use Rattle.bm_law.specs.Pages.{NamesPage, ShortLaw}
 
 -- the entries of all logs
 abbrev pub all_entries : List Log → List Entry

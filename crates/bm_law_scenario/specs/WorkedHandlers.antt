@@ -12,7 +12,7 @@ use Rattle.bm_lang.specs.declared.scenario.ScriptKind.TheVariants as kind
 use Rattle.bm_law.specs.Alone.{at_level}
 use Rattle.bm_law.specs.Lists.{Log}
 use Rattle.bm_due.specs.Worked.{at_step}
-use Rattle.bm_law_scenario.specs.Ordinary.{ordinary}
+use Rattle.bm_law.specs.Ordinary.{ordinary}
 use Rattle.bm_law_scenario.specs.WorkedJournal.{asks, block_of, gave, journal_of, makes_and_drops, makes_x, one_object, one_object_journal, one_page, script_of, swept, took}
 
 -- one object is made and dropped by the plain script `main`, and a handler `h` with this body is planned for the third step

@@ -20,7 +20,7 @@ use Rattle.bm_lang.specs.declared.scenario.Statement.{Statement}
 use Rattle.bm_lang.specs.declared.scenario.TypeDeclaration.{TypeDeclaration}
 use Rattle.bm_lang.specs.declared.scenario.TypeId.{TypeId}
 use Rattle.bm_law.specs.Lists.{Log}
-use Rattle.bm_law_scenario.specs.Ordinary.{ordinary}
+use Rattle.bm_law.specs.Ordinary.{ordinary}
 use Rattle.bm_law_scenario.specs.Worked.{item}
 
 -- ---- the scripts

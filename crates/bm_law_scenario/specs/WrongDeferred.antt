@@ -9,7 +9,7 @@ use Rattle.bm_journal.specs.Totals.{totals_of}
 use Rattle.bm_journal.specs.WellFormed.{are_whole}
 use Rattle.bm_law.specs.State.{State, on_row}
 use Rattle.bm_law.specs.Lists.{Log}
-use Rattle.bm_law_scenario.specs.Ordinary.{ordinary}
+use Rattle.bm_law.specs.Ordinary.{ordinary}
 use Rattle.bm_law_scenario.specs.WorkedDeferred.{begins, takes, drops, work_reads, refills, work_ends, stops, closes, telling_work}
 
 -- a journal of this log, with its totals

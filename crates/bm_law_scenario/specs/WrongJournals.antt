@@ -13,7 +13,7 @@ use Rattle.bm_journal.specs.WellFormed.{are_whole}
 use Rattle.bm_lang.specs.declared.scenario.Block.{Block}
 use Rattle.bm_lang.specs.declared.scenario.Parts.{Parts}
 use Rattle.bm_law.specs.Lists.{Log}
-use Rattle.bm_law_scenario.specs.Ordinary.{ordinary}
+use Rattle.bm_law.specs.Ordinary.{ordinary}
 use Rattle.bm_law_scenario.specs.WorkedJournal.{makes_x, block_of, scenario_of, one_page, asks, asked, took, took_none, gave, ended, swept, journal_of, one_object_log, one_object_journal, main_part, three_calls_journal}
 
 -- ---- the heading, the histories and the totals

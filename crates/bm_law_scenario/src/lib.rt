@@ -1,4 +1,21 @@
-//! What speaks of a scenario and a journal: when the journal is lawful. Nothing in this crate runs.
+//! What speaks of a scenario and a journal: what a block and a handler leave in a log, and when a journal is lawful, log by log.
+//! Nothing in this crate runs.
+//!
+//! - `RunsBlock` (specs/Runs) says which part of a log the statements of a block leave, and what the script's names hold then. It
+//!   is the one definition for scripts and handlers.
+//! - `IsLog` (specs/Grammar) is what a log is made of: fills, scripts with the work after them, the closing (specs/Fills, Works,
+//!   Closing).
+//! - `HandlerPhrase` and `HandlersDone` (specs/Handlers) are what handlers leave; `SectionWords` counts the words of sections.
+//! - `ParcelLaw` (specs/Parcels) and `JournalShort` (specs/Short) speak of parcels and of fewer units than were wanted.
+//! - `LawfulLog` and `LawfulLogs` (specs/Lawful) put them together.
+//! - `handlers_law`, `unplanned_law` are laws; `worked_*` and `wrong_*` compute all of it on worked journals and on wrong
+//!   neighbours.
+//!
+//! Every contract of a run leads here: `bm_exec` and `bm_exec_levels` say what they leave by `Runs`, `bm_closing` by the
+//! closing's parts.
+//!
+//! The statements and their replies are this project's own; what an allocation and a free record is `bm_law`'s. The laws over all
+//! logs together are in `bm_law_lives`, and the page that puts everything together is in `bm_law_journal`.
 #![tactic(auto)]
 
 mod deferred;

@@ -5,7 +5,7 @@ use Rattle.std.proofs.lemmas.Bool.{and_parts, cases_eq, cases_lt, false≢true, 
 use Rattle.bm_journal.specs.declared.entry.Entry.{Entry}
 use Rattle.bm_law.specs.Stands.{times}
 use Rattle.bm_law.proofs.Stands.{times-append}
-use Rattle.bm_law_work.specs.Pages.{wanted, units_given, all_given, HasShort, NamesPage, ShortLaw}
+use Rattle.bm_law.specs.Pages.{wanted, units_given, all_given, HasShort, NamesPage, ShortLaw}
 
 -- ---- pages named
 

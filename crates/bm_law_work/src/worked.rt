@@ -4,7 +4,7 @@ ghost use Rattle.std.specs.Prelude.{◌≡◌, true, false, [], ◌∷◌, ◌++
 ghost use Rattle.bm_journal.specs.declared.ids.Domain.TheVariants.{Plain};
 ghost use Rattle.bm_law.specs.State.{opening};
 ghost use Rattle.bm_law.specs.WorkedDeferred.{work_overtaken, first_batch, second_batch, second_stage, second_returned};
-ghost use Rattle.bm_law_work.specs.Pages.{ShortLaw};
+ghost use Rattle.bm_law.specs.Pages.{ShortLaw};
 ghost use Rattle.bm_law_work.specs.Parts.{Say};
 ghost use Rattle.bm_law_work.specs.WorkPhrases.{IsSend, Passing, Refill, Unloads, Work, empty_take, may_batch, may_begin, middle_of_class, takes};
 ghost use Rattle.bm_law_work.specs.WorkedPages.{fetched_by, fetched_later, filled_with};

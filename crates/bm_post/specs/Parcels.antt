@@ -1,7 +1,7 @@
 -- Parcels that are told, by the numbers of their units, and what calls make of them. (This project's own: the kernel has no
 -- inboxes.)
 use Rattle.std.specs.Prelude.{ℕ, ◌==◌, if◌then◌else◌, List, [], ◌∷◌, ◌++◌, drop}
-pub use Rattle.bm_law_work.specs.Inboxes.{Inboxes, on_inbox, oldest}
+pub use Rattle.bm_law.specs.Inboxes.{Inboxes, on_inbox, oldest}
 
 -- units of a class were sent to a processor: where that is me, they are the newest parcel in my inbox of the class
 abbrev pub parcel_sent : (to me class : ℕ) → List ℕ → Inboxes → Inboxes

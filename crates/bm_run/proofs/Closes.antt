@@ -17,8 +17,8 @@ use Rattle.bm_law.specs.State.{State, seven_lists}
 use Rattle.bm_law.specs.SweepPhrases.{MayBegin, MayFinish, PollPhrase, SweepPhrase}
 use Rattle.bm_law.proofs.Alone.{at-own}
 use Rattle.bm_cache.specs.Steps.{steps_in}
-use Rattle.bm_law_work.specs.Begun.{begun_by}
-use Rattle.bm_law_work.specs.Inboxes.{Inboxes, on_inbox}
+use Rattle.bm_law.specs.Begun.{begun_by}
+use Rattle.bm_law.specs.Inboxes.{Inboxes, on_inbox}
 use Rattle.bm_law_work.specs.Parts.{Then}
 use Rattle.bm_law_work.proofs.Each.{AllOf, PartOf, of-append, part-nothing, part-say, part-then}
 use Rattle.bm_due.specs.Due.{due_handler}

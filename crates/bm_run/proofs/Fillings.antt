@@ -6,7 +6,7 @@ use Rattle.std.specs.List.{All}
 use Rattle.bm_page.specs.declared.units.Stocked.{Stocked}
 use Rattle.bm_page.specs.UnitState.{UnitState}
 use Rattle.std.proofs.lemmas.List.Elements.{All-append}
-use Rattle.bm_page.specs.Stock.{Stock, stocked_at, next_unit, given, fetched, unborn}
+use Rattle.bm_page.specs.Stock.{Stock, stocked_at, next_unit, given, fetched}
 use Rattle.bm_page.specs.Out.{AreOut, IsOut, IsFromStock}
 use Rattle.bm_page.proofs.FetchLemmas.{fetched-zero, fetched-none, fetched-next}
 use Rattle.bm_page.proofs.StockLemmas.{out_inside}

@@ -1,5 +1,5 @@
 -- The log of a run is lawful.
-use Rattle.std.proofs.Common.{◌≡◌, ℕ, Bool, true, false, List, [], ◌∷◌, ◌++◌, map, refl, sym, ap, subst, ◌∙◌, append_assoc, append-nil, Option, Some, None, IfSome, IsSome, arith}
+use Rattle.std.proofs.Common.{◌≡◌, ℕ, Bool, true, false, List, [], ◌∷◌, ◌++◌, map, refl, sym, ap, subst, ◌∙◌, append_assoc, Option, Some, None, IfSome, IsSome, arith}
 use Rattle.std.specs.Prelude.{◌||◌, nat_eq, not}
 use Rattle.std.specs.List.{list_any}
 use Rattle.std.proofs.lemmas.List.{append_cancel_left}
@@ -21,9 +21,9 @@ use Rattle.bm_law.proofs.Seen.{map-seven}
 use Rattle.bm_cache.specs.Opening.{Fills, fill_log, named}
 use Rattle.bm_cache.specs.Shown.{shown}
 use Rattle.bm_cache.specs.Tokens.{Token, number_of}
-use Rattle.bm_law_work.specs.Begun.{begun_by}
+use Rattle.bm_law.specs.Begun.{begun_by}
 use Rattle.bm_law_work.specs.Grown.{GrewBy, GrewPart}
-use Rattle.bm_law_work.specs.Inboxes.{Inboxes}
+use Rattle.bm_law.specs.Inboxes.{Inboxes}
 use Rattle.bm_law_work.specs.Parts.{Part, Say, Stand, Then}
 use Rattle.bm_law_scenario.specs.Closing.{AreSweeps, EndsPeriods, in_progress}
 use Rattle.bm_law_scenario.specs.Fills.{AreFills, fresh_stock, prefill}

@@ -1,11 +1,10 @@
 -- The processor after its opening.
-use Rattle.std.proofs.Common.{◌≡◌, ◌≢◌, ◌≤◌, ◌<◌, ℕ, suc, zero, ◌+◌, ◌*◌, Bool, true, false, not, if◌then◌else◌, List, [], ◌∷◌, ◌++◌, length, get_or, map, refl, sym, ap, subst, ◌∙◌, Option, Some, None, arith, eq-eqb, eqb, ne_eqb, nat_lt, is_none, is_some, inl, inr, replicate}
+use Rattle.std.proofs.Common.{◌≡◌, ◌≢◌, ◌≤◌, ◌<◌, ℕ, suc, zero, ◌*◌, Bool, true, false, not, if◌then◌else◌, List, [], ◌∷◌, ◌++◌, length, get_or, map, refl, sym, ap, subst, ◌∙◌, Option, Some, None, arith, eq-eqb, eqb, ne_eqb, nat_lt, is_none, is_some, inl, inr, replicate}
 use Rattle.std.specs.List.{All, AllPairs}
 use Rattle.std.proofs.lemmas.Bool.{and_from, and_parts, cases_eq, ltb-true}
 use Rattle.std.proofs.lemmas.Bool.Decides.{nat_tests}
 use Rattle.std.proofs.lemmas.List.{map-append}
 use Rattle.std.proofs.lemmas.List.Elements.{All-nil}
-use mathlib.Core.Path.{fun_ext}
 use Rattle.bm_journal.specs.declared.ids.Domain.{Domain}
 use Rattle.bm_journal.specs.declared.ids.Domain.TheVariants.{Plain, Tracing}
 use Rattle.bm_journal.specs.declared.entry.Entry.TheVariants as entry
@@ -18,7 +17,6 @@ use Rattle.bm_grace.specs.Known.{side}
 use Rattle.bm_post.specs.HasRoom.{has_room}
 use Rattle.bm_post.specs.Kept.{IsRoomy}
 use Rattle.bm_post.specs.PostState.{Parcels, PostState, is_mine, no_parcels, waits}
-use Rattle.bm_post.specs.Rights.{numbers}
 use Rattle.bm_post.proofs.Room.{room-is}
 use Rattle.bm_world.specs.LivingState.{HaveLived, LivingState, begun_at, known_living, lives_of, living_of, may_be_used, may_live, rights_living}
 use Rattle.bm_world.specs.Slots.{AllEmpty, unit_at}

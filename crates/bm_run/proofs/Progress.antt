@@ -6,7 +6,7 @@ use Rattle.bm_journal.specs.declared.ids.Domain.TheVariants.{Plain, Tracing}
 use Rattle.bm_journal.specs.declared.entry.Entry.{Entry}
 use Rattle.bm_journal.specs.declared.entry.Entry.TheVariants as entry
 use Rattle.bm_law.specs.Lists.{Log}
-use Rattle.bm_law_work.specs.Begun.{begun_after, begun_by, for_domain}
+use Rattle.bm_law.specs.Begun.{begun_after, begun_by, for_domain}
 use Rattle.bm_law_scenario.specs.Closing.{in_progress}
 use Rattle.bm_law_order.specs.ByDomain.{of, with_of}
 use Rattle.bm_law_order.specs.Numbers.{Course, Numbers, NumbersFit, ended, first_numbers, numbers_after}

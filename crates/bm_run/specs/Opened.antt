@@ -1,5 +1,5 @@
 -- The one processor after its opening.
-use Rattle.std.specs.Prelude.{◌≡◌, ◌+◌, ◌&&◌, ℕ, Bool, true, false, List, [], ◌∷◌, None, Some, IfSome, nat_lt}
+use Rattle.std.specs.Prelude.{◌≡◌, ◌+◌, ◌&&◌, ℕ, Bool, true, false, List, [], ◌∷◌, None, IfSome, nat_lt}
 use Rattle.bm_journal.specs.declared.ids.Domain.{Domain}
 use Rattle.bm_page.specs.Stock.{Stock}
 use Rattle.bm_grace.specs.Known.{side}

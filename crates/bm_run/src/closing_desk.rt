@@ -15,9 +15,9 @@ ghost use Rattle.bm_run.specs.ClosingTie.{EndsOne, IsOne, ends-back, ends-closed
 
 use bm_cache::{Caches, Host};
 use bm_closing::Ended;
-use bm_work::Desk;
-use bm_journal::{Keep, Level};
 use bm_exec_levels::Since;
+use bm_journal::{Keep, Level};
+use bm_work::Desk;
 use bm_world::LivingSide;
 use std::marker::PhantomData;
 

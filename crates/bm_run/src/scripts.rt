@@ -17,8 +17,8 @@ ghost use Rattle.bm_run.specs.Lines.{lines_cost, works_for, AllDeclared, Wrote};
 
 use crate::stretches::{begin_script, end_script, settle_behind};
 use bm_exec::{Stopped, run_script};
-use bm_lang::Script;
 use bm_exec_levels::{Deferred, Ground, Processor, Program, Since};
+use bm_lang::Script;
 use bm_word::NoMemory;
 use std::alloc::Global;
 use std::marker::PhantomData;

@@ -22,8 +22,10 @@ ghost use Rattle.bm_exec_levels.specs.Sound.{Sound};
 ghost use Rattle.bm_exec_levels.specs.declared.program.Program.{Program as ProgramValue};
 ghost use Rattle.bm_run.specs.Lines.{BehindScript, Wrote};
 
+use bm_exec_levels::{
+    Deferred, Processor, Program, Since, enter_section, leave_section, settle_script,
+};
 use bm_journal::{Entry, Level};
-use bm_exec_levels::{Deferred, Processor, Program, Since, enter_section, leave_section, settle_script};
 use bm_word::{Name, NoMemory};
 
 // Records an entry of ordinary code that moves nothing.

@@ -1,5 +1,12 @@
-//! What is built of the language of scenarios: which scenarios can be run by now, and where a text has the first form that
-//! can't.
+//! What is built of the language of scenarios: which scenarios can be run so far, and where a text has the first form that can't.
+//!
+//! - `RunsYet` (specs/Yet) is what a scenario that can run has: one processor, plain and handler scripts of `new`, `drop`, `if`,
+//!   `repeat`.
+//! - `first_unbuilt` answers the place of the first word of a form that can't run, by the tokens of the text.
+//! - `built_scenarios_run`: where there is no such word, the scenario can run.
+//!
+//! `bm_tool` refuses such a text at status 5, and `bm_run` needs `RunsYet`. The crate is a scaffold: each form that comes to run
+//! is taken out of its table, and at last the crate goes.
 #![tactic(auto)]
 
 mod law;

@@ -12,12 +12,12 @@ use crate::lent::Lent;
 use crate::logs::has_log;
 use crate::openings::{give_up, side_over};
 use crate::still_desk::{Gives, StillDesk};
-use bm_exec_levels::{until_down, work_behind};
 use bm_cache::{Given, alloc};
 use bm_class::Class;
-use bm_work::Desk;
+use bm_exec_levels::{until_down, work_behind};
 use bm_journal::{Keep, Recorder};
 use bm_word::NoMemory;
+use bm_work::Desk;
 use std::process::Abort;
 
 /// Two flags are up, and the works lower them, the lesser class first. Then a unit is given, which raises a flag again; the stock

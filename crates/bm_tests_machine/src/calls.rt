@@ -13,9 +13,9 @@ ghost use Rattle.bm_work.specs.declared.deferred.Worked.TheVariants as ended;
 
 use bm_cache::{Given, Host, alloc, free_delayed};
 use bm_class::Class;
-use bm_work::{Desk, Worked, work};
 use bm_journal::Recorder;
 use bm_page::Unit;
+use bm_work::{Desk, Worked, work};
 use std::process::Abort;
 
 /// The work is done.

@@ -29,11 +29,11 @@ use crate::still_desk::StillDesk;
 use bm_cache::{Given, alloc, free_delayed};
 use bm_class::Class;
 use bm_closing::{Ended, close, end_period, sweep};
-use bm_work::Desk;
 use bm_grace::{Began, Grace, PlainGrace};
 use bm_journal::{Domain, Keep, Recorder};
 use bm_page::Unit;
 use bm_post::{PlainPost, Post};
+use bm_work::Desk;
 use bm_world::{OneSide, World};
 use std::process::Abort;
 

@@ -12,8 +12,8 @@ use crate::logs::has_log;
 use crate::openings::{give_up, side_over, waiting_side};
 use crate::still_desk::StillDesk;
 use bm_class::Class;
-use bm_work::work;
 use bm_journal::Keep;
+use bm_work::work;
 use bm_world::World;
 use std::process::Abort;
 

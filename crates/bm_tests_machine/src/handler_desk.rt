@@ -11,9 +11,9 @@ ghost use Rattle.bm_work.specs.Still.{alike-joined, alike-still, goes-still};
 use crate::still_desk::Gives;
 use bm_cache::{Caches, Given, Host, alloc};
 use bm_class::Class;
-use bm_work::Desk;
 use bm_journal::{Level, Recorder};
 use bm_page::Unit;
+use bm_work::Desk;
 use bm_world::World;
 
 /// What a processor has: its caches, and its side of all that processors share.

@@ -16,9 +16,9 @@ use crate::logs::has_log;
 use crate::openings::{give_up, side_over, waiting_side};
 use crate::still_desk::StillDesk;
 use bm_class::Class;
-use bm_work::{Desk, poll};
 use bm_grace::{Done, Grace};
 use bm_journal::{Domain, Keep, Recorder};
+use bm_work::{Desk, poll};
 use bm_world::World;
 use std::process::Abort;
 

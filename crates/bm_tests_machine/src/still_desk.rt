@@ -9,8 +9,8 @@ ghost use Rattle.bm_work.specs.Still.{alike-joined, alike-still, goes-still};
 
 use bm_cache::{Caches, Host};
 use bm_closing::Ended;
-use bm_work::Desk;
 use bm_journal::{Level, Recorder};
+use bm_work::Desk;
 use bm_world::World;
 
 /// Caches at level 0 and a side, and no handler.

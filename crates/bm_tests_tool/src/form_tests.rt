@@ -1,7 +1,7 @@
 //! The first form of a text that can't be run so far.
 
-use bm_run_yet::first_unbuilt;
 use bm_lang::{BadKind, BadText, Place};
+use bm_run_yet::first_unbuilt;
 use std::alloc::Global;
 use std::test::Fail;
 

@@ -4,9 +4,9 @@ ghost use Rattle.std.specs.Prelude.{◌≡◌, ◌∷◌, []};
 
 use bm_class::Class;
 use bm_exec::Types;
+use bm_exec_levels::{Processor, Program};
 use bm_journal::Recorder;
 use bm_lang::{limits, read_scenario};
-use bm_exec_levels::{Processor, Program};
 use bm_run::open;
 use std::process::Abort;
 use std::test::Fail;

@@ -10,12 +10,12 @@ ghost use Rattle.bm_tool.specs.Outcome.{IsPrepared, Serves, out_text};
 ghost use Rattle.bm_tool.specs.Refusals.{input_limit};
 
 use crate::refusal::Refusal;
-use bm_run_yet::{built_scenarios_run, first_unbuilt};
 use bm_check::{CheckFault, Checked, check};
 use bm_command::Command;
 use bm_journal::{Journal, Totals, put_totals, text_of};
 use bm_lang::{BadKind, BadText, LangFault, Parts, Scenario, limits, read_scenario};
 use bm_run::replay;
+use bm_run_yet::{built_scenarios_run, first_unbuilt};
 use bm_word::NoMemory;
 use std::alloc::Global;
 

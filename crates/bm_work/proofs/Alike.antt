@@ -9,7 +9,7 @@ use Rattle.bm_grace.specs.declared.answer.Began.TheVariants.{Won, Moved}
 use Rattle.bm_grace.specs.Known.{Known, Side, side}
 use Rattle.bm_grace.specs.Calls.{changed, looked, read, began, finished, told}
 use Rattle.bm_post.specs.Calls.{Mails, Posts}
-use Rattle.bm_law_work.specs.Inboxes.{Inboxes}
+use Rattle.bm_law.specs.Inboxes.{Inboxes}
 use Rattle.bm_work.specs.Goes.{Alike}
 
 -- a side of one domain with the same word

@@ -1,16 +1,12 @@
 -- Parcels and units that come, and those that go.
-use Rattle.std.proofs.Common.{◌≡◌, ◌<◌, ℕ, Bool, List, [], ◌∷◌, map, Option, None, Some, IfSome, refl, sym, ◌∙◌, ap, subst, arith, inl, inr}
+use Rattle.std.proofs.Common.{◌≡◌, ℕ, List, [], map, Option, refl, ◌∙◌, ap, arith, inl, inr}
 use Rattle.std.proofs.lemmas.Bool.Decides.{eqb_tells}
-use Rattle.bm_journal.specs.Recording.{Appends}
-use Rattle.bm_journal.specs.declared.entry.Entry.{Entry}
 use Rattle.bm_journal.specs.declared.units.Units.TheVariants.{Whole}
 use Rattle.bm_journal.specs.declared.entry.Entry.TheVariants as entry
 use Rattle.bm_grace.specs.Known.{Known, Sides}
 use Rattle.bm_law.specs.Effect.{effect}
 use Rattle.bm_law.specs.Lists.{Log}
 use Rattle.bm_law.specs.State.{State}
-use Rattle.bm_law.proofs.Spans.{Records-one}
-use Rattle.bm_cache.specs.Lent.{with_first, with_hand}
 use Rattle.bm_cache.specs.Listed.{TookUnits}
 use Rattle.bm_cache.specs.Shown.{shown}
 use Rattle.bm_cache.specs.Span.{Face, Goes}

@@ -22,7 +22,7 @@ use Rattle.bm_work_lists.specs.Grown.{GrewBy}
 use Rattle.bm_work_lists.proofs.Grown.{grew-map, grew-none, grew-parts}
 use Rattle.bm_work.specs.Dated.{Dated}
 use Rattle.bm_work.specs.Onward.{Onward}
-use Rattle.bm_work.specs.Works.{Stands, Called, Handled, Posted, Stopped, Works}
+use Rattle.bm_work.specs.Works.{Stands, Called, Posted, Stopped, Works}
 use Rattle.bm_work.specs.Goes.{Alike}
 use Rattle.bm_work.specs.DeskTests.{tests_by}
 use Rattle.bm_work.proofs.Onward.{fine-on, dated-on}

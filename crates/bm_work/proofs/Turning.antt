@@ -1,5 +1,5 @@
 -- Periods that begin and end, and the entries that say so.
-use Rattle.std.proofs.Common.{◌≡◌, ◌+◌, ℕ, Bool, true, [], ◌∷◌, Option, refl, ◌∙◌, ap, subst, arith}
+use Rattle.std.proofs.Common.{◌≡◌, ℕ, Bool, true, [], ◌∷◌, Option, refl, ◌∙◌, ap, subst, arith}
 use Rattle.bm_journal.specs.Recording.{Appends}
 use Rattle.bm_journal.specs.declared.ids.Domain.{Domain}
 use Rattle.bm_journal.specs.declared.ids.Domain.TheVariants.{Plain, Tracing}

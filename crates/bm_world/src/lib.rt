@@ -1,4 +1,18 @@
-//! One processor's side of all that processors share: the pool, the inboxes, and the grace periods.
+//! The world: one processor's side of all that processors share, which are the pool, the inboxes, and the grace periods.
+//!
+//! - `World` is a `Post` and a `Grace` in one value, so that a grace period that has passed can make the post's units ripe.
+//! - `OneSide` is the world on one thread for any number of processors, of which one has its turn.
+//! - `LivingSide` owns the units that live beside it, by their numbers, and counts their lives: `begin_life`, `end_life`, `ask`.
+//! - `WaitingSide` tells which units wait and since when; the tests of delayed frees stand on it.
+//! - `Slots` holds the units that live.
+//!
+//! Deferred work (`bm_work`) is generic over any world; the machines of a run (`bm_exec_levels`) have a `LivingSide`.
+//!
+//! Each call says by which acts the side came to be what it is (`LivingDoes`, specs/ToldLiving): that is the side's half of the
+//! tie between a log and what is shared, whose other half is the log's (`bm_law_order`). A unit that lives is nobody's to free
+//! until its life ends.
+//!
+//! That lives are counted is this project's own. The world of several threads isn't here.
 #![tactic(auto)]
 
 mod begun;

@@ -13,7 +13,7 @@ use Rattle.bm_work.specs.Onward.{Onward}
 use Rattle.bm_work.specs.Owed.{Whatever}
 use Rattle.bm_work.proofs.Owing.{owes-called}
 use Rattle.bm_law_order.specs.Act.{Act}
-use Rattle.bm_closing.specs.Told.{ReceivesAll, receives_all}
+use Rattle.bm_closing.specs.Told.{receives_all}
 use Rattle.bm_closing.proofs.Owed.{at-end-with}
 use Rattle.bm_work.proofs.Came.{lasting-onward}
 use Rattle.bm_closing.specs.Arrived.{Came}

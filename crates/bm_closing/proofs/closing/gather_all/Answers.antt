@@ -1,4 +1,4 @@
-use Rattle.std.proofs.Common.{◌≡◌, ◌≤◌, ◌∙◌, ◌++◌, ◌%◌, [], ℕ, List, Some, eq-eqb, map, refl, ap, sym, subst, arith}
+use Rattle.std.proofs.Common.{◌≡◌, ◌∙◌, ◌++◌, ◌%◌, [], ℕ, List, Some, eq-eqb, map, refl, ap, sym, subst, arith}
 use Rattle.std.specs.List.{All, concat, flat_map}
 use Rattle.std.proofs.lemmas.List.{map-append}
 use Rattle.bm_law_order.specs.Act.{Act}

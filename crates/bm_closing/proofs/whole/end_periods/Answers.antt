@@ -5,7 +5,7 @@ use Rattle.bm_law.specs.State.{seen}
 use Rattle.bm_law.proofs.Alone.{Alone-join}
 use Rattle.bm_cache.specs.Shown.{shown}
 use Rattle.bm_cache.specs.Tokens.{number_of}
-use Rattle.bm_law_work.specs.Begun.{begun_by}
+use Rattle.bm_law.specs.Begun.{begun_by}
 use Rattle.bm_law_work.specs.Grown.{GrewBy}
 use Rattle.bm_law_scenario.specs.Closing.{EndsOne}
 use Rattle.bm_work_lists.proofs.Grown.{grew-then}

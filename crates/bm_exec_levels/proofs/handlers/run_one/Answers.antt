@@ -3,7 +3,7 @@ use Rattle.bm_journal.specs.declared.entry.Entry.TheVariants as entry
 use Rattle.bm_journal.specs.declared.ids.Domain.TheVariants.{Plain}
 use Rattle.bm_lang.specs.Limits.{script_cost}
 use Rattle.bm_exec_levels.specs.AtProcessor.{Between, due_cost, lists_of, log_of}
-use Rattle.bm_exec_levels.specs.AtTie.{TiedAt, tied-turned}
+use Rattle.bm_exec_levels.specs.AtTie.{tied-turned}
 use Rattle.bm_exec_levels.specs.Ready.{known_of, word_of}
 use Rattle.bm_exec_levels.specs.declared.processor.Processor.{Processor}
 use Rattle.bm_exec_levels.proofs.Ran.{between-as, cost-is, has-phrase, ran}

@@ -3,7 +3,7 @@ use Rattle.std.proofs.lemmas.Bool.Decides.{eqb_tells}
 use Rattle.bm_law.specs.State.{opening, seven_lists}
 use Rattle.bm_law.specs.Lists.{Log, after, lists_of}
 use Rattle.bm_law.proofs.Agree.{leaves-lists}
-use Rattle.bm_law_scenario.specs.Ordinary.{ordinary}
+use Rattle.bm_law.specs.Ordinary.{ordinary}
 use Rattle.bm_law_lives.specs.Worked.{borrows, hands_on, lends_and_sweeps}
 use Rattle.bm_law_logs.specs.UnitsMoved.{LeavesNothing}
 use Rattle.bm_law_logs.specs.WorkedUnits.{kept}

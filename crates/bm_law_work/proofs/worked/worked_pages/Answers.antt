@@ -1,6 +1,6 @@
 use Rattle.std.proofs.Common.{[], ◌∷◌, refl, inl, inr, lit<}
 use Rattle.bm_class.specs.Sizes.{size_of_class}
-use Rattle.bm_law_work.specs.Pages.{all_given}
+use Rattle.bm_law.specs.Pages.{all_given}
 use Rattle.bm_law_work.specs.WorkedPages.{fetched_by, fetched_later, filled_with}
 use Rattle.bm_law_work.proofs.Pages.{not-named, short-named, short-never}
 use Rattle.bm_law_work.proofs.worked.worked_pages.Goals as goal

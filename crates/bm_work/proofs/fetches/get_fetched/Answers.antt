@@ -1,4 +1,4 @@
-use Rattle.std.proofs.Common.{◌≡◌, ◌≤◌, ◌+◌, ◌∷◌, ◌++◌, [], drop, ◌∙◌, refl, ℕ, List, arith, length, map, sym, subst}
+use Rattle.std.proofs.Common.{◌≡◌, ◌≤◌, ◌+◌, ◌∷◌, [], drop, refl, ℕ, List, arith, length, map, sym, subst}
 use Rattle.std.specs.List.{All}
 use Rattle.bm_law.specs.Stands.{stands, times}
 use Rattle.bm_law.specs.State.{seen}

@@ -5,7 +5,6 @@ use Rattle.bm_law_order.specs.Act.{Act}
 use Rattle.bm_law_order.specs.Act as act
 use Rattle.bm_law_order.specs.Chunk as chunk
 use Rattle.bm_law_order.specs.Chunk.{Shows}
-use Rattle.bm_journal.specs.declared.units.Units.{Units}
 use Rattle.bm_work.proofs.Owing.{owes-stepped, shows}
 use Rattle.bm_work.proofs.loans.end_send.Goals as goal
 

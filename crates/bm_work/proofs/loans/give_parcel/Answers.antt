@@ -1,8 +1,4 @@
-use Rattle.std.proofs.Common.{[], ◌∷◌, ◌++◌, List, refl, sym, subst, Result, Ok, Err, OnOk}
-use Rattle.bm_journal.specs.declared.units.Units.TheVariants.{Whole}
-use Rattle.bm_journal.specs.declared.entry.Entry.TheVariants as entry
-use Rattle.bm_post.specs.Rights.{numbers}
-use Rattle.bm_work.proofs.Sides.{on-ok}
+use Rattle.std.proofs.Common.{[], ◌∷◌, refl}
 use Rattle.bm_law_order.specs.Act.{Act}
 use Rattle.bm_law_order.specs.Act as act
 use Rattle.bm_law_order.specs.Act.{sealed}

@@ -1,6 +1,4 @@
-use Rattle.std.proofs.Common.{◌≡◌, ◌≤◌, ◌+◌, ℕ, [], map, refl, sym, subst, ap, ◌∷◌, ◌++◌, List}
-use Rattle.bm_journal.specs.declared.units.Units.TheVariants.{Whole}
-use Rattle.bm_journal.specs.declared.entry.Entry.TheVariants as entry
+use Rattle.std.proofs.Common.{◌≤◌, ◌+◌, ℕ, [], map, refl, sym, subst, ap, ◌∷◌, ◌++◌}
 use Rattle.bm_law.specs.Stands.{stands, times}
 use Rattle.bm_law.specs.State.{seen}
 use Rattle.bm_cache.specs.Shown.{shown}

@@ -1,7 +1,5 @@
-use Rattle.bm_law_order.specs.Act.{Act}
-use Rattle.bm_law_order.specs.Act as act
 use Rattle.bm_work.proofs.Owing.{owes-called}
-use Rattle.std.proofs.Common.{[], ◌∷◌, ◌++◌, List, ◌≡◌, sym, ◌∙◌, ap, subst}
+use Rattle.std.proofs.Common.{◌≡◌, sym, ◌∙◌, ap, subst}
 use Rattle.bm_cache.specs.Tests.{Tests}
 use Rattle.bm_work.specs.DeskTests.{Ripened, tests_by}
 use Rattle.bm_work.proofs.Alike.{alike-read}

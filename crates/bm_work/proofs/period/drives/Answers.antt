@@ -1,4 +1,4 @@
-use Rattle.std.proofs.Common.{[], ◌∷◌, ◌++◌, List, sym, subst, append-nil}
+use Rattle.std.proofs.Common.{[], List, subst, append-nil}
 use Rattle.bm_law_order.specs.Act.{Act}
 use Rattle.bm_work.specs.Still.{alike-still}
 use Rattle.std.proofs.Common.{refl}

@@ -1,4 +1,4 @@
-use Rattle.std.proofs.Common.{◌≡◌, ℕ, inl, inr, ◌++◌, ◌∷◌, [], refl, subst, sym}
+use Rattle.std.proofs.Common.{ℕ, inl, inr, ◌++◌, ◌∷◌, [], refl, subst, sym}
 use Rattle.bm_law_order.specs.Act as act
 use Rattle.bm_grace.specs.Known.{side}
 use Rattle.bm_law.specs.SweepPhrases.{MayFinish}

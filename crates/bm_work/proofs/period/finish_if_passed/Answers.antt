@@ -1,11 +1,8 @@
-use Rattle.std.proofs.Common.{[], ◌∷◌, ◌≡◌, ◌%◌, ℕ, ap, arith, inl, inr, refl, sym, ◌∙◌}
-use Rattle.bm_grace.specs.Known.{side}
-use Rattle.bm_law_order.specs.Act as act
+use Rattle.std.proofs.Common.{[], ◌≡◌, ◌%◌, ℕ, arith, inl, inr}
 use Rattle.bm_law.specs.SweepPhrases.{MayFinish}
 use Rattle.bm_law_work.specs.Parts.{Say}
-use Rattle.bm_law_order.specs.Chunk as chunk
 use Rattle.bm_work.proofs.Sides.{called-works}
-use Rattle.bm_work.proofs.Owing.{looked-sound, shows, stands-with}
+use Rattle.bm_work.proofs.Owing.{looked-sound, stands-with}
 use Rattle.bm_work.proofs.period.finish_if_passed.Goals as goal
 
 pub returns-then-drives-clause-works : goal.returns-then-drives-clause-works

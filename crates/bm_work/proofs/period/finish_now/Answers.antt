@@ -1,4 +1,4 @@
-use Rattle.std.proofs.Common.{[], ◌∷◌, ◌++◌, List, sym, subst}
+use Rattle.std.proofs.Common.{[], ◌∷◌}
 use Rattle.bm_law_order.specs.Act.{Act}
 use Rattle.bm_law_order.specs.Act as act
 use Rattle.bm_work.proofs.Owing.{owes-called}

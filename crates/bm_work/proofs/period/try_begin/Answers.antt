@@ -1,6 +1,3 @@
-use Rattle.std.proofs.Common.{[], ◌∷◌, ◌++◌, List, sym, subst}
-use Rattle.bm_law_order.specs.Act.{Act}
-use Rattle.bm_law_order.specs.Act as act
 use Rattle.bm_work.proofs.Owing.{owes-called}
 use Rattle.bm_work.proofs.Alike.{alike-began}
 use Rattle.bm_work.proofs.Sides.{stands-knows}

@@ -1,11 +1,10 @@
-use Rattle.std.proofs.Common.{◌+◌, [], ◌∷◌, refl, sym, subst, ap, arith}
+use Rattle.std.proofs.Common.{◌+◌, [], refl, sym, subst, ap, arith}
 use Rattle.bm_journal.specs.declared.entry.Entry.TheVariants as entry
 use Rattle.bm_cache.specs.Shown.{Took}
 use Rattle.bm_cache.specs.Span.{Goes}
 use Rattle.bm_cache.specs.declared.caches.Caches.{Caches}
 use Rattle.bm_cache.proofs.Moments.{took-at}
 use Rattle.bm_work.proofs.Steps.{stands-noted, works-entry}
-use Rattle.bm_law_order.specs.Act as act
 use Rattle.bm_work.proofs.Owing.{has-stamp}
 use Rattle.bm_work.proofs.polls.note_passed.Goals as goal
 

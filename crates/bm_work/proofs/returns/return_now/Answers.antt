@@ -1,4 +1,4 @@
-use Rattle.std.proofs.Common.{◌≡◌, ◌≤◌, ◌∙◌, [], ◌∷◌, ℕ, List, map, refl, sym, subst, ap, arith}
+use Rattle.std.proofs.Common.{◌≡◌, ◌≤◌, ◌∙◌, [], ℕ, List, map, refl, sym, subst, ap, arith}
 use Rattle.std.specs.List.{All}
 use Rattle.bm_journal.specs.declared.units.Units.TheVariants.{Whole}
 use Rattle.bm_journal.specs.declared.entry.Entry.TheVariants as entry
@@ -13,7 +13,6 @@ use Rattle.bm_cache.proofs.Lent.{return-lent}
 use Rattle.bm_cache.proofs.Moments.{goes-join}
 use Rattle.bm_grace.specs.Known.{Known as KnownValue}
 use Rattle.bm_journal.specs.Recording.{Appends}
-use Rattle.bm_law.proofs.Spans.{Records-one}
 use Rattle.bm_law_work.specs.Parts.{Say}
 use Rattle.bm_law_work.specs.WorkPhrases.{IsOne, IsReturn}
 use Rattle.bm_post.specs.Rights.{Holds, MayLeave, numbers}

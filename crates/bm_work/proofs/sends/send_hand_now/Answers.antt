@@ -1,4 +1,4 @@
-use Rattle.std.proofs.Common.{◌≡◌, ◌≤◌, ◌∙◌, [], ℕ, List, map, refl, sym, subst, ap, arith, ◌∷◌}
+use Rattle.std.proofs.Common.{◌≡◌, ◌≤◌, ◌∙◌, [], ℕ, List, map, refl, sym, subst, ap, arith}
 use Rattle.std.specs.List.{All}
 use Rattle.bm_grace.specs.Known.{Sides}
 use Rattle.bm_journal.specs.Recording.{Appends}

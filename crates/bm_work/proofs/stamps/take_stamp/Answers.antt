@@ -1,11 +1,9 @@
-use Rattle.std.proofs.Common.{◌≡◌, ◌∙◌, sym, ap, subst, arith, [], ◌∷◌, ◌++◌}
+use Rattle.std.proofs.Common.{◌≡◌, ◌∙◌, sym, ap, subst, arith}
 use Rattle.bm_cache.specs.Tests.{Tests, Either, Passes}
 use Rattle.bm_work.specs.DeskTests.{since_test, tests_by}
 use Rattle.bm_work.proofs.Alike.{alike-read}
 use Rattle.bm_work.proofs.Sides.{stands-knows}
 use Rattle.bm_work.proofs.Tests.{since-tests}
-use Rattle.bm_law_order.specs.Act.{Act}
-use Rattle.bm_law_order.specs.Act as act
 use Rattle.bm_work.proofs.Owing.{owes-called}
 use Rattle.bm_work.proofs.stamps.take_stamp.Goals as goal
 

@@ -1,4 +1,4 @@
-use Rattle.std.proofs.Common.{◌≡◌, ◌≤◌, ◌<◌, ◌+◌, arith}
+use Rattle.std.proofs.Common.{arith}
 use Rattle.bm_exec_levels.specs.AtProcessor.{due_cost}
 use Rattle.bm_exec_levels.proofs.Going.{between-down}
 use Rattle.bm_exec_levels.proofs.ranks.FirstRank.interrupt.Goals as goal
