@@ -3,7 +3,7 @@
 //!
 //! - `Lawful` is what a journal says as a whole: its heading, its logs one by one, what they say together, its totals.
 //! - `Laid` is what the one order of its entries says, which the scenario's turns make.
-//! - `worked_lawful`: a journal that is lawful, made by hand, and logs that no such journal has.
+//! - `worked_lawful`, `worked_laid`: a journal that is lawful, and one that is laid, made by hand, and logs that no such journal has.
 //!
 //! The laws themselves are stated in `bm_law_scenario`, `bm_law_lives` and `bm_law_order`, each with worked examples, right ones and wrong
 //! ones. Nothing in this crate runs. That a run's journal is lawful and laid is proved where the run is (`bm_run`).
@@ -11,4 +11,4 @@
 
 mod worked;
 
-pub use worked::worked_lawful;
+pub use worked::{worked_laid, worked_lawful};

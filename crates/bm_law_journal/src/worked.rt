@@ -1,12 +1,14 @@
-//! A worked journal that is lawful, and logs that no lawful journal has.
+//! Worked journals that are lawful and laid, and logs that no such journal has.
 
-ghost use Rattle.std.specs.Prelude.{◌≡◌};
+ghost use Rattle.std.specs.Prelude.{◌≡◌, None};
 ghost use Rattle.bm_journal.specs.declared.journal.Journal.{Journal};
 ghost use Rattle.bm_lang.specs.declared.scenario.Parts.{Parts};
 ghost use Rattle.bm_law_scenario.specs.WorkedDeferred.{one_block as block_made_and_dropped, one_block_journal};
-ghost use Rattle.bm_law_journal.specs.Lawful.{Lawful};
-ghost use Rattle.bm_law_lives.specs.Wrong.{ends_in_section, given_twice, never_ended, never_received, never_returned, other_home, returned_too_early, sealed_though_plain};
+ghost use Rattle.bm_law_journal.specs.Lawful.{Laid, Lawful};
+ghost use Rattle.bm_law_lives.specs.Worked.{both_stages};
+ghost use Rattle.bm_law_lives.specs.Wrong.{ends_in_section, given_twice, never_ended, never_received, never_returned, no_seal, other_home, other_stamp, returned_too_early, sealed_though_plain, sent_too_early, sent_unseen};
 
+use bm_law_laid::{worked_journal, worked_polls, worked_seals};
 use bm_law_lives::{worked_grace, worked_lives, worked_returns, worked_stamps};
 use bm_law_scenario::worked_deferred;
 
@@ -29,4 +31,21 @@ pub fn worked_lawful()
     worked_returns();
     worked_grace();
     worked_stamps();
+}
+
+/// Laid is the journal of one processor in which a unit goes through both stages, is given again with its seal, and is swept at last,
+/// where the scenario names no turns. A journal isn't laid whose logs give a unit without a seal after a delayed free, with another stamp
+/// than its batch's, or with a seal after a plain free, or that send a batch before its stamp was reached or without a pass.
+pub fn worked_laid()
+    ensures both_stages { (s : Parts) (j : Journal) → s.turns ≡ None → j.processors ≡ 1 → j.pages ≡ 1 →
+        j.logs ≡ both_stages → Laid s j }
+    ensures no_seal { (s : Parts) (j : Journal) → s.turns ≡ None → j.logs ≡ no_seal → ¬ Laid s j }
+    ensures other_stamp { (s : Parts) (j : Journal) → s.turns ≡ None → j.logs ≡ other_stamp → ¬ Laid s j }
+    ensures too_early { (s : Parts) (j : Journal) → s.turns ≡ None → j.logs ≡ sent_too_early → ¬ Laid s j }
+    ensures unseen { (s : Parts) (j : Journal) → s.turns ≡ None → j.logs ≡ sent_unseen → ¬ Laid s j }
+    ensures plain { (s : Parts) (j : Journal) → s.turns ≡ None → j.logs ≡ sealed_though_plain → ¬ Laid s j }
+{
+    worked_journal();
+    worked_polls();
+    worked_seals();
 }
