@@ -31,7 +31,7 @@ impl<R: Recorder> Caches<R> {
     }
 
     /// Puts the unit in hand on Extra if nothing was put there since the look, which saw `seen` units. False exactly
-    /// where more stand there by now; then the unit is still in hand.
+    /// where more stand there meanwhile; then the unit is still in hand.
     pub(crate) fn put(&mut self, level: Level, class: Class, seen: u32) -> bool
         requires placed { Placed R.log R.counts self.old }
         requires saw { ((shown self.old).sides level).mark ≡ mark.Saw class seen }
@@ -79,7 +79,7 @@ impl<R: Recorder> Caches<R> {
     }
 
     /// Puts the unit in hand on ExtraDelayed if nothing was put there since the look, which saw `seen` units. False exactly
-    /// where more stand there by now; then the unit is still in hand.
+    /// where more stand there meanwhile; then the unit is still in hand.
     pub(crate) fn put_delayed(&mut self, level: Level, class: Class, seen: u32) -> bool
         requires placed { Placed R.log R.counts self.old }
         requires saw { ((shown self.old).sides level).mark ≡ mark.SawDelayed class seen }

@@ -46,27 +46,27 @@ parcels-numbers items [] = refl
 parcels-numbers items (p ∷ ps) = ap (λ z. numbers (items p) ++ z) (parcels-numbers items ps) ∙ sym (map-append number_of (items p) (flat_map items ps))
 
 module _ {H R : Type 0} (F : H → Face) (D : H → Caches R) (W : H → Caches R → H) (log : R → Option Log) (owes : List Act → List Entry → H → Type 0)
-    (noted : (h : H) (c : Caches R) (done : List Act) (es more : List Entry) → Adds (F h).level more (log (D h).recorder) (log c.recorder) → owes done es h → owes done (es ++ more) (W h c)) where
+    (noted : (h : H) (c : Caches R) (done : List Act) (es more : List Entry) → c.processor ≡ (D h).processor → Adds (F h).level more (log (D h).recorder) (log c.recorder) → owes done es h → owes done (es ++ more) (W h c)) where
   -- the caches were lent, and the recorder is as it was
   pub owes-lent : (h : H) (z : Caches R) → z ≡ D h → (done : List Act) (es : List Entry) → owes done es h → owes done es (W h z)
   owes-lent h z e done es o =
       let A : Caches R → Type 0 = λ c. Adds (F h).level [] (log (D h).recorder) (log c.recorder) in
-      subst (λ (x : List Entry). owes done x (W h z)) (append-nil es) (noted h z done es [] (subst A (sym e) (adds-none (F h).level (log (D h).recorder))) o)
+      subst (λ (x : List Entry). owes done x (W h z)) (append-nil es) (noted h z done es [] (ap (λ (c : Caches R). c.processor) e) (subst A (sym e) (adds-none (F h).level (log (D h).recorder))) o)
 
   -- all units of a class became a batch, and its period has passed
   pub gathered-sound : (sound : H → Type 0) →
       ((h : H) (done more : List Act) (es others : List Entry) → Shows done es → owes (done ++ more) (es ++ others) h → owes more others h) →
       ((h : H) (d : Domain) (x n m c : ℕ) (ws : List ℕ) (p : Period) → p.domain ≡ d → n ≤ x → HasStamp log (F h).processors c d x (D h) → owes (at_once d x n m ws p) (passed_at_once d n m c p) h → sound h) →
-      (h : H) (v z : Caches R) (i : ℕ) (us ns : List ℕ) (parcels : List (List ℕ)) (ws : List ℕ) (w : Waited) → v ≡ D h → (F h).level ≡ 0 → ns ≡ us ++ concat parcels → w.period.domain ≡ Tracing → w.begun ≤ w.stamp → HasStamp log (F (W h z)).processors i Tracing w.stamp (D (W h z)) →
+      (h : H) (v z : Caches R) (i : ℕ) (us ns : List ℕ) (parcels : List (List ℕ)) (ws : List ℕ) (w : Waited) → v ≡ D h → z.processor ≡ v.processor → (F h).level ≡ 0 → ns ≡ us ++ concat parcels → w.period.domain ≡ Tracing → w.begun ≤ w.stamp → HasStamp log (F (W h z)).processors i Tracing w.stamp (D (W h z)) →
       Adds 0 (gathering i ns w) (log v.recorder) (log z.recorder) → owes (receives_all i parcels ++ waiting ws w) [] h → sound (W h z)
-  gathered-sound sound told passed h v z i us ns parcels ws w e l n d b f a o =
+  gathered-sound sound told passed h v z i us ns parcels ws w e p l n d b f a o =
       let k = W h z in
       let A : ℕ → Caches R → List ℕ → Type 0 = λ x c xs. Adds x (gathering i xs w) (log c.recorder) (log z.recorder) in
       let a1 : A (F h).level (D h) (us ++ concat parcels) = subst (λ x. A x (D h) (us ++ concat parcels)) (sym l) (subst (λ c. A 0 c (us ++ concat parcels)) e (subst (A 0 v) n a)) in
       let stamps = act.Stamps Tracing w.stamp ∷ [] in
       let rest = at_once Tracing w.stamp w.begun w.seen ws w.period in
       let after = passed_at_once Tracing w.begun w.seen i w.period in
-      let one = noted h z (receives_all i parcels ++ waiting ws w) [] (gathering i (us ++ concat parcels) w) a1 o in
+      let one = noted h z (receives_all i parcels ++ waiting ws w) [] (gathering i (us ++ concat parcels) w) (p ∙ ap (λ (c : Caches R). c.processor) e) a1 o in
       let two = told k (receives_all i parcels) (waiting ws w) (entry.Sweep i (Whole (us ++ concat parcels)) ∷ []) (entry.Stamp i Tracing w.stamp ∷ after) (shows (chunk.Sweeping i us parcels) refl) one in
       let three = told k stamps rest (entry.Stamp i Tracing w.stamp ∷ []) after (shows (chunk.Stamping i Tracing w.stamp) refl) two in
       passed k Tracing w.stamp w.begun w.seen i ws w.period d b f three

@@ -19,7 +19,7 @@ use bm_work::Desk;
 /// other, and may come after all the acts that they stand for. This project's own.
 pub trait Ended<R: Recorder>: Desk<R> {
     // Entries were recorded.
-    ghost owes_noted: { (h : Self) (c : Caches R) (done : List Act) (es more : List EntryValue) → Adds (Self.Host.face h).level more (R.log (Self.Host.held h).recorder) (R.log c.recorder) → Self.Desk.owes done es h → Self.Desk.owes done (es ++ more) (Self.Host.with_held h c) };
+    ghost owes_noted: { (h : Self) (c : Caches R) (done : List Act) (es more : List EntryValue) → c.processor ≡ (Self.Host.held h).processor → Adds (Self.Host.face h).level more (R.log (Self.Host.held h).recorder) (R.log c.recorder) → Self.Desk.owes done es h → Self.Desk.owes done (es ++ more) (Self.Host.with_held h c) };
 
     // The first entries stand for the first acts.
     ghost owes_told: { (h : Self) (done more : List Act) (es others : List EntryValue) → Shows done es → Self.Desk.owes (done ++ more) (es ++ others) h → Self.Desk.owes more others h };

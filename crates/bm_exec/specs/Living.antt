@@ -1,20 +1,18 @@
 -- The objects that live, by their units.
-use Rattle.std.specs.Prelude.{◌≡◌, ◌⊎◌, ℕ, List, ◌∷◌, Option, Some, None, eqb, if◌then◌else◌}
+use Rattle.std.specs.Prelude.{◌≡◌, ◌⊎◌, ℕ, List, ◌∷◌, Option, Some, None}
 use Rattle.bm_journal.specs.declared.entry.Entry.{Entry}
 use Rattle.bm_journal.specs.declared.entry.Entry.TheVariants as entry
 use Rattle.bm_journal.specs.declared.ids.ObjId.{ObjId}
 use Rattle.bm_lang.specs.declared.scenario.TypeDeclaration.{TypeDeclaration}
 use Rattle.bm_lang.specs.declared.scenario.TypeId.{TypeId}
 pub use Rattle.bm_grace.specs.Known.{Living, Lives}
+pub use Rattle.bm_world.specs.Lives.{with_life}
 use Rattle.bm_law.specs.Lists.{Log}
 use Rattle.bm_law.specs.Phrases.{FreePhrase}
 use Rattle.bm_law.specs.Spans.{Records}
 use Rattle.bm_law_scenario.specs.Held.{Names, Object}
 use Rattle.bm_law_scenario.specs.Opened.{OfClass}
 use Rattle.bm_law_scenario.specs.Calls.{Allocates}
-
-abbrev pub with_life : ℕ → Option Living → Lives → Lives
-with_life u l lives = λ v. if eqb u v then l else lives v
 
 -- Unit u lives life n, and is of class c.
 pub record LivesAs (lives : Lives) (c u n : ℕ) : Type 0 where

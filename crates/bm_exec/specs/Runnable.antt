@@ -1,4 +1,4 @@
--- Which scripts run by now: those of `new`, `drop`, `if` and `repeat`.
+-- Which scripts run so far: those of `new`, `drop`, `if` and `repeat`.
 use Rattle.std.specs.Prelude.{◌≡◌, ℕ, Bool, true, false, ◌&&◌, not, List, [], ◌∷◌, length, nat_le, is_some, slice_get, map, Some}
 use Rattle.std.specs.List.{list_all}
 use Rattle.bm_class.specs.Sizes.{class_of_size}

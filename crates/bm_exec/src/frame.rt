@@ -14,7 +14,7 @@ ghost use Rattle.bm_exec.specs.Runnable.{can_run_stack};
 ghost use Rattle.bm_exec.specs.Steps.{Stepped, Pushed};
 
 use crate::names::NameTable;
-use bm_lang::{Block, Statement};
+use bm_lang::{Block, Script, Statement};
 use bm_word::NoMemory;
 use std::alloc::Global;
 
@@ -32,6 +32,21 @@ pub struct Open<'s> {
 pub struct Frame<'s> {
     pub blocks: Vec<Open<'s>>,
     pub names: NameTable,
+}
+
+impl<'s> Frame<'s> {
+    /// A frame that stands before the first statement of a script, and whose names hold nothing. Out of memory is the only refusal.
+    pub fn start(alloc: Global, script: &'s Script) -> Result<Frame<'s>, NoMemory>
+        ensures names { IfOk result (λ frame. names_of frame.names ≡ no_names) }
+        ensures pushed { IfOk result (λ frame. Pushed [] (reverse frame.blocks.items) (block_list script.now.body) 0 script.now.body) }
+    {
+        let mut blocks = Vec::new(alloc);
+        open_block(&mut blocks, &script.body)?;
+        Ok(Frame {
+            blocks,
+            names: NameTable::new(alloc),
+        })
+    }
 }
 
 // The statements of a block.

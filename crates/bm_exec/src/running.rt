@@ -230,12 +230,8 @@ pub fn run_script<'s, M: Machine>(
     ensures keeps { result ≡ stopped.Ended → M.keeps machine.old machine.new }
 {
     accepted_scripts_are_safe();
-    let mut frame = Frame {
-        blocks: Vec::new(alloc),
-        names: NameTable::new(alloc),
-    };
-    if open_block(&mut frame.blocks, &script.body).is_err() {
+    let Ok(mut frame) = Frame::start(alloc, script) else {
         return Stopped::NoMemory;
-    }
+    };
     resume(&mut frame, machine, types)
 }

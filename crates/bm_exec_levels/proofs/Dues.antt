@@ -22,8 +22,7 @@ use Rattle.bm_exec_levels.specs.declared.processor.Processor.{Processor}
 use Rattle.bm_exec_levels.specs.declared.program.Program.{Program}
 use Rattle.bm_work.specs.Still.{goes-still}
 use Rattle.bm_exec_levels.proofs.Came.{came-none}
-
--- ---- lists
+use Rattle.bm_grace.specs.declared.grace.Knows.{Ghosts as Knows}
 
 -- the innermost of those that run comes first
 pub innermost-first : (dues : List Due) (due : Due) → reverse (dues ++ due ∷ []) ≡ due ∷ reverse dues
@@ -53,8 +52,6 @@ length-without front rest x =
     let c = length-append front rest in
     omega (arith, a, c)
 
--- ---- what was reckoned for it
-
 pub taken-fewer : (due : Due) (a b : List AtLine) → Takes due a b → length b + 1 ≡ length a
 taken-fewer due a b t = (let e = ap (λ (xs : List AtLine). length xs) t.was in let f = ap (λ (xs : List AtLine). length xs) t.now_is in let n = length-without t.front t.rest t.line in omega (arith, e, f, n))
 
@@ -75,8 +72,6 @@ taken-all P due a b t h =
 taken-line : (P : AtLine → Type 0) (due : Due) (a b : List AtLine) (t : Takes due a b) → All P a → P t.line
 taken-line P due a b t h = (let F : List AtLine → Type 0 = λ xs. All P xs in all-here P t.front t.rest t.line (subst F t.was h))
 
--- ---- the processor
-
 pub both : {P Q T : Log → Type 0} (o : Option Log) → ((es : Log) → P es → Q es → T es) → IfSome o P → IfSome o Q → IfSome o T
 both None f p q = tt
 both (Some es) f p q = f es p q
@@ -85,103 +80,109 @@ both (Some es) f p q = f es p q
 within-is : (p : ℕ) (s : Parts) (a b : Plan) (dues : List Due) (due : Due) → within due b (position_of p s a dues) ≡ position_of p s b (dues ++ due ∷ [])
 within-is p s a b dues due = ap (λ (r : List Due). let x : Position = record (position_of p s b dues) { running = r } in x) (sym (innermost-first dues due))
 
-abbrev pub with_handlers : Processor → Handlers → Processor
-with_handlers m h = record m { handlers = h }
+module _ {W : Type 0} (knows : Knows W) where
+  -- ---- lists
 
-ready-taken : (p : Program) (m : Processor) (h : Handlers) (due : Due) → h.scripts ≡ m.handlers.scripts → Takes due (left_of m) h.planned.left → IsReady p m → IsReady p (with_handlers m h)
-ready-taken p m h due e t r =
-    let n = taken-fewer due (left_of m) h.planned.left t in
-    let c = taken-cost p.scenario.now due (left_of m) h.planned.left t in
-    let asks = r.asks in
-    let words = r.words in
-    record {
-      fits = r.fits;
-      one = r.one;
-      first = r.first;
-      scripts = e ∙ r.scripts;
-      planned = taken-all (IsHandlerLine p.scenario.now) due (left_of m) h.planned.left t r.planned;
-      bound = r.bound;
-      tables = r.tables;
-      room_running = r.room_running;
-      room_tables = r.room_tables;
-      asks = omega (arith, c, asks);
-      words = omega (arith, n, words);
-      inside = r.inside;
-    }
+  -- ---- what was reckoned for it
 
--- The handler that a store of planned ones answered begins with the entry that stands next, by what code knows that is here.
-abbrev pub BegunHere : ℕ → ℕ → Plan → Plan → Option Due → Type 0
-BegunHere l step plan later o = (p : Position) (log : Log) (name : List ℕ) → AboutTo p log → p.plan ≡ plan → level_in p.running ≡ l → step ≡ next_number (steps_in log) → IfSome o (λ due. slice_get p.names due.script.0 ≡ Some name → StandsAt (within due later p) (log ++ (due.level, entry.Handler name) ∷ []))
+  -- ---- the processor
 
-module _ (l : ℕ) (p : Program) (m : Processor) (step : ℕ) where
-  some-due : (h : Handlers) (due : Due) → IsAt AboutTo l p m → IfSome (log_of m) (λ es. step ≡ next_number (steps_in es)) → BegunHere l step m.handlers.planned h.planned (Some due) → l < due.level → due.level ≤ 3 → Takes due (left_of m) h.planned.left → h.scripts ≡ m.handlers.scripts → IsDue l p due (with_handlers m h)
-  some-due h due a n f above highest t same =
-      let x : Position = position_of (known_of m).grace.processor p.scenario.now m.handlers.planned m.running.items in
-      let At : Log → List ℕ → Position → Type 0 = λ es name y. StandsAt y (es ++ (due.level, entry.Handler name) ∷ []) in
-      let line : IsHandlerLine p.scenario.now t.line = taken-line (IsHandlerLine p.scenario.now) due (left_of m) h.planned.left t a.ready.planned in
-      let fewer = taken-fewer due (left_of m) h.planned.left t in
-      let cost = taken-cost p.scenario.now due (left_of m) h.planned.left t in
-      let asks = a.ready.asks in
-      let words = a.ready.words in
+  abbrev pub with_handlers : Processor W → Handlers → Processor W
+  with_handlers m h = record m { handlers = h }
+
+  ready-taken : (p : Program) (m : Processor W) (h : Handlers) (due : Due) → h.scripts ≡ m.handlers.scripts → Takes due (left_of m) h.planned.left → IsReady knows p m → IsReady knows p (with_handlers m h)
+  ready-taken p m h due e t r =
+      let n = taken-fewer due (left_of m) h.planned.left t in
+      let c = taken-cost p.scenario.now due (left_of m) h.planned.left t in
+      let asks = r.asks in
+      let words = r.words in
       record {
-        begins = both (log_of m) (λ es u e name i. subst (At es name) (within-is (known_of m).grace.processor p.scenario.now m.handlers.planned h.planned m.running.items due) (f x es name u refl a.at.level e i)) a.at.at n;
-        tells = a.tells;
-        level = a.at.level;
-        deep = a.at.deep;
-        above = omega (arith, above);
-        highest = highest;
-        script = line.script;
-        found = sym (ap (λ (y : Due). slice_get p.scenario.now.scripts y.script.0) t.told) ∙ line.found;
-        handles = line.handles;
-        ready = ready-taken p m h due same t a.ready;
-        asks = omega (arith, cost, asks);
-        words = omega (arith, fewer, words);
+        fits = r.fits;
+        here = r.here;
+        scripts = e ∙ r.scripts;
+        planned = taken-all (IsHandlerLine p.scenario.now) due (left_of m) h.planned.left t r.planned;
+        bound = r.bound;
+        tables = r.tables;
+        room_running = r.room_running;
+        room_tables = r.room_tables;
+        asks = omega (arith, c, asks);
+        words = omega (arith, n, words);
+        inside = r.inside;
       }
 
-  -- one is due, and begins
-  begun-one : (h : Handlers) (due : Due) → IsAt AboutTo l p m → IfSome (log_of m) (λ es. step ≡ next_number (steps_in es)) → BegunHere l step m.handlers.planned h.planned (Some due) → l < due.level → due.level ≤ 3 → Takes due (left_of m) h.planned.left → h.scripts ≡ m.handlers.scripts → IsBegun l p due m (with_handlers m h)
-  begun-one h due a n f above highest t same =
-      let fewer = taken-fewer due (left_of m) h.planned.left t in
-      let cost = taken-cost p.scenario.now due (left_of m) h.planned.left t in
-      record {
-        begins = some-due h due a n f above highest t same;
-        fewer = fewer;
-        asks = omega (arith, cost);
-        words = omega (arith, fewer);
-      }
+  -- The handler that a store of planned ones answered begins with the entry that stands next, by what code knows that is here.
+  abbrev pub BegunHere : ℕ → ℕ → Plan → Plan → Option Due → Type 0
+  BegunHere l step plan later o = (p : Position) (log : Log) (name : List ℕ) → AboutTo p log → p.plan ≡ plan → level_in p.running ≡ l → step ≡ next_number (steps_in log) → IfSome o (λ due. slice_get p.names due.script.0 ≡ Some name → StandsAt (within due later p) (log ++ (due.level, entry.Handler name) ∷ []))
 
-  -- the same of what the store answered
-  pub begun-here : (h : Handlers) (o : Option Due) → IsAt AboutTo l p m → IfSome (log_of m) (λ es. step ≡ next_number (steps_in es)) → BegunHere l step m.handlers.planned h.planned o → IfSome o (λ due. l < due.level) → IfSome o (λ due. due.level ≤ 3) → IfSome o (λ due. Takes due (left_of m) h.planned.left) → h.scripts ≡ m.handlers.scripts → IfSome o (λ due. IsBegun l p due m (with_handlers m h))
-  begun-here h None a n f above highest t same = tt
-  begun-here h (Some due) a n f above highest t same = begun-one h due a n f above highest t same
+  module _ (l : ℕ) (p : Program) (m : Processor W) (step : ℕ) where
+    some-due : (h : Handlers) (due : Due) → IsAt knows AboutTo l p m → IfSome (log_of m) (λ es. step ≡ next_number (steps_in es)) → BegunHere l step m.handlers.planned h.planned (Some due) → l < due.level → due.level ≤ 3 → Takes due (left_of m) h.planned.left → h.scripts ≡ m.handlers.scripts → IsDue knows l p due (with_handlers m h)
+    some-due h due a n f above highest t same =
+        let x : Position = position_of (known_of knows m).grace.processor p.scenario.now m.handlers.planned m.running.items in
+        let At : Log → List ℕ → Position → Type 0 = λ es name y. StandsAt y (es ++ (due.level, entry.Handler name) ∷ []) in
+        let line : IsHandlerLine p.scenario.now t.line = taken-line (IsHandlerLine p.scenario.now) due (left_of m) h.planned.left t a.ready.planned in
+        let fewer = taken-fewer due (left_of m) h.planned.left t in
+        let cost = taken-cost p.scenario.now due (left_of m) h.planned.left t in
+        let asks = a.ready.asks in
+        let words = a.ready.words in
+        record {
+          begins = both (log_of m) (λ es u e name i. subst (At es name) (within-is (known_of knows m).grace.processor p.scenario.now m.handlers.planned h.planned m.running.items due) (f x es name u refl a.at.level e i)) a.at.at n;
+          tells = a.tells;
+          level = a.at.level;
+          deep = a.at.deep;
+          above = omega (arith, above);
+          highest = highest;
+          script = line.script;
+          found = sym (ap (λ (y : Due). slice_get p.scenario.now.scripts y.script.0) t.told) ∙ line.found;
+          handles = line.handles;
+          ready = ready-taken p m h due same t a.ready;
+          asks = omega (arith, cost, asks);
+          words = omega (arith, fewer, words);
+        }
 
--- what it left, where there are no more than were planned
-between-left : (k : ℕ) (p : Program) (m : Processor) (h : Handlers) → FineAt k m → left_cost p.scenario.now h.planned.left ≤ left_cost p.scenario.now (left_of m) → length h.planned.left ≤ length (left_of m) → Between 0 0 k p m (with_handlers m h)
-between-left k p m h f c n = record {
-  fine = record { placed = f.placed; ready = f.ready; proper = f.proper; aimed = f.aimed };
-  came = came-none k m;
-  stays = record {
-    settled = refl;
-    running = refl;
-    tables = refl;
-    inside = refl;
-    asks_most = omega (arith, c);
-    words_most = omega (arith, n);
-    parity = λ d. refl;
-    inner = λ h. refl;
-    processors = refl;
-    processor = refl;
-  };
-  goes = goes-still (known_of m) (known_of m) refl;
-  fewer = n;
-}
+    -- one is due, and begins
+    begun-one : (h : Handlers) (due : Due) → IsAt knows AboutTo l p m → IfSome (log_of m) (λ es. step ≡ next_number (steps_in es)) → BegunHere l step m.handlers.planned h.planned (Some due) → l < due.level → due.level ≤ 3 → Takes due (left_of m) h.planned.left → h.scripts ≡ m.handlers.scripts → IsBegun knows l p due m (with_handlers m h)
+    begun-one h due a n f above highest t same =
+        let fewer = taken-fewer due (left_of m) h.planned.left t in
+        let cost = taken-cost p.scenario.now due (left_of m) h.planned.left t in
+        record {
+          begins = some-due h due a n f above highest t same;
+          fewer = fewer;
+          asks = omega (arith, cost);
+          words = omega (arith, fewer);
+        }
 
-pub between-asked : (k : ℕ) (p : Program) (m : Processor) (h : Handlers) (o : Option Due) → FineAt k m → IfNone o (h ≡ m.handlers) → IfSome o (λ due. Takes due (left_of m) h.planned.left) → Between 0 0 k p m (with_handlers m h)
-between-asked k p m h None f e t =
-    let c = ap (λ (x : Handlers). left_cost p.scenario.now x.planned.left) e in
-    let n = ap (λ (x : Handlers). length x.planned.left) e in
-    between-left k p m h f (omega (arith, c)) (omega (arith, n))
-between-asked k p m h (Some due) f e t =
-    let c = taken-cost p.scenario.now due (left_of m) h.planned.left t in
-    let n = taken-fewer due (left_of m) h.planned.left t in
-    between-left k p m h f (omega (arith, c)) (omega (arith, n))
+    -- the same of what the store answered
+    pub begun-here : (h : Handlers) (o : Option Due) → IsAt knows AboutTo l p m → IfSome (log_of m) (λ es. step ≡ next_number (steps_in es)) → BegunHere l step m.handlers.planned h.planned o → IfSome o (λ due. l < due.level) → IfSome o (λ due. due.level ≤ 3) → IfSome o (λ due. Takes due (left_of m) h.planned.left) → h.scripts ≡ m.handlers.scripts → IfSome o (λ due. IsBegun knows l p due m (with_handlers m h))
+    begun-here h None a n f above highest t same = tt
+    begun-here h (Some due) a n f above highest t same = begun-one h due a n f above highest t same
+
+  -- what it left, where there are no more than were planned
+  between-left : (k : ℕ) (p : Program) (m : Processor W) (h : Handlers) → FineAt knows k m → left_cost p.scenario.now h.planned.left ≤ left_cost p.scenario.now (left_of m) → length h.planned.left ≤ length (left_of m) → Between knows 0 0 k p m (with_handlers m h)
+  between-left k p m h f c n = record {
+    fine = record { placed = f.placed; ready = f.ready; proper = f.proper; aimed = f.aimed };
+    came = came-none knows k m;
+    stays = record {
+      settled = refl;
+      running = refl;
+      tables = refl;
+      inside = refl;
+      asks_most = omega (arith, c);
+      words_most = omega (arith, n);
+      parity = λ d. refl;
+      inner = λ h. refl;
+      processors = refl;
+      processor = refl;
+    };
+    goes = goes-still (known_of knows m) (known_of knows m) refl;
+    fewer = n;
+  }
+
+  pub between-asked : (k : ℕ) (p : Program) (m : Processor W) (h : Handlers) (o : Option Due) → FineAt knows k m → IfNone o (h ≡ m.handlers) → IfSome o (λ due. Takes due (left_of m) h.planned.left) → Between knows 0 0 k p m (with_handlers m h)
+  between-asked k p m h None f e t =
+      let c = ap (λ (x : Handlers). left_cost p.scenario.now x.planned.left) e in
+      let n = ap (λ (x : Handlers). length x.planned.left) e in
+      between-left k p m h f (omega (arith, c)) (omega (arith, n))
+  between-asked k p m h (Some due) f e t =
+      let c = taken-cost p.scenario.now due (left_of m) h.planned.left t in
+      let n = taken-fewer due (left_of m) h.planned.left t in
+      between-left k p m h f (omega (arith, c)) (omega (arith, n))

@@ -19,6 +19,7 @@ use Rattle.bm_exec_levels.specs.Ready.{known_of, left_of}
 use Rattle.bm_exec_levels.specs.Sound.{Sound}
 use Rattle.bm_exec_levels.specs.declared.processor.Processor.{Processor}
 use Rattle.bm_exec_levels.specs.declared.program.Program.{Program}
+use Rattle.bm_grace.specs.declared.grace.Knows.{Ghosts as Knows}
 
 pub on-ok : {X E : Type 0} (r : Result X E) (A B : Type 0) → OnOk r A → (A → B) → OnOk r B
 on-ok (Ok x) A B a f = f a
@@ -28,45 +29,6 @@ pub both-ok : {X E : Type 0} (r : Result X E) (A B : Type 0) → OnOk r A → On
 both-ok (Ok x) A B a b = (a, b)
 both-ok (Err e) A B a b = tt
 
--- a call of ordinary code for an object, or to end one, with the handlers between its steps
-pub statements-still : (asks : ℕ) (p : Program) (a b : Processor) → Between asks 0 0 p a b → Statements a b
-statements-still asks p a b x = record {
-  ordinary = record { processors = x.goes.processors; processor = x.goes.processor };
-  fewer = x.fewer;
-  running = x.stays.running;
-  inside = x.stays.inside;
-  parity = x.stays.parity;
-  inner = x.stays.inner;
-  words = (let w = x.stays.words_most in omega (arith, w));
-}
-
--- and ordinary code runs on it again
-pub sound-still : (asks : ℕ) (p : Program) (a b : Processor) → Between asks 0 0 p a b → IsAt StandsAt 0 p b → Sound p a → Sound p b
-sound-still asks p a b x at s = record {
-  at = at;
-  fine = x.fine;
-  dated = dated-kept 0 (tests_of a) (tests_of b) (shown a.caches) (shown b.caches) (λ k. (x.came.kept.rows k).deferred) x.came.lasting s.dated;
-  stamped = λ k. let D : Deferred Token → Type 0 = λ d. is_unstamped d.plain ≡ false in subst D (sym (x.came.kept.rows k).deferred) (s.stamped k);
-  begins = λ d.
-      let h = s.begins d in
-      let same = x.goes.begins d in
-      let fewer = x.fewer in
-      let settled = x.stays.settled in
-      omega (arith, h, same, fewer, settled);
-}
-
--- works were done, of a processor that was asked for them once more
-pub statements-worked : (p : Program) (a b : Processor) → Stays 0 0 p (record a { settled = a.settled + 1 }) b → length (left_of b) ≤ length (left_of a) → Ordinary a b → Statements a b
-statements-worked p a b s fewer o = record {
-  ordinary = o;
-  fewer = fewer;
-  running = s.running;
-  inside = s.inside;
-  parity = s.parity;
-  inner = s.inner;
-  words = (let w = s.words_most in omega (arith, w));
-}
-
 begins-of : (n : ℕ) (a b : Known) → a.grace.plain.begins ≤ b.grace.plain.begins + n → a.grace.tracing.begins ≤ b.grace.tracing.begins + n → (d : Domain) → (side d a).begins ≤ (side d b).begins + n
 begins-of n a b p t Plain = p
 begins-of n a b p t Tracing = t
@@ -75,16 +37,56 @@ begins-of n a b p t Tracing = t
 pub begun-few : (classes n : ℕ) → classes ≤ 11 → (classes + 1) * n ≤ 12 * n
 begun-few classes n few = mul-le (classes + 1) n 12 n (omega (arith, few)) (omega arith)
 
--- and ordinary code runs on it again
-pub sound-worked : (p : Program) (a b : Processor) (n : ℕ) → n + 12 * length (left_of b) ≤ 23 + 12 * length (left_of a) → b.settled ≡ a.settled + 1 → IsAt StandsAt 0 p b → FineAt 1 b → Ready 0 (shown b.caches) → Dated (tests_of b) (shown b.caches) → ((c : ℕ) → is_unstamped ((shown b.caches).rows c).deferred.plain ≡ false) →
-    (known_of a).grace.plain.begins ≤ (known_of b).grace.plain.begins + n → (known_of a).grace.tracing.begins ≤ (known_of b).grace.tracing.begins + n → Sound p a → Sound p b
-sound-worked p a b n few counted at fine quiet dated stamped plain tracing s = record {
-  at = at;
-  fine = record { placed = fine.placed; ready = quiet; proper = fine.proper; aimed = fine.aimed };
-  dated = dated;
-  stamped = stamped;
-  begins = λ d.
-      let h = s.begins d in
-      let began = begins-of n (known_of a) (known_of b) plain tracing d in
-      omega (arith, h, began, few, counted);
-}
+module _ {W : Type 0} (knows : Knows W) where
+  -- a call of ordinary code for an object, or to end one, with the handlers between its steps
+  pub statements-still : (asks : ℕ) (p : Program) (a b : Processor W) → Between knows asks 0 0 p a b → Statements knows a b
+  statements-still asks p a b x = record {
+    ordinary = record { processors = x.goes.processors; processor = x.goes.processor };
+    fewer = x.fewer;
+    running = x.stays.running;
+    inside = x.stays.inside;
+    parity = x.stays.parity;
+    inner = x.stays.inner;
+    words = (let w = x.stays.words_most in omega (arith, w));
+  }
+
+  -- and ordinary code runs on it again
+  pub sound-still : (asks : ℕ) (p : Program) (a b : Processor W) → Between knows asks 0 0 p a b → IsAt knows StandsAt 0 p b → Sound knows p a → Sound knows p b
+  sound-still asks p a b x at s = record {
+    at = at;
+    fine = x.fine;
+    dated = dated-kept 0 (tests_of knows a) (tests_of knows b) (shown a.caches) (shown b.caches) (λ k. (x.came.kept.rows k).deferred) x.came.lasting s.dated;
+    stamped = λ k. let D : Deferred Token → Type 0 = λ d. is_unstamped d.plain ≡ false in subst D (sym (x.came.kept.rows k).deferred) (s.stamped k);
+    begins = λ d.
+        let h = s.begins d in
+        let same = x.goes.begins d in
+        let fewer = x.fewer in
+        let settled = x.stays.settled in
+        omega (arith, h, same, fewer, settled);
+  }
+
+  -- works were done, of a processor that was asked for them once more
+  pub statements-worked : (p : Program) (a b : Processor W) → Stays knows 0 0 p (record a { settled = a.settled + 1 }) b → length (left_of b) ≤ length (left_of a) → Ordinary knows a b → Statements knows a b
+  statements-worked p a b s fewer o = record {
+    ordinary = o;
+    fewer = fewer;
+    running = s.running;
+    inside = s.inside;
+    parity = s.parity;
+    inner = s.inner;
+    words = (let w = s.words_most in omega (arith, w));
+  }
+
+  -- and ordinary code runs on it again
+  pub sound-worked : (p : Program) (a b : Processor W) (n : ℕ) → n + 12 * length (left_of b) ≤ 23 + 12 * length (left_of a) → b.settled ≡ a.settled + 1 → IsAt knows StandsAt 0 p b → FineAt knows 1 b → Ready 0 (shown b.caches) → Dated (tests_of knows b) (shown b.caches) → ((c : ℕ) → is_unstamped ((shown b.caches).rows c).deferred.plain ≡ false) →
+      (known_of knows a).grace.plain.begins ≤ (known_of knows b).grace.plain.begins + n → (known_of knows a).grace.tracing.begins ≤ (known_of knows b).grace.tracing.begins + n → Sound knows p a → Sound knows p b
+  sound-worked p a b n few counted at fine quiet dated stamped plain tracing s = record {
+    at = at;
+    fine = record { placed = fine.placed; ready = quiet; proper = fine.proper; aimed = fine.aimed };
+    dated = dated;
+    stamped = stamped;
+    begins = λ d.
+        let h = s.begins d in
+        let began = begins-of n (known_of knows a) (known_of knows b) plain tracing d in
+        omega (arith, h, began, few, counted);
+  }

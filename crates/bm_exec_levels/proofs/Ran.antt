@@ -26,12 +26,11 @@ use Rattle.bm_exec_levels.specs.declared.processor.Processor.{Processor}
 use Rattle.bm_exec_levels.specs.declared.program.Program.{Program}
 use Rattle.bm_exec_levels.proofs.Came.{came-join}
 use Rattle.bm_exec_levels.proofs.Turn.{turned}
+use Rattle.bm_grace.specs.declared.grace.Knows.{Ghosts as Knows}
 
 -- what it may ask for
 pub cost-is : (p : Program) (due : Due) (x : Script) → slice_get p.scenario.now.scripts due.script.0 ≡ Some x → due_cost p due ≡ 2 * script_cost (Some x)
 cost-is p due x f = ap (λ (o : Option Script). 2 * script_cost o) f
-
--- ---- its phrase
 
 pub has-phrase : (j l : ℕ) (s : Parts) (name : List ℕ) (k : Known) (w : ℕ) (lists : State ℕ) (before mid now : Option Log) → l ≡ j → w ≡ (side Plain k).word → IfSome before (Tells s k) → Appends before l (entry.Handler name) mid → GrewBy (Say j (HandlerPhrase s name w)) lists mid now → IfSome now (HasPhrase l s name)
 has-phrase j l s name k w lists before mid None q e t a g = tt
@@ -50,44 +49,47 @@ has-phrase j l s name k w lists before mid (Some es) q e t a g =
       phrase = subst (λ n. P n (own_entries l g.added)) word (subst (P w) (sym own) g.is_part.1);
     }
 
--- ---- from its begin to its end
+module _ {W : Type 0} (knows : Knows W) where
+  -- ---- its phrase
 
-module _ (i l : ℕ) (p : Program) (due : Due) (m b c d : Processor) (e : b ≡ turned m b) (f : d ≡ turned c d) (x : Between i 2 l p b c) where
-  stays-ran : d.running.items ≡ m.running.items → length b.tables.items + 1 ≡ length m.tables.items → length d.tables.items ≡ length c.tables.items + 1 → Stays i 2 p m d
-  stays-ran r n o =
-      let tables = x.stays.tables in
-      let asks = x.stays.asks_most in
-      let asks-b = ap (λ (y : Processor). asked_of p.scenario.now y) e in
-      let asks-d = ap (λ (y : Processor). asked_of p.scenario.now y) f in
-      let words = x.stays.words_most in
-      let words-b = ap (λ (y : Processor). word_of Plain y + 2 * length (left_of y)) e in
-      let words-d = ap (λ (y : Processor). word_of Plain y + 2 * length (left_of y)) f in
-      record {
-        settled = ap (λ (y : Processor). y.settled) f ∙ x.stays.settled ∙ ap (λ (y : Processor). y.settled) e;
-        running = r;
-        tables = omega (arith, tables, n, o);
-        inside = ap (λ (y : Processor). y.inside) f ∙ x.stays.inside ∙ ap (λ (y : Processor). y.inside) e;
-        asks_most = omega (arith, asks, asks-b, asks-d);
-        words_most = omega (arith, words, words-b, words-d);
-        parity = λ w. ap (λ (y : Processor). word_of w y % 2) f ∙ x.stays.parity w ∙ ap (λ (y : Processor). word_of w y % 2) e;
-        inner = λ h. (let word-b = ap (λ (y : Processor). word_of Plain y) e in ap (λ (y : Processor). word_of Plain y) f ∙ x.stays.inner (ap (λ n. n % 2) word-b ∙ h) ∙ word-b);
-        processors = ap (λ (y : Processor). (known_of y).grace.processors) f ∙ x.stays.processors ∙ ap (λ (y : Processor). (known_of y).grace.processors) e;
-        processor = ap (λ (y : Processor). (known_of y).grace.processor) f ∙ x.stays.processor ∙ ap (λ (y : Processor). (known_of y).grace.processor) e;
-      }
+  -- ---- from its begin to its end
 
-  pub ran : CameAt l m b → CameAt l c d → FineAt l d → d.running.items ≡ m.running.items → length b.tables.items + 1 ≡ length m.tables.items → length d.tables.items ≡ length c.tables.items + 1 → Between i 2 l p m d
-  ran t u v r n o =
-      let fewer = x.fewer in
-      let left-b = ap (λ (y : Processor). length (left_of y)) e in
-      let left-d = ap (λ (y : Processor). length (left_of y)) f in
-      record {
-        fine = v;
-        came = came-join l m b d t (came-join l b c d x.came u);
-        stays = stays-ran r n o;
-        goes = goes-joined (known_of m) (known_of b) (known_of d) (goes-still (known_of m) (known_of b) (ap known_of e)) (goes-joined (known_of b) (known_of c) (known_of d) x.goes (goes-still (known_of c) (known_of d) (ap known_of f)));
-        fewer = omega (arith, fewer, left-b, left-d);
-      }
+  module _ (i l : ℕ) (p : Program) (due : Due) (m b c d : Processor W) (e : b ≡ turned knows m b) (f : d ≡ turned knows c d) (x : Between knows i 2 l p b c) where
+    stays-ran : d.running.items ≡ m.running.items → length b.tables.items + 1 ≡ length m.tables.items → length d.tables.items ≡ length c.tables.items + 1 → Stays knows i 2 p m d
+    stays-ran r n o =
+        let tables = x.stays.tables in
+        let asks = x.stays.asks_most in
+        let asks-b = ap (λ (y : Processor W). asked_of knows p.scenario.now y) e in
+        let asks-d = ap (λ (y : Processor W). asked_of knows p.scenario.now y) f in
+        let words = x.stays.words_most in
+        let words-b = ap (λ (y : Processor W). word_of knows Plain y + 2 * length (left_of y)) e in
+        let words-d = ap (λ (y : Processor W). word_of knows Plain y + 2 * length (left_of y)) f in
+        record {
+          settled = ap (λ (y : Processor W). y.settled) f ∙ x.stays.settled ∙ ap (λ (y : Processor W). y.settled) e;
+          running = r;
+          tables = omega (arith, tables, n, o);
+          inside = ap (λ (y : Processor W). y.inside) f ∙ x.stays.inside ∙ ap (λ (y : Processor W). y.inside) e;
+          asks_most = omega (arith, asks, asks-b, asks-d);
+          words_most = omega (arith, words, words-b, words-d);
+          parity = λ w. ap (λ (y : Processor W). word_of knows w y % 2) f ∙ x.stays.parity w ∙ ap (λ (y : Processor W). word_of knows w y % 2) e;
+          inner = λ h. (let word-b = ap (λ (y : Processor W). word_of knows Plain y) e in ap (λ (y : Processor W). word_of knows Plain y) f ∙ x.stays.inner (ap (λ n. n % 2) word-b ∙ h) ∙ word-b);
+          processors = ap (λ (y : Processor W). (known_of knows y).grace.processors) f ∙ x.stays.processors ∙ ap (λ (y : Processor W). (known_of knows y).grace.processors) e;
+          processor = ap (λ (y : Processor W). (known_of knows y).grace.processor) f ∙ x.stays.processor ∙ ap (λ (y : Processor W). (known_of knows y).grace.processor) e;
+        }
 
--- by other names of what it may ask for and of its level
-pub between-as : (i k j l : ℕ) (p : Program) (b c : Processor) → k ≡ i → l ≡ j → Between i 2 j p b c → Between k 2 l p b c
-between-as i k j l p b c e f x = (let F : ℕ → ℕ → Type 0 = λ y z. Between y 2 z p b c in subst (λ z. F k z) (sym f) (subst (λ y. F y j) (sym e) x))
+    pub ran : CameAt knows l m b → CameAt knows l c d → FineAt knows l d → d.running.items ≡ m.running.items → length b.tables.items + 1 ≡ length m.tables.items → length d.tables.items ≡ length c.tables.items + 1 → Between knows i 2 l p m d
+    ran t u v r n o =
+        let fewer = x.fewer in
+        let left-b = ap (λ (y : Processor W). length (left_of y)) e in
+        let left-d = ap (λ (y : Processor W). length (left_of y)) f in
+        record {
+          fine = v;
+          came = came-join knows l m b d t (came-join knows l b c d x.came u);
+          stays = stays-ran r n o;
+          goes = goes-joined (known_of knows m) (known_of knows b) (known_of knows d) (goes-still (known_of knows m) (known_of knows b) (ap (known_of knows) e)) (goes-joined (known_of knows b) (known_of knows c) (known_of knows d) x.goes (goes-still (known_of knows c) (known_of knows d) (ap (known_of knows) f)));
+          fewer = omega (arith, fewer, left-b, left-d);
+        }
+
+  -- by other names of what it may ask for and of its level
+  pub between-as : (i k j l : ℕ) (p : Program) (b c : Processor W) → k ≡ i → l ≡ j → Between knows i 2 j p b c → Between knows k 2 l p b c
+  between-as i k j l p b c e f x = (let F : ℕ → ℕ → Type 0 = λ y z. Between knows y 2 z p b c in subst (λ z. F k z) (sym f) (subst (λ y. F y j) (sym e) x))

@@ -1,6 +1,6 @@
 -- What stands behind the passes and the begins of a tied log: why each poll had nothing to do, and for what each period began.
 use Rattle.std.specs.Prelude.{◌≡◌, ◌≤◌, ◌+◌, ℕ, false, List, [], ◌∷◌, ◌++◌, Some}
-use Rattle.std.proofs.Common.{◌∙◌, ap, sym}
+use Rattle.std.proofs.Common.{◌∙◌, ap, refl, sym}
 use Rattle.bm_journal.specs.declared.ids.Domain.{Domain}
 use Rattle.bm_journal.specs.declared.period.Period.{Period}
 use Rattle.bm_journal.specs.declared.entry.Entry.{Entry}
@@ -16,67 +16,84 @@ use Rattle.bm_law_order.specs.Chunk as chunk
 use Rattle.bm_law_order.specs.Tie.{Tied, whatever}
 use Rattle.bm_grace.specs.Known.{side}
 use Rattle.bm_work.specs.Rested.{Fails, IsIdle}
-use Rattle.bm_world.specs.LivingState.{LivingState, known_living}
-use Rattle.bm_world.specs.ToldLiving.{LivingDoes}
+use Rattle.bm_grace.specs.declared.grace.Knows.{Ghosts as Knows}
 
--- By the lists that the log of the one processor that there is leaves, the batch of this class, or of some class, waits for this
--- stamp.
-abbrev pub WaitsIn : ℕ → Domain → ℕ → Log → Type 0
-WaitsIn i d x log = stamp_of d ((after (opening 0) log).rows i).deferred ≡ Some x
+-- By the lists that the log of processor p leaves, the batch of this class, or of some class, waits for this stamp.
+abbrev pub WaitsIn : ℕ → ℕ → Domain → ℕ → Log → Type 0
+WaitsIn p i d x log = stamp_of d ((after (opening p) log).rows i).deferred ≡ Some x
 
-abbrev pub SomeWaits : Domain → ℕ → Log → Type 0
-SomeWaits d x log = (i : ℕ) × WaitsIn i d x log
+abbrev pub SomeWaits : ℕ → Domain → ℕ → Log → Type 0
+SomeWaits p d x log = (i : ℕ) × WaitsIn p i d x log
 
--- Behind this log: a look in vain, also at a period that began just now, for a batch that waits for the stamp, below it; a number that
--- needs no begin; a begin that was too late for the number that was read; or such a period that ended at once.
-pub data Idles (d : Domain) (x : ℕ) (log : Log) (w : LivingState) : List Act → List Entry → Type 0 where
-  Looked : Fails (side d (known_living w)).first (side d (known_living w)).later → Idles d x log w (act.Looks d (side d (known_living w)).later ∷ []) []
-  Begun : (n : ℕ) → n ≤ x → SomeWaits d x log → Fails (side d (known_living w)).first (side d (known_living w)).later → Idles d x log w (act.Begins d n ∷ act.Looks d (side d (known_living w)).later ∷ []) (entry.Begin d n ∷ [])
-  Read : (n : ℕ) → IsIdle x n → (side d (known_living w)).number ≡ 0 → Idles d x log w (act.Reads d x n ∷ []) []
-  Missed : (even n : ℕ) → Idles d x log w (act.Reads d x even ∷ act.Misses d even n ∷ []) []
-  Ended : (n : ℕ) (ws : List ℕ) (p : Period) → p.domain ≡ d → n ≤ x → SomeWaits d x log → Idles d x log w (act.Begins d n ∷ act.Looks d ws ∷ act.Finishes p ∷ []) (entry.Begin d n ∷ entry.Finish p ∷ [])
-
--- A log that is tied since then to such a world, and by what was done last a poll for this stamp has nothing to do.
-pub record Idle (since : Log) (start : LivingState) (l : ℕ) (d : Domain) (x : ℕ) (log : Log) (w : LivingState) : Type 0 where
-  pub done : List Act
-  pub es : List Entry
-  pub idle : Idles d x log w done es
-  pub tied : Tied whatever LivingDoes since start l done es log w
-
--- A poll for the batch of a class was idle, and handlers of higher levels may have run since.
-pub record WasIdle (since : Log) (start : LivingState) (l c : ℕ) (d : Domain) (x : ℕ) (log : Log) : Type 0 where
-  pub waits : WaitsIn c d x log
-  pub before : Log
-  pub at : LivingState
-  pub idle : Idle since start l d x before at
-  pub added : Log
-  pub from : AllFrom (l + 1) added
-  pub log_is : log ≡ before ++ added
-
--- A period that begins with this number is due: a batch waits for a stamp that isn't below it.
-pub record IsDue (d : Domain) (n : ℕ) (log : Log) : Type 0 where
+-- A period that processor p begins with this number is due: a batch waits for a stamp that isn't below it.
+pub record IsDue (p : ℕ) (d : Domain) (n : ℕ) (log : Log) : Type 0 where
   pub stamp : ℕ
-  pub awaited : SomeWaits d stamp log
+  pub awaited : SomeWaits p d stamp log
   pub below : n ≤ stamp
 
--- A chunk of level l is judged so by the log before it, since a time: a pass stands behind a poll that was idle, and a period that
--- begins was due.
-abbrev pub polled : (since : Log) (start : LivingState) → ℕ → Log → Chunk → Type 0
-polled since start l log (chunk.Passing c d x n) = WasIdle since start l c d x log
-polled since start l log (chunk.Beginning d n ws) = IsDue d n log
-polled since start l log (chunk.WholePeriod n ws p) = IsDue p.domain n log
-polled since start l log _ = Unit {0}
-
--- what needs no judge has none
-pub unpolled : (since : Log) (start : LivingState) (l : ℕ) (log : Log) (c : Chunk) → is_judged c ≡ false → polled since start l log c
-unpolled since start l log (chunk.Passing c d x n) e = absurd (cc)
-unpolled since start l log (chunk.Beginning d n ws) e = absurd (cc)
-unpolled since start l log (chunk.WholePeriod n ws p) e = absurd (cc)
-unpolled since start l log _ e = tt
-
 -- a period's begin and end leave the batches as they are
-pub waits-begun : (l i : ℕ) (d : Domain) (x n : ℕ) (log : Log) → WaitsIn i d x (log ++ (l, entry.Begin d n) ∷ []) → WaitsIn i d x log
-waits-begun l i d x n log w = ap (λ (s : State ℕ). stamp_of d (s.rows i).deferred) (sym (after-append (opening 0) log ((l, entry.Begin d n) ∷ []))) ∙ w
+pub waits-begun : (q l i : ℕ) (d : Domain) (x n : ℕ) (log : Log) → WaitsIn q i d x (log ++ (l, entry.Begin d n) ∷ []) → WaitsIn q i d x log
+waits-begun q l i d x n log w = ap (λ (s : State ℕ). stamp_of d (s.rows i).deferred) (sym (after-append (opening q) log ((l, entry.Begin d n) ∷ []))) ∙ w
 
-pub waits-whole : (l i : ℕ) (d : Domain) (x n : ℕ) (p : Period) (log : Log) → WaitsIn i d x (log ++ (l, entry.Begin d n) ∷ (l, entry.Finish p) ∷ []) → WaitsIn i d x log
-waits-whole l i d x n p log w = ap (λ (s : State ℕ). stamp_of d (s.rows i).deferred) (sym (after-append (opening 0) log ((l, entry.Begin d n) ∷ (l, entry.Finish p) ∷ []))) ∙ w
+pub waits-whole : (q l i : ℕ) (d : Domain) (x n : ℕ) (p : Period) (log : Log) → WaitsIn q i d x (log ++ (l, entry.Begin d n) ∷ (l, entry.Finish p) ∷ []) → WaitsIn q i d x log
+waits-whole q l i d x n p log w = ap (λ (s : State ℕ). stamp_of d (s.rows i).deferred) (sym (after-append (opening q) log ((l, entry.Begin d n) ∷ (l, entry.Finish p) ∷ []))) ∙ w
+
+module _ {W : Type 0} (knows : Knows W) where
+  -- which processor's side it is
+  abbrev pub home : W → ℕ
+  home w = (knows.known w).grace.processor
+
+  -- one side came to be another by these acts, and is the same processor's
+  abbrev pub DoesHere : List Act → W → W → Type 0
+  DoesHere acts a b = knows.does acts a b × (home b ≡ home a)
+
+  pub here-same : (a : W) → DoesHere [] a a
+  here-same a = (knows.does_same a, refl)
+
+  pub here-join : (es fs : List Act) (a b c : W) → DoesHere es a b → DoesHere fs b c → DoesHere (es ++ fs) a c
+  here-join es fs a b c x y = (knows.does_join es fs a b c x.0 y.0, y.1 ∙ x.1)
+
+  -- a tie without the processor
+  pub tied-bare : (judge : ℕ → Log → Chunk → Type 0) (since : Log) (start : W) (l : ℕ) (done : List Act) (es : List Entry) (log : Log) (w : W) → Tied judge DoesHere since start l done es log w → Tied judge knows.does since start l done es log w
+  tied-bare judge since start l done es log w t = record { story = t.story; judged = t.judged; log_is = t.log_is; done_is = t.done_is.0 }
+
+  -- Behind this log: a look in vain, also at a period that began just now, for a batch that waits for the stamp, below it; a number that
+  -- needs no begin; a begin that was too late for the number that was read; or such a period that ended at once.
+  pub data Idles (d : Domain) (x : ℕ) (log : Log) (w : W) : List Act → List Entry → Type 0 where
+    Looked : Fails (side d (knows.known w)).first (side d (knows.known w)).later → Idles d x log w (act.Looks d (side d (knows.known w)).later ∷ []) []
+    Begun : (n : ℕ) → n ≤ x → SomeWaits (home w) d x log → Fails (side d (knows.known w)).first (side d (knows.known w)).later → Idles d x log w (act.Begins d n ∷ act.Looks d (side d (knows.known w)).later ∷ []) (entry.Begin d n ∷ [])
+    Read : (n : ℕ) → IsIdle x n → (side d (knows.known w)).number ≡ 0 → Idles d x log w (act.Reads d x n ∷ []) []
+    Missed : (even n : ℕ) → Idles d x log w (act.Reads d x even ∷ act.Misses d even n ∷ []) []
+    Ended : (n : ℕ) (ws : List ℕ) (p : Period) → p.domain ≡ d → n ≤ x → SomeWaits (home w) d x log → Idles d x log w (act.Begins d n ∷ act.Looks d ws ∷ act.Finishes p ∷ []) (entry.Begin d n ∷ entry.Finish p ∷ [])
+
+  -- A log that is tied since then to such a world, and by what was done last a poll for this stamp has nothing to do.
+  pub record Idle (since : Log) (start : W) (l : ℕ) (d : Domain) (x : ℕ) (log : Log) (w : W) : Type 0 where
+    pub done : List Act
+    pub es : List Entry
+    pub idle : Idles d x log w done es
+    pub tied : Tied whatever DoesHere since start l done es log w
+
+  -- A poll for the batch of a class was idle, and handlers of higher levels may have run since.
+  pub record WasIdle (since : Log) (start : W) (l c : ℕ) (d : Domain) (x : ℕ) (log : Log) : Type 0 where
+    pub waits : WaitsIn (home start) c d x log
+    pub before : Log
+    pub at : W
+    pub idle : Idle since start l d x before at
+    pub added : Log
+    pub from : AllFrom (l + 1) added
+    pub log_is : log ≡ before ++ added
+
+  -- A chunk of level l is judged so by the log before it, since a time: a pass stands behind a poll that was idle, and a period that
+  -- begins was due.
+  abbrev pub polled : (since : Log) (start : W) → ℕ → Log → Chunk → Type 0
+  polled since start l log (chunk.Passing c d x n) = WasIdle since start l c d x log
+  polled since start l log (chunk.Beginning d n ws) = IsDue (home start) d n log
+  polled since start l log (chunk.WholePeriod n ws p) = IsDue (home start) p.domain n log
+  polled since start l log _ = Unit {0}
+
+  -- what needs no judge has none
+  pub unpolled : (since : Log) (start : W) (l : ℕ) (log : Log) (c : Chunk) → is_judged c ≡ false → polled since start l log c
+  unpolled since start l log (chunk.Passing c d x n) e = absurd (cc)
+  unpolled since start l log (chunk.Beginning d n ws) e = absurd (cc)
+  unpolled since start l log (chunk.WholePeriod n ws p) e = absurd (cc)
+  unpolled since start l log _ e = tt

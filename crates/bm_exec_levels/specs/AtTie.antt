@@ -1,5 +1,5 @@
 -- The log of a processor and its side, tied since a time.
-use Rattle.std.specs.Prelude.{◌≡◌, ◌⊎◌, ℕ, nat_eq, true, false, List, [], ◌∷◌, Option, Some, None, IsSome, ◌++◌}
+use Rattle.std.specs.Prelude.{◌&&◌, is_none, ◌≡◌, ◌⊎◌, ℕ, nat_eq, true, false, List, [], ◌∷◌, Option, Some, None, IsSome, ◌++◌}
 use Rattle.std.proofs.Common.{◌∙◌, ap, append_assoc, eq-eqb, inl, inr, refl, subst, sym}
 use Rattle.std.proofs.lemmas.Bool.{and_parts, eqb-true, false≢true}
 use Rattle.bm_journal.specs.declared.entry.Entry.{Entry}
@@ -11,8 +11,6 @@ use Rattle.bm_law.specs.Phrases.{given}
 use Rattle.bm_page.specs.declared.units.Seal.{Seal}
 use Rattle.bm_law_order.specs.Act.{Act}
 use Rattle.bm_law_order.specs.Act as act
-use Rattle.bm_grace.specs.PlainState.{idle}
-use Rattle.bm_post.specs.PostState.{no_parcels}
 use Rattle.bm_cache.specs.Steps.{is_free}
 use Rattle.bm_cache.specs.Tests.{SuitsFree, Waits}
 use Rattle.bm_cache.specs.Tokens.{Token}
@@ -24,112 +22,16 @@ use Rattle.bm_law_order.specs.Tie.{Tied, TiedBy}
 use Rattle.bm_law.specs.Spans.{Records, own_entries}
 use Rattle.bm_law.proofs.Spans.{own-append}
 use Rattle.bm_law_order.proofs.Ties.{law-closed, law-done, law-quiet, law-said, law-stepped, tie-judged, tie-level}
-use Rattle.bm_world.specs.LivingState.{LivingState, rights_living}
-use Rattle.bm_world.specs.ToldLiving.{LivingDoes, living-join, living-same}
-use Rattle.bm_exec_levels.specs.AtPolls.{polled, unpolled}
+use Rattle.bm_exec_levels.specs.AtPolls.{DoesHere, here-join, here-same, polled, unpolled}
 use Rattle.bm_exec_levels.specs.AtProcessor.{log_of, tests_of}
 use Rattle.bm_exec_levels.specs.Hosting.{with_caches, with_side}
 use Rattle.bm_exec_levels.specs.declared.processor.Processor.{Processor}
-
--- tied since then, with these acts and entries of level l that aren't told of yet
-abbrev pub OwesAt : Log → LivingState → ℕ → List Act → List Entry → Processor → Type 0
-OwesAt since start l done es m = TiedBy (polled since start) LivingDoes since start l done es (log_of m) m.side
-
--- the same, where nothing is owed: the level is no matter then
-abbrev pub TiedAt : Log → LivingState → Processor → Type 0
-TiedAt since start m = OwesAt since start 0 [] [] m
-
--- a unit was given, and its life hasn't begun
-abbrev pub GaveAt : Log → LivingState → (l u life : ℕ) → Processor → Type 0
-GaveAt since start l u life m = (seal : Option (ℕ × ℕ)) × OwesAt since start l [] (given u life seal ∷ []) m
-
--- a life ended by its drop, and its unit's free, which is a plain one, hasn't begun
-abbrev pub FreesAt : Log → LivingState → (l u home : ℕ) → Processor → Type 0
-FreesAt since start l u home m = (life : ℕ) × OwesAt since start l (act.Ends u life home false ∷ []) (entry.Drop u life ∷ entry.Last ∷ []) m
-
--- a side of which nobody did anything
-abbrev pub no_living_state : LivingState
-no_living_state = record {
-  side = record {
-    post = record { pool = record { classes = []; units = [] }; processors = 1; processor = 0; inboxes = no_parcels };
-    grace = record { processors = 1; processor = 0; plain = idle; tracing = idle };
-  };
-  slots = [];
-  begun = [];
-  asked = 0;
-}
-
--- ---- levels
-
-by-level : (since : Log) (start : LivingState) (l k : ℕ) (log : Option Log) (w : LivingState) → TiedBy (polled since start) LivingDoes since start l [] [] log w → TiedBy (polled since start) LivingDoes since start k [] [] log w
-by-level since start l k None w t = tt
-by-level since start l k (Some log) w t = tie-level (polled since start) (unpolled since start) LivingDoes living-same living-join since start l k log w t
-
-pub tied-open : (since : Log) (start : LivingState) (l : ℕ) (m : Processor) → TiedAt since start m → OwesAt since start l [] [] m
-tied-open since start l m t = by-level since start 0 l (log_of m) m.side t
-
-pub tied-shut : (since : Log) (start : LivingState) (l : ℕ) (m : Processor) → OwesAt since start l [] [] m → TiedAt since start m
-tied-shut since start l m t = by-level since start l 0 (log_of m) m.side t
-
--- by a chunk that the log before it judges
-pub as-judged : (since : Log) (start : LivingState) (l : ℕ) (done : List Act) (es : List Entry) (log : Option Log) (w : LivingState) (c : Chunk) → acts_of c ≡ done → entries_of c ≡ es → ((before : Log) → log ≡ Some (before ++ at_level l es) → polled since start l before c) → TiedBy (polled since start) LivingDoes since start l done es log w → TiedBy (polled since start) LivingDoes since start l [] [] log w
-as-judged since start l done es None w c a e j t = tt
-as-judged since start l done es (Some log) w c a e j t = tie-judged (polled since start) (unpolled since start) LivingDoes living-same living-join since start l done es log w c a e (λ before q. j before (ap Some q)) t
-
-pub tied-closed : (since : Log) (start : LivingState) (l : ℕ) (done : List Act) (es : List Entry) (m : Processor) → Shows done es → OwesAt since start l done es m → TiedAt since start m
-tied-closed since start l done es m s t = by-level since start l 0 (log_of m) m.side (law-closed (polled since start) (unpolled since start) LivingDoes living-same living-join since start l done es (log_of m) m.side s t)
-
--- ---- other caches
-
-pub tied-same : (since : Log) (start : LivingState) (m : Processor) (c : Caches Recorded) → c.recorder.told ≡ log_of m → TiedAt since start m → TiedAt since start (with_caches m c)
-tied-same since start m c e t = subst (λ o. TiedBy (polled since start) LivingDoes since start 0 [] [] o m.side) (sym e) t
-
--- an entry that touches nothing of what processors share, on the same side
-pub tied-turned : (since : Log) (start : LivingState) (l : ℕ) (m b : Processor) (e : Entry) → is_quiet e ≡ true → Appends (log_of m) l e (log_of b) → b.side ≡ m.side → TiedAt since start m → TiedAt since start b
-tied-turned since start l m b e q a f t =
-    subst (λ w. TiedBy (polled since start) LivingDoes since start 0 [] [] (log_of b) w) (sym f) (by-level since start l 0 (log_of b) m.side (law-quiet (polled since start) (unpolled since start) LivingDoes living-same living-join since start l e (log_of m) (log_of b) m.side q a (by-level since start 0 l (log_of m) m.side t)))
-
-pub tied-quiet : (since : Log) (start : LivingState) (l : ℕ) (m : Processor) (c : Caches Recorded) (e : Entry) → is_quiet e ≡ true → Appends (log_of m) l e c.recorder.told → TiedAt since start m → TiedAt since start (with_caches m c)
-tied-quiet since start l m c e q a t = tied-turned since start l m (with_caches m c) e q a refl t
-
-pub tied-gave : (since : Log) (start : LivingState) (l : ℕ) (m : Processor) (c : Caches Recorded) (u life : ℕ) (seal : Option (ℕ × ℕ)) → Appends (log_of m) l (given u life seal) c.recorder.told → TiedAt since start m → GaveAt since start l u life (with_caches m c)
-tied-gave since start l m c u life seal a t = (seal, law-said (polled since start) (unpolled since start) LivingDoes living-same living-join since start l [] [] (given u life seal) (log_of m) c.recorder.told m.side a (tied-open since start l m t))
+use Rattle.bm_grace.specs.declared.grace.Knows.{Ghosts as Knows}
 
 free-is : (u home : ℕ) (e : Entry) → is_free u home e ≡ true → (e ≡ entry.Free u home) ⊎ (e ≡ entry.Delay u home)
 free-is u home (entry.Free v to) h = let p = and_parts (nat_eq u v) (nat_eq home to) h in inl (ap (λ x. entry.Free x to) (sym (eqb-true u v p.0)) ∙ ap (entry.Free u) (sym (eqb-true home to p.1)))
 free-is u home (entry.Delay v to) h = let p = and_parts (nat_eq u v) (nat_eq home to) h in inr (ap (λ x. entry.Delay x to) (sym (eqb-true u v p.0)) ∙ ap (entry.Delay u) (sym (eqb-true home to p.1)))
 free-is u home _ h = absurd (cc)
-
--- no unit waits, so none is freed with delay
-waits-not : (m : Processor) (u : Token) → Waits (tests_of m) u → ⊥
-waits-not m u h = false≢true (and_parts ((rights_living m.side).mine u.number) false h).1
-
-pub tied-freed : (since : Log) (start : LivingState) (l : ℕ) (m : Processor) (c : Caches Recorded) (e : Entry) (u : Token) → SuitsFree (tests_of m) u e → is_free u.number u.home e ≡ true → Appends (log_of m) l e c.recorder.told → FreesAt since start l u.number u.home m → TiedAt since start (with_caches m c)
-tied-freed since start l m c e u f i a t =
-    let n = u.number in
-    let said = law-said (polled since start) (unpolled since start) LivingDoes living-same living-join since start l (act.Ends n t.0 u.home false ∷ []) (entry.Drop n t.0 ∷ entry.Last ∷ []) e (log_of m) c.recorder.told m.side a t.1 in
-    tied-closed since start l (act.Ends n t.0 u.home false ∷ []) (entry.Drop n t.0 ∷ entry.Last ∷ e ∷ []) (with_caches m c)
-    (elim (free-is n u.home e i) [
-      | inl q ↦ record { chunk = chunk.Ending n t.0 u.home false; free = refl; acts_are = refl; entries_are = ap (λ x. entry.Drop n t.0 ∷ entry.Last ∷ x ∷ []) (sym q) }
-      | inr q ↦ absurd (waits-not m u (subst (SuitsFree (tests_of m) u) q f))
-    ]) said
-
--- ---- another processor's state
-
--- with the same log and side
-pub tied-as : (since : Log) (start : LivingState) (m k : Processor) → log_of k ≡ log_of m → k.side ≡ m.side → TiedAt since start m → TiedAt since start k
-tied-as since start m k e f t = subst (λ o. TiedBy (polled since start) LivingDoes since start 0 [] [] o k.side) (sym e) (subst (λ w. TiedBy (polled since start) LivingDoes since start 0 [] [] (log_of m) w) (sym f) t)
-
--- the side did something, and an entry tells of it
-pub tied-told : (since : Log) (start : LivingState) (l : ℕ) (m k : Processor) (done : List Act) (e : Entry) → Shows done (e ∷ []) → LivingDoes done m.side k.side → Appends (log_of m) l e (log_of k) → TiedAt since start m → TiedAt since start k
-tied-told since start l m k done e s d a t =
-    let did = law-done (polled since start) (unpolled since start) LivingDoes living-same living-join since start l [] done [] (log_of m) m.side k.side d (tied-open since start l m t) in
-    tied-closed since start l done (e ∷ []) k s (law-said (polled since start) (unpolled since start) LivingDoes living-same living-join since start l done [] e (log_of m) (log_of k) k.side a did)
-
--- the side did what no entry tells of
-pub tied-did : (since : Log) (start : LivingState) (m k : Processor) → log_of k ≡ log_of m → LivingDoes [] m.side k.side → TiedAt since start m → TiedAt since start k
-tied-did since start m k e d t =
-    subst (λ o. TiedBy (polled since start) LivingDoes since start 0 [] [] o k.side) (sym e) (law-done (polled since start) (unpolled since start) LivingDoes living-same living-join since start 0 [] [] [] (log_of m) m.side k.side d t)
 
 -- the seal that was recorded last is the unit's
 abbrev last_of : List Entry → Option Entry
@@ -153,48 +55,135 @@ own-last l log e =
     let one : own_entries l ((l, e) ∷ []) ≡ e ∷ [] = rw (eq-eqb l l refl) refl in
     ap last_of (own-append l log ((l, e) ∷ []) ∙ ap (λ z. own_entries l log ++ z) one) ∙ last-is (own_entries l log) e
 
-pub seal-recorded : (since : Log) (start : LivingState) (l u life : ℕ) (seal told : Option (ℕ × ℕ)) (xs : List Entry) (before : Option Log) (log : Log) (w : LivingState) → Records l (xs ++ given u life seal ∷ []) before (Some log) → Tied (polled since start) LivingDoes since start l [] (given u life told ∷ []) log w → seal ≡ told
-seal-recorded since start l u life seal told xs before log w r t =
-    let mine : last_of (own_entries l log) ≡ Some (given u life seal) =
-    ap (λ z. last_of (own_entries l z)) r.now_is ∙ (ap last_of (own-append l r.log r.added ∙ ap (λ z. own_entries l r.log ++ z) r.owned ∙ sym (append_assoc (own_entries l r.log) xs (given u life seal ∷ []))) ∙ last-is (own_entries l r.log ++ xs) (given u life seal)) in
-    let tied : last_of (own_entries l log) ≡ Some (given u life told) =
-    ap (λ z. last_of (own_entries l z)) (t.log_is ∙ sym (append_assoc since (lines t.story) ((l, given u life told) ∷ []))) ∙ own-last l (since ++ lines t.story) (given u life told) in
-    let same : Some (given u life seal) ≡ Some (given u life told) = sym mine ∙ tied in
-    given-seal u life seal told (let q = same in cc)
+module _ {W : Type 0} (knows : Knows W) where
+  -- tied since then, with these acts and entries of level l that aren't told of yet
+  abbrev pub OwesAt : Log → W → ℕ → List Act → List Entry → Processor W → Type 0
+  OwesAt since start l done es m = TiedBy (polled knows since start) (DoesHere knows) since start l done es (log_of m) m.side
 
--- the unit that was given has begun its life
-pub tied-begun : (since : Log) (start : LivingState) (l u life : ℕ) (seal : Option Seal) (xs : List Entry) (before : Option Log) (m k : Processor) → Records l (xs ++ given u life (seal_told seal) ∷ []) before (log_of m) → log_of k ≡ log_of m → LivingDoes (act.Makes u life seal ∷ []) m.side k.side → GaveAt since start l u life m → TiedAt since start k
-tied-begun since start l u life seal xs before m k r e d t =
-    let G : Option Log → Type 0 = λ o. TiedBy (polled since start) LivingDoes since start 0 [] [] o k.side in
-    subst G (sym e) (begun (log_of m) r t.1)
-  where
-    begun : (o : Option Log) → Records l (xs ++ given u life (seal_told seal) ∷ []) before o → TiedBy (polled since start) LivingDoes since start l [] (given u life t.0 ∷ []) o m.side → TiedBy (polled since start) LivingDoes since start 0 [] [] o k.side
-    begun None r t = tt
-    begun (Some log) r q =
-        let same : seal_told seal ≡ t.0 = seal-recorded since start l u life (seal_told seal) t.0 xs before log m.side r q in
-        let now : TiedBy (polled since start) LivingDoes since start l [] (given u life (seal_told seal) ∷ []) (Some log) m.side = subst (λ s. TiedBy (polled since start) LivingDoes since start l [] (given u life s ∷ []) (Some log) m.side) (sym same) q in
-        let did = law-done (polled since start) (unpolled since start) LivingDoes living-same living-join since start l [] (act.Makes u life seal ∷ []) (given u life (seal_told seal) ∷ []) (Some log) m.side k.side d now in
-        by-level since start l 0 (Some log) k.side (as-judged since start l (act.Makes u life seal ∷ []) (given u life (seal_told seal) ∷ []) (Some log) k.side (chunk.Making u life seal) refl refl (λ before q. tt) did)
+  -- the same, where nothing is owed: the level is no matter then
+  abbrev pub TiedAt : Log → W → Processor W → Type 0
+  TiedAt since start m = OwesAt since start 0 [] [] m
 
--- the life of a unit ended, behind its drop and the reply
-pub tied-freeing : (since : Log) (start : LivingState) (l u life home : ℕ) (m k : Processor) (mid : Option Log) → Appends (log_of m) l (entry.Drop u life) mid → Appends mid l entry.Last (log_of k) → LivingDoes (act.Ends u life home false ∷ []) m.side k.side → TiedAt since start m → FreesAt since start l u home k
-tied-freeing since start l u life home m k mid a b d t =
-    let one = law-said (polled since start) (unpolled since start) LivingDoes living-same living-join since start l [] [] (entry.Drop u life) (log_of m) mid m.side a (tied-open since start l m t) in
-    let two = law-said (polled since start) (unpolled since start) LivingDoes living-same living-join since start l [] (entry.Drop u life ∷ []) entry.Last mid (log_of k) m.side b one in
-    (life, law-done (polled since start) (unpolled since start) LivingDoes living-same living-join since start l [] (act.Ends u life home false ∷ []) (entry.Drop u life ∷ entry.Last ∷ []) (log_of k) m.side k.side d two)
+  -- a unit was given, and its life hasn't begun
+  abbrev pub GaveAt : Log → W → (l u life : ℕ) → Processor W → Type 0
+  GaveAt since start l u life m = (seal : Option (ℕ × ℕ)) × OwesAt since start l [] (given u life seal ∷ []) m
 
--- ---- as a desk's laws need it
+  -- a life ended by its drop, and its unit's free, which is a plain one, hasn't begun: the unit isn't due
+  abbrev pub FreesAt : Log → W → (l u home : ℕ) → Processor W → Type 0
+  FreesAt since start l u home m = (life : ℕ) × OwesAt since start l (act.Ends u life home false ∷ []) (entry.Drop u life ∷ entry.Last ∷ []) m × ((n : ℕ) (seal : Option Seal) → (knows.rights m.side).due u n seal ≡ false)
 
-pub owes-did : (since : Log) (start : LivingState) (l : ℕ) (done more : List Act) (es : List Entry) (m : Processor) (w : LivingState) → LivingDoes more m.side w → OwesAt since start l done es m → OwesAt since start l (done ++ more) es (with_side m w)
-owes-did since start l done more es m w d o = law-done (polled since start) (unpolled since start) LivingDoes living-same living-join since start l done more es (log_of m) m.side w d o
+  -- ---- levels
 
-pub owes-said : (since : Log) (start : LivingState) (l : ℕ) (done : List Act) (es : List Entry) (e : Entry) (m : Processor) (c : Caches Recorded) → Appends (log_of m) l e c.recorder.told → OwesAt since start l done es m → OwesAt since start l done (es ++ e ∷ []) (with_caches m c)
-owes-said since start l done es e m c a o = law-said (polled since start) (unpolled since start) LivingDoes living-same living-join since start l done es e (log_of m) c.recorder.told m.side a o
+  by-level : (since : Log) (start : W) (l k : ℕ) (log : Option Log) (w : W) → TiedBy (polled knows since start) (DoesHere knows) since start l [] [] log w → TiedBy (polled knows since start) (DoesHere knows) since start k [] [] log w
+  by-level since start l k None w t = tt
+  by-level since start l k (Some log) w t = tie-level (polled knows since start) (unpolled knows since start) (DoesHere knows) (here-same knows) (here-join knows) since start l k log w t
 
--- the entry of a step, where it stands for what was done if the log is told
-pub tied-paid : (since : Log) (start : LivingState) (l : ℕ) (done : List Act) (e : Entry) (m : Processor) (c : Caches Recorded) → (IsSome c.recorder.told → Shows done (e ∷ [])) → Appends (log_of m) l e c.recorder.told → OwesAt since start l done [] m → TiedAt since start (with_caches m c)
-tied-paid since start l done e m c x a o = by-level since start l 0 c.recorder.told m.side (paid c.recorder.told x a)
-  where
-    paid : (now : Option Log) → (IsSome now → Shows done (e ∷ [])) → Appends (log_of m) l e now → TiedBy (polled since start) LivingDoes since start l [] [] now m.side
-    paid None x a = tt
-    paid (Some now) x a = law-stepped (polled since start) (unpolled since start) LivingDoes living-same living-join since start l done e (log_of m) (Some now) m.side (x refl) a o
+  pub tied-open : (since : Log) (start : W) (l : ℕ) (m : Processor W) → TiedAt since start m → OwesAt since start l [] [] m
+  tied-open since start l m t = by-level since start 0 l (log_of m) m.side t
+
+  pub tied-shut : (since : Log) (start : W) (l : ℕ) (m : Processor W) → OwesAt since start l [] [] m → TiedAt since start m
+  tied-shut since start l m t = by-level since start l 0 (log_of m) m.side t
+
+  -- by a chunk that the log before it judges
+  pub as-judged : (since : Log) (start : W) (l : ℕ) (done : List Act) (es : List Entry) (log : Option Log) (w : W) (c : Chunk) → acts_of c ≡ done → entries_of c ≡ es → ((before : Log) → log ≡ Some (before ++ at_level l es) → polled knows since start l before c) → TiedBy (polled knows since start) (DoesHere knows) since start l done es log w → TiedBy (polled knows since start) (DoesHere knows) since start l [] [] log w
+  as-judged since start l done es None w c a e j t = tt
+  as-judged since start l done es (Some log) w c a e j t = tie-judged (polled knows since start) (unpolled knows since start) (DoesHere knows) (here-same knows) (here-join knows) since start l done es log w c a e (λ before q. j before (ap Some q)) t
+
+  pub tied-closed : (since : Log) (start : W) (l : ℕ) (done : List Act) (es : List Entry) (m : Processor W) → Shows done es → OwesAt since start l done es m → TiedAt since start m
+  tied-closed since start l done es m s t = by-level since start l 0 (log_of m) m.side (law-closed (polled knows since start) (unpolled knows since start) (DoesHere knows) (here-same knows) (here-join knows) since start l done es (log_of m) m.side s t)
+
+  -- ---- other caches
+
+  pub tied-same : (since : Log) (start : W) (m : Processor W) (c : Caches Recorded) → c.recorder.told ≡ log_of m → TiedAt since start m → TiedAt since start (with_caches m c)
+  tied-same since start m c e t = subst (λ o. TiedBy (polled knows since start) (DoesHere knows) since start 0 [] [] o m.side) (sym e) t
+
+  -- an entry that touches nothing of what processors share, on the same side
+  pub tied-turned : (since : Log) (start : W) (l : ℕ) (m b : Processor W) (e : Entry) → is_quiet e ≡ true → Appends (log_of m) l e (log_of b) → b.side ≡ m.side → TiedAt since start m → TiedAt since start b
+  tied-turned since start l m b e q a f t =
+      subst (λ w. TiedBy (polled knows since start) (DoesHere knows) since start 0 [] [] (log_of b) w) (sym f) (by-level since start l 0 (log_of b) m.side (law-quiet (polled knows since start) (unpolled knows since start) (DoesHere knows) (here-same knows) (here-join knows) since start l e (log_of m) (log_of b) m.side q a (by-level since start 0 l (log_of m) m.side t)))
+
+  pub tied-quiet : (since : Log) (start : W) (l : ℕ) (m : Processor W) (c : Caches Recorded) (e : Entry) → is_quiet e ≡ true → Appends (log_of m) l e c.recorder.told → TiedAt since start m → TiedAt since start (with_caches m c)
+  tied-quiet since start l m c e q a t = tied-turned since start l m (with_caches m c) e q a refl t
+
+  pub tied-gave : (since : Log) (start : W) (l : ℕ) (m : Processor W) (c : Caches Recorded) (u life : ℕ) (seal : Option (ℕ × ℕ)) → Appends (log_of m) l (given u life seal) c.recorder.told → TiedAt since start m → GaveAt since start l u life (with_caches m c)
+  tied-gave since start l m c u life seal a t = (seal, law-said (polled knows since start) (unpolled knows since start) (DoesHere knows) (here-same knows) (here-join knows) since start l [] [] (given u life seal) (log_of m) c.recorder.told m.side a (tied-open since start l m t))
+
+  -- a unit that isn't due doesn't wait
+  waits-not : (m : Processor W) (u : Token) → ((n : ℕ) (seal : Option Seal) → (knows.rights m.side).due u.number n seal ≡ false) → Waits (tests_of knows m) u → ⊥
+  waits-not m u d h =
+      let r = knows.rights m.side in
+      let due = and_parts (r.due u.number u.life None) (is_none u.seal) (and_parts (r.mine u.number) (r.due u.number u.life None && is_none u.seal) h).1 in
+      false≢true (sym (d u.life None) ∙ due.0)
+
+  pub tied-freed : (since : Log) (start : W) (l : ℕ) (m : Processor W) (c : Caches Recorded) (e : Entry) (u : Token) → SuitsFree (tests_of knows m) u e → is_free u.number u.home e ≡ true → Appends (log_of m) l e c.recorder.told → FreesAt since start l u.number u.home m → TiedAt since start (with_caches m c)
+  tied-freed since start l m c e u f i a t =
+      let n = u.number in
+      let said = law-said (polled knows since start) (unpolled knows since start) (DoesHere knows) (here-same knows) (here-join knows) since start l (act.Ends n t.0 u.home false ∷ []) (entry.Drop n t.0 ∷ entry.Last ∷ []) e (log_of m) c.recorder.told m.side a t.1 in
+      tied-closed since start l (act.Ends n t.0 u.home false ∷ []) (entry.Drop n t.0 ∷ entry.Last ∷ e ∷ []) (with_caches m c)
+      (elim (free-is n u.home e i) [
+        | inl q ↦ record { chunk = chunk.Ending n t.0 u.home false; free = refl; acts_are = refl; entries_are = ap (λ x. entry.Drop n t.0 ∷ entry.Last ∷ x ∷ []) (sym q) }
+        | inr q ↦ absurd (waits-not m u t.2 (subst (SuitsFree (tests_of knows m) u) q f))
+      ]) said
+
+  -- ---- another processor's state
+
+  -- with the same log and side
+  pub tied-as : (since : Log) (start : W) (m k : Processor W) → log_of k ≡ log_of m → k.side ≡ m.side → TiedAt since start m → TiedAt since start k
+  tied-as since start m k e f t = subst (λ o. TiedBy (polled knows since start) (DoesHere knows) since start 0 [] [] o k.side) (sym e) (subst (λ w. TiedBy (polled knows since start) (DoesHere knows) since start 0 [] [] (log_of m) w) (sym f) t)
+
+  -- the side did something, and an entry tells of it
+  pub tied-told : (since : Log) (start : W) (l : ℕ) (m k : Processor W) (done : List Act) (e : Entry) → Shows done (e ∷ []) → DoesHere knows done m.side k.side → Appends (log_of m) l e (log_of k) → TiedAt since start m → TiedAt since start k
+  tied-told since start l m k done e s d a t =
+      let did = law-done (polled knows since start) (unpolled knows since start) (DoesHere knows) (here-same knows) (here-join knows) since start l [] done [] (log_of m) m.side k.side d (tied-open since start l m t) in
+      tied-closed since start l done (e ∷ []) k s (law-said (polled knows since start) (unpolled knows since start) (DoesHere knows) (here-same knows) (here-join knows) since start l done [] e (log_of m) (log_of k) k.side a did)
+
+  -- the side did what no entry tells of
+  pub tied-did : (since : Log) (start : W) (m k : Processor W) → log_of k ≡ log_of m → DoesHere knows [] m.side k.side → TiedAt since start m → TiedAt since start k
+  tied-did since start m k e d t =
+      subst (λ o. TiedBy (polled knows since start) (DoesHere knows) since start 0 [] [] o k.side) (sym e) (law-done (polled knows since start) (unpolled knows since start) (DoesHere knows) (here-same knows) (here-join knows) since start 0 [] [] [] (log_of m) m.side k.side d t)
+
+  pub seal-recorded : (since : Log) (start : W) (l u life : ℕ) (seal told : Option (ℕ × ℕ)) (xs : List Entry) (before : Option Log) (log : Log) (w : W) → Records l (xs ++ given u life seal ∷ []) before (Some log) → Tied (polled knows since start) (DoesHere knows) since start l [] (given u life told ∷ []) log w → seal ≡ told
+  seal-recorded since start l u life seal told xs before log w r t =
+      let mine : last_of (own_entries l log) ≡ Some (given u life seal) =
+      ap (λ z. last_of (own_entries l z)) r.now_is ∙ (ap last_of (own-append l r.log r.added ∙ ap (λ z. own_entries l r.log ++ z) r.owned ∙ sym (append_assoc (own_entries l r.log) xs (given u life seal ∷ []))) ∙ last-is (own_entries l r.log ++ xs) (given u life seal)) in
+      let tied : last_of (own_entries l log) ≡ Some (given u life told) =
+      ap (λ z. last_of (own_entries l z)) (t.log_is ∙ sym (append_assoc since (lines t.story) ((l, given u life told) ∷ []))) ∙ own-last l (since ++ lines t.story) (given u life told) in
+      let same : Some (given u life seal) ≡ Some (given u life told) = sym mine ∙ tied in
+      given-seal u life seal told (let q = same in cc)
+
+  -- the unit that was given has begun its life
+  pub tied-begun : (since : Log) (start : W) (l u life : ℕ) (seal : Option Seal) (xs : List Entry) (before : Option Log) (m k : Processor W) → Records l (xs ++ given u life (seal_told seal) ∷ []) before (log_of m) → log_of k ≡ log_of m → DoesHere knows (act.Makes u life seal ∷ []) m.side k.side → GaveAt since start l u life m → TiedAt since start k
+  tied-begun since start l u life seal xs before m k r e d t =
+      let G : Option Log → Type 0 = λ o. TiedBy (polled knows since start) (DoesHere knows) since start 0 [] [] o k.side in
+      subst G (sym e) (begun (log_of m) r t.1)
+    where
+      begun : (o : Option Log) → Records l (xs ++ given u life (seal_told seal) ∷ []) before o → TiedBy (polled knows since start) (DoesHere knows) since start l [] (given u life t.0 ∷ []) o m.side → TiedBy (polled knows since start) (DoesHere knows) since start 0 [] [] o k.side
+      begun None r t = tt
+      begun (Some log) r q =
+          let same : seal_told seal ≡ t.0 = seal-recorded since start l u life (seal_told seal) t.0 xs before log m.side r q in
+          let now : TiedBy (polled knows since start) (DoesHere knows) since start l [] (given u life (seal_told seal) ∷ []) (Some log) m.side = subst (λ s. TiedBy (polled knows since start) (DoesHere knows) since start l [] (given u life s ∷ []) (Some log) m.side) (sym same) q in
+          let did = law-done (polled knows since start) (unpolled knows since start) (DoesHere knows) (here-same knows) (here-join knows) since start l [] (act.Makes u life seal ∷ []) (given u life (seal_told seal) ∷ []) (Some log) m.side k.side d now in
+          by-level since start l 0 (Some log) k.side (as-judged since start l (act.Makes u life seal ∷ []) (given u life (seal_told seal) ∷ []) (Some log) k.side (chunk.Making u life seal) refl refl (λ before q. tt) did)
+
+  -- the life of a unit ended, behind its drop and the reply
+  pub tied-freeing : (since : Log) (start : W) (l u life home : ℕ) (m k : Processor W) (mid : Option Log) → Appends (log_of m) l (entry.Drop u life) mid → Appends mid l entry.Last (log_of k) → DoesHere knows (act.Ends u life home false ∷ []) m.side k.side → ((n : ℕ) (seal : Option Seal) → (knows.rights k.side).due u n seal ≡ false) → TiedAt since start m → FreesAt since start l u home k
+  tied-freeing since start l u life home m k mid a b d undue t =
+      let one = law-said (polled knows since start) (unpolled knows since start) (DoesHere knows) (here-same knows) (here-join knows) since start l [] [] (entry.Drop u life) (log_of m) mid m.side a (tied-open since start l m t) in
+      let two = law-said (polled knows since start) (unpolled knows since start) (DoesHere knows) (here-same knows) (here-join knows) since start l [] (entry.Drop u life ∷ []) entry.Last mid (log_of k) m.side b one in
+      (life, law-done (polled knows since start) (unpolled knows since start) (DoesHere knows) (here-same knows) (here-join knows) since start l [] (act.Ends u life home false ∷ []) (entry.Drop u life ∷ entry.Last ∷ []) (log_of k) m.side k.side d two, undue)
+
+  -- ---- as a desk's laws need it
+
+  pub owes-did : (since : Log) (start : W) (l : ℕ) (done more : List Act) (es : List Entry) (m : Processor W) (w : W) → DoesHere knows more m.side w → OwesAt since start l done es m → OwesAt since start l (done ++ more) es (with_side m w)
+  owes-did since start l done more es m w d o = law-done (polled knows since start) (unpolled knows since start) (DoesHere knows) (here-same knows) (here-join knows) since start l done more es (log_of m) m.side w d o
+
+  pub owes-said : (since : Log) (start : W) (l : ℕ) (done : List Act) (es : List Entry) (e : Entry) (m : Processor W) (c : Caches Recorded) → Appends (log_of m) l e c.recorder.told → OwesAt since start l done es m → OwesAt since start l done (es ++ e ∷ []) (with_caches m c)
+  owes-said since start l done es e m c a o = law-said (polled knows since start) (unpolled knows since start) (DoesHere knows) (here-same knows) (here-join knows) since start l done es e (log_of m) c.recorder.told m.side a o
+
+  -- the entry of a step, where it stands for what was done if the log is told
+  pub tied-paid : (since : Log) (start : W) (l : ℕ) (done : List Act) (e : Entry) (m : Processor W) (c : Caches Recorded) → (IsSome c.recorder.told → Shows done (e ∷ [])) → Appends (log_of m) l e c.recorder.told → OwesAt since start l done [] m → TiedAt since start (with_caches m c)
+  tied-paid since start l done e m c x a o = by-level since start l 0 c.recorder.told m.side (paid c.recorder.told x a)
+    where
+      paid : (now : Option Log) → (IsSome now → Shows done (e ∷ [])) → Appends (log_of m) l e now → TiedBy (polled knows since start) (DoesHere knows) since start l [] [] now m.side
+      paid None x a = tt
+      paid (Some now) x a = law-stepped (polled knows since start) (unpolled knows since start) (DoesHere knows) (here-same knows) (here-join knows) since start l done e (log_of m) (Some now) m.side (x refl) a o

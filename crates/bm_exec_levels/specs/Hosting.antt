@@ -15,7 +15,6 @@ use Rattle.bm_cache.specs.Steps.{is_free, is_reply, is_step}
 use Rattle.bm_cache.specs.declared.caches.Caches.{Caches}
 use Rattle.bm_work.specs.Goes.{Alike, GoesOn}
 use Rattle.bm_plan.specs.Position.{AskedAt, Position, StandsAt}
-use Rattle.bm_world.specs.LivingState.{LivingState, known_living}
 use Rattle.bm_exec_levels.specs.AtProcessor.{IsAt, Stays, log_of}
 use Rattle.bm_exec_levels.specs.Growing.{inner-free, inner-given, inner-reply, inner-step, IsInner, tells-inner}
 use Rattle.bm_exec_levels.specs.Here.{Running}
@@ -24,165 +23,18 @@ use Rattle.bm_exec_levels.specs.Ready.{IsReady, asked_of, known_of, left_cost, l
 use Rattle.bm_exec_levels.specs.Turns.{a-free, a-given, a-reply, running-same, stands-say, stands-step, told-more}
 use Rattle.bm_exec_levels.specs.declared.processor.Processor.{Processor}
 use Rattle.bm_exec_levels.specs.declared.program.Program.{Program}
+use Rattle.bm_grace.specs.declared.grace.Knows.{Ghosts as Knows}
 
 -- the processor with other caches, and with another side
-abbrev pub with_caches : Processor → Caches Recorded → Processor
+abbrev pub with_caches : {W : Type 0} → Processor W → Caches Recorded → Processor W
 with_caches m c = record m { caches = c }
 
-abbrev pub with_side : Processor → LivingState → Processor
+abbrev pub with_side : {W : Type 0} → Processor W → W → Processor W
 with_side m w = record m { side = w }
-
--- ---- other caches
-
-pub ready-caches : (p : Program) (m : Processor) (c : Caches Recorded) → IsReady p m → IsReady p (with_caches m c)
-ready-caches p m c r = record {
-  fits = r.fits;
-  one = r.one;
-  first = r.first;
-  scripts = r.scripts;
-  planned = r.planned;
-  bound = r.bound;
-  tables = r.tables;
-  room_running = r.room_running;
-  room_tables = r.room_tables;
-  asks = r.asks;
-  words = r.words;
-  inside = r.inside;
-}
-
-pub at-same : (P : Position → Log → Type 0) (l : ℕ) (p : Program) (m : Processor) (c : Caches Recorded) → c.recorder.told ≡ log_of m → IsAt P l p m → IsAt P l p (with_caches m c)
-at-same P l p m c e s =
-    let F : Option Log → Type 0 = λ o. IfSome o (Tells p.scenario.now (known_of m)) in
-    record {
-      at = running-same P l _ _ _ _ _ _ e s.at;
-      tells = subst F (sym e) s.tells;
-      ready = ready-caches p m c s.ready;
-    }
-
--- a step that was asked for
-pub at-stepped : (l : ℕ) (p : Program) (m : Processor) (c : Caches Recorded) (e : Entry) → is_step e ≡ true → Appends (log_of m) l e c.recorder.told → IsAt AskedAt l p m → IsAt StandsAt l p (with_caches m c)
-at-stepped l p m c e i a s =
-    let k : Known = known_of m in
-    let T : Log → Type 0 = Tells p.scenario.now k in
-    record {
-      at = stands-step l _ _ _ _ _ _ e i a s.at;
-      tells = told-more T T (log_of m) c.recorder.told l e (λ es h. tells-inner p.scenario.now k es l e (inner-step e i) h) a s.tells;
-      ready = ready-caches p m c s.ready;
-    }
-
--- an entry that is no step
-pub at-say : (l : ℕ) (p : Program) (m : Processor) (c : Caches Recorded) (e : Entry) → kind_of e ≡ standing.Stays → IsInner e → Appends (log_of m) l e c.recorder.told → IsAt StandsAt l p m → IsAt StandsAt l p (with_caches m c)
-at-say l p m c e k i a s =
-    let n : Known = known_of m in
-    record {
-      at = stands-say l _ _ _ _ _ _ e k a s.at;
-      tells = told-more (Tells p.scenario.now n) (Tells p.scenario.now n) (log_of m) c.recorder.told l e (λ es h. tells-inner p.scenario.now n es l e i h) a s.tells;
-      ready = ready-caches p m c s.ready;
-    }
-
-pub at-said : (l : ℕ) (p : Program) (m : Processor) (c : Caches Recorded) (e : Entry) → is_reply e ≡ true → Appends (log_of m) l e c.recorder.told → IsAt StandsAt l p m → IsAt StandsAt l p (with_caches m c)
-at-said l p m c e i = at-say l p m c e (a-reply e i) (inner-reply e i)
-
-pub at-gave : (l : ℕ) (p : Program) (m : Processor) (c : Caches Recorded) (u life : ℕ) (seal : Option (ℕ × ℕ)) → Appends (log_of m) l (given u life seal) c.recorder.told → IsAt StandsAt l p m → IsAt StandsAt l p (with_caches m c)
-at-gave l p m c u life seal = at-say l p m c (given u life seal) (a-given u life seal) (inner-given u life seal)
-
-pub at-freed : (l : ℕ) (p : Program) (m : Processor) (c : Caches Recorded) (e : Entry) (u home : ℕ) → is_free u home e ≡ true → Appends (log_of m) l e c.recorder.told → IsAt StandsAt l p m → IsAt StandsAt l p (with_caches m c)
-at-freed l p m c e u home i = at-say l p m c e (a-free u home e i) (inner-free u home e i)
-
-pub stays-caches : (p : Program) (m : Processor) (c : Caches Recorded) → Stays 0 0 p m (with_caches m c)
-stays-caches p m c = record {
-  settled = refl;
-  running = refl;
-  tables = refl;
-  inside = refl;
-  asks_most = omega arith;
-  words_most = omega arith;
-  parity = λ d. refl;
-  inner = λ h. refl;
-  processors = refl;
-  processor = refl;
-}
-
-pub stays-same : (p : Program) (m : Processor) → Stays 0 0 p m m
-stays-same p m = stays-caches p m m.caches
-
--- ---- another side
-
--- what is asked for and told of sections is as it was
-same-asked : (p : Program) (m : Processor) (w : LivingState) → Alike (known_of m) (known_living w) → asked_of p.scenario.now (with_side m w) ≡ asked_of p.scenario.now m
-same-asked p m w a = ap (λ (o : Objects). o.asked + m.settled + left_cost p.scenario.now (left_of m)) a.objects
-
-same-word : (d : Domain) (m : Processor) (w : LivingState) → Alike (known_of m) (known_living w) → word_of d (with_side m w) ≡ word_of d m
-same-word d m w a = a.words d
-
-ready-sided : (p : Program) (m : Processor) (w : LivingState) → Alike (known_of m) (known_living w) → IsReady p m → IsReady p (with_side m w)
-ready-sided p m w a r =
-    let q = same-asked p m w a in
-    let n = same-word Plain m w a in
-    record {
-      fits = r.fits;
-      one = a.processors ∙ r.one;
-      first = a.processor ∙ r.first;
-      scripts = r.scripts;
-      planned = r.planned;
-      bound = r.bound;
-      tables = r.tables;
-      room_running = r.room_running;
-      room_tables = r.room_tables;
-      asks = (let F : ℕ → Type 0 = λ k. k < 2 ^ 22 in subst F (sym q) r.asks);
-      words = (let F : ℕ → Type 0 = λ k. k + 2 * length (left_of m) < 2 ^ 28 in subst F (sym n) r.words);
-      inside = ap (λ k. k % 2) n ∙ r.inside;
-    }
 
 tells-sided : (s : Parts) (k n : Known) (o : Option Log) → Alike k n → IfSome o (Tells s k) → IfSome o (Tells s n)
 tells-sided s k n None a h = tt
 tells-sided s k n (Some es) a h = record { done = h.done; last = λ d. h.last d ∙ sym (a.words d) }
-
-pub at-sided : (P : Position → Log → Type 0) (l : ℕ) (p : Program) (m : Processor) (w : LivingState) → Alike (known_of m) (known_living w) → IsAt P l p m → IsAt P l p (with_side m w)
-at-sided P l p m w a s =
-    let F : ℕ → Type 0 = λ n. Running P l n p.scenario.now m.handlers.planned m.running.items (log_of m) in
-    record {
-      at = subst F (sym a.processor) s.at;
-      tells = tells-sided p.scenario.now (known_of m) (known_living w) (log_of m) a s.tells;
-      ready = ready-sided p m w a s.ready;
-    }
-
-pub stays-sided : (p : Program) (m : Processor) (w : LivingState) → Alike (known_of m) (known_living w) → Stays 0 0 p m (with_side m w)
-stays-sided p m w a =
-    let q = same-asked p m w a in
-    let n = same-word Plain m w a in
-    record {
-      settled = refl;
-      running = refl;
-      tables = refl;
-      inside = refl;
-      asks_most = omega (arith, q);
-      words_most = omega (arith, n);
-      parity = λ d. ap (λ k. k % 2) (same-word d m w a);
-      inner = λ h. n;
-      processors = a.processors;
-      processor = a.processor;
-    }
-
--- ---- one after the other
-
--- of one program
-pub stays-join : (i j k n : ℕ) (p : Program) (a b c : Processor) → Stays i j p a b → Stays k n p b c → Stays (i + k) (j + n) p a c
-stays-join i j k n p a b c x y = record {
-  settled = y.settled ∙ x.settled;
-  running = y.running ∙ x.running;
-  tables = y.tables ∙ x.tables;
-  inside = y.inside ∙ x.inside;
-  asks_most = (let v = x.asks_most in let w = y.asks_most in omega (arith, v, w));
-  words_most = (let v = x.words_most in let w = y.words_most in omega (arith, v, w));
-  parity = λ d. y.parity d ∙ x.parity d;
-  inner = λ h. y.inner (x.parity Plain ∙ h) ∙ x.inner h;
-  processors = y.processors ∙ x.processors;
-  processor = y.processor ∙ x.processor;
-}
-
-pub stays-joined : (p q : Program) (a b c : Processor) → q ≡ p → Stays 0 0 p a b → Stays 0 0 q b c → Stays 0 0 p a c
-stays-joined p q a b c e x y = (let F : Program → Type 0 = λ r. Stays 0 0 r b c in stays-join 0 0 0 0 p a b c x (subst F e y))
 
 pub goes-joined : (a b c : Known) → GoesOn a b → GoesOn b c → GoesOn a c
 goes-joined a b c x y = record {
@@ -195,3 +47,150 @@ goes-joined a b c x y = record {
   begins = λ d. y.begins d ∙ x.begins d;
   seen = λ d. (let v = x.seen d in let w = y.seen d in omega (arith, v, w));
 }
+
+module _ {W : Type 0} (knows : Knows W) where
+  -- ---- other caches
+
+  pub ready-caches : (p : Program) (m : Processor W) (c : Caches Recorded) → c.processor ≡ m.caches.processor → IsReady knows p m → IsReady knows p (with_caches m c)
+  ready-caches p m c same r = record {
+    fits = r.fits;
+    here = same ∙ r.here;
+    scripts = r.scripts;
+    planned = r.planned;
+    bound = r.bound;
+    tables = r.tables;
+    room_running = r.room_running;
+    room_tables = r.room_tables;
+    asks = r.asks;
+    words = r.words;
+    inside = r.inside;
+  }
+
+  pub at-same : (P : Position → Log → Type 0) (l : ℕ) (p : Program) (m : Processor W) (c : Caches Recorded) → c.processor ≡ m.caches.processor → c.recorder.told ≡ log_of m → IsAt knows P l p m → IsAt knows P l p (with_caches m c)
+  at-same P l p m c same e s =
+      let F : Option Log → Type 0 = λ o. IfSome o (Tells p.scenario.now (known_of knows m)) in
+      record {
+        at = running-same P l _ _ _ _ _ _ e s.at;
+        tells = subst F (sym e) s.tells;
+        ready = ready-caches p m c same s.ready;
+      }
+
+  -- a step that was asked for
+  pub at-stepped : (l : ℕ) (p : Program) (m : Processor W) (c : Caches Recorded) (e : Entry) → is_step e ≡ true → c.processor ≡ m.caches.processor → Appends (log_of m) l e c.recorder.told → IsAt knows AskedAt l p m → IsAt knows StandsAt l p (with_caches m c)
+  at-stepped l p m c e i same a s =
+      let k : Known = known_of knows m in
+      let T : Log → Type 0 = Tells p.scenario.now k in
+      record {
+        at = stands-step l _ _ _ _ _ _ e i a s.at;
+        tells = told-more T T (log_of m) c.recorder.told l e (λ es h. tells-inner p.scenario.now k es l e (inner-step e i) h) a s.tells;
+        ready = ready-caches p m c same s.ready;
+      }
+
+  -- an entry that is no step
+  pub at-say : (l : ℕ) (p : Program) (m : Processor W) (c : Caches Recorded) (e : Entry) → kind_of e ≡ standing.Stays → IsInner e → c.processor ≡ m.caches.processor → Appends (log_of m) l e c.recorder.told → IsAt knows StandsAt l p m → IsAt knows StandsAt l p (with_caches m c)
+  at-say l p m c e k i same a s =
+      let n : Known = known_of knows m in
+      record {
+        at = stands-say l _ _ _ _ _ _ e k a s.at;
+        tells = told-more (Tells p.scenario.now n) (Tells p.scenario.now n) (log_of m) c.recorder.told l e (λ es h. tells-inner p.scenario.now n es l e i h) a s.tells;
+        ready = ready-caches p m c same s.ready;
+      }
+
+  pub at-said : (l : ℕ) (p : Program) (m : Processor W) (c : Caches Recorded) (e : Entry) → is_reply e ≡ true → c.processor ≡ m.caches.processor → Appends (log_of m) l e c.recorder.told → IsAt knows StandsAt l p m → IsAt knows StandsAt l p (with_caches m c)
+  at-said l p m c e i = at-say l p m c e (a-reply e i) (inner-reply e i)
+
+  pub at-gave : (l : ℕ) (p : Program) (m : Processor W) (c : Caches Recorded) (u life : ℕ) (seal : Option (ℕ × ℕ)) → c.processor ≡ m.caches.processor → Appends (log_of m) l (given u life seal) c.recorder.told → IsAt knows StandsAt l p m → IsAt knows StandsAt l p (with_caches m c)
+  at-gave l p m c u life seal = at-say l p m c (given u life seal) (a-given u life seal) (inner-given u life seal)
+
+  pub at-freed : (l : ℕ) (p : Program) (m : Processor W) (c : Caches Recorded) (e : Entry) (u home : ℕ) → is_free u home e ≡ true → c.processor ≡ m.caches.processor → Appends (log_of m) l e c.recorder.told → IsAt knows StandsAt l p m → IsAt knows StandsAt l p (with_caches m c)
+  at-freed l p m c e u home i = at-say l p m c e (a-free u home e i) (inner-free u home e i)
+
+  pub stays-caches : (p : Program) (m : Processor W) (c : Caches Recorded) → Stays knows 0 0 p m (with_caches m c)
+  stays-caches p m c = record {
+    settled = refl;
+    running = refl;
+    tables = refl;
+    inside = refl;
+    asks_most = omega arith;
+    words_most = omega arith;
+    parity = λ d. refl;
+    inner = λ h. refl;
+    processors = refl;
+    processor = refl;
+  }
+
+  pub stays-same : (p : Program) (m : Processor W) → Stays knows 0 0 p m m
+  stays-same p m = stays-caches p m m.caches
+
+  -- ---- another side
+
+  -- what is asked for and told of sections is as it was
+  same-asked : (p : Program) (m : Processor W) (w : W) → Alike (known_of knows m) (knows.known w) → asked_of knows p.scenario.now (with_side m w) ≡ asked_of knows p.scenario.now m
+  same-asked p m w a = ap (λ (o : Objects). o.asked + m.settled + left_cost p.scenario.now (left_of m)) a.objects
+
+  same-word : (d : Domain) (m : Processor W) (w : W) → Alike (known_of knows m) (knows.known w) → word_of knows d (with_side m w) ≡ word_of knows d m
+  same-word d m w a = a.words d
+
+  ready-sided : (p : Program) (m : Processor W) (w : W) → Alike (known_of knows m) (knows.known w) → IsReady knows p m → IsReady knows p (with_side m w)
+  ready-sided p m w a r =
+      let q = same-asked p m w a in
+      let n = same-word Plain m w a in
+      record {
+        fits = r.fits;
+        here = r.here ∙ sym a.processor;
+        scripts = r.scripts;
+        planned = r.planned;
+        bound = r.bound;
+        tables = r.tables;
+        room_running = r.room_running;
+        room_tables = r.room_tables;
+        asks = (let F : ℕ → Type 0 = λ k. k < 2 ^ 22 in subst F (sym q) r.asks);
+        words = (let F : ℕ → Type 0 = λ k. k + 2 * length (left_of m) < 2 ^ 28 in subst F (sym n) r.words);
+        inside = ap (λ k. k % 2) n ∙ r.inside;
+      }
+
+  pub at-sided : (P : Position → Log → Type 0) (l : ℕ) (p : Program) (m : Processor W) (w : W) → Alike (known_of knows m) (knows.known w) → IsAt knows P l p m → IsAt knows P l p (with_side m w)
+  at-sided P l p m w a s =
+      let F : ℕ → Type 0 = λ n. Running P l n p.scenario.now m.handlers.planned m.running.items (log_of m) in
+      record {
+        at = subst F (sym a.processor) s.at;
+        tells = tells-sided p.scenario.now (known_of knows m) (knows.known w) (log_of m) a s.tells;
+        ready = ready-sided p m w a s.ready;
+      }
+
+  pub stays-sided : (p : Program) (m : Processor W) (w : W) → Alike (known_of knows m) (knows.known w) → Stays knows 0 0 p m (with_side m w)
+  stays-sided p m w a =
+      let q = same-asked p m w a in
+      let n = same-word Plain m w a in
+      record {
+        settled = refl;
+        running = refl;
+        tables = refl;
+        inside = refl;
+        asks_most = omega (arith, q);
+        words_most = omega (arith, n);
+        parity = λ d. ap (λ k. k % 2) (same-word d m w a);
+        inner = λ h. n;
+        processors = a.processors;
+        processor = a.processor;
+      }
+
+  -- ---- one after the other
+
+  -- of one program
+  pub stays-join : (i j k n : ℕ) (p : Program) (a b c : Processor W) → Stays knows i j p a b → Stays knows k n p b c → Stays knows (i + k) (j + n) p a c
+  stays-join i j k n p a b c x y = record {
+    settled = y.settled ∙ x.settled;
+    running = y.running ∙ x.running;
+    tables = y.tables ∙ x.tables;
+    inside = y.inside ∙ x.inside;
+    asks_most = (let v = x.asks_most in let w = y.asks_most in omega (arith, v, w));
+    words_most = (let v = x.words_most in let w = y.words_most in omega (arith, v, w));
+    parity = λ d. y.parity d ∙ x.parity d;
+    inner = λ h. y.inner (x.parity Plain ∙ h) ∙ x.inner h;
+    processors = y.processors ∙ x.processors;
+    processor = y.processor ∙ x.processor;
+  }
+
+  pub stays-joined : (p q : Program) (a b c : Processor W) → q ≡ p → Stays knows 0 0 p a b → Stays knows 0 0 q b c → Stays knows 0 0 p a c
+  stays-joined p q a b c e x y = (let F : Program → Type 0 = λ r. Stays knows 0 0 r b c in stays-join 0 0 0 0 p a b c x (subst F e y))

@@ -1,4 +1,4 @@
--- What the log of a processor tells by now. (This project's own: journals are.)
+-- What the log of a processor tells so far. (This project's own: journals are.)
 use Rattle.std.specs.Prelude.{◌≡◌}
 use Rattle.bm_journal.specs.declared.ids.Domain.{Domain}
 use Rattle.bm_lang.specs.declared.scenario.Parts.{Parts}

@@ -4,20 +4,22 @@ use Rattle.bm_journal.specs.declared.ids.Domain.{Domain}
 use Rattle.bm_journal.specs.declared.ids.Domain.TheVariants.{Plain}
 use Rattle.bm_exec_levels.specs.Ready.{known_of, left_of, word_of}
 use Rattle.bm_exec_levels.specs.declared.processor.Processor.{Processor}
+use Rattle.bm_grace.specs.declared.grace.Knows.{Ghosts as Knows}
 
--- It is the same one, of as many.
-pub record Ordinary (before now : Processor) : Type 0 where
-  pub processors : (known_of now).grace.processors ≡ (known_of before).grace.processors
-  pub processor : (known_of now).grace.processor ≡ (known_of before).grace.processor
+module _ {W : Type 0} (knows : Knows W) where
+  -- It is the same one, of as many.
+  pub record Ordinary (before now : Processor W) : Type 0 where
+    pub processors : (known_of knows now).grace.processors ≡ (known_of knows before).grace.processors
+    pub processor : (known_of knows now).grace.processor ≡ (known_of knows before).grace.processor
 
--- Statements of ordinary code, with the handlers that ran between their steps and the deferred work behind them: no handler was
--- added to those that haven't run, none still runs, and it is in a section or in none as before, in the same one if in one; no
--- more words are named than were reckoned for those handlers.
-pub record Statements (before now : Processor) : Type 0 where
-  pub ordinary : Ordinary before now
-  pub fewer : length (left_of now) ≤ length (left_of before)
-  pub running : now.running.items ≡ before.running.items
-  pub inside : now.inside ≡ before.inside
-  pub parity : (d : Domain) → word_of d now % 2 ≡ word_of d before % 2
-  pub inner : word_of Plain before % 2 ≡ 1 → word_of Plain now ≡ word_of Plain before
-  pub words : word_of Plain now + 2 * length (left_of now) ≤ word_of Plain before + 2 * length (left_of before)
+  -- Statements of ordinary code, with the handlers that ran between their steps and the deferred work behind them: no handler was
+  -- added to those that haven't run, none still runs, and it is in a section or in none as before, in the same one if in one; no
+  -- more words are named than were reckoned for those handlers.
+  pub record Statements (before now : Processor W) : Type 0 where
+    pub ordinary : Ordinary before now
+    pub fewer : length (left_of now) ≤ length (left_of before)
+    pub running : now.running.items ≡ before.running.items
+    pub inside : now.inside ≡ before.inside
+    pub parity : (d : Domain) → word_of knows d now % 2 ≡ word_of knows d before % 2
+    pub inner : word_of knows Plain before % 2 ≡ 1 → word_of knows Plain now ≡ word_of knows Plain before
+    pub words : word_of knows Plain now + 2 * length (left_of now) ≤ word_of knows Plain before + 2 * length (left_of before)

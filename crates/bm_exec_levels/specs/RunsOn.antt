@@ -14,33 +14,35 @@ use Rattle.bm_exec_levels.specs.Hosting.{goes-joined, stays-join, stays-same}
 use Rattle.bm_exec_levels.specs.Ready.{known_of, left_of}
 use Rattle.bm_exec_levels.specs.declared.processor.Processor.{Processor}
 use Rattle.bm_exec_levels.specs.declared.program.Program.{Program}
+use Rattle.bm_grace.specs.declared.grace.Knows.{Ghosts as Knows}
 
--- Calls of level l and above came on its caches, and what code leaves as it was is so, whatever it asked for; it began and
--- ended no section of its own.
-pub record RunsOn (l : ℕ) (p : Program) (a b : Processor) : Type 0 where
-  pub came : CameAt l a b
-  pub asks : ℕ
-  pub stays : Stays asks 0 p a b
-  pub goes : GoesOn (known_of a) (known_of b)
-  pub fewer : length (left_of b) ≤ length (left_of a)
+module _ {W : Type 0} (knows : Knows W) where
+  -- Calls of level l and above came on its caches, and what code leaves as it was is so, whatever it asked for; it began and
+  -- ended no section of its own.
+  pub record RunsOn (l : ℕ) (p : Program) (a b : Processor W) : Type 0 where
+    pub came : CameAt knows l a b
+    pub asks : ℕ
+    pub stays : Stays knows asks 0 p a b
+    pub goes : GoesOn (known_of knows a) (known_of knows b)
+    pub fewer : length (left_of b) ≤ length (left_of a)
 
-pub runs-same : (l : ℕ) (p : Program) (m : Processor) → RunsOn l p m m
-runs-same l p m = record {
-  came = record { kept = Kept-refl l (shown m.caches); above = Above-none l (log_of m); lasting = lasting-none l (shown m.caches) (tests_of m); processor = refl };
-  asks = 0;
-  stays = stays-same p m;
-  goes = goes-still (known_of m) (known_of m) refl;
-  fewer = omega arith;
-}
+  pub runs-same : (l : ℕ) (p : Program) (m : Processor W) → RunsOn l p m m
+  runs-same l p m = record {
+    came = record { kept = Kept-refl l (shown m.caches); above = Above-none l (log_of m); lasting = lasting-none l (shown m.caches) (tests_of knows m); processor = refl };
+    asks = 0;
+    stays = stays-same knows p m;
+    goes = goes-still (known_of knows m) (known_of knows m) refl;
+    fewer = omega arith;
+  }
 
-pub runs-joined : (l : ℕ) (p q : Program) (a b c : Processor) → q ≡ p → RunsOn l p a b → RunsOn l q b c → RunsOn l p a c
-runs-joined l p q a b c e x y =
-    let F : Program → Type 0 = λ r. RunsOn l r b c in
-    let z : RunsOn l p b c = subst F e y in
-    record {
-      came = came-join (λ (r : Recorded). r.told) l (tests_of a) (tests_of b) (tests_of c) a.caches b.caches c.caches x.came z.came;
-      asks = x.asks + z.asks;
-      stays = stays-join x.asks 0 z.asks 0 p a b c x.stays z.stays;
-      goes = goes-joined (known_of a) (known_of b) (known_of c) x.goes z.goes;
-      fewer = (let v = x.fewer in let w = z.fewer in omega (arith, v, w));
-    }
+  pub runs-joined : (l : ℕ) (p q : Program) (a b c : Processor W) → q ≡ p → RunsOn l p a b → RunsOn l q b c → RunsOn l p a c
+  runs-joined l p q a b c e x y =
+      let F : Program → Type 0 = λ r. RunsOn l r b c in
+      let z : RunsOn l p b c = subst F e y in
+      record {
+        came = came-join (λ (r : Recorded). r.told) l (tests_of knows a) (tests_of knows b) (tests_of knows c) a.caches b.caches c.caches x.came z.came;
+        asks = x.asks + z.asks;
+        stays = stays-join knows x.asks 0 z.asks 0 p a b c x.stays z.stays;
+        goes = goes-joined (known_of knows a) (known_of knows b) (known_of knows c) x.goes z.goes;
+        fewer = (let v = x.fewer in let w = z.fewer in omega (arith, v, w));
+      }

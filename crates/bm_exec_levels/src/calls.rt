@@ -17,31 +17,31 @@ use crate::host::At;
 use crate::processor::Processor;
 use crate::program::Program;
 use crate::ranks::Rank;
-use crate::since::Since;
 use bm_cache::{Given, alloc, free};
 use bm_class::Class;
 use bm_journal::{Entry, ObjId, Values};
 use bm_page::Unit;
 use bm_word::Name;
+use bm_world::{Lives, Since};
 use std::marker::PhantomData;
 
 // Allocates a unit at a level.
-fn allocate<'s, B: Since, L: Rank>(
-    own: &mut Processor,
+fn allocate<'s, W: Lives, B: Since<W>, L: Rank>(
+    own: &mut Processor<W>,
     program: &'s Program<'s>,
     class: Class,
 ) -> Given
-    requires at { IsAt StandsAt L.number program.now own.old }
-    requires tied { TiedAt B.since B.start own.old }
-    requires fine { FineAt L.number own.old }
+    requires at { IsAt W.Knows StandsAt L.number program.now own.old }
+    requires tied { TiedAt W.Knows B.since B.start own.old }
+    requires fine { FineAt W.Knows L.number own.old }
     ensures answer { Allocated own.old.caches.processor L.number class (log_of own.old) (log_of own.new) (shown own.old.caches) (shown own.new.caches) result }
-    ensures gone { Gone (tests_of own.new) (shown own.new.caches) result }
+    ensures gone { Gone (tests_of W.Knows own.new) (shown own.new.caches) result }
     ensures class { IsOfClass class result }
-    ensures sound { SoundBy (λ (m : ProcessorValue). IsAt StandsAt L.number program.now m × TiedAt B.since B.start m) (λ u life m. IsAt StandsAt L.number program.now m × GaveAt B.since B.start L.number u life m) own.new result }
-    ensures between { Between 0 0 L.number program.now own.old own.new }
-    ensures lives { SameLives own.old own.new }
+    ensures sound { SoundBy (λ (m : ProcessorValue W). IsAt W.Knows StandsAt L.number program.now m × TiedAt W.Knows B.since B.start m) (λ u life m. IsAt W.Knows StandsAt L.number program.now m × GaveAt W.Knows B.since B.start L.number u life m) own.new result }
+    ensures between { Between W.Knows 0 0 L.number program.now own.old own.new }
+    ensures lives { SameLives W.Knows own.old own.new }
 {
-    let mut at = At::<B, L> {
+    let mut at = At::<W, B, L> {
         own,
         program,
         of: PhantomData,
@@ -58,21 +58,25 @@ fn allocate<'s, B: Since, L: Rank>(
 }
 
 // Frees a unit at a level.
-fn release<'s, B: Since, L: Rank>(own: &mut Processor, program: &'s Program<'s>, unit: Unit)
-    requires at { IsAt StandsAt L.number program.now own.old }
-    requires tied { FreesAt B.since B.start L.number unit.number unit.home own.old }
-    requires fine { FineAt L.number own.old }
+fn release<'s, W: Lives, B: Since<W>, L: Rank>(
+    own: &mut Processor<W>,
+    program: &'s Program<'s>,
+    unit: Unit,
+)
+    requires at { IsAt W.Knows StandsAt L.number program.now own.old }
+    requires tied { FreesAt W.Knows B.since B.start L.number unit.number unit.home own.old }
+    requires fine { FineAt W.Knows L.number own.old }
     requires fresh { stands unit.number (lists_of own.old) ≡ 0 }
     requires lives { unit.life + 1 < 2 ^ 32 }
-    requires home { unit.home < (known_of own.old).grace.processors }
-    requires suits { Reusable (tests_of own.old) unit }
+    requires home { unit.home < (known_of W.Knows own.old).grace.processors }
+    requires suits { Reusable (tests_of W.Knows own.old) unit }
     ensures freed { Freed L.number unit (entry.Free unit.number unit.home) (RestFreed (length (left_of own.old) - length (left_of own.new)) unit.class unit.number) (log_of own.old) (log_of own.new) (shown own.old.caches) (shown own.new.caches) }
-    ensures at { IsAt StandsAt L.number program.now own.new }
-    ensures tied { TiedAt B.since B.start own.new }
-    ensures between { Between 0 0 L.number program.now own.old own.new }
-    ensures lives { SameLives own.old own.new }
+    ensures at { IsAt W.Knows StandsAt L.number program.now own.new }
+    ensures tied { TiedAt W.Knows B.since B.start own.new }
+    ensures between { Between W.Knows 0 0 L.number program.now own.old own.new }
+    ensures lives { SameLives W.Knows own.old own.new }
 {
-    let mut at = At::<B, L> {
+    let mut at = At::<W, B, L> {
         own,
         program,
         of: PhantomData,
@@ -89,24 +93,24 @@ fn release<'s, B: Since, L: Rank>(own: &mut Processor, program: &'s Program<'s>,
 
 /// Asks for an object of a class, of a type with this name, with these values of its fields, at a level. None exactly where the
 /// allocation answers null. It takes no memory but the recorder's.
-pub(crate) fn make<'s, B: Since, L: Rank>(
-    own: &mut Processor,
+pub(crate) fn make<'s, W: Lives, B: Since<W>, L: Rank>(
+    own: &mut Processor<W>,
     program: &'s Program<'s>,
     class: Class,
     name: Name,
     values: Values,
 ) -> Option<ObjId>
-    requires at { IsAt StandsAt L.number program.now own.old }
-    requires tied { TiedAt B.since B.start own.old }
-    requires fine { FineAt L.number own.old }
-    requires room { asked_of program.now.scenario.now own.old + 1 < 2 ^ 22 }
-    ensures created { Created L.number class name values (log_of own.old) (log_of own.new) (known_of own.old).objects.lives (known_of own.new).objects.lives result }
-    ensures at { IsAt StandsAt L.number program.now own.new }
-    ensures tied { TiedAt B.since B.start own.new }
-    ensures between { Between 1 0 L.number program.now own.old own.new }
+    requires at { IsAt W.Knows StandsAt L.number program.now own.old }
+    requires tied { TiedAt W.Knows B.since B.start own.old }
+    requires fine { FineAt W.Knows L.number own.old }
+    requires room { asked_of W.Knows program.now.scenario.now own.old + 1 < 2 ^ 22 }
+    ensures created { Created L.number class name values (log_of own.old) (log_of own.new) (known_of W.Knows own.old).objects.lives (known_of W.Knows own.new).objects.lives result }
+    ensures at { IsAt W.Knows StandsAt L.number program.now own.new }
+    ensures tied { TiedAt W.Knows B.since B.start own.new }
+    ensures between { Between W.Knows 1 0 L.number program.now own.old own.new }
 {
     own.caches.note(L::level(), Entry::New(name, values));
-    match allocate::<B, L>(own, program, class) {
+    match allocate::<W, B, L>(own, program, class) {
         Given::Unit(unit) => Some(own.side.begin_life(unit)),
         Given::Empty => {
             own.side.ask();
@@ -120,25 +124,25 @@ pub(crate) fn make<'s, B: Since, L: Rank>(
 }
 
 /// Gives up the one reference to an object that lives, at a level. It takes no memory but the recorder's.
-pub(crate) fn give_up<'s, B: Since, L: Rank>(
-    own: &mut Processor,
+pub(crate) fn give_up<'s, W: Lives, B: Since<W>, L: Rank>(
+    own: &mut Processor<W>,
     program: &'s Program<'s>,
     object: ObjId,
 )
-    requires at { IsAt StandsAt L.number program.now own.old }
-    requires tied { TiedAt B.since B.start own.old }
-    requires fine { FineAt L.number own.old }
-    requires living { (c : ℕ) × LivesAs (known_of own.old).objects.lives c object.unit object.life }
-    ensures disposed { (c : ℕ) → LivesAs (known_of own.old).objects.lives c object.unit object.life →
-        Disposed L.number c object (log_of own.old) (log_of own.new) (known_of own.old).objects.lives (known_of own.new).objects.lives }
-    ensures at { IsAt StandsAt L.number program.now own.new }
-    ensures tied { TiedAt B.since B.start own.new }
-    ensures between { Between 0 0 L.number program.now own.old own.new }
+    requires at { IsAt W.Knows StandsAt L.number program.now own.old }
+    requires tied { TiedAt W.Knows B.since B.start own.old }
+    requires fine { FineAt W.Knows L.number own.old }
+    requires living { (c : ℕ) × LivesAs (known_of W.Knows own.old).objects.lives c object.unit object.life }
+    ensures disposed { (c : ℕ) → LivesAs (known_of W.Knows own.old).objects.lives c object.unit object.life →
+        Disposed L.number c object (log_of own.old) (log_of own.new) (known_of W.Knows own.old).objects.lives (known_of W.Knows own.new).objects.lives }
+    ensures at { IsAt W.Knows StandsAt L.number program.now own.new }
+    ensures tied { TiedAt W.Knows B.since B.start own.new }
+    ensures between { Between W.Knows 0 0 L.number program.now own.old own.new }
 {
     let level = L::level();
     own.caches
         .note(level, Entry::Drop(object.unit, object.life));
     own.caches.note(level, Entry::Last);
     let unit = own.side.end_life(object.unit);
-    release::<B, L>(own, program, unit);
+    release::<W, B, L>(own, program, unit);
 }

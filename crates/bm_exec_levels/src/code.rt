@@ -3,13 +3,13 @@
 use crate::calls::{give_up, make};
 use crate::host::At;
 use crate::ranks::Rank;
-use crate::since::Since;
 use bm_class::Class;
 use bm_exec::Machine;
 use bm_journal::{ObjId, Values};
 use bm_word::{Name, NoMemory};
+use bm_world::{Lives, Since};
 
-impl<'a, 's, B: Since, L: Rank> Machine for At<'a, 's, B, L> {
+impl<'a, 's, W: Lives, B: Since<W>, L: Rank> Machine for At<'a, 's, W, B, L> {
     ghost use Rattle.std.specs.Prelude.{◌≡◌, None, refl};
     ghost use Rattle.std.proofs.Common.{◌∙◌};
     ghost use Rattle.bm_plan.specs.Position.{StandsAt};
@@ -26,24 +26,24 @@ impl<'a, 's, B: Since, L: Rank> Machine for At<'a, 's, B, L> {
 
     ghost level = { λ m. L.number };
 
-    ghost lives = { λ m. (known_of m.own.now).objects.lives };
+    ghost lives = { λ m. (known_of W.Knows m.own.now).objects.lives };
 
-    ghost asked = { λ m. asked_of m.program.now.scenario.now m.own.now };
+    ghost asked = { λ m. asked_of W.Knows m.program.now.scenario.now m.own.now };
 
     ghost behind = { λ m. None };
 
     ghost through = { λ m. m.own.ghost_name };
 
-    ghost sound = { λ m. IsAt StandsAt L.number m.program.now m.own.now × FineAt L.number m.own.now × TiedAt B.since B.start m.own.now };
+    ghost sound = { λ m. IsAt W.Knows StandsAt L.number m.program.now m.own.now × FineAt W.Knows L.number m.own.now × TiedAt W.Knows B.since B.start m.own.now };
 
-    ghost keeps = { λ a b. RunsOn L.number a.program.now a.own.now b.own.now × (b.program.now ≡ a.program.now) };
+    ghost keeps = { λ a b. RunsOn W.Knows L.number a.program.now a.own.now b.own.now × (b.program.now ≡ a.program.now) };
 
     fn create(&mut self, class: Class, name: Name, values: Values) -> Option<ObjId> {
-        make::<B, L>(self.own, self.program, class, name, values)
+        make::<W, B, L>(self.own, self.program, class, name, values)
     }
 
     fn dispose(&mut self, object: ObjId) {
-        give_up::<B, L>(self.own, self.program, object);
+        give_up::<W, B, L>(self.own, self.program, object);
     }
 
     fn settle(&mut self) -> Result<(), NoMemory> {
@@ -52,7 +52,7 @@ impl<'a, 's, B: Since, L: Rank> Machine for At<'a, 's, B, L> {
 
     ghost told = { λ m s. s.1.placed.told };
 
-    ghost keeps_same = { λ m. (runs-same L.number m.program.now m.own.now, refl) };
+    ghost keeps_same = { λ m. (runs-same W.Knows L.number m.program.now m.own.now, refl) };
 
-    ghost keeps_join = { λ a b c x y. (runs-joined L.number a.program.now b.program.now a.own.now b.own.now c.own.now x.1 x.0 y.0, y.1 ∙ x.1) };
+    ghost keeps_join = { λ a b c x y. (runs-joined W.Knows L.number a.program.now b.program.now a.own.now b.own.now c.own.now x.1 x.0 y.0, y.1 ∙ x.1) };
 }

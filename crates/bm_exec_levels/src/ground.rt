@@ -16,11 +16,11 @@ use crate::host::At;
 use crate::processor::Processor;
 use crate::program::Program;
 use crate::ranks::Ordinary;
-use crate::since::Since;
 use bm_class::Class;
 use bm_exec::Machine;
 use bm_journal::{ObjId, Values};
 use bm_word::{Name, NoMemory};
+use bm_world::{Lives, Since};
 use std::marker::PhantomData;
 
 /// The classes for which deferred work runs behind statements and scripts; none where none runs.
@@ -30,8 +30,8 @@ pub struct Deferred<'s> {
 }
 
 /// Ordinary code on a processor, which it borrows.
-pub struct Ground<'a, 's, B> {
-    pub own: &'a mut Processor,
+pub struct Ground<'a, 's, W, B> {
+    pub own: &'a mut Processor<W>,
     pub program: &'s Program<'s>,
     /// The work behind its statements.
     pub deferred: &'s Deferred<'s>,
@@ -39,26 +39,26 @@ pub struct Ground<'a, 's, B> {
 }
 
 // Deferred work behind a statement, until no flag of these classes is up. Want of memory is the only refusal.
-fn settle_statement<'s, B: Since>(
-    own: &mut Processor,
+fn settle_statement<'s, W: Lives, B: Since<W>>(
+    own: &mut Processor<W>,
     program: &'s Program<'s>,
     classes: &'s [Class],
 ) -> Result<(), NoMemory>
-    requires sound { Sound program.now own.old }
-    requires tied { TiedAt B.since B.start own.old }
+    requires sound { Sound W.Knows program.now own.old }
+    requires tied { TiedAt W.Knows B.since B.start own.old }
     requires few { length classes.now ≤ 11 }
-    requires room { asked_of program.now.scenario.now own.old + 1 < 2 ^ 22 }
+    requires room { asked_of W.Knows program.now.scenario.now own.old + 1 < 2 ^ 22 }
     ensures grew { OnOk result (GrewBy (UntilDown classes.now) (lists_of own.old) (log_of own.old) (log_of own.new)) }
     ensures down { OnOk result (Behind (Some classes.now) (lists_of own.new) []) }
-    ensures lives { OnOk result (SameLives own.old own.new) }
-    ensures asked { OnOk result (asked_of program.now.scenario.now own.new ≤ asked_of program.now.scenario.now own.old + 1) }
-    ensures statements { OnOk result (Statements own.old own.new) }
-    ensures sound { OnOk result (Sound program.now own.new) }
-    ensures tied { OnOk result (TiedAt B.since B.start own.new) }
+    ensures lives { OnOk result (SameLives W.Knows own.old own.new) }
+    ensures asked { OnOk result (asked_of W.Knows program.now.scenario.now own.new ≤ asked_of W.Knows program.now.scenario.now own.old + 1) }
+    ensures statements { OnOk result (Statements W.Knows own.old own.new) }
+    ensures sound { OnOk result (Sound W.Knows program.now own.new) }
+    ensures tied { OnOk result (TiedAt W.Knows B.since B.start own.new) }
 {
     own.settled += 1;
     let alloc = own.alloc;
-    let mut at = At::<B, Ordinary> {
+    let mut at = At::<W, B, Ordinary> {
         own,
         program,
         of: PhantomData,
@@ -76,26 +76,26 @@ fn settle_statement<'s, B: Since>(
 
 /// Deferred work behind a script: the work of each of these classes, and then until no flag is up. Want of memory is the only
 /// refusal; the processor is of no further use then.
-pub fn settle_script<'s, B: Since>(
-    own: &mut Processor,
+pub fn settle_script<'s, W: Lives, B: Since<W>>(
+    own: &mut Processor<W>,
     program: &'s Program<'s>,
     classes: &'s [Class],
 ) -> Result<(), NoMemory>
-    requires sound { Sound program.now own.old }
-    requires tied { TiedAt B.since B.start own.old }
+    requires sound { Sound W.Knows program.now own.old }
+    requires tied { TiedAt W.Knows B.since B.start own.old }
     requires few { length classes.now ≤ 11 }
-    requires room { asked_of program.now.scenario.now own.old + 1 < 2 ^ 22 }
+    requires room { asked_of W.Knows program.now.scenario.now own.old + 1 < 2 ^ 22 }
     ensures grew { OnOk result (GrewBy (WorkBehind classes.now) (lists_of own.old) (log_of own.old) (log_of own.new)) }
     ensures down { OnOk result (Behind (Some classes.now) (lists_of own.new) []) }
-    ensures lives { OnOk result (SameLives own.old own.new) }
-    ensures asked { OnOk result (asked_of program.now.scenario.now own.new ≤ asked_of program.now.scenario.now own.old + 1) }
-    ensures statements { OnOk result (Statements own.old own.new) }
-    ensures sound { OnOk result (Sound program.now own.new) }
-    ensures tied { OnOk result (TiedAt B.since B.start own.new) }
+    ensures lives { OnOk result (SameLives W.Knows own.old own.new) }
+    ensures asked { OnOk result (asked_of W.Knows program.now.scenario.now own.new ≤ asked_of W.Knows program.now.scenario.now own.old + 1) }
+    ensures statements { OnOk result (Statements W.Knows own.old own.new) }
+    ensures sound { OnOk result (Sound W.Knows program.now own.new) }
+    ensures tied { OnOk result (TiedAt W.Knows B.since B.start own.new) }
 {
     own.settled += 1;
     let alloc = own.alloc;
-    let mut at = At::<B, Ordinary> {
+    let mut at = At::<W, B, Ordinary> {
         own,
         program,
         of: PhantomData,
@@ -111,7 +111,7 @@ pub fn settle_script<'s, B: Since>(
     settled
 }
 
-impl<'a, 's, B: Since> Machine for Ground<'a, 's, B> {
+impl<'a, 's, W: Lives, B: Since<W>> Machine for Ground<'a, 's, W, B> {
     ghost use Rattle.std.specs.Prelude.{◌≡◌, ◌≤◌, IfSome, length, refl};
     ghost use Rattle.std.proofs.Common.{◌∙◌};
     ghost use Rattle.bm_exec.specs.Lists.{behind_of};
@@ -130,36 +130,36 @@ impl<'a, 's, B: Since> Machine for Ground<'a, 's, B> {
 
     ghost level = { λ _. 0 };
 
-    ghost lives = { λ m. (known_of m.own.now).objects.lives };
+    ghost lives = { λ m. (known_of W.Knows m.own.now).objects.lives };
 
-    ghost asked = { λ m. asked_of m.program.now.scenario.now m.own.now };
+    ghost asked = { λ m. asked_of W.Knows m.program.now.scenario.now m.own.now };
 
     ghost behind = { λ m. behind_of m.deferred.now.behind };
 
     ghost through = { λ m. m.own.ghost_name };
 
-    ghost sound = { λ m. Sound m.program.now m.own.now × IfSome m.deferred.now.behind (λ classes. length classes.now ≤ 11) × TiedAt B.since B.start m.own.now };
+    ghost sound = { λ m. Sound W.Knows m.program.now m.own.now × IfSome m.deferred.now.behind (λ classes. length classes.now ≤ 11) × TiedAt W.Knows B.since B.start m.own.now };
 
-    ghost keeps = { λ a b. Statements a.own.now b.own.now × (b.program.now ≡ a.program.now) };
+    ghost keeps = { λ a b. Statements W.Knows a.own.now b.own.now × (b.program.now ≡ a.program.now) };
 
     fn create(&mut self, class: Class, name: Name, values: Values) -> Option<ObjId> {
-        make::<B, Ordinary>(self.own, self.program, class, name, values)
+        make::<W, B, Ordinary>(self.own, self.program, class, name, values)
     }
 
     fn dispose(&mut self, object: ObjId) {
-        give_up::<B, Ordinary>(self.own, self.program, object);
+        give_up::<W, B, Ordinary>(self.own, self.program, object);
     }
 
     fn settle(&mut self) -> Result<(), NoMemory> {
         let Some(classes) = self.deferred.behind else {
             return Ok(());
         };
-        settle_statement::<B>(self.own, self.program, classes)
+        settle_statement::<W, B>(self.own, self.program, classes)
     }
 
     ghost told = { λ m s. s.0.fine.placed.told };
 
-    ghost keeps_same = { λ m. (statements-same m.own.now, refl) };
+    ghost keeps_same = { λ m. (statements-same W.Knows m.own.now, refl) };
 
-    ghost keeps_join = { λ a b c x y. (statements-joined a.own.now b.own.now c.own.now x.0 y.0, y.1 ∙ x.1) };
+    ghost keeps_join = { λ a b c x y. (statements-joined W.Knows a.own.now b.own.now c.own.now x.0 y.0, y.1 ∙ x.1) };
 }

@@ -14,21 +14,25 @@ use crate::inside::run_inside;
 use crate::processor::Processor;
 use crate::program::Program;
 use crate::ranks::Rank;
-use crate::since::Since;
 use bm_due::Due;
 use bm_exec::NameTable;
 use bm_journal::{Entry, Level};
 use bm_lang::Script;
+use bm_world::{Lives, Since};
 
 // The handler that is due before the next step of code of this level, and begins; None, and nothing changes, where none is due.
-fn begin_due<'s>(own: &mut Processor, program: &'s Program<'s>, level: Level) -> Option<Due>
-    requires at { IsAt AboutTo level program.now own.old }
-    requires fine { FineAt (level + 1) own.old }
+fn begin_due<'s, W: Lives>(
+    own: &mut Processor<W>,
+    program: &'s Program<'s>,
+    level: Level,
+) -> Option<Due>
+    requires at { IsAt W.Knows AboutTo level program.now own.old }
+    requires fine { FineAt W.Knows (level + 1) own.old }
     ensures none { IfNone result (own.new ≡ own.old) }
-    ensures asked { IfNone result (IsAt AskedAt level program.now own.old) }
-    ensures begun { IfSome result (λ due. IsBegun level program.now due own.old own.new) }
-    ensures between { Between 0 0 (level + 1) program.now own.old own.new }
-    ensures lives { SameLives own.old own.new }
+    ensures asked { IfNone result (IsAt W.Knows AskedAt level program.now own.old) }
+    ensures begun { IfSome result (λ due. IsBegun W.Knows level program.now due own.old own.new) }
+    ensures between { Between W.Knows 0 0 (level + 1) program.now own.old own.new }
+    ensures lives { SameLives W.Knows own.old own.new }
     ensures same { own.new ≡ record own.old { handlers = own.new.handlers } }
 {
     let step = own.caches.next_step();
@@ -37,18 +41,21 @@ fn begin_due<'s>(own: &mut Processor, program: &'s Program<'s>, level: Level) ->
 
 /// All handlers that are due before the next step of code of a level run, the highest level first, then in the order of the text,
 /// and the step's number is read anew after each. Where none is due nothing changes. It takes no memory but the recorder's.
-pub(crate) fn run_due<'s, B: Since, L: Rank>(own: &mut Processor, program: &'s Program<'s>)
-    requires at { IsAt AboutTo L.number program.now own.old }
-    requires tied { TiedAt B.since B.start own.old }
-    requires fine { FineAt (L.number + 1) own.old }
-    ensures asked { IsAt AskedAt L.number program.now own.new }
-    ensures tied { TiedAt B.since B.start own.new }
-    ensures between { Between 0 0 (L.number + 1) program.now own.old own.new }
-    ensures lives { SameLives own.old own.new }
+pub(crate) fn run_due<'s, W: Lives, B: Since<W>, L: Rank>(
+    own: &mut Processor<W>,
+    program: &'s Program<'s>,
+)
+    requires at { IsAt W.Knows AboutTo L.number program.now own.old }
+    requires tied { TiedAt W.Knows B.since B.start own.old }
+    requires fine { FineAt W.Knows (L.number + 1) own.old }
+    ensures asked { IsAt W.Knows AskedAt L.number program.now own.new }
+    ensures tied { TiedAt W.Knows B.since B.start own.new }
+    ensures between { Between W.Knows 0 0 (L.number + 1) program.now own.old own.new }
+    ensures lives { SameLives W.Knows own.old own.new }
     ensures quiet { length (left_of own.new) ≡ length (left_of own.old) → own.new ≡ own.old }
 {
     while let Some(due) = begin_due(own, program, L::level()) {
-        L::interrupt::<B>(own, program, &due);
+        L::interrupt::<W, B>(own, program, &due);
     }
 }
 
@@ -61,19 +68,19 @@ fn script_of<'s>(program: &'s Program<'s>, due: &Due) -> &'s Script
 }
 
 // A handler begins: its line stands next, it is among those that run, and a table of names is its own.
-fn begin_handler<'s>(
-    own: &mut Processor,
+fn begin_handler<'s, W: Lives>(
+    own: &mut Processor<W>,
     program: &'s Program<'s>,
     due: &Due,
     script: &'s Script,
 ) -> NameTable
-    requires due { (k : ℕ) × IsDue k program.now due.now own.old }
+    requires due { (k : ℕ) × IsDue W.Knows k program.now due.now own.old }
     requires found { slice_get program.now.scenario.now.scripts due.now.script.0 ≡ Some script.now }
-    requires fine { FineAt due.now.level own.old }
-    ensures at { IsAt StandsAt due.now.level program.now own.new }
+    requires fine { FineAt W.Knows due.now.level own.old }
+    ensures at { IsAt W.Knows StandsAt due.now.level program.now own.new }
     ensures said { Appends (log_of own.old) due.now.level (entry.Handler script.now.name) (log_of own.new) }
-    ensures fine { FineAt due.now.level own.new }
-    ensures came { CameAt due.now.level own.old own.new }
+    ensures fine { FineAt W.Knows due.now.level own.new }
+    ensures came { CameAt W.Knows due.now.level own.old own.new }
     ensures same { own.new ≡ record own.old { caches = own.new.caches; running = own.new.running; tables = own.new.tables } }
     ensures running { own.new.running.items ≡ own.old.running.items ++ due.now ∷ [] }
     ensures tables { length own.new.tables.items + 1 ≡ length own.old.tables.items }
@@ -92,23 +99,23 @@ fn begin_handler<'s>(
 }
 
 // A handler goes back: its line stands next, it is no more among those that run, and its table of names is free.
-fn end_handler<'s>(
-    own: &mut Processor,
+fn end_handler<'s, W: Lives>(
+    own: &mut Processor<W>,
     program: &'s Program<'s>,
     due: &Due,
     script: &'s Script,
     table: NameTable,
 )
-    requires at { IsAt StandsAt due.now.level program.now own.old }
+    requires at { IsAt W.Knows StandsAt due.now.level program.now own.old }
     requires found { slice_get program.now.scenario.now.scripts due.now.script.0 ≡ Some script.now }
     requires phrase { IfSome (log_of own.old) (HasPhrase due.now.level program.now.scenario.now script.now.name) }
-    requires fine { FineAt due.now.level own.old }
+    requires fine { FineAt W.Knows due.now.level own.old }
     requires runs { (dues : List DueValue) × (own.old.running.items ≡ dues ++ due.now ∷ []) }
     requires bound { BindsAll program.now.scenario.now.scripts table }
-    ensures at { (was : ProcessorValue) (k : ℕ) → IsDue k program.now due.now was → own.old.running.items ≡ was.running.items ++ due.now ∷ [] → IsAt AboutTo k program.now own.new }
+    ensures at { (was : ProcessorValue W) (k : ℕ) → IsDue W.Knows k program.now due.now was → own.old.running.items ≡ was.running.items ++ due.now ∷ [] → IsAt W.Knows AboutTo k program.now own.new }
     ensures said { Appends (log_of own.old) due.now.level (entry.Back script.now.name) (log_of own.new) }
-    ensures fine { FineAt due.now.level own.new }
-    ensures came { CameAt due.now.level own.old own.new }
+    ensures fine { FineAt W.Knows due.now.level own.new }
+    ensures came { CameAt W.Knows due.now.level own.old own.new }
     ensures same { own.new ≡ record own.old { caches = own.new.caches; running = own.new.running; tables = own.new.tables } }
     ensures running { (dues : List DueValue) → own.old.running.items ≡ dues ++ due.now ∷ [] → own.new.running.items ≡ dues }
     ensures tables { length own.new.tables.items ≡ length own.old.tables.items + 1 }
@@ -123,22 +130,22 @@ fn end_handler<'s>(
 }
 
 /// A handler that is due runs, on the machine of its level. It takes no memory but the recorder's.
-pub(crate) fn run_one<'s, B: Since, L: Rank>(
-    own: &mut Processor,
+pub(crate) fn run_one<'s, W: Lives, B: Since<W>, L: Rank>(
+    own: &mut Processor<W>,
     program: &'s Program<'s>,
     due: &Due,
 )
-    requires due { (k : ℕ) × IsDue k program.now due.now own.old }
+    requires due { (k : ℕ) × IsDue W.Knows k program.now due.now own.old }
     requires level { due.now.level ≡ L.number }
-    requires tied { TiedAt B.since B.start own.old }
-    requires fine { FineAt due.now.level own.old }
-    ensures at { (k : ℕ) → IsDue k program.now due.now own.old → IsAt AboutTo k program.now own.new }
-    ensures tied { TiedAt B.since B.start own.new }
-    ensures between { Between (due_cost program.now due.now) 2 due.now.level program.now own.old own.new }
-    ensures lives { SameLives own.old own.new }
+    requires tied { TiedAt W.Knows B.since B.start own.old }
+    requires fine { FineAt W.Knows due.now.level own.old }
+    ensures at { (k : ℕ) → IsDue W.Knows k program.now due.now own.old → IsAt W.Knows AboutTo k program.now own.new }
+    ensures tied { TiedAt W.Knows B.since B.start own.new }
+    ensures between { Between W.Knows (due_cost program.now due.now) 2 due.now.level program.now own.old own.new }
+    ensures lives { SameLives W.Knows own.old own.new }
 {
     let script = script_of(program, due);
     let mut table = begin_handler(own, program, due, script);
-    run_inside::<B, L>(own, program, script, &mut table);
+    run_inside::<W, B, L>(own, program, script, &mut table);
     end_handler(own, program, due, script, table);
 }

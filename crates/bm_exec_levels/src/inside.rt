@@ -18,32 +18,32 @@ use crate::processor::Processor;
 use crate::program::Program;
 use crate::ranks::Rank;
 use crate::sections::{enter_section, leave_section};
-use crate::since::Since;
 use bm_exec::{NameTable, run_handler};
 use bm_lang::Script;
+use bm_world::{Lives, Since};
 use std::marker::PhantomData;
 
 // Runs the script of a handler on the machine of its level, as the processor stands.
-fn run_code<'s, B: Since, L: Rank>(
-    own: &mut Processor,
+fn run_code<'s, W: Lives, B: Since<W>, L: Rank>(
+    own: &mut Processor<W>,
     program: &'s Program<'s>,
     script: &'s Script,
     table: &mut NameTable,
 )
-    requires at { IsAt StandsAt L.number program.now own.old }
-    requires tied { TiedAt B.since B.start own.old }
-    requires fine { FineAt L.number own.old }
+    requires at { IsAt W.Knows StandsAt L.number program.now own.old }
+    requires tied { TiedAt W.Knows B.since B.start own.old }
+    requires fine { FineAt W.Knows L.number own.old }
     requires found { (i : ℕ) × (slice_get program.now.scenario.now.scripts i ≡ Some script.now) }
-    requires asks { asked_of program.now.scenario.now own.old + 2 * script_cost (Some script.now) < 2 ^ 22 }
+    requires asks { asked_of W.Knows program.now.scenario.now own.old + 2 * script_cost (Some script.now) < 2 ^ 22 }
     requires bound { BindsAll program.now.scenario.now.scripts table.old }
     ensures ran { RanScript program.now.types.declared.now L.number None (lists_of own.old) script.now (log_of own.old) (log_of own.new) }
-    ensures at { IsAt StandsAt L.number program.now own.new }
-    ensures tied { TiedAt B.since B.start own.new }
-    ensures between { Between (2 * script_cost (Some script.now)) 0 L.number program.now own.old own.new }
-    ensures lives { SameLives own.old own.new }
+    ensures at { IsAt W.Knows StandsAt L.number program.now own.new }
+    ensures tied { TiedAt W.Knows B.since B.start own.new }
+    ensures between { Between W.Knows (2 * script_cost (Some script.now)) 0 L.number program.now own.old own.new }
+    ensures lives { SameLives W.Knows own.old own.new }
     ensures bound { BindsAll program.now.scenario.now.scripts table.new }
 {
-    let mut at = At::<B, L> {
+    let mut at = At::<W, B, L> {
         own,
         program,
         of: PhantomData,
@@ -60,33 +60,33 @@ fn run_code<'s, B: Since, L: Rank>(
 
 /// Runs the script of a handler on the machine of its level, in a plain section of its own where the processor is in none. It takes
 /// no memory but the recorder's.
-pub(crate) fn run_inside<'s, B: Since, L: Rank>(
-    own: &mut Processor,
+pub(crate) fn run_inside<'s, W: Lives, B: Since<W>, L: Rank>(
+    own: &mut Processor<W>,
     program: &'s Program<'s>,
     script: &'s Script,
     table: &mut NameTable,
 )
-    requires at { IsAt StandsAt L.number program.now own.old }
-    requires tied { TiedAt B.since B.start own.old }
-    requires fine { FineAt L.number own.old }
+    requires at { IsAt W.Knows StandsAt L.number program.now own.old }
+    requires tied { TiedAt W.Knows B.since B.start own.old }
+    requires fine { FineAt W.Knows L.number own.old }
     requires found { (i : ℕ) × (slice_get program.now.scenario.now.scripts i ≡ Some script.now) }
     requires handles { script.now.kind ≡ kind.Handler }
-    requires asks { asked_of program.now.scenario.now own.old + 2 * script_cost (Some script.now) < 2 ^ 22 }
-    requires words { word_of Plain own.old + 2 * length (left_of own.old) + 2 < 2 ^ 28 }
+    requires asks { asked_of W.Knows program.now.scenario.now own.old + 2 * script_cost (Some script.now) < 2 ^ 22 }
+    requires words { word_of W.Knows Plain own.old + 2 * length (left_of own.old) + 2 < 2 ^ 28 }
     requires bound { BindsAll program.now.scenario.now.scripts table.old }
-    ensures phrase { GrewBy (Say L.number (HandlerPhrase program.now.scenario.now script.now.name (word_of Plain own.old))) (lists_of own.old) (log_of own.old) (log_of own.new) }
-    ensures at { IsAt StandsAt L.number program.now own.new }
-    ensures tied { TiedAt B.since B.start own.new }
-    ensures between { Between (2 * script_cost (Some script.now)) 2 L.number program.now own.old own.new }
-    ensures lives { SameLives own.old own.new }
+    ensures phrase { GrewBy (Say L.number (HandlerPhrase program.now.scenario.now script.now.name (word_of W.Knows Plain own.old))) (lists_of own.old) (log_of own.old) (log_of own.new) }
+    ensures at { IsAt W.Knows StandsAt L.number program.now own.new }
+    ensures tied { TiedAt W.Knows B.since B.start own.new }
+    ensures between { Between W.Knows (2 * script_cost (Some script.now)) 2 L.number program.now own.old own.new }
+    ensures lives { SameLives W.Knows own.old own.new }
     ensures bound { BindsAll program.now.scenario.now.scripts table.new }
 {
     if own.inside {
-        run_code::<B, L>(own, program, script, table);
+        run_code::<W, B, L>(own, program, script, table);
     } else {
         let level = L::level();
         enter_section(own, level);
-        run_code::<B, L>(own, program, script, table);
+        run_code::<W, B, L>(own, program, script, table);
         leave_section(own, level);
     }
 }

@@ -1,7 +1,8 @@
 //! Machines of four levels on a processor, on which planned handlers run between any two steps, each on the machine of its own
 //! level; and the deferred work after each statement of a script, and after each script.
 //!
-//! - `Processor` is what a processor has: caches, its side of the world with the units that live, the handlers that haven't run.
+//! - `Processor` is what a processor has: caches, its side of a world (any `Lives` of `bm_world`), the handlers that haven't run.
+//! - `Kept` is what it keeps between its turns: `Processor::open` gives it its side of the world, and `close` takes that back.
 //! - `At` is the machine of a level (`Ordinary`, `First`, `Second` or `Third`, by `Rank`), which borrows the processor: a host, a
 //!   desk, and what statements run on. Before each step its point asks which handler is due, and runs it whole.
 //! - `Ground` is ordinary code with `Deferred` work after its statements: `until_down` after each statement, `settle_script` and
@@ -14,7 +15,7 @@
 //! (`TiedAt`): its lines and the side's acts tell one story (`bm_law_order`). Code leaves the handlers that run, the section, and
 //! the objects that live as they were (`Between`).
 //!
-//! Levels 1 to 3 stand for soft interrupts, hard interrupts and NMIs. Several processors aren't here so far.
+//! Levels 1 to 3 stand for soft interrupts, hard interrupts and NMIs. All here is of one processor, whichever it is.
 #![tactic(auto)]
 
 mod behind;
@@ -25,18 +26,19 @@ mod ground;
 mod handlers;
 mod host;
 mod inside;
+mod kept;
 mod once;
 mod processor;
 mod program;
 mod ranks;
 mod sections;
-mod since;
 
 pub use behind::{until_down, work_behind};
+pub use bm_world::Since;
 pub use ground::{Deferred, Ground, settle_script};
 pub use host::At;
+pub use kept::Kept;
 pub use processor::Processor;
 pub use program::Program;
 pub use ranks::{First, Ordinary, Rank, Second, Third};
 pub use sections::{enter_section, leave_section};
-pub use since::Since;

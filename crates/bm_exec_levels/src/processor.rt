@@ -1,19 +1,21 @@
 //! What a processor has.
 
+ghost use Rattle.std.specs.Prelude.{◌≡◌};
+
+use crate::kept::Kept;
 use bm_cache::Caches;
 use bm_due::Due;
 use bm_exec::NameTable;
 use bm_journal::Keep;
 use bm_plan::Handlers;
-use bm_world::LivingSide;
 use std::alloc::Global;
 
-/// What a processor has: its caches, its side of all that processors share with the units that live, and the handlers that are
-/// planned for it. All memory that handlers need is in it before the first script runs.
-pub struct Processor {
+/// What a processor has in its turn: what it keeps between its turns (`Kept`), and its side of the world that processors share.
+/// This project's own.
+pub struct Processor<W> {
     pub alloc: Global,
     pub caches: Caches<Keep>,
-    pub side: LivingSide,
+    pub side: W,
     /// How many times it was asked for the work behind a statement or a script.
     pub settled: u32,
     /// Whether it is in a plain section.
@@ -24,4 +26,77 @@ pub struct Processor {
     pub running: Vec<Due>,
     /// The tables of names that no handler uses, one for each level at which none runs.
     pub tables: Vec<NameTable>,
+}
+
+impl<W> Processor<W> {
+    /// A turn begins: the processor is given its side of the world.
+    pub fn open(kept: Kept, side: W) -> Processor<W>
+        ensures { result ≡ record {
+          alloc = kept.alloc;
+          caches = kept.caches;
+          side = side;
+          settled = kept.settled;
+          inside = kept.inside;
+          handlers = kept.handlers;
+          running = kept.running;
+          tables = kept.tables;
+        } }
+    {
+        let Kept {
+            alloc,
+            caches,
+            settled,
+            inside,
+            handlers,
+            running,
+            tables,
+        } = kept;
+        Processor {
+            alloc,
+            caches,
+            side,
+            settled,
+            inside,
+            handlers,
+            running,
+            tables,
+        }
+    }
+
+    /// A turn ends: the processor keeps what is its own, and gives its side of the world back.
+    pub fn close(self) -> (Kept, W)
+        ensures kept { result.0 ≡ record {
+          alloc = self.alloc;
+          caches = self.caches;
+          settled = self.settled;
+          inside = self.inside;
+          handlers = self.handlers;
+          running = self.running;
+          tables = self.tables;
+        } }
+        ensures side { result.1 ≡ self.side }
+    {
+        let Processor {
+            alloc,
+            caches,
+            side,
+            settled,
+            inside,
+            handlers,
+            running,
+            tables,
+        } = self;
+        (
+            Kept {
+                alloc,
+                caches,
+                settled,
+                inside,
+                handlers,
+                running,
+                tables,
+            },
+            side,
+        )
+    }
 }

@@ -8,9 +8,9 @@ ghost use Rattle.bm_plan.specs.Position.{AboutTo};
 use crate::handlers::run_one;
 use crate::processor::Processor;
 use crate::program::Program;
-use crate::since::Since;
 use bm_due::Due;
 use bm_journal::Level;
+use bm_world::{Lives, Since};
 
 /// A level, and the handlers that run above it.
 pub trait Rank {
@@ -24,14 +24,18 @@ pub trait Rank {
 
     /// Runs a handler that is due before a step of code of this level, on the machine of its own level, which is above it. Above
     /// level 3 there is none, and nothing is done.
-    fn interrupt<'s, B: Since>(own: &mut Processor, program: &'s Program<'s>, due: &Due)
-        requires due { number < 3 → IsDue number program.now due.now own.old }
-        requires tied { TiedAt B.since B.start own.old }
-        requires fine { FineAt (number + 1) own.old }
-        ensures at { number < 3 → IsAt AboutTo number program.now own.new }
-        ensures tied { TiedAt B.since B.start own.new }
-        ensures between { number < 3 → Between (due_cost program.now due.now) 2 (number + 1) program.now own.old own.new }
-        ensures lives { SameLives own.old own.new };
+    fn interrupt<'s, W: Lives, B: Since<W>>(
+        own: &mut Processor<W>,
+        program: &'s Program<'s>,
+        due: &Due,
+    )
+        requires due { number < 3 → IsDue W.Knows number program.now due.now own.old }
+        requires tied { TiedAt W.Knows B.since B.start own.old }
+        requires fine { FineAt W.Knows (number + 1) own.old }
+        ensures at { number < 3 → IsAt W.Knows AboutTo number program.now own.new }
+        ensures tied { TiedAt W.Knows B.since B.start own.new }
+        ensures between { number < 3 → Between W.Knows (due_cost program.now due.now) 2 (number + 1) program.now own.old own.new }
+        ensures lives { SameLives W.Knows own.old own.new };
 }
 
 /// Level 0, of ordinary code.
@@ -64,7 +68,11 @@ impl Rank for Third {
         level_of(3)
     }
 
-    fn interrupt<'s, B: Since>(_own: &mut Processor, _program: &'s Program<'s>, _due: &Due) {}
+    fn interrupt<'s, W: Lives, B: Since<W>>(
+        _own: &mut Processor<W>,
+        _program: &'s Program<'s>,
+        _due: &Due,
+    ) {}
 }
 
 impl Rank for Second {
@@ -74,8 +82,12 @@ impl Rank for Second {
         level_of(2)
     }
 
-    fn interrupt<'s, B: Since>(own: &mut Processor, program: &'s Program<'s>, due: &Due) {
-        run_one::<B, Third>(own, program, due);
+    fn interrupt<'s, W: Lives, B: Since<W>>(
+        own: &mut Processor<W>,
+        program: &'s Program<'s>,
+        due: &Due,
+    ) {
+        run_one::<W, B, Third>(own, program, due);
     }
 }
 
@@ -86,11 +98,15 @@ impl Rank for First {
         level_of(1)
     }
 
-    fn interrupt<'s, B: Since>(own: &mut Processor, program: &'s Program<'s>, due: &Due) {
+    fn interrupt<'s, W: Lives, B: Since<W>>(
+        own: &mut Processor<W>,
+        program: &'s Program<'s>,
+        due: &Due,
+    ) {
         if due.level.number() == 2 {
-            run_one::<B, Second>(own, program, due);
+            run_one::<W, B, Second>(own, program, due);
         } else {
-            run_one::<B, Third>(own, program, due);
+            run_one::<W, B, Third>(own, program, due);
         }
     }
 }
@@ -102,11 +118,15 @@ impl Rank for Ordinary {
         level_of(0)
     }
 
-    fn interrupt<'s, B: Since>(own: &mut Processor, program: &'s Program<'s>, due: &Due) {
+    fn interrupt<'s, W: Lives, B: Since<W>>(
+        own: &mut Processor<W>,
+        program: &'s Program<'s>,
+        due: &Due,
+    ) {
         match due.level.number() {
-            1 => run_one::<B, First>(own, program, due),
-            2 => run_one::<B, Second>(own, program, due),
-            _ => run_one::<B, Third>(own, program, due),
+            1 => run_one::<W, B, First>(own, program, due),
+            2 => run_one::<W, B, Second>(own, program, due),
+            _ => run_one::<W, B, Third>(own, program, due),
         }
     }
 }

@@ -12,26 +12,27 @@ ghost use Rattle.bm_law.specs.Lists.{Log};
 ghost use Rattle.bm_exec_levels.specs.Ready.{known_of, left_of, word_of};
 ghost use Rattle.bm_exec_levels.specs.declared.program.Program.{Program as ProgramValue};
 ghost use Rattle.bm_plan.specs.Position.{StandsAt};
-ghost use Rattle.bm_world.specs.LivingState.{LivingState, rights_living};
+ghost use Rattle.bm_grace.specs.Rights.{AsBefore};
 
 use crate::processor::Processor;
 use bm_grace::Grace;
 use bm_journal::{Domain, Entry, Level};
+use bm_world::Lives;
 
 /// Begins a plain section at a level, where there is none, and records it. It takes no memory but the recorder's. It stands for
 /// rcu_read_lock of include/linux/rcupdate.h.
-pub fn enter_section(own: &mut Processor, level: Level)
-    requires fine { FineAt level own.old }
-    requires outside { word_of Plain own.old % 2 ≡ 0 }
-    requires room { word_of Plain own.old + 1 < 2 ^ 28 }
-    ensures said { Appends (log_of own.old) level (entry.In Plain (word_of Plain own.old + 1)) (log_of own.new) }
-    ensures at { (p : ProgramValue) → IsAt StandsAt level p own.old → word_of Plain own.old + 2 * length (left_of own.old) + 1 < 2 ^ 28 → IsAt StandsAt level p own.new }
-    ensures tied { (since : Log) (start : LivingState) → TiedAt since start own.old → TiedAt since start own.new }
-    ensures fine { FineAt level own.new }
-    ensures came { CameAt level own.old own.new }
+pub fn enter_section<W: Lives>(own: &mut Processor<W>, level: Level)
+    requires fine { FineAt W.Knows level own.old }
+    requires outside { word_of W.Knows Plain own.old % 2 ≡ 0 }
+    requires room { word_of W.Knows Plain own.old + 1 < 2 ^ 28 }
+    ensures said { Appends (log_of own.old) level (entry.In Plain (word_of W.Knows Plain own.old + 1)) (log_of own.new) }
+    ensures at { (p : ProgramValue) → IsAt W.Knows StandsAt level p own.old → word_of W.Knows Plain own.old + 2 * length (left_of own.old) + 1 < 2 ^ 28 → IsAt W.Knows StandsAt level p own.new }
+    ensures tied { (since : Log) (start : W) → TiedAt W.Knows since start own.old → TiedAt W.Knows since start own.new }
+    ensures fine { FineAt W.Knows level own.new }
+    ensures came { CameAt W.Knows level own.old own.new }
     ensures lists { shown own.new.caches ≡ shown own.old.caches }
-    ensures known { known_of own.new ≡ entered false Plain (known_of own.old) }
-    ensures rights { rights_living own.new.side ≡ rights_living own.old.side }
+    ensures known { known_of W.Knows own.new ≡ entered W.Knows.tells Plain (known_of W.Knows own.old) }
+    ensures rights { AsBefore (W.Knows.rights own.old.side) (W.Knows.rights own.new.side) }
     ensures same { own.new ≡ record own.old { caches = own.new.caches; side = own.new.side; inside = own.new.inside } }
 {
     let word = own.side.enter(Domain::Plain);
@@ -41,17 +42,17 @@ pub fn enter_section(own: &mut Processor, level: Level)
 
 /// Ends the plain section at a level, and records it. It takes no memory but the recorder's. It stands for rcu_read_unlock of
 /// include/linux/rcupdate.h.
-pub fn leave_section(own: &mut Processor, level: Level)
-    requires fine { FineAt level own.old }
-    requires inside { word_of Plain own.old % 2 ≡ 1 }
-    ensures said { Appends (log_of own.old) level (entry.Out Plain (word_of Plain own.old + 1)) (log_of own.new) }
-    ensures at { (p : ProgramValue) → IsAt StandsAt level p own.old → word_of Plain own.old + 2 * length (left_of own.old) + 1 < 2 ^ 28 → IsAt StandsAt level p own.new }
-    ensures tied { (since : Log) (start : LivingState) → TiedAt since start own.old → TiedAt since start own.new }
-    ensures fine { FineAt level own.new }
-    ensures came { CameAt level own.old own.new }
+pub fn leave_section<W: Lives>(own: &mut Processor<W>, level: Level)
+    requires fine { FineAt W.Knows level own.old }
+    requires inside { word_of W.Knows Plain own.old % 2 ≡ 1 }
+    ensures said { Appends (log_of own.old) level (entry.Out Plain (word_of W.Knows Plain own.old + 1)) (log_of own.new) }
+    ensures at { (p : ProgramValue) → IsAt W.Knows StandsAt level p own.old → word_of W.Knows Plain own.old + 2 * length (left_of own.old) + 1 < 2 ^ 28 → IsAt W.Knows StandsAt level p own.new }
+    ensures tied { (since : Log) (start : W) → TiedAt W.Knows since start own.old → TiedAt W.Knows since start own.new }
+    ensures fine { FineAt W.Knows level own.new }
+    ensures came { CameAt W.Knows level own.old own.new }
     ensures lists { shown own.new.caches ≡ shown own.old.caches }
-    ensures known { known_of own.new ≡ left false Plain (known_of own.old) }
-    ensures rights { rights_living own.new.side ≡ rights_living own.old.side }
+    ensures known { known_of W.Knows own.new ≡ left W.Knows.tells Plain (known_of W.Knows own.old) }
+    ensures rights { AsBefore (W.Knows.rights own.old.side) (W.Knows.rights own.new.side) }
     ensures same { own.new ≡ record own.old { caches = own.new.caches; side = own.new.side; inside = own.new.inside } }
 {
     let word = own.side.leave(Domain::Plain);

@@ -1,5 +1,6 @@
 -- A processor that has been opened is tied to its log since the outset: its fills are what was fetched.
 use Rattle.std.specs.Prelude.{◌≡◌, ◌+◌, ◌*◌, ◌&&◌, ◌++◌, ℕ, zero, suc, Bool, true, false, List, [], ◌∷◌, map, replicate, nat_lt, Option, None, Some, IfSome, get_or, if◌then◌else◌}
+use Rattle.bm_world.specs.ToldLiving.{knows_living}
 use Rattle.std.proofs.Common.{◌∙◌, ap, append-nil, refl, subst, sym}
 use Rattle.bm_law.specs.Lists.{Log}
 use mathlib.Core.Path.{fun_ext}
@@ -30,7 +31,7 @@ use Rattle.bm_world.specs.Slots.{AllEmpty, unit_at}
 use Rattle.bm_world.specs.Told.{told_boxes}
 use Rattle.bm_world.specs.ToldLiving.{LivingDoes, life_of, told_living}
 use Rattle.bm_run.specs.Filling.{filling}
-use Rattle.bm_exec_levels.specs.AtPolls.{polled}
+use Rattle.bm_exec_levels.specs.AtPolls.{DoesHere, polled}
 use Rattle.bm_run.specs.Opened.{fresh_side, outset}
 use Rattle.bm_run.proofs.OpeningLemmas.{living_side, none-at}
 
@@ -76,7 +77,7 @@ fill-lines : (cs : List ℕ) (pool : Stock) → lines (fill_story cs pool) ≡ f
 fill-lines [] pool = refl
 fill-lines (c ∷ cs) pool = let f = fetched c (prefill c) pool in ap (λ es. (0, entry.Fill c (named f.units)) ∷ es) (fill-lines cs f.pool)
 
-fill-judged : (start : LivingState) (log : Log) (cs : List ℕ) (pool : Stock) → AllJudged (polled [] start) log (fill_story cs pool)
+fill-judged : (start : LivingState) (log : Log) (cs : List ℕ) (pool : Stock) → AllJudged (polled knows_living [] start) log (fill_story cs pool)
 fill-judged start log [] pool = tt
 fill-judged start log (c ∷ cs) pool = let f = fetched c (prefill c) pool in (tt, fill-judged start (log ++ (0, entry.Fill c (named f.units)) ∷ []) cs f.pool)
 
@@ -111,7 +112,7 @@ fill-does cs pages pool slots begun q e z = record {
 }
 
 pub opened-tied : (cs : List ℕ) (pages : ℕ) (pool : Stock) (slots : List (Option UnitState)) (begun : List ℕ) (told : Option Log) → pool ≡ (filling cs (fresh_stock pages)).pool → AllEmpty slots → ((n : ℕ) → begun_at begun n ≡ 0) → IfSome told (λ es. es ≡ fill_log (filling cs (fresh_stock pages)).fills) →
-    TiedBy (polled [] (outset pages)) LivingDoes [] (outset pages) 0 [] [] told (living_side pool slots begun)
+    TiedBy (polled knows_living [] (outset pages)) (DoesHere knows_living) [] (outset pages) 0 [] [] told (living_side pool slots begun)
 opened-tied cs pages pool slots begun None q e z t = tt
 opened-tied cs pages pool slots begun (Some log) q e z t =
     let story = fill_story cs (fresh_stock pages) in
@@ -120,5 +121,5 @@ opened-tied cs pages pool slots begun (Some log) q e z t =
       story = story;
       judged = fill-judged (outset pages) [] cs (fresh_stock pages);
       log_is = t ∙ (sym (fill-lines cs (fresh_stock pages)) ∙ sym (append-nil (lines story)));
-      done_is = subst (λ as'. LivingDoes as' (outset pages) world) (sym (append-nil (deeds story))) (fill-does cs pages pool slots begun q e z);
+      done_is = (subst (λ as'. LivingDoes as' (outset pages) world) (sym (append-nil (deeds story))) (fill-does cs pages pool slots begun q e z), refl);
     }

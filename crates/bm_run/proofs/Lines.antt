@@ -1,5 +1,7 @@
 -- The scripts of `run` lines.
-use Rattle.std.proofs.Common.{◌≡◌, ◌≢◌, ne_eqb, ◌≤◌, ◌<◌, ℕ, ◌+◌, ◌*◌, Bool, true, false, nat_eq, ◌==◌, List, [], ◌∷◌, length, get_or, drop, refl, ap, subst, ◌∙◌, Option, Some, None, IfSome, slice_get, arith, if◌then◌else◌}
+use Rattle.std.proofs.Common.{sym, ◌≡◌, ◌≢◌, ne_eqb, ◌≤◌, ◌<◌, ℕ, ◌+◌, ◌*◌, Bool, true, false, nat_eq, ◌==◌, List, [], ◌∷◌, length, get_or, drop, refl, ap, subst, ◌∙◌, Option, Some, None, IfSome, slice_get, arith, if◌then◌else◌}
+use Rattle.bm_world.specs.LivingState.{LivingState}
+use Rattle.bm_world.specs.ToldLiving.{knows_living}
 use Rattle.std.specs.Borrow.{Bor}
 use Rattle.std.proofs.lemmas.List.Sums.{sum_by-cons}
 use Rattle.std.proofs.lemmas.List.{drop_more}
@@ -10,7 +12,7 @@ use Rattle.bm_lang.specs.declared.scenario.Parts.{Parts}
 use Rattle.bm_lang.specs.declared.scenario.Script.{Script}
 use Rattle.bm_lang.specs.declared.scenario.TypeDeclaration.{TypeDeclaration}
 use Rattle.bm_lang.specs.Limits.{cost_on, script_cost, block_cost}
-use Rattle.bm_law.specs.Lists.{Log}
+use Rattle.bm_law.specs.Lists.{Leaves, Log}
 use Rattle.bm_law.specs.State.{State}
 use Rattle.bm_law_work.specs.Parts.{Part, Nothing, Stand, Then, If}
 use Rattle.bm_law_work.specs.Grown.{GrewBy}
@@ -29,7 +31,7 @@ use Rattle.bm_exec_levels.specs.Stated.{ordinary-joined, ordinary-same}
 use Rattle.bm_exec_levels.specs.declared.processor.Processor.{Processor}
 use Rattle.bm_exec_levels.specs.declared.program.Program.{Program}
 use Rattle.bm_run.specs.Lines.{lines_cost, when_on, works_for, BehindScript, Wrote}
-use Rattle.bm_run.proofs.Written.{told-of, wrote-map, wrote-then}
+use Rattle.bm_run.proofs.Written.{wrote-map, wrote-then}
 
 -- ---- what stands behind statements and scripts
 
@@ -68,7 +70,7 @@ few-when (Some x) false classes e few = cc
 -- ---- one script
 
 -- what a script's block left is its body
-pub body-wrote : (s : Parts) (script : Script) (types : List TypeDeclaration) (w : Option (List ℕ)) (a b : Processor) → types ≡ s.types → w ≡ works_for s → RanScript types 0 w (lists_of a) script (log_of a) (log_of b) → Ordinary a b → Wrote (IsBody s script) a b
+pub body-wrote : (s : Parts) (script : Script) (types : List TypeDeclaration) (w : Option (List ℕ)) (a b : Processor LivingState) → types ≡ s.types → w ≡ works_for s → RanScript types 0 w (lists_of a) script (log_of a) (log_of b) → Ordinary knows_living a b → Wrote (IsBody s script) a b
 body-wrote s script types w a b e f r u =
     let Block : List TypeDeclaration → Part → Part = λ ts P. RunsBlock ts 0 P script.body no_names r.after in
     let behind : Behind w ≡ behind_statement s = ap Behind f ∙ behind-statements s in
@@ -78,7 +80,7 @@ body-wrote s script types w a b e f r u =
     }
 
 -- what stands in a script's section, the section itself, and the work behind it
-pub script-wrote : (s : Parts) (script : Script) (word : ℕ) (w : Option (List ℕ)) (p : Program) (a b c d e : Processor) → w ≡ works_for s → Sound p a → Sound p b → Sound p c → Sound p d →
+pub script-wrote : (s : Parts) (script : Script) (word : ℕ) (w : Option (List ℕ)) (p : Program) (a b c d e : Processor LivingState) → w ≡ works_for s → Sound knows_living p a → Sound knows_living p b → Sound knows_living p c → Sound knows_living p d →
     Wrote (Stand 0 (entry.Script script.name ∷ entry.In Plain word ∷ [])) a b → Wrote (IsBody s script) b c → Wrote (Stand 0 (entry.Out Plain (word + 1) ∷ entry.Done script.name ∷ [])) c d → Wrote (BehindScript w) d e → Wrote (IsScript s script word) a e
 script-wrote s script word w p a b c d e f sa sb sc sd u v x y =
     let head : Part = Stand 0 (entry.Script script.name ∷ entry.In Plain word ∷ []) in
@@ -90,38 +92,39 @@ script-wrote s script word w p a b c d e f sa sb sc sd u v x y =
 -- ---- one line after the other
 
 -- What the lines so far have left: whatever the others leave then, all of them have left.
-pub record Wrote_so_far (s : Parts) (rest : List RunLine) (before now : Processor) : Type 0 where
+pub record Wrote_so_far (s : Parts) (rest : List RunLine) (before now : Processor LivingState) : Type 0 where
   pub grew : (final : Option Log) → GrewBy (AreScripts s (lines_of 0 rest)) (lists_of now) (log_of now) final → GrewBy (AreScripts s (lines_of 0 s.runs)) (lists_of before) (log_of before) final
-  pub ordinary : Ordinary before now
+  pub ordinary : Ordinary knows_living before now
 
-pub wrote-none : (s : Parts) (m : Processor) → Wrote_so_far s s.runs m m
-wrote-none s m = record { grew = λ final x. x; ordinary = ordinary-same m }
+pub wrote-none : (s : Parts) (m : Processor LivingState) → Wrote_so_far s s.runs m m
+wrote-none s m = record { grew = λ final x. x; ordinary = ordinary-same knows_living m }
 
 -- one line more
-wrote-line : (s : Parts) (r : RunLine) (rest : List RunLine) (script : Script) (word : ℕ) (p : Program) (a b c : Processor) → r.processor ≡ 0 → slice_get s.scripts r.script.0 ≡ Some script → Sound p b → Sound p c →
+wrote-line : (s : Parts) (r : RunLine) (rest : List RunLine) (script : Script) (word : ℕ) (p : Program) (a b c : Processor LivingState) → r.processor ≡ 0 → slice_get s.scripts r.script.0 ≡ Some script → Sound knows_living p b → Sound knows_living p c →
     Wrote_so_far s (r ∷ rest) a b → Wrote (IsScript s script word) b c → Wrote_so_far s rest a c
 wrote-line s r rest script word p a b c here e sb sc w x = record {
   grew = λ final y.
       (let Q : Part = AreScripts s (lines_of 0 rest) in
+      let same : c.caches.processor ≡ b.caches.processor = sc.at.ready.here ∙ (x.ordinary.processor ∙ sym sb.at.ready.here) in
       let all : GrewBy (AreScripts s (r ∷ lines_of 0 rest)) (lists_of b) (log_of b) final =
-      grew-join (IsScript s script word) Q (AreScripts s (r ∷ lines_of 0 rest)) 0 (lists_of b) (lists_of c) (log_of b) (log_of c) final (λ one two i j. (script, e, word, record { one = one; two = two; part_is = refl; is_first = i; is_second = j })) (told-of p b sb) (told-of p c sc) x.grew y in
+      grew-join (IsScript s script word) Q (AreScripts s (r ∷ lines_of 0 rest)) b.caches.processor (lists_of b) (lists_of c) (log_of b) (log_of c) final (λ one two i j. (script, e, word, record { one = one; two = two; part_is = refl; is_first = i; is_second = j })) sb.fine.placed.told (subst (λ n. IfSome (log_of c) (λ es. Leaves n es (lists_of c))) same sc.fine.placed.told) x.grew y in
       w.grew final (rw (ap (λ n. nat_eq n 0) here) all));
-  ordinary = ordinary-joined a b c w.ordinary x.ordinary;
+  ordinary = ordinary-joined knows_living a b c w.ordinary x.ordinary;
 }
 
-wrote-other : (s : Parts) (r : RunLine) (rest : List RunLine) (a b : Processor) → nat_eq r.processor 0 ≡ false → Wrote_so_far s (r ∷ rest) a b → Wrote_so_far s rest a b
+wrote-other : (s : Parts) (r : RunLine) (rest : List RunLine) (a b : Processor LivingState) → nat_eq r.processor 0 ≡ false → Wrote_so_far s (r ∷ rest) a b → Wrote_so_far s rest a b
 wrote-other s r rest a b there w = record { grew = λ final y. w.grew final (rw there y); ordinary = w.ordinary }
 
-pub lines-line : (s : Parts) (i : ℕ) (d : RunLine) (script : Script) (word : ℕ) (p : Program) (a b c : Processor) → i < length s.runs → (get_or s.runs i d).processor ≡ 0 → slice_get s.scripts (get_or s.runs i d).script.0 ≡ Some script → Sound p b → Sound p c →
+pub lines-line : (s : Parts) (i : ℕ) (d : RunLine) (script : Script) (word : ℕ) (p : Program) (a b c : Processor LivingState) → i < length s.runs → (get_or s.runs i d).processor ≡ 0 → slice_get s.scripts (get_or s.runs i d).script.0 ≡ Some script → Sound knows_living p b → Sound knows_living p c →
     Wrote_so_far s (drop i s.runs) a b → Wrote (IsScript s script word) b c → Wrote_so_far s (drop (i + 1) s.runs) a c
 lines-line s i d script word p a b c lt here e sb sc w x =
     wrote-line s (get_or s.runs i d) (drop (i + 1) s.runs) script word p a b c here e sb sc (subst (λ l. Wrote_so_far s l a b) (drop_more s.runs i d lt) w) x
 
-pub lines-other : (s : Parts) (i : ℕ) (d : RunLine) (a b : Processor) → i < length s.runs → (get_or s.runs i d).processor ≢ 0 → Wrote_so_far s (drop i s.runs) a b → Wrote_so_far s (drop (i + 1) s.runs) a b
+pub lines-other : (s : Parts) (i : ℕ) (d : RunLine) (a b : Processor LivingState) → i < length s.runs → (get_or s.runs i d).processor ≢ 0 → Wrote_so_far s (drop i s.runs) a b → Wrote_so_far s (drop (i + 1) s.runs) a b
 lines-other s i d a b lt there w =
     wrote-other s (get_or s.runs i d) (drop (i + 1) s.runs) a b (ne_eqb (get_or s.runs i d).processor 0 there) (subst (λ l. Wrote_so_far s l a b) (drop_more s.runs i d lt) w)
 
-pub lines-all : (s : Parts) (i : ℕ) (a b : Processor) → drop i s.runs ≡ [] → Wrote_so_far s (drop i s.runs) a b → Wrote (AreScripts s (lines_of 0 s.runs)) a b
+pub lines-all : (s : Parts) (i : ℕ) (a b : Processor LivingState) → drop i s.runs ≡ [] → Wrote_so_far s (drop i s.runs) a b → Wrote (AreScripts s (lines_of 0 s.runs)) a b
 lines-all s i a b none w =
     let v = subst (λ l. Wrote_so_far s l a b) none w in
     record { grew = v.grew (log_of b) (grew-none (AreScripts s []) (lists_of b) (log_of b) refl); ordinary = v.ordinary }

@@ -1,5 +1,6 @@
 -- The log of a run is lawful.
 use Rattle.std.proofs.Common.{◌≡◌, ℕ, Bool, true, false, List, [], ◌∷◌, ◌++◌, map, refl, sym, ap, subst, ◌∙◌, append_assoc, Option, Some, None, IfSome, IsSome, arith}
+use Rattle.bm_world.specs.ToldLiving.{knows_living}
 use Rattle.std.specs.Prelude.{◌||◌, nat_eq, not}
 use Rattle.std.specs.List.{list_any}
 use Rattle.std.proofs.lemmas.List.{append_cancel_left}
@@ -58,8 +59,7 @@ use Rattle.bm_run.specs.Opened.{IsOpen, outset}
 use Rattle.bm_run.specs.Closed.{Closed}
 use Rattle.bm_run.specs.Lines.{Wrote}
 use Rattle.bm_law_order.specs.Tie.{TiedBy}
-use Rattle.bm_exec_levels.specs.AtPolls.{polled}
-use Rattle.bm_world.specs.ToldLiving.{LivingDoes}
+use Rattle.bm_exec_levels.specs.AtPolls.{DoesHere, tied-bare, polled}
 use Rattle.bm_run.proofs.Laid.{tied-led}
 use Rattle.bm_run.proofs.ParcelsTold.{tied-parcels}
 use Rattle.bm_run.proofs.Progress.{led-progress}
@@ -119,43 +119,43 @@ fills-said cs pool fills e =
     let fs : Fills = (filling cs pool).fills in
     (fill_entries fs, are-fills cs pool, subst (λ (l : Log). Stand 0 (fill_entries fs) (opening 0) l) (sym (e ∙ fill-level fs)) (record { from = level-from 0 (fill_entries fs); own_is = level-own 0 (fill_entries fs) }))
 
-fills-leave : (p : Program) (m : Processor) (fills : Log) → Sound p m → log_of m ≡ Some fills → lists_of m ≡ after (opening 0) fills
-fills-leave p m fills sound told = (let l = subst (λ (x : Option Log). IfSome x (λ es. Leaves 0 es (lists_of m))) told (told-of p m sound) in sym l.lists)
+fills-leave : (p : Program) (m : Processor LivingState) (fills : Log) → (known_of knows_living m).grace.processor ≡ 0 → Sound knows_living p m → log_of m ≡ Some fills → lists_of m ≡ after (opening 0) fills
+fills-leave p m fills first sound told = (let l = subst (λ (x : Option Log). IfSome x (λ es. Leaves 0 es (lists_of m))) told (told-of p m first sound) in sym l.lists)
 
-fills-logged : (cs : List ℕ) (pool : Stock) (p : Program) (m : Processor) (fills : Log) → IsOpen p (filling cs pool) m → log_of m ≡ Some fills → fills ≡ fill_log (filling cs pool).fills
+fills-logged : (cs : List ℕ) (pool : Stock) (p : Program) (m : Processor LivingState) (fills : Log) → IsOpen p (filling cs pool) m → log_of m ≡ Some fills → fills ≡ fill_log (filling cs pool).fills
 fills-logged cs pool p m fills o told = subst (λ (x : Option Log). IfSome x (λ es. es ≡ fill_log (filling cs pool).fills)) told o.told
 
 -- ---- what a log tells where ordinary code stands
 
 -- where it is in its log
-abbrev here : Program → Processor → Position
-here p m = position_of (known_of m).grace.processor p.scenario.now m.handlers.planned m.running.items
+abbrev here : Program → Processor LivingState → Position
+here p m = position_of (known_of knows_living m).grace.processor p.scenario.now m.handlers.planned m.running.items
 
-tells-here : (p : Program) (m : Processor) (log : Log) → Sound p m → log_of m ≡ Some log → LawfulSoFar (here p m) p.scenario.now log
+tells-here : (p : Program) (m : Processor LivingState) (log : Log) → Sound knows_living p m → log_of m ≡ Some log → LawfulSoFar (here p m) p.scenario.now log
 tells-here p m log s told =
     let at : StandsAt (here p m) log = subst (λ (x : Option Log). IfSome x (StandsAt (here p m))) told s.at.at.at in
-    let t : Tells p.scenario.now (known_of m) log = subst (λ (x : Option Log). IfSome x (Tells p.scenario.now (known_of m))) told s.at.tells in
+    let t : Tells p.scenario.now (known_of knows_living m) log = subst (λ (x : Option Log). IfSome x (Tells p.scenario.now (known_of knows_living m))) told s.at.tells in
     record { stands = at; done = t.done }
 
-stands-here : (p : Program) (m : Processor) (log : Log) → Sound p m → StandsAt (here p m) log → HandlersStand p.scenario.now 0 log
-stands-here p m log s h = subst (λ n. HandlersStand p.scenario.now n log) s.at.ready.first (whole (here p m) log (runs-none p m s) h)
+stands-here : (p : Program) (m : Processor LivingState) (log : Log) → (known_of knows_living m).grace.processor ≡ 0 → Sound knows_living p m → StandsAt (here p m) log → HandlersStand p.scenario.now 0 log
+stands-here p m log first s h = subst (λ n. HandlersStand p.scenario.now n log) first (whole (here p m) log (runs-none p m s) h)
 
 -- What a run left: the processor as it was opened, behind its scripts, and once its closing has begun; and its log.
-pub record RunLeft (s : Parts) (p : Program) (m0 m2 m3 : Processor) (final : Log) : Type 0 where
+pub record RunLeft (s : Parts) (p : Program) (m0 m2 m3 : Processor LivingState) (final : Log) : Type 0 where
   pub program : p.scenario.now ≡ s
   pub opens : IsOpen p (filling (opened_classes s.types) (fresh_stock s.pages)) m0
   pub scripts : Wrote (AreScripts s (lines_of 0 s.runs)) m0 m2
   pub lives : (u : ℕ) → lives_of m2.side.slots u ≡ None
-  pub sound : Sound p m2
-  pub tied : TiedAt [] (outset s.pages) m2
+  pub sound : Sound knows_living p m2
+  pub tied : TiedAt knows_living [] (outset s.pages) m2
   pub ends : Wrote (Stand 0 (entry.Ended ∷ entry.Close ∷ [])) m2 m3
   pub ended : m3.handlers.planned.ended ≡ true
   pub same : m3.side ≡ m2.side
   pub lists : shown m3.caches ≡ shown m2.caches
-  pub sound_ended : Sound p m3
+  pub sound_ended : Sound knows_living p m3
   pub closed : Closed (opened_classes s.types) m3 final
 
-pub told-run : (s : Parts) (p : Program) (m0 m2 m3 : Processor) (final : Log) → RunLeft s p m0 m2 m3 final → (t : Told s final) × (t.before ≡ lists_of m2)
+pub told-run : (s : Parts) (p : Program) (m0 m2 m3 : Processor LivingState) (final : Log) → RunLeft s p m0 m2 m3 final → (t : Told s final) × (t.before ≡ lists_of m2)
 told-run s p m0 m2 m3 final r =
     let classes : List ℕ = opened_classes s.types in
     let o = r.opens in
@@ -165,6 +165,8 @@ told-run s p m0 m2 m3 final r =
     let Ends : Part = Stand 0 (entry.Ended ∷ entry.Close ∷ []) in
     let Sweeps : LivingState → Part = λ v. SweepsTold classes (told_in v.side.post) in
     let z = r.closed.closes in
+    let first2 = w.ordinary.processor ∙ o.first in
+    let first3 = e.ordinary.processor ∙ first2 in
     let e' : GrewPart Ends (lists_of m2) (log_of m2) z.log = subst (GrewBy Ends (lists_of m2) (log_of m2)) z.told e.grew in
     let w' : GrewPart Scripts (lists_of m0) (log_of m0) e'.log = subst (GrewBy Scripts (lists_of m0) (log_of m0)) e'.told w.grew in
     let fills : Log = w'.log in
@@ -176,36 +178,37 @@ told-run s p m0 m2 m3 final r =
     let logged : fills ≡ fill_log (filling classes (fresh_stock s.pages)).fills = fills-logged classes (fresh_stock s.pages) p m0 fills o told0 in
     let middle : z.log ≡ front ++ e'.added = e'.now_is ∙ ap (λ l. l ++ e'.added) w'.now_is in
     let all : z.log ++ rest ≡ front ++ (e'.added ++ rest) = ap (λ l. l ++ rest) middle ∙ append_assoc front e'.added rest in
-    let at_rest : AllAt 0 rest = added-at (Then (EndsBegun (known_of m3)) (Sweeps m3.side)) (lists_of m3) (log_of m3) final z r.closed.alone in
+    let at_rest : AllAt 0 rest = added-at (Then (EndsBegun (known_of knows_living m3)) (Sweeps m3.side)) (lists_of m3) (log_of m3) final z r.closed.alone in
     let here2 = tells-here p m2 front r.sound told2 in
     let here3 = tells-here p m3 z.log r.sound_ended z.told in
-    let late = rest-late (known_of m3) classes (told_in m3.side.side.post) (lists_of m3) rest z.is_part in
+    let late = rest-late (known_of knows_living m3) classes (told_in m3.side.side.post) (lists_of m3) rest z.is_part in
     let goes : LawfulSoFar (here p m3) p.scenario.now (z.log ++ rest) = late-goes-on (here p m3) p.scenario.now z.log rest (runs-none p m3 r.sound_ended) r.ended at_rest late here3 in
-    let front_stands : HandlersStand s 0 front = subst (λ x. HandlersStand x 0 front) r.program (stands-here p m2 front r.sound here2.stands) in
+    let front_stands : HandlersStand s 0 front = subst (λ x. HandlersStand x 0 front) r.program (stands-here p m2 front first2 r.sound here2.stands) in
     let front_done : HandlersDone s front = subst (λ x. HandlersDone x front) r.program here2.done in
-    let tied = subst (λ (o : Option Log). TiedBy (polled [] (outset s.pages)) LivingDoes [] (outset s.pages) 0 [] [] o m2.side) told2 r.tied in
-    let begun : (d : Domain) → begun_by (side d (known_of m2)).number ≡ in_progress d None front = led-progress s.pages front m2.side r.sound.at.ready.first (tied-led (polled [] (outset s.pages)) s.pages front m2.side tied) in
-    let ends : EndsBegun (known_of m3) ≡ EndsPeriods front = ends-are (known_of m3) front (λ d. rw r.same (begun d)) in
-    let leaves : Leaves 0 z.log (lists_of m3) = subst (λ (x : Option Log). IfSome x (λ es. Leaves 0 es (lists_of m3))) z.told (told-of p m3 r.sound_ended) in
+    let here = subst (λ (o : Option Log). TiedBy (polled knows_living [] (outset s.pages)) (DoesHere knows_living) [] (outset s.pages) 0 [] [] o m2.side) told2 r.tied in
+    let tied = tied-bare knows_living (polled knows_living [] (outset s.pages)) [] (outset s.pages) 0 [] [] front m2.side here in
+    let begun : (d : Domain) → begun_by (side d (known_of knows_living m2)).number ≡ in_progress d None front = led-progress s.pages front m2.side first2 (tied-led (polled knows_living [] (outset s.pages)) s.pages front m2.side tied) in
+    let ends : EndsBegun (known_of knows_living m3) ≡ EndsPeriods front = ends-are (known_of knows_living m3) front (λ d. rw r.same (begun d)) in
+    let leaves : Leaves 0 z.log (lists_of m3) = subst (λ (x : Option Log). IfSome x (λ es. Leaves 0 es (lists_of m3))) z.told (told-of p m3 first3 r.sound_ended) in
     let state : lists_of m3 ≡ after (after (opening 0) front) e'.added = sym leaves.lists ∙ ap (after (opening 0)) middle ∙ after-append (opening 0) front e'.added in
     let sweeps : Then (EndsPeriods front) (Sweeps m2.side) (after (after (opening 0) front) e'.added) rest =
     subst (λ (t : State ℕ). Then (EndsPeriods front) (Sweeps m2.side) t rest) state (subst (λ (v : LivingState). Then (EndsPeriods front) (Sweeps v) (lists_of m3) rest) r.same (subst (λ (P : Part). Then P (Sweeps m3.side) (lists_of m3) rest) ends z.is_part)) in
     let boxes : Inboxes = told_in m2.side.side.post in
     let closes : ClosingTold 0 classes front boxes (after (opening 0) front) (e'.added ++ rest) = record { one = e'.added; two = rest; part_is = refl; is_first = record { from = e'.is_part.from; own_is = e'.is_part.own_is }; is_second = sweeps } in
-    let front2 : Leaves 0 front (lists_of m2) = subst (λ (x : Option Log). IfSome x (λ es. Leaves 0 es (lists_of m2))) told2 (told-of p m2 r.sound) in (
+    let front2 : Leaves 0 front (lists_of m2) = subst (λ (x : Option Log). IfSome x (λ es. Leaves 0 es (lists_of m2))) told2 (told-of p m2 first2 r.sound) in (
       record {
         fills = fills;
         scripts = scripts;
         closing = e'.added ++ rest;
         boxes = boxes;
         final_is = z.now_is ∙ all;
-        stands = subst (HandlersStand s 0) all (subst (λ x. HandlersStand x 0 (z.log ++ rest)) r.program (stands-here p m3 (z.log ++ rest) r.sound_ended goes.stands));
+        stands = subst (HandlersStand s 0) all (subst (λ x. HandlersStand x 0 (z.log ++ rest)) r.program (stands-here p m3 (z.log ++ rest) first3 r.sound_ended goes.stands));
         done = subst (HandlersDone s) all (subst (λ x. HandlersDone x (z.log ++ rest)) r.program goes.done);
         front_stands = front_stands;
         front_done = front_done;
         are_fills = fills-said classes (fresh_stock s.pages) fills logged;
-        are_scripts = subst (λ (t : State ℕ). Scripts t scripts) (fills-leave p m0 fills o.sound told0) w'.is_part;
-        mail = tied-parcels (polled [] (outset s.pages)) s.pages front m2.side tied;
+        are_scripts = subst (λ (t : State ℕ). Scripts t scripts) (fills-leave p m0 fills o.first o.sound told0) w'.is_part;
+        mail = tied-parcels (polled knows_living [] (outset s.pages)) s.pages front m2.side tied;
         closes = closes;
         before = lists_of m2;
         leaves = front2;
@@ -230,7 +233,7 @@ RowsKept = (s : Parts) (p : ℕ) (front : Log) → HandlersStand s p front → H
 front-of : (s : Parts) (fills scripts : Log) → Say 0 (AreFills (opened_classes s.types) (fresh_stock s.pages)) (opening 0) fills → AreScripts s (lines_of 0 s.runs) (after (opening 0) fills) scripts → Front s 0 (opening 0) (fills ++ scripts)
 front-of s fills scripts f x = record { one = fills; two = scripts; part_is = refl; is_first = f; is_second = x }
 
-row-empty : (s : Parts) (front : Log) (m : Processor) (c : ℕ) → RowsKept → HandlersStand s 0 front → HandlersDone s front → Front s 0 (opening 0) front → Leaves 0 front (lists_of m) → list_any (uses_class c) s.types ≡ false → seven_lists ((lists_of m).rows c) ≡ []
+row-empty : (s : Parts) (front : Log) (m : Processor LivingState) (c : ℕ) → RowsKept → HandlersStand s 0 front → HandlersDone s front → Front s 0 (opening 0) front → Leaves 0 front (lists_of m) → list_any (uses_class c) s.types ≡ false → seven_lists ((lists_of m).rows c) ≡ []
 row-empty s front m c kept stands done is leaves never =
     let row : (lists_of m).rows c ≡ (opening {A = ℕ} 0).rows c = ap (λ (t : State ℕ). t.rows c) (sym leaves.lists) ∙ kept s 0 front stands done is c never in
     ap seven_lists row
@@ -240,7 +243,7 @@ told-some None h = cc
 told-some (Some l) h = (l, refl)
 
 -- .. before the closing
-pub unused-rows : (s : Parts) (p : Program) (m0 m2 m3 : Processor) → p.scenario.now ≡ s → RowsKept → IsOpen p (filling (opened_classes s.types) (fresh_stock s.pages)) m0 → Wrote (AreScripts s (lines_of 0 s.runs)) m0 m2 → Sound p m2 → Wrote (Stand 0 (entry.Ended ∷ entry.Close ∷ [])) m2 m3 → shown m3.caches ≡ shown m2.caches → IsSome (log_of m3) → (c : ℕ) → times c (opened_classes s.types) ≡ 0 → seven_lists ((shown m3.caches).rows c) ≡ []
+pub unused-rows : (s : Parts) (p : Program) (m0 m2 m3 : Processor LivingState) → p.scenario.now ≡ s → RowsKept → IsOpen p (filling (opened_classes s.types) (fresh_stock s.pages)) m0 → Wrote (AreScripts s (lines_of 0 s.runs)) m0 m2 → Sound knows_living p m2 → Wrote (Stand 0 (entry.Ended ∷ entry.Close ∷ [])) m2 m3 → shown m3.caches ≡ shown m2.caches → IsSome (log_of m3) → (c : ℕ) → times c (opened_classes s.types) ≡ 0 → seven_lists ((shown m3.caches).rows c) ≡ []
 unused-rows s p m0 m2 m3 program kept o w sound2 e same some c none =
     let Scripts : Part = AreScripts s (lines_of 0 s.runs) in
     let Ends : Part = Stand 0 (entry.Ended ∷ entry.Close ∷ []) in
@@ -255,10 +258,10 @@ unused-rows s p m0 m2 m3 program kept o w sound2 e same some c none =
     let classes : List ℕ = opened_classes s.types in
     let logged : fills ≡ fill_log (filling classes (fresh_stock s.pages)).fills = fills-logged classes (fresh_stock s.pages) p m0 fills o told0 in
     let here2 = tells-here p m2 front sound2 told2 in
-    let stands : HandlersStand s 0 front = subst (λ x. HandlersStand x 0 front) program (stands-here p m2 front sound2 here2.stands) in
+    let stands : HandlersStand s 0 front = subst (λ x. HandlersStand x 0 front) program (stands-here p m2 front (w.ordinary.processor ∙ o.first) sound2 here2.stands) in
     let done : HandlersDone s front = subst (λ x. HandlersDone x front) program here2.done in
-    let is : Front s 0 (opening 0) front = front-of s fills scripts (fills-said classes (fresh_stock s.pages) fills logged) (subst (λ (x : State ℕ). Scripts x scripts) (fills-leave p m0 fills o.sound told0) w'.is_part) in
-    let leaves : Leaves 0 front (lists_of m2) = subst (λ (x : Option Log). IfSome x (λ es. Leaves 0 es (lists_of m2))) told2 (told-of p m2 sound2) in
+    let is : Front s 0 (opening 0) front = front-of s fills scripts (fills-said classes (fresh_stock s.pages) fills logged) (subst (λ (x : State ℕ). Scripts x scripts) (fills-leave p m0 fills o.first o.sound told0) w'.is_part) in
+    let leaves : Leaves 0 front (lists_of m2) = subst (λ (x : Option Log). IfSome x (λ es. Leaves 0 es (lists_of m2))) told2 (told-of p m2 (w.ordinary.processor ∙ o.first) sound2) in
     let empty : seven_lists ((lists_of m2).rows c) ≡ [] = row-empty s front m2 c kept stands done is leaves (never-used s c none (list_any (uses_class c) s.types) refl) in
     rw same (no-tokens (seven_lists ((shown m2.caches).rows c)) (map-seven number_of ((shown m2.caches).rows c) ∙ empty))
 
@@ -304,7 +307,7 @@ lawful-log s final t last null sweeps mail leaves empty hands active words =
     }
 
 -- the lists at the end
-ended-row : (s : Parts) (m2 m3 : Processor) (final : Log) (t : Told s final) (closed : Closed (opened_classes s.types) m3 final) → RowsKept → Leaves 0 (t.fills ++ t.scripts) (lists_of m2) → shown m3.caches ≡ shown m2.caches → (c : ℕ) → list_any (uses_class c) s.types ≡ false → seven_lists ((seen number_of closed.last).rows c) ≡ []
+ended-row : (s : Parts) (m2 m3 : Processor LivingState) (final : Log) (t : Told s final) (closed : Closed (opened_classes s.types) m3 final) → RowsKept → Leaves 0 (t.fills ++ t.scripts) (lists_of m2) → shown m3.caches ≡ shown m2.caches → (c : ℕ) → list_any (uses_class c) s.types ≡ false → seven_lists ((seen number_of closed.last).rows c) ≡ []
 ended-row s m2 m3 final t closed kept leaves same c never =
     let others : closed.last.rows c ≡ (shown m2.caches).rows c = closed.others c (opened-none s.types c never) ∙ ap (λ (x : State Token). x.rows c) same in
     let row : (seen number_of closed.last).rows c ≡ (lists_of m2).rows c = ap (seen_row number_of) others in
@@ -318,7 +321,7 @@ abbrev pub MailLaw : Type 0
 MailLaw = (s : Parts) (fills scripts closing : Log) (boxes : Inboxes) → HandlersStand s 0 ((fills ++ scripts) ++ closing) → HandlersDone s ((fills ++ scripts) ++ closing) → Say 0 (AreFills (opened_classes s.types) (fresh_stock s.pages)) (opening 0) fills → AreScripts s (lines_of 0 s.runs) (after (opening 0) fills) scripts →
     LeavesParcels (fills ++ scripts) boxes → ClosingTold 0 (opened_classes s.types) (fills ++ scripts) boxes (after (opening 0) (fills ++ scripts)) closing → ParcelLaw 0 ((fills ++ scripts) ++ closing)
 
-pub lawful-run : (s : Parts) (p : Program) (m0 m2 m3 : Processor) (final : Log) → RowsKept → NullKept → ToldSweeps → MailLaw → RunLeft s p m0 m2 m3 final → SectionWords final → LawfulLog s 0 final
+pub lawful-run : (s : Parts) (p : Program) (m0 m2 m3 : Processor LivingState) (final : Log) → RowsKept → NullKept → ToldSweeps → MailLaw → RunLeft s p m0 m2 m3 final → SectionWords final → LawfulLog s 0 final
 lawful-run s p m0 m2 m3 final kept null sweeps mail r words =
     let k = told-run s p m0 m2 m3 final r in
     let t : Told s final = k.0 in

@@ -1,5 +1,6 @@
 -- The polls of a log that is tied since the outset have rested, and its periods were begun for a batch that waited.
 use Rattle.std.specs.Prelude.{◌≢◌, ◌⊎◌, ◌≤◌, ◌+◌, ◌%◌, eqb, length}
+use Rattle.bm_world.specs.ToldLiving.{knows_living}
 use Rattle.std.proofs.Common.{◌≡◌, ℕ, zero, suc, true, false, List, [], ◌∷◌, ◌++◌, Option, None, Some, refl, sym, ◌∙◌, ap, subst, append-nil, arith, inl, inr}
 use Rattle.std.proofs.lemmas.Bool.Decides.{eqb_tells}
 use Rattle.bm_journal.specs.declared.ids.Domain.{Domain}
@@ -15,7 +16,7 @@ use Rattle.bm_law_order.specs.Act.{Act}
 use Rattle.bm_law_order.specs.Act as act
 use Rattle.bm_law_order.specs.Acts.{ActsFit, LooksAt, act_after, acts_over}
 use Rattle.bm_law_order.specs.ByDomain.{of}
-use Rattle.bm_law_order.specs.Chunk.{Chunk, acts_of, entries_of, seal_told}
+use Rattle.bm_law_order.specs.Chunk.{Chunk, acts_of, entries_of}
 use Rattle.bm_law_order.specs.Chunk as chunk
 use Rattle.bm_law_order.specs.Looks.{Passes}
 use Rattle.bm_law_order.specs.Numbers.{Numbers, begun, ended, next, numbers_after}
@@ -35,7 +36,7 @@ use Rattle.bm_work.specs.Rested.{Fails, IsIdle}
 use Rattle.bm_world.specs.LivingState.{LivingState, known_living}
 use Rattle.bm_world.specs.Told.{IsSideOf}
 use Rattle.bm_world.specs.ToldLiving.{LivingDoes, living-join, living-same, told_living}
-use Rattle.bm_exec_levels.specs.AtPolls.{Idle, Idles, IsDue, WaitsIn, WasIdle, polled, waits-whole}
+use Rattle.bm_exec_levels.specs.AtPolls.{Idle, Idles, IsDue, WaitsIn, WasIdle, polled, tied-bare, waits-whole}
 use Rattle.bm_exec_levels.specs.AtPolls as idle
 use Rattle.bm_run.specs.Opened.{outset}
 use Rattle.bm_run.proofs.Laid.{outset-side, tied-led, whole-one}
@@ -131,7 +132,7 @@ fresh-bound pages = record { odd = odd; stamps = stamps }
     stamps Plain c x e = absurd (cc)
     stamps Tracing c x e = absurd (cc)
 
-whole-rested : (pages l : ℕ) (d : Domain) (x n i : ℕ) (p : Period) (log : Log) → p.domain ≡ d → WaitsIn i d x (log ++ (l, entry.Begin d n) ∷ (l, entry.Finish p) ∷ []) → AllShared (by 0 (log ++ (l, entry.Begin d n) ∷ (l, entry.Finish p) ∷ [])) (fresh 1 pages) →
+whole-rested : (pages l : ℕ) (d : Domain) (x n i : ℕ) (p : Period) (log : Log) → p.domain ≡ d → WaitsIn 0 i d x (log ++ (l, entry.Begin d n) ∷ (l, entry.Finish p) ∷ []) → AllShared (by 0 (log ++ (l, entry.Begin d n) ∷ (l, entry.Finish p) ∷ [])) (fresh 1 pages) →
     HasRested 0 d x (shared_over (by 0 (log ++ (l, entry.Begin d n) ∷ (l, entry.Finish p) ∷ [])) (fresh 1 pages))
 whole-rested pages l d x n i p log e a f =
     let es : Log = (l, entry.Begin d n) ∷ (l, entry.Finish p) ∷ [] in
@@ -142,23 +143,26 @@ whole-rested pages l d x n i p log e a f =
     let begins = (fit-rest shared_after Fits (by 0 log) (by 0 es) start split).0.numbers in
     let now : shared_over (by 0 (log ++ es)) start ≡ shared_over (by 0 es) there = ap (λ o. shared_over o start) (by-append 0 log es) ∙ over-append shared_after Fits (by 0 log) (by 0 es) start in
     let numbers : of d (shared_over (by 0 (log ++ es)) start).numbers ≡ ended (begun 0 (of d there.numbers)) = ap (λ (s : Shared). of d s.numbers) now ∙ whole-numbers l n d p there.numbers e in
-    let most : x ≤ next (of d there.numbers).number = bound.stamps d i x (waits-whole l i d x n p log a) in
+    let most : x ≤ next (of d there.numbers).number = bound.stamps d i x (waits-whole 0 l i d x n p log a) in
     let reached : (m : ℕ) → m % 2 ≡ 0 → x ≤ next m → x ≤ m + 1 + 1 = λ m b h. omega (arith, b, h) in
     record {
       waits = λ k h. absurd (let z = sym (ap (λ c. c.driver) numbers) ∙ k in cc);
       idle = λ k. rw numbers (inr (reached (of d there.numbers).number begins.even most));
     }
 
-idle-rested : (pages l : ℕ) (d : Domain) (x : ℕ) (log : Log) (w : LivingState) → Idle [] (outset pages) l d x log w → HasRested 0 d x (shared_over (by 0 log) (fresh 1 pages))
-idle-rested pages l d x log w i = go i.done i.es i.idle i.tied
+idle-rested : (pages l : ℕ) (d : Domain) (x : ℕ) (log : Log) (w : LivingState) → Idle knows_living [] (outset pages) l d x log w → HasRested 0 d x (shared_over (by 0 log) (fresh 1 pages))
+idle-rested pages l d x log w i = go i.done i.es i.idle (tied-bare knows_living whatever [] (outset pages) l i.done i.es log w i.tied)
   where
+    first : (known_living w).grace.processor ≡ 0
+    first = i.tied.done_is.1
+
     told-rested : (c : Chunk) → Tied whatever LivingDoes [] (outset pages) l (acts_of c) (entries_of c) log w → ((AllShared (by 0 log) (fresh 1 pages)) → (told_living w).numbers ≡ (shared_over (by 0 log) (fresh 1 pages)).numbers → HasRested 0 d x (told_living w)) → HasRested 0 d x (shared_over (by 0 log) (fresh 1 pages))
     told-rested c t h =
         let closed = tie-judged whatever (λ k z y q. tt) LivingDoes living-same living-join [] (outset pages) l (acts_of c) (entries_of c) log w c refl refl (λ b q. tt) t in
         let led = tied-led whatever pages log w (record { story = closed.story; judged = closed.judged; log_is = closed.log_is; done_is = closed.done_is }) in
         subst (HasRested 0 d x) (sym led.now_is) (rested-plainly 0 d x (told_living w) (h led.fit (ap (λ (s : Shared). s.numbers) (sym led.now_is))))
 
-    go : (done : List Act) (es : List Entry) → Idles d x log w done es → Tied whatever LivingDoes [] (outset pages) l done es log w → HasRested 0 d x (shared_over (by 0 log) (fresh 1 pages))
+    go : (done : List Act) (es : List Entry) → Idles knows_living d x log w done es → Tied whatever LivingDoes [] (outset pages) l done es log w → HasRested 0 d x (shared_over (by 0 log) (fresh 1 pages))
     go _ _ (idle.Looked fails) t =
         let ws = (side d (known_living w)).later in
         let k = lasts pages l (act.Looks d ws ∷ []) [] log w t in
@@ -183,7 +187,7 @@ idle-rested pages l d x log w i = go i.done i.es i.idle i.tied
         let es : Log = (l, entry.Begin d n) ∷ (l, entry.Finish p) ∷ [] in
         let there : log ≡ lines t.story ++ es = t.log_is in
         subst (λ z. HasRested 0 d x (shared_over (by 0 z) (fresh 1 pages))) (sym there)
-        (whole-rested pages l d x n a.0 p (lines t.story) q (subst (WaitsIn a.0 d x) there a.1) (subst (λ z. AllShared (by 0 z) (fresh 1 pages)) there led.fit))
+        (whole-rested pages l d x n a.0 p (lines t.story) q (subst (WaitsIn 0 a.0 d x) there (subst (λ r. WaitsIn r a.0 d x log) first a.1)) (subst (λ z. AllShared (by 0 z) (fresh 1 pages)) there led.fit))
 
 -- ---- along the log
 
@@ -226,7 +230,7 @@ from-one l (e ∷ log) f = ((let z = f.0 in omega (arith, z)), from-one l log f.
 
 -- ---- what entries need
 
-pass-fits : (pages l c : ℕ) (d : Domain) (x n : ℕ) (log : Log) → WasIdle [] (outset pages) l c d x log → PollFits 0 l (entry.Pass c d n) (polls_over log (no_polls 1 pages))
+pass-fits : (pages l c : ℕ) (d : Domain) (x n : ℕ) (log : Log) → WasIdle knows_living [] (outset pages) l c d x log → PollFits 0 l (entry.Pass c d n) (polls_over log (no_polls 1 pages))
 pass-fits pages l c d x n log w =
     let m = no_polls 1 pages in
     let P : Shared → Type 0 = HasRested 0 d x in
@@ -238,7 +242,7 @@ pass-fits pages l c d x n log w =
     let stamp : stamp_of d (((polls_over log m).lists 0).rows c).deferred ≡ Some x = ap (λ (s : State ℕ). stamp_of d (s.rows c).deferred) (lists-along log m) ∙ w.waits in
     subst (λ o. HasPolled 0 d o ((polls_over log m).places 0)) (sym stamp) stays
 
-begin-fits : (pages l : ℕ) (d : Domain) (n : ℕ) (log : Log) → IsDue d n log → PollFits 0 l (entry.Begin d n) (polls_over log (no_polls 1 pages))
+begin-fits : (pages l : ℕ) (d : Domain) (n : ℕ) (log : Log) → IsDue 0 d n log → PollFits 0 l (entry.Begin d n) (polls_over log (no_polls 1 pages))
 begin-fits pages l d n log i = record {
   class = i.awaited.0;
   stamp = i.stamp;
@@ -258,7 +262,7 @@ made-fits : (l u life : ℕ) (seal : Option Seal) (m : Polling) → FitsAt (at_l
 made-fits l u life None m = (tt, tt)
 made-fits l u life (Some x) m = (tt, tt)
 
-chunk-fits : (pages l : ℕ) (log : Log) (c : Chunk) → polled [] (outset pages) l log c → FitsAt (at_level l (entries_of c)) (polls_over log (no_polls 1 pages))
+chunk-fits : (pages l : ℕ) (log : Log) (c : Chunk) → polled knows_living [] (outset pages) l log c → FitsAt (at_level l (entries_of c)) (polls_over log (no_polls 1 pages))
 chunk-fits pages l log (chunk.Quiet e q) h = (quiet-fits l e (polls_over log (no_polls 1 pages)) q, tt)
 chunk-fits pages l log (chunk.Looking d ws) h = tt
 chunk-fits pages l log (chunk.Asking d x n) h = tt
@@ -281,7 +285,7 @@ chunk-fits pages l log (chunk.Sending c to us) h = (tt, tt)
 chunk-fits pages l log (chunk.Receiving c us) h = (tt, tt)
 chunk-fits pages l log (chunk.Sweeping c us parcels) h = (tt, tt)
 
-story-fits : (pages : ℕ) (log : Log) (ts : Story) → AllJudged (polled [] (outset pages)) log ts → FitsAt (lines ts) (polls_over log (no_polls 1 pages))
+story-fits : (pages : ℕ) (log : Log) (ts : Story) → AllJudged (polled knows_living [] (outset pages)) log ts → FitsAt (lines ts) (polls_over log (no_polls 1 pages))
 story-fits pages log [] j = tt
 story-fits pages log (t ∷ ts) j =
     let m = no_polls 1 pages in
@@ -290,7 +294,7 @@ story-fits pages log (t ∷ ts) j =
     subst (λ o. AllFit polling_after PollFits o (polls_over log m)) (sym (by-append 0 first (lines ts)))
     (fit-append polling_after PollFits (by 0 first) (by 0 (lines ts)) (polls_over log m) (chunk-fits pages t.level log t.chunk j.0) rest)
 
-pub tied-polled : (pages : ℕ) (log : Log) (world : LivingState) → Tied (polled [] (outset pages)) LivingDoes [] (outset pages) 0 [] [] log world → IsPolled 1 pages (by 0 log)
+pub tied-polled : (pages : ℕ) (log : Log) (world : LivingState) → Tied (polled knows_living [] (outset pages)) LivingDoes [] (outset pages) 0 [] [] log world → IsPolled 1 pages (by 0 log)
 tied-polled pages log world t =
     let log_is : log ≡ lines t.story = t.log_is ∙ append-nil (lines t.story) in
     subst (λ z. IsPolled 1 pages (by 0 z)) (sym log_is) (story-fits pages [] t.story t.judged)

@@ -1,5 +1,7 @@
 -- The processor before its first script.
 use Rattle.std.proofs.Common.{◌≡◌, ◌≤◌, ℕ, ◌+◌, ◌*◌, ◌%◌, Bool, false, if◌then◌else◌, List, [], ◌∷◌, length, refl, sym, ap, subst, ◌∙◌, Option, Some, None, IfSome, slice_get, arith, vec_capacity}
+use Rattle.bm_world.specs.LivingState.{LivingState}
+use Rattle.bm_world.specs.ToldLiving.{knows_living}
 use Rattle.std.specs.Prelude.{All}
 use Rattle.bm_journal.specs.declared.ids.Domain.{Domain}
 use Rattle.bm_journal.specs.declared.ids.Domain.TheVariants.{Plain}
@@ -27,7 +29,7 @@ abbrev pub whole_plan : Parts → Plan
 whole_plan s = record { left = planned_for 0 s; ended = false }
 
 -- A processor on which nothing has run: what handlers need is there, and nothing was asked for, lived or entered.
-pub record IsFresh (s : Parts) (m : Processor) : Type 0 where
+pub record IsFresh (s : Parts) (m : Processor LivingState) : Type 0 where
   pub planned : m.handlers.planned ≡ whole_plan s
   pub scripts : m.handlers.scripts ≡ length s.scripts
   pub running : m.running.items ≡ []
@@ -36,14 +38,14 @@ pub record IsFresh (s : Parts) (m : Processor) : Type 0 where
   pub tables : length m.tables.items ≡ 3
   pub room_tables : 3 ≤ vec_capacity m.tables
   pub inside : m.inside ≡ false
-  pub one : (known_of m).grace.processors ≡ 1
-  pub first : (known_of m).grace.processor ≡ 0
-  pub words : (d : Domain) → word_of d m ≡ 0
-  pub asked : (known_of m).objects.asked + m.settled ≡ 0
-  pub begun : (u : ℕ) → (known_of m).objects.begun u ≡ 0
-  pub lives : (u : ℕ) → (known_of m).objects.lives u ≡ None
+  pub home : m.caches.processor ≡ 0
+  pub first : (known_of knows_living m).grace.processor ≡ 0
+  pub words : (d : Domain) → word_of knows_living d m ≡ 0
+  pub asked : (known_of knows_living m).objects.asked + m.settled ≡ 0
+  pub begun : (u : ℕ) → (known_of knows_living m).objects.begun u ≡ 0
+  pub lives : (u : ℕ) → (known_of knows_living m).objects.lives u ≡ None
 
-pub left-is : (s : Parts) (m : Processor) → IsFresh s m → left_of m ≡ planned_for 0 s
+pub left-is : (s : Parts) (m : Processor LivingState) → IsFresh s m → left_of m ≡ planned_for 0 s
 left-is s m f = ap (λ (plan : Plan). plan.left) f.planned
 
 -- ordinary code is there
@@ -57,7 +59,7 @@ outside : (w : ℕ) (b : Bool) → w ≡ 0 → b ≡ false → w % 2 ≡ (if b t
 outside w b e f = rw (e, f) refl
 
 -- handlers can run
-ready : (p : Program) (m : Processor) → IsProgram p → HasConditions p.scenario.now → Within p.scenario.now → IsFresh p.scenario.now m → IsReady p m
+ready : (p : Program) (m : Processor LivingState) → IsProgram p → HasConditions p.scenario.now → Within p.scenario.now → IsFresh p.scenario.now m → IsReady knows_living p m
 ready p m fits fine within f =
     let s = p.scenario.now in
     let left = left-is s m f in
@@ -67,8 +69,7 @@ ready p m fits fine within f =
     let word = f.words Plain in
     record {
       fits = fits;
-      one = f.one;
-      first = f.first;
+      here = f.home ∙ sym f.first;
       scripts = f.scripts;
       planned = subst (All (IsHandlerLine s)) (sym left) (handler-lines s fine);
       bound = f.bound;
@@ -77,18 +78,18 @@ ready p m fits fine within f =
       room_tables = f.room_tables;
       asks = (let c = ap (left_cost s) left in omega (arith, none, c, cost));
       words = (let l = ap length left in omega (arith, word, l, few));
-      inside = outside (word_of Plain m) m.inside word f.inside;
+      inside = outside (word_of knows_living Plain m) m.inside word f.inside;
     }
 
-pub fresh-at : (p : Program) (m : Processor) (fs : Fills) → IsProgram p → HasConditions p.scenario.now → Within p.scenario.now → IsFresh p.scenario.now m → IfSome (log_of m) (λ es. es ≡ fill_log fs) → IsAt StandsAt 0 p m
+pub fresh-at : (p : Program) (m : Processor LivingState) (fs : Fills) → IsProgram p → HasConditions p.scenario.now → Within p.scenario.now → IsFresh p.scenario.now m → IfSome (log_of m) (λ es. es ≡ fill_log fs) → IsAt knows_living StandsAt 0 p m
 fresh-at p m fs fits fine within f told = record {
-  at = stands (known_of m).grace.processor p.scenario.now m.handlers.planned m.running.items (log_of m) fs f.first f.planned f.running told;
-  tells = where-told (Tells p.scenario.now (known_of m)) (log_of m) (fill_log fs) told (tells-filled p.scenario.now (known_of m) fs f.words);
+  at = stands (known_of knows_living m).grace.processor p.scenario.now m.handlers.planned m.running.items (log_of m) fs f.first f.planned f.running told;
+  tells = where-told (Tells p.scenario.now (known_of knows_living m)) (log_of m) (fill_log fs) told (tells-filled p.scenario.now (known_of knows_living m) fs f.words);
   ready = ready p m fits fine within f;
 }
 
 -- so few handlers are planned that each may begin the periods that it needs
-pub begins-enough : (s : Parts) (m : Processor) (begins : ℕ) → Within s → IsFresh s m → begins ≡ 134217728 → 24 * 4194304 + 12 * length (left_of m) ≤ begins
+pub begins-enough : (s : Parts) (m : Processor LivingState) (begins : ℕ) → Within s → IsFresh s m → begins ≡ 134217728 → 24 * 4194304 + 12 * length (left_of m) ≤ begins
 begins-enough s m begins within f e = let l = ap length (left-is s m f) in let few = few-planned s within in omega (arith, l, few, e)
 
 -- ---- a scenario without types and scripts

@@ -1,5 +1,7 @@
 -- Stretches of a run, one after the other.
-use Rattle.std.proofs.Common.{◌≡◌, ◌<◌, ℕ, ◌∷◌, [], ◌++◌, List, refl, sym, ap, subst, ◌∙◌, arith, IfSome}
+use Rattle.std.proofs.Common.{◌≡◌, ℕ, ◌∷◌, [], ◌++◌, List, refl, sym, ap, subst, ◌∙◌, IfSome}
+use Rattle.bm_world.specs.LivingState.{LivingState}
+use Rattle.bm_world.specs.ToldLiving.{knows_living}
 use Rattle.bm_journal.specs.declared.entry.Entry.{Entry}
 use Rattle.bm_journal.specs.Recording.{Appends}
 use Rattle.bm_law.specs.Lists.{Leaves, Log, after}
@@ -20,33 +22,26 @@ use Rattle.bm_run.specs.Lines.{Wrote}
 
 -- ---- what the log of the one processor tells
 
-pub is-zero : (n k : ℕ) → n < k → k ≡ 1 → n ≡ 0
-is-zero n k h e = omega (arith, h, e)
-
--- it is processor 0
-pub first-of : (p : Program) (m : Processor) → Sound p m → m.caches.processor ≡ 0
-first-of p m s = is-zero m.caches.processor (known_of m).grace.processors s.fine.aimed.processor s.at.ready.one
-
-pub told-of : (p : Program) (m : Processor) → Sound p m → IfSome (log_of m) (λ es. Leaves 0 es (lists_of m))
-told-of p m s = subst (λ n. IfSome (log_of m) (λ es. Leaves n es (lists_of m))) (first-of p m s) s.fine.placed.told
+pub told-of : (p : Program) (m : Processor LivingState) → (known_of knows_living m).grace.processor ≡ 0 → Sound knows_living p m → IfSome (log_of m) (λ es. Leaves 0 es (lists_of m))
+told-of p m first s = subst (λ n. IfSome (log_of m) (λ es. Leaves n es (lists_of m))) (s.at.ready.here ∙ first) s.fine.placed.told
 
 -- ---- stretches that join
 
 -- two stretches join, where calls may begin on the caches between them
-pub wrote-joined : (P Q W : Part) (a b c : Processor) → ((one two : Log) → P (lists_of a) one → Q (after (lists_of a) one) two → W (lists_of a) (one ++ two)) → FineAt 0 a → FineAt 0 b → b.caches.processor ≡ a.caches.processor → Wrote P a b → Wrote Q b c → Wrote W a c
+pub wrote-joined : (P Q W : Part) (a b c : Processor LivingState) → ((one two : Log) → P (lists_of a) one → Q (after (lists_of a) one) two → W (lists_of a) (one ++ two)) → FineAt knows_living 0 a → FineAt knows_living 0 b → b.caches.processor ≡ a.caches.processor → Wrote P a b → Wrote Q b c → Wrote W a c
 wrote-joined P Q W a b c f s t e u v = record {
   grew = grew-join P Q W a.caches.processor (lists_of a) (lists_of b) (log_of a) (log_of b) (log_of c) f s.placed.told (subst (λ n. IfSome (log_of b) (λ es. Leaves n es (lists_of b))) e t.placed.told) u.grew v.grew;
-  ordinary = ordinary-joined a b c u.ordinary v.ordinary;
+  ordinary = ordinary-joined knows_living a b c u.ordinary v.ordinary;
 }
 
-pub wrote-join : (P Q W : Part) (p : Program) (a b c : Processor) → ((one two : Log) → P (lists_of a) one → Q (after (lists_of a) one) two → W (lists_of a) (one ++ two)) → Sound p a → Sound p b → Wrote P a b → Wrote Q b c → Wrote W a c
-wrote-join P Q W p a b c f s t = wrote-joined P Q W a b c f s.fine t.fine (first-of p b t ∙ sym (first-of p a s))
+pub wrote-join : (P Q W : Part) (p : Program) (a b c : Processor LivingState) → ((one two : Log) → P (lists_of a) one → Q (after (lists_of a) one) two → W (lists_of a) (one ++ two)) → Sound knows_living p a → Sound knows_living p b → Wrote P a b → Wrote Q b c → Wrote W a c
+wrote-join P Q W p a b c f s t u v = wrote-joined P Q W a b c f s.fine t.fine (t.at.ready.here ∙ (u.ordinary.processor ∙ sym s.at.ready.here)) u v
 
-pub wrote-then : (P Q : Part) (p : Program) (a b c : Processor) → Sound p a → Sound p b → Wrote P a b → Wrote Q b c → Wrote (Then P Q) a c
+pub wrote-then : (P Q : Part) (p : Program) (a b c : Processor LivingState) → Sound knows_living p a → Sound knows_living p b → Wrote P a b → Wrote Q b c → Wrote (Then P Q) a c
 wrote-then P Q p a b c = wrote-join P Q (Then P Q) p a b c (λ one two i j. record { one = one; two = two; part_is = refl; is_first = i; is_second = j })
 
 -- a part that is another one too
-pub wrote-map : (P Q : Part) (a b : Processor) → ((part : Log) → P (lists_of a) part → Q (lists_of a) part) → Wrote P a b → Wrote Q a b
+pub wrote-map : (P Q : Part) (a b : Processor LivingState) → ((part : Log) → P (lists_of a) part → Q (lists_of a) part) → Wrote P a b → Wrote Q a b
 wrote-map P Q a b f u = record { grew = grew-map P Q (lists_of a) (log_of a) (log_of b) f u.grew; ordinary = u.ordinary }
 
 stand-join : (v w : List Entry) (s t : State ℕ) (one two : Log) → Stand 0 v s one → Stand 0 w t two → Stand 0 (v ++ w) s (one ++ two)
@@ -56,15 +51,15 @@ stand-join v w s t one two f g = record {
 }
 
 -- entries that stand there, one after the other
-pub wrote-stands : (v w : List Entry) (a b c : Processor) → FineAt 0 a → FineAt 0 b → b.caches.processor ≡ a.caches.processor → Wrote (Stand 0 v) a b → Wrote (Stand 0 w) b c → Wrote (Stand 0 (v ++ w)) a c
+pub wrote-stands : (v w : List Entry) (a b c : Processor LivingState) → FineAt knows_living 0 a → FineAt knows_living 0 b → b.caches.processor ≡ a.caches.processor → Wrote (Stand 0 v) a b → Wrote (Stand 0 w) b c → Wrote (Stand 0 (v ++ w)) a c
 wrote-stands v w a b c = wrote-joined (Stand 0 v) (Stand 0 w) (Stand 0 (v ++ w)) a b c (λ one two f g. stand-join v w (lists_of a) (after (lists_of a) one) one two f g)
 
 -- one entry
-pub wrote-one : (a b : Processor) (e : Entry) → Appends (log_of a) 0 e (log_of b) → Ordinary a b → Wrote (Stand 0 (e ∷ [])) a b
+pub wrote-one : (a b : Processor LivingState) (e : Entry) → Appends (log_of a) 0 e (log_of b) → Ordinary knows_living a b → Wrote (Stand 0 (e ∷ [])) a b
 wrote-one a b e h o = record { grew = grew-stand 0 (e ∷ []) (lists_of a) (log_of a) (log_of b) (Records-one 0 e (log_of a) (log_of b) h); ordinary = o }
 
 -- its handlers changed before
-pub wrote-before : {P : Part} (a : Processor) (h : Handlers) (b : Processor) → Wrote P (record a { handlers = h }) b → Wrote P a b
+pub wrote-before : {P : Part} (a : Processor LivingState) (h : Handlers) (b : Processor LivingState) → Wrote P (record a { handlers = h }) b → Wrote P a b
 wrote-before a h b u = record {
   grew = u.grew;
   ordinary = record {

@@ -1,5 +1,7 @@
 -- The closing of the one processor.
 use Rattle.std.specs.Prelude.{◌≡◌, ◌<◌, ℕ, Some, List, []}
+use Rattle.bm_world.specs.LivingState.{LivingState}
+use Rattle.bm_world.specs.ToldLiving.{knows_living}
 use Rattle.bm_law.specs.Alone.{Alone}
 use Rattle.bm_law.specs.Kept.{Ready}
 use Rattle.bm_law.specs.Lists.{Log, Leaves}
@@ -18,8 +20,8 @@ use Rattle.bm_exec_levels.specs.declared.processor.Processor.{Processor}
 
 -- The processor was closed, and its log is this one: the periods in progress ended, and each of these classes was swept. At the
 -- end nothing stands in their lists; the other classes are as they were, and no call is in a cache or has anything in hand.
-pub record Closed (classes : List ℕ) (m : Processor) (log : Log) : Type 0 where
-  pub closes : GrewBy (Then (EndsBegun (known_of m)) (SweepsTold classes (told_in m.side.side.post))) (lists_of m) (log_of m) (Some log)
+pub record Closed (classes : List ℕ) (m : Processor LivingState) (log : Log) : Type 0 where
+  pub closes : GrewBy (Then (EndsBegun (known_of knows_living m)) (SweepsTold classes (told_in m.side.side.post))) (lists_of m) (log_of m) (Some log)
   pub alone : Alone 0 (log_of m) (Some log)
   pub last : State Token
   pub leaves : Leaves 0 log (seen number_of last)

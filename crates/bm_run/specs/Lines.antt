@@ -1,5 +1,7 @@
 -- Stretches of the run of the one processor.
 use Rattle.std.specs.Prelude.{ℕ, Bool, true, false, List, Option, Some, None, IsSome, sum_by, slice_get}
+use Rattle.bm_world.specs.LivingState.{LivingState}
+use Rattle.bm_world.specs.ToldLiving.{knows_living}
 use Rattle.std.specs.List.{All}
 use Rattle.bm_lang.specs.declared.scenario.RunLine.{RunLine}
 use Rattle.bm_lang.specs.declared.scenario.Parts.{Parts}
@@ -35,6 +37,6 @@ BehindScript None = Nothing
 BehindScript (Some classes) = WorkBehind classes
 
 -- The log, where it is told, has grown by such a part, among which handlers may stand, by what ordinary code leaves.
-pub record Wrote (P : Part) (before now : Processor) : Type 0 where
+pub record Wrote (P : Part) (before now : Processor LivingState) : Type 0 where
   pub grew : GrewBy P (lists_of before) (log_of before) (log_of now)
-  pub ordinary : Ordinary before now
+  pub ordinary : Ordinary knows_living before now

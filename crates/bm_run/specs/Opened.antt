@@ -1,5 +1,6 @@
 -- The one processor after its opening.
 use Rattle.std.specs.Prelude.{◌≡◌, ◌+◌, ◌&&◌, ℕ, Bool, true, false, List, [], ◌∷◌, None, IfSome, nat_lt}
+use Rattle.bm_world.specs.ToldLiving.{knows_living}
 use Rattle.bm_journal.specs.declared.ids.Domain.{Domain}
 use Rattle.bm_page.specs.Stock.{Stock}
 use Rattle.bm_grace.specs.Known.{side}
@@ -40,16 +41,18 @@ outset pages = record { side = fresh_side (fresh_stock pages); slots = []; begun
 -- none was asked for, no period is in progress, and no section was entered. No handler that the program plans for it has run, none
 -- runs, and it is in no section. Its log and its side are tied since the outset. (bpf_mem_alloc_init and prefill_mem_cache in
 -- kernel/bpf/memalloc.c; objects, periods, sections and planned handlers are this project's own.)
-pub record IsOpen (p : Program) (f : Filling) (m : Processor) : Type 0 where
-  pub sound : Sound p m
+pub record IsOpen (p : Program) (f : Filling) (m : Processor LivingState) : Type 0 where
+  pub sound : Sound knows_living p m
   pub told : IfSome m.caches.recorder.told (λ es. es ≡ fill_log f.fills)
   pub lowered : (c : ℕ) → ((shown m.caches).rows c).raised ≡ false
   pub none : (u : ℕ) → lives_of m.side.slots u ≡ None
   pub begun : (u : ℕ) → begun_at m.side.begun u ≡ 0
-  pub asked : (known_of m).objects.asked + m.settled ≡ 0
-  pub numbers : (d : Domain) → (side d (known_of m)).number ≡ 0
-  pub words : (d : Domain) → (side d (known_of m)).word ≡ 0
+  pub asked : (known_of knows_living m).objects.asked + m.settled ≡ 0
+  pub numbers : (d : Domain) → (side d (known_of knows_living m)).number ≡ 0
+  pub words : (d : Domain) → (side d (known_of knows_living m)).word ≡ 0
+  pub one : (known_of knows_living m).grace.processors ≡ 1
+  pub first : (known_of knows_living m).grace.processor ≡ 0
   pub planned : left_of m ≡ planned_for 0 p.scenario.now
   pub running : m.running.items ≡ []
   pub inside : m.inside ≡ false
-  pub tied : TiedAt [] (outset p.scenario.now.pages) m
+  pub tied : TiedAt knows_living [] (outset p.scenario.now.pages) m

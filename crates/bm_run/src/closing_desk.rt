@@ -1,6 +1,7 @@
 //! The desk of the processor that a run closes.
 
 ghost use Rattle.std.specs.Prelude.{◌≡◌, [], refl};
+ghost use Rattle.bm_world.specs.ToldLiving.{knows_living};
 ghost use Rattle.std.proofs.Common.{◌∙◌, ap, subst, sym};
 ghost use Rattle.std.proofs.lemmas.Bool.{and_parts};
 ghost use Rattle.bm_cache.specs.Span.{Face};
@@ -11,7 +12,7 @@ ghost use Rattle.bm_work.specs.Still.{alike-joined, alike-still, goes-still};
 ghost use Rattle.bm_law_order.specs.Quiet.{is_quiet};
 ghost use Rattle.bm_world.specs.LivingState.{known_living, rights_living};
 ghost use Rattle.bm_exec_levels.specs.AtRests.{RestedBy, RestsBy, law-kept, law-passed, law-rested_done, rests-begun, rests-looked, rests-missed, rests-read, rests-tied, rests-whole, waits-in};
-ghost use Rattle.bm_run.specs.ClosingTie.{EndsOne, IsOne, ends-back, ends-closed, ends-did, ends-noted, ends-quiet, ends-said, ends-stepped, ends-told, ends-waited};
+ghost use Rattle.bm_run.specs.ClosingTie.{EndsHere, IsHere, ends-back, ends-closed, ends-did, ends-noted, ends-quiet, ends-said, ends-stepped, ends-told, ends-waited};
 
 use bm_cache::{Caches, Host};
 use bm_closing::Ended;
@@ -29,7 +30,7 @@ pub(crate) struct ClosingDesk<B> {
     pub(crate) since: PhantomData<B>,
 }
 
-impl<B: Since> Host<Keep> for ClosingDesk<B> {
+impl<B: Since<LivingSide>> Host<Keep> for ClosingDesk<B> {
     ghost held = { λ m. m.caches };
 
     ghost with_held = { λ m c. record m { caches = c } };
@@ -40,9 +41,9 @@ impl<B: Since> Host<Keep> for ClosingDesk<B> {
 
     ghost tests = { λ m. tests_by (rights_living m.side) };
 
-    ghost sound = { λ m. EndsOne B.since B.start [] [] m.caches.recorder.told m.side };
+    ghost sound = { λ m. EndsHere B.since B.start [] [] m.caches m.side };
 
-    ghost asked = { λ m. EndsOne B.since B.start [] [] m.caches.recorder.told m.side };
+    ghost asked = { λ m. EndsHere B.since B.start [] [] m.caches m.side };
 
     ghost gave = { λ _ _ m. Unit {0} };
 
@@ -58,17 +59,17 @@ impl<B: Since> Host<Keep> for ClosingDesk<B> {
 
     ghost tests_back = { λ h c. refl };
 
-    ghost sound_back = { λ h c e s. (s.0, ends-back B.since B.start c.recorder.told h.caches.recorder.told h.side e s.1) };
+    ghost sound_back = { λ h c p e s. (p ∙ s.0, ends-back B.since B.start c.recorder.told h.caches.recorder.told h.side e s.1) };
 
-    ghost asked_back = { λ h c e s. (s.0, ends-back B.since B.start c.recorder.told h.caches.recorder.told h.side e s.1) };
+    ghost asked_back = { λ h c p e s. (p ∙ s.0, ends-back B.since B.start c.recorder.told h.caches.recorder.told h.side e s.1) };
 
-    ghost sound_stepped = { λ h c e i a s. (s.0, ends-quiet B.since B.start e h.caches.recorder.told c.recorder.told h.side (and_parts (is_step e) (is_quiet e) i).1 a s.1) };
+    ghost sound_stepped = { λ h c e i p a s. (p ∙ s.0, ends-quiet B.since B.start e h.caches.recorder.told c.recorder.told h.side (and_parts (is_step e) (is_quiet e) i).1 a s.1) };
 
-    ghost sound_said = { λ h c e i a s. (s.0, ends-quiet B.since B.start e h.caches.recorder.told c.recorder.told h.side (and_parts (is_reply e) (is_quiet e) i).1 a s.1) };
+    ghost sound_said = { λ h c e i p a s. (p ∙ s.0, ends-quiet B.since B.start e h.caches.recorder.told c.recorder.told h.side (and_parts (is_reply e) (is_quiet e) i).1 a s.1) };
 
-    ghost sound_given = { λ h c u n x a s. tt };
+    ghost sound_given = { λ h c u n x p a s. tt };
 
-    ghost sound_freed = { λ h c e u n i a s. absurd s };
+    ghost sound_freed = { λ h c e u n i p a s. absurd s };
 
     ghost keeps_back = { λ h c. refl };
 
@@ -87,7 +88,7 @@ impl<B: Since> Host<Keep> for ClosingDesk<B> {
     fn point(&mut self) {}
 }
 
-impl<B: Since> Desk<Keep> for ClosingDesk<B> {
+impl<B: Since<LivingSide>> Desk<Keep> for ClosingDesk<B> {
     type W = LivingSide;
 
     ghost shared = { λ m. m.side };
@@ -96,15 +97,15 @@ impl<B: Since> Desk<Keep> for ClosingDesk<B> {
 
     ghost stays = { λ a b. Alike (known_living a.side) (known_living b.side) };
 
-    ghost owes = { λ done es m. EndsOne B.since B.start done es m.caches.recorder.told m.side };
+    ghost owes = { λ done es m. EndsHere B.since B.start done es m.caches m.side };
 
-    ghost asked_owes = { λ done m. EndsOne B.since B.start done [] m.caches.recorder.told m.side };
+    ghost asked_owes = { λ done m. EndsHere B.since B.start done [] m.caches m.side };
 
     ghost minds = { Unit {0} };
 
-    ghost rested = { λ d x m. IsOne m.side × RestsBy B.since B.start 0 d x m.caches.recorder.told m.side };
+    ghost rested = { λ d x m. IsHere m.caches m.side × RestsBy knows_living B.since B.start 0 d x m.caches.recorder.told m.side };
 
-    ghost asked_rested = { λ d x done m. IsOne m.side × RestedBy B.since B.start 0 d x done m.caches.recorder.told m.side };
+    ghost asked_rested = { λ d x done m. IsHere m.caches m.side × RestedBy knows_living B.since B.start 0 d x done m.caches.recorder.told m.side };
 
     fn world(&mut self) -> &mut LivingSide {
         &mut self.side
@@ -136,45 +137,45 @@ impl<B: Since> Desk<Keep> for ClosingDesk<B> {
 
     ghost owes_shut = { λ h o. o };
 
-    ghost owes_done = { λ h w done more es a d o. (a.processors ∙ o.0, ends-did B.since B.start done more es h.caches.recorder.told h.side w d o.1) };
+    ghost owes_done = { λ h w done more es a d o. (o.0 ∙ sym a.processor, ends-did B.since B.start done more es h.caches.recorder.told h.side w (d, a.processor) o.1) };
 
-    ghost owes_said = { λ h c done es e i a o. (o.0, ends-said B.since B.start done es e h.caches.recorder.told c.recorder.told h.side a o.1) };
+    ghost owes_said = { λ h c done es e i p a o. (p ∙ o.0, ends-said B.since B.start done es e h.caches.recorder.told c.recorder.told h.side a o.1) };
 
     ghost owes_closed = { λ h done es x o. (o.0, ends-closed B.since B.start done es h.caches.recorder.told h.side x o.1) };
 
     ghost asked_open = { λ h s. s };
 
-    ghost asked_done = { λ h w done more a d o. (a.processors ∙ o.0, ends-did B.since B.start done more [] h.caches.recorder.told h.side w d o.1) };
+    ghost asked_done = { λ h w done more a d o. (o.0 ∙ sym a.processor, ends-did B.since B.start done more [] h.caches.recorder.told h.side w (d, a.processor) o.1) };
 
     ghost asked_closed = { λ h done x o. (o.0, ends-closed B.since B.start done [] h.caches.recorder.told h.side x o.1) };
 
-    ghost asked_stepped = { λ h c done e i x a o. (o.0, ends-stepped B.since B.start done e h.caches.recorder.told c.recorder.told h.side x a o.1) };
+    ghost asked_stepped = { λ h c done e i x p a o. (p ∙ o.0, ends-stepped B.since B.start done e h.caches.recorder.told c.recorder.told h.side x a o.1) };
 
-    ghost rested_looked = { λ h d x f o. (o.0, rests-looked B.since B.start 0 d x h.caches.recorder.told h.side f o.1) };
+    ghost rested_looked = { λ h d x f o. (o.0, rests-looked knows_living B.since B.start 0 d x h.caches.recorder.told h.side f o.1) };
 
-    ghost rested_begun = { λ h d x n b a f o. (o.0, rests-begun B.since B.start 0 d x n _ h.caches h.side b o.0 (a tt) f o.1) };
+    ghost rested_begun = { λ h d x n b a f o. (o.0, rests-begun knows_living B.since B.start 0 d x n _ h.caches h.side b o.0 (a tt) f o.1) };
 
-    ghost rested_read = { λ h d x n i z o. (o.0, rests-read B.since B.start 0 d x n h.caches.recorder.told h.side i z o.1) };
+    ghost rested_read = { λ h d x n i z o. (o.0, rests-read knows_living B.since B.start 0 d x n h.caches.recorder.told h.side i z o.1) };
 
-    ghost rested_missed = { λ h d x even n o. (o.0, rests-missed B.since B.start 0 d x even n h.caches.recorder.told h.side o.1) };
+    ghost rested_missed = { λ h d x even n o. (o.0, rests-missed knows_living B.since B.start 0 d x even n h.caches.recorder.told h.side o.1) };
 
-    ghost rested_whole = { λ h d x n ws p q b a o. (o.0, rests-whole B.since B.start 0 d x n _ ws p h.caches h.side q b o.0 (a tt) o.1) };
+    ghost rested_whole = { λ h d x n ws p q b a o. (o.0, rests-whole knows_living B.since B.start 0 d x n _ ws p h.caches h.side q b o.0 (a tt) o.1) };
 
-    ghost rested_sound = { λ h d x r. (r.0, rests-tied B.since B.start 0 d x h.caches.recorder.told h.side r.1) };
+    ghost rested_sound = { λ h d x r. (r.0, rests-tied knows_living B.since B.start 0 d x h.caches.recorder.told h.side r.1) };
 
-    ghost rested_lent = { λ h w d x e r. subst (λ v. IsOne v × RestsBy B.since B.start 0 d x h.caches.recorder.told v) (sym e) r };
+    ghost rested_lent = { λ h w d x e r. subst (λ v. IsHere h.caches v × RestsBy knows_living B.since B.start 0 d x h.caches.recorder.told v) (sym e) r };
 
-    ghost rested_kept = { λ a b d x k m s r. (s.0, law-kept B.since B.start 0 d x a.caches.recorder.told b.caches.recorder.told a.side b.side m s.1 r.1) };
+    ghost rested_kept = { λ a b d x k m s r. (s.0, law-kept knows_living B.since B.start 0 d x a.caches.recorder.told b.caches.recorder.told a.side b.side m s.1 r.1) };
 
-    ghost rested_done = { λ h w d x done more a m r. (a.processors ∙ r.0, law-rested_done B.since B.start 0 d x done more h.caches.recorder.told h.side w m r.1) };
+    ghost rested_done = { λ h w d x done more a m r. (r.0 ∙ sym a.processor, law-rested_done knows_living B.since B.start 0 d x done more h.caches.recorder.told h.side w (m, a.processor) r.1) };
 
-    ghost rested_passed = { λ h c i d x n b a r. (r.0, law-passed B.since B.start 0 i d x n h.caches.recorder.told c.recorder.told h.side (waits-in _ i d x h.caches r.0 (b tt)) a r.1) };
+    ghost rested_passed = { λ h c i d x n b p a r. (p ∙ r.0, law-passed knows_living B.since B.start 0 i d x n h.caches.recorder.told c.recorder.told h.side (waits-in _ i d x _ h.caches r.0 (b tt)) a r.1) };
 }
 
-impl<B: Since> Ended<Keep> for ClosingDesk<B> {
-    ghost owes_noted = { λ h c done es more a o. (o.0, ends-noted B.since B.start done es more h.caches.recorder.told c.recorder.told h.side a o.1) };
+impl<B: Since<LivingSide>> Ended<Keep> for ClosingDesk<B> {
+    ghost owes_noted = { λ h c done es more p a o. (p ∙ o.0, ends-noted B.since B.start done es more h.caches.recorder.told c.recorder.told h.side a o.1) };
 
     ghost owes_told = { λ h done more es others s o. (o.0, ends-told B.since B.start done more es others h.caches.recorder.told h.side s o.1) };
 
-    ghost owes_passed = { λ h d x n m c ws p e b w o. (o.0, ends-waited B.since B.start d x n m c ws p h.caches.recorder.told h.side e b (waits-in _ c d x h.caches o.0 w) o.1) };
+    ghost owes_passed = { λ h d x n m c ws p e b w o. (o.0, ends-waited B.since B.start d x n m c ws p h.caches.recorder.told h.side e b (waits-in _ c d x _ h.caches o.0 w) o.1) };
 }

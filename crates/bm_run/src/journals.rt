@@ -1,6 +1,7 @@
 //! The run of a scenario on one thread.
 
 ghost use Rattle.std.specs.Prelude.{◌≡◌, ◌≤◌, ◌%◌, ◌∷◌, [], ℕ, IfOk, IsSome, IsTrue, Some, map, length};
+ghost use Rattle.bm_world.specs.ToldLiving.{knows_living};
 ghost use Rattle.bm_journal.specs.WellFormed.{is_whole_log};
 ghost use Rattle.bm_journal.specs.declared.ids.Domain.{Domain as DomainValue};
 ghost use Rattle.bm_lang.specs.declared.scenario.Script.{Script};
@@ -22,7 +23,7 @@ ghost use Rattle.bm_law_order.specs.Orders.{IsLaid, by};
 ghost use Rattle.bm_law_order.specs.Polls.{IsPolled};
 ghost use Rattle.bm_law_order.specs.Seals.{IsSealed};
 ghost use Rattle.bm_exec_levels.specs.AtTie.{TiedAt};
-ghost use Rattle.bm_exec_levels.specs.Ready.{word_of};
+ghost use Rattle.bm_exec_levels.specs.Ready.{known_of, word_of};
 ghost use Rattle.bm_exec_levels.specs.Sound.{Sound};
 ghost use Rattle.bm_exec_levels.specs.declared.program.Program.{Program as ProgramValue};
 ghost use Rattle.bm_run_yet.specs.Yet.{RunsYet};
@@ -47,6 +48,7 @@ use bm_lang::{Parts, Scenario, Script, TypeDeclaration};
 use bm_law_laid::{journal_law, whole_law};
 use bm_law_logs::{handled_law, lives_law, parcels_law, returned_law, returns_law, sweeps_law};
 use bm_word::NoMemory;
+use bm_world::LivingSide;
 use std::alloc::Global;
 use std::marker::{Brand, PhantomData};
 
@@ -125,29 +127,26 @@ fn journal_of(
 }
 
 // Ends a processor after a want of memory, with all that it holds.
-fn give_up(own: Processor) {
-    let Processor {
-        alloc: _,
-        caches,
-        side,
-        settled: _,
-        inside: _,
-        handlers: _,
-        running: _,
-        tables: _,
-    } = own;
-    caches.give_up();
+fn give_up(own: Processor<LivingSide>) {
+    let (kept, side) = own.close();
+    kept.give_up();
     side.give_up();
 }
 
 // Sweeps the classes of a processor whose scripts have ended, behind the ends of its periods. The answer is what its recorder
 // holds. Want of memory is the only refusal.
-fn close<B: Since>(alloc: Global, own: Processor, classes: &[Class]) -> Result<Log, NoMemory>
-    requires sound { (p : ProgramValue) × Sound p own }
-    requires tied { TiedAt B.since B.start own }
+fn close<B: Since<LivingSide>>(
+    alloc: Global,
+    own: Processor<LivingSide>,
+    classes: &[Class],
+) -> Result<Log, NoMemory>
+    requires sound { (p : ProgramValue) × Sound knows_living p own }
+    requires tied { TiedAt knows_living B.since B.start own }
+    requires one { (known_of knows_living own).grace.processors ≡ 1 }
+    requires first { (known_of knows_living own).grace.processor ≡ 0 }
     requires settled { own.settled ≤ 40000 }
     requires few { length classes.now ≤ 11 }
-    requires outside { (d : DomainValue) → word_of d own % 2 ≡ 0 }
+    requires outside { (d : DomainValue) → word_of knows_living d own % 2 ≡ 0 }
     requires unused { IsSome own.caches.recorder.told → (c : ℕ) → times c classes.now ≡ 0 → seven_lists ((shown own.caches).rows c) ≡ [] }
     ensures closed { IfOk result (Closed classes.now own) }
     ensures tied { IfOk result (IsTiedLog B.since B.start own) }
@@ -191,7 +190,7 @@ fn when_on<'s>(on: bool, classes: &'s [Class]) -> Option<&'s [Class]>
 }
 
 // The log of a run, tied since the outset; no grace period is in progress after it.
-fn log_of<B: Since>(
+fn log_of<B: Since<LivingSide>>(
     alloc: Global,
     scenario: &Scenario,
     classes: &[Class],
@@ -241,8 +240,9 @@ fn log_of<B: Since>(
     close::<B>(alloc, own, opened)
 }
 
-/// Runs a checked scenario of the forms that run by now, and gives its journal, which is lawful and laid, in which each poll has
-/// rested, each unit was given with what it had waited for, and each grace period has ended. Its time grows with the statements run. Want of memory is the only refusal.
+/// Runs a checked scenario of the forms that run so far, and gives its journal, which is lawful and laid, in which each poll has
+/// rested, each unit was given with what it had waited for, and each grace period has ended. Its time grows with the statements
+/// run. Out of memory is the only refusal.
 pub fn replay(alloc: Global, checked: &Checked) -> Result<Journal, NoMemory>
     requires { RunsYet checked.now }
     ensures lawful { IfOk result (Lawful checked.now) }

@@ -20,7 +20,6 @@ mod closing_desk;
 mod filling;
 mod journals;
 mod opening;
-mod room;
 mod scripts;
 mod stretches;
 

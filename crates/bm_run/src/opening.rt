@@ -11,10 +11,9 @@ ghost use Rattle.bm_world.specs.LivingState.{begun_at};
 ghost use Rattle.bm_world.specs.Slots.{AllEmpty};
 
 use crate::filling::{fill, give_up_fills};
-use crate::room::make_room;
 use bm_cache::Caches;
 use bm_class::Class;
-use bm_exec_levels::{Processor, Program};
+use bm_exec_levels::{Kept, Processor, Program};
 use bm_grace::PlainGrace;
 use bm_journal::Keep;
 use bm_lang::Scenario;
@@ -56,7 +55,7 @@ pub fn open(
     scenario: &Scenario,
     program: &Program<'_>,
     classes: &[Class],
-) -> Result<Processor, NoMemory>
+) -> Result<Processor<LivingSide>, NoMemory>
     requires same { program.now.scenario.now ≡ scenario.now }
     requires fits { IsProgram program.now }
     requires fine { HasConditions scenario.now }
@@ -64,7 +63,6 @@ pub fn open(
     requires ascend { ascends classes.now ≡ true }
     ensures { IfOk result (IsOpen program.now (filling classes.now (fresh_stock scenario.now.pages))) }
 {
-    let room = make_room(alloc, scenario)?;
     let mut pool = Pool::create(alloc, program.scenario.pages as u16)?;
     let Ok(fills) = fill(alloc, &mut pool, classes) else {
         pool.give_up();
@@ -74,19 +72,18 @@ pub fn open(
         give_up_fills(fills);
         return Err(NoMemory);
     };
-    match Caches::create(alloc, 0, fills, Keep::new(alloc)) {
-        Ok(caches) => Ok(Processor {
-            alloc,
-            caches,
-            side,
-            settled: 0,
-            inside: false,
-            handlers: room.handlers,
-            running: room.running,
-            tables: room.tables,
-        }),
+    let caches = match Caches::create(alloc, 0, fills, Keep::new(alloc)) {
+        Ok(caches) => caches,
         Err((fills, _recorder)) => {
             give_up_fills(fills);
+            side.give_up();
+            return Err(NoMemory);
+        }
+    };
+    match Kept::create(alloc, scenario, 0, caches) {
+        Ok(kept) => Ok(Processor::open(kept, side)),
+        Err(caches) => {
+            caches.give_up();
             side.give_up();
             Err(NoMemory)
         }

@@ -1,6 +1,7 @@
 //! Stretches of a run that stand around what its scripts do.
 
 ghost use Rattle.std.specs.Prelude.{◌≡◌, ◌+◌, ◌*◌, ◌<◌, ◌≤◌, ◌%◌, ◌^◌, ◌∷◌, [], IfSome, IsTrue, OnOk, false, length, true};
+ghost use Rattle.bm_world.specs.ToldLiving.{knows_living};
 ghost use Rattle.bm_journal.specs.declared.entry.Entry.TheVariants as entry;
 ghost use Rattle.bm_journal.specs.declared.ids.Domain.TheVariants.{Plain};
 ghost use Rattle.bm_journal.specs.Recording.{Appends};
@@ -27,123 +28,124 @@ use bm_exec_levels::{
 };
 use bm_journal::{Entry, Level};
 use bm_word::{Name, NoMemory};
+use bm_world::LivingSide;
 
 // Records an entry of ordinary code that moves nothing.
-fn note(own: &mut Processor, entry: Entry)
-    requires fine { FineAt 0 own.old }
+fn note(own: &mut Processor<LivingSide>, entry: Entry)
+    requires fine { FineAt knows_living 0 own.old }
     requires note { IsTrue (is_note entry) }
     ensures wrote { Wrote (Stand 0 (entry ∷ [])) own.old own.new }
     ensures said { Appends (log_of own.old) 0 entry (log_of own.new) }
     ensures lists { shown own.new.caches ≡ shown own.old.caches }
     ensures processor { own.new.caches.processor ≡ own.old.caches.processor }
     ensures same { own.new ≡ record own.old { caches = own.new.caches } }
-    ensures fine { FineAt 0 own.new }
-    ensures tied { IsTrue (is_quiet entry) → (since : Log) (start : LivingState) → TiedAt since start own.old → TiedAt since start own.new }
-    ensures sound { (p : ProgramValue) → kind_of entry ≡ StaysKind → IsInner entry → Sound p own.old → Sound p own.new }
+    ensures fine { FineAt knows_living 0 own.new }
+    ensures tied { IsTrue (is_quiet entry) → (since : Log) (start : LivingState) → TiedAt knows_living since start own.old → TiedAt knows_living since start own.new }
+    ensures sound { (p : ProgramValue) → kind_of entry ≡ StaysKind → IsInner entry → Sound knows_living p own.old → Sound knows_living p own.new }
 {
     own.caches.note(Level::ordinary(), entry);
 }
 
 // Begins the plain section that a script runs in, and records it.
-fn go_in(own: &mut Processor)
-    requires fine { FineAt 0 own.old }
-    requires outside { word_of Plain own.old % 2 ≡ 0 }
-    requires room { word_of Plain own.old + 2 * length (left_of own.old) + 1 < 2 ^ 28 }
-    ensures wrote { Wrote (Stand 0 (entry.In Plain (word_of Plain own.old + 1) ∷ [])) own.old own.new }
+fn go_in(own: &mut Processor<LivingSide>)
+    requires fine { FineAt knows_living 0 own.old }
+    requires outside { word_of knows_living Plain own.old % 2 ≡ 0 }
+    requires room { word_of knows_living Plain own.old + 2 * length (left_of own.old) + 1 < 2 ^ 28 }
+    ensures wrote { Wrote (Stand 0 (entry.In Plain (word_of knows_living Plain own.old + 1) ∷ [])) own.old own.new }
     ensures lists { shown own.new.caches ≡ shown own.old.caches }
     ensures processor { own.new.caches.processor ≡ own.old.caches.processor }
-    ensures known { known_of own.new ≡ entered false Plain (known_of own.old) }
+    ensures known { known_of knows_living own.new ≡ entered false Plain (known_of knows_living own.old) }
     ensures same { own.new ≡ record own.old { caches = own.new.caches; side = own.new.side; inside = own.new.inside } }
-    ensures fine { FineAt 0 own.new }
-    ensures tied { (since : Log) (start : LivingState) → TiedAt since start own.old → TiedAt since start own.new }
-    ensures sound { (p : ProgramValue) → Sound p own.old → Sound p own.new }
+    ensures fine { FineAt knows_living 0 own.new }
+    ensures tied { (since : Log) (start : LivingState) → TiedAt knows_living since start own.old → TiedAt knows_living since start own.new }
+    ensures sound { (p : ProgramValue) → Sound knows_living p own.old → Sound knows_living p own.new }
 {
     enter_section(own, Level::ordinary());
 }
 
 // Ends the plain section that a script ran in, and records it.
-fn go_out(own: &mut Processor)
-    requires fine { FineAt 0 own.old }
-    requires inside { word_of Plain own.old % 2 ≡ 1 }
-    requires room { word_of Plain own.old + 2 * length (left_of own.old) + 1 < 2 ^ 28 }
-    ensures wrote { Wrote (Stand 0 (entry.Out Plain (word_of Plain own.old + 1) ∷ [])) own.old own.new }
+fn go_out(own: &mut Processor<LivingSide>)
+    requires fine { FineAt knows_living 0 own.old }
+    requires inside { word_of knows_living Plain own.old % 2 ≡ 1 }
+    requires room { word_of knows_living Plain own.old + 2 * length (left_of own.old) + 1 < 2 ^ 28 }
+    ensures wrote { Wrote (Stand 0 (entry.Out Plain (word_of knows_living Plain own.old + 1) ∷ [])) own.old own.new }
     ensures lists { shown own.new.caches ≡ shown own.old.caches }
     ensures processor { own.new.caches.processor ≡ own.old.caches.processor }
-    ensures known { known_of own.new ≡ left false Plain (known_of own.old) }
+    ensures known { known_of knows_living own.new ≡ left false Plain (known_of knows_living own.old) }
     ensures same { own.new ≡ record own.old { caches = own.new.caches; side = own.new.side; inside = own.new.inside } }
-    ensures fine { FineAt 0 own.new }
-    ensures tied { (since : Log) (start : LivingState) → TiedAt since start own.old → TiedAt since start own.new }
-    ensures sound { (p : ProgramValue) → Sound p own.old → Sound p own.new }
+    ensures fine { FineAt knows_living 0 own.new }
+    ensures tied { (since : Log) (start : LivingState) → TiedAt knows_living since start own.old → TiedAt knows_living since start own.new }
+    ensures sound { (p : ProgramValue) → Sound knows_living p own.old → Sound knows_living p own.new }
 {
     leave_section(own, Level::ordinary());
 }
 
 /// Names a script, and begins its plain section.
-pub(crate) fn begin_script(own: &mut Processor, name: &Name)
-    requires fine { FineAt 0 own.old }
-    requires outside { word_of Plain own.old % 2 ≡ 0 }
-    requires room { word_of Plain own.old + 2 * length (left_of own.old) + 1 < 2 ^ 28 }
-    ensures wrote { Wrote (Stand 0 (entry.Script name.now ∷ entry.In Plain (word_of Plain own.old + 1) ∷ [])) own.old own.new }
+pub(crate) fn begin_script(own: &mut Processor<LivingSide>, name: &Name)
+    requires fine { FineAt knows_living 0 own.old }
+    requires outside { word_of knows_living Plain own.old % 2 ≡ 0 }
+    requires room { word_of knows_living Plain own.old + 2 * length (left_of own.old) + 1 < 2 ^ 28 }
+    ensures wrote { Wrote (Stand 0 (entry.Script name.now ∷ entry.In Plain (word_of knows_living Plain own.old + 1) ∷ [])) own.old own.new }
     ensures lists { shown own.new.caches ≡ shown own.old.caches }
-    ensures known { known_of own.new ≡ entered false Plain (known_of own.old) }
+    ensures known { known_of knows_living own.new ≡ entered false Plain (known_of knows_living own.old) }
     ensures same { own.new ≡ record own.old { caches = own.new.caches; side = own.new.side; inside = own.new.inside } }
-    ensures tied { (since : Log) (start : LivingState) → TiedAt since start own.old → TiedAt since start own.new }
-    ensures sound { (p : ProgramValue) → Sound p own.old → Sound p own.new }
+    ensures tied { (since : Log) (start : LivingState) → TiedAt knows_living since start own.old → TiedAt knows_living since start own.new }
+    ensures sound { (p : ProgramValue) → Sound knows_living p own.old → Sound knows_living p own.new }
 {
     note(own, Entry::Script(name.duplicate()));
     go_in(own);
 }
 
 /// Ends a script's plain section, and the script.
-pub(crate) fn end_script(own: &mut Processor, name: &Name)
-    requires fine { FineAt 0 own.old }
-    requires inside { word_of Plain own.old % 2 ≡ 1 }
-    requires room { word_of Plain own.old + 2 * length (left_of own.old) + 1 < 2 ^ 28 }
-    ensures wrote { Wrote (Stand 0 (entry.Out Plain (word_of Plain own.old + 1) ∷ entry.Done name.now ∷ [])) own.old own.new }
+pub(crate) fn end_script(own: &mut Processor<LivingSide>, name: &Name)
+    requires fine { FineAt knows_living 0 own.old }
+    requires inside { word_of knows_living Plain own.old % 2 ≡ 1 }
+    requires room { word_of knows_living Plain own.old + 2 * length (left_of own.old) + 1 < 2 ^ 28 }
+    ensures wrote { Wrote (Stand 0 (entry.Out Plain (word_of knows_living Plain own.old + 1) ∷ entry.Done name.now ∷ [])) own.old own.new }
     ensures lists { shown own.new.caches ≡ shown own.old.caches }
-    ensures known { known_of own.new ≡ left false Plain (known_of own.old) }
+    ensures known { known_of knows_living own.new ≡ left false Plain (known_of knows_living own.old) }
     ensures same { own.new ≡ record own.old { caches = own.new.caches; side = own.new.side; inside = own.new.inside } }
-    ensures tied { (since : Log) (start : LivingState) → TiedAt since start own.old → TiedAt since start own.new }
-    ensures sound { (p : ProgramValue) → Sound p own.old → Sound p own.new }
+    ensures tied { (since : Log) (start : LivingState) → TiedAt knows_living since start own.old → TiedAt knows_living since start own.new }
+    ensures sound { (p : ProgramValue) → Sound knows_living p own.old → Sound knows_living p own.new }
 {
     go_out(own);
     note(own, Entry::Done(name.duplicate()));
 }
 
 /// Runs the deferred work that stands behind a script, if any runs. Want of memory is the only refusal.
-pub(crate) fn settle_behind<'s, B: Since>(
-    own: &mut Processor,
+pub(crate) fn settle_behind<'s, B: Since<LivingSide>>(
+    own: &mut Processor<LivingSide>,
     program: &'s Program<'s>,
     deferred: &'s Deferred<'s>,
 ) -> Result<(), NoMemory>
-    requires sound { Sound program.now own.old }
-    requires tied { TiedAt B.since B.start own.old }
-    requires room { asked_of program.now.scenario.now own.old + 1 < 2 ^ 22 }
+    requires sound { Sound knows_living program.now own.old }
+    requires tied { TiedAt knows_living B.since B.start own.old }
+    requires room { asked_of knows_living program.now.scenario.now own.old + 1 < 2 ^ 22 }
     requires few { IfSome deferred.now.behind (λ classes. length classes.now ≤ 11) }
     ensures wrote { OnOk result (Wrote (BehindScript (behind_of deferred.now.behind)) own.old own.new) }
     ensures down { OnOk result (Behind (behind_of deferred.now.behind) (lists_of own.new) []) }
-    ensures lives { OnOk result (SameLives own.old own.new) }
-    ensures asked { OnOk result (asked_of program.now.scenario.now own.new ≤ asked_of program.now.scenario.now own.old + 1) }
-    ensures statements { OnOk result (Statements own.old own.new) }
-    ensures sound { OnOk result (Sound program.now own.new) }
-    ensures tied { OnOk result (TiedAt B.since B.start own.new) }
+    ensures lives { OnOk result (SameLives knows_living own.old own.new) }
+    ensures asked { OnOk result (asked_of knows_living program.now.scenario.now own.new ≤ asked_of knows_living program.now.scenario.now own.old + 1) }
+    ensures statements { OnOk result (Statements knows_living own.old own.new) }
+    ensures sound { OnOk result (Sound knows_living program.now own.new) }
+    ensures tied { OnOk result (TiedAt knows_living B.since B.start own.new) }
 {
     let Some(classes) = deferred.behind else {
         return Ok(());
     };
-    settle_script::<B>(own, program, classes)
+    settle_script::<LivingSide, B>(own, program, classes)
 }
 
 /// Records that the scripts of the one processor have ended, and that the closing begins. From then on no handler is due.
-pub fn begin_closing(own: &mut Processor)
-    requires fine { FineAt 0 own.old }
+pub fn begin_closing(own: &mut Processor<LivingSide>)
+    requires fine { FineAt knows_living 0 own.old }
     ensures wrote { Wrote (Stand 0 (entry.Ended ∷ entry.Close ∷ [])) own.old own.new }
     ensures lists { shown own.new.caches ≡ shown own.old.caches }
     ensures side { own.new.side ≡ own.old.side }
     ensures settled { own.new.settled ≡ own.old.settled }
     ensures ended { own.new.handlers.planned.ended ≡ true }
-    ensures tied { (since : Log) (start : LivingState) → TiedAt since start own.old → TiedAt since start own.new }
-    ensures sound { (p : ProgramValue) → Sound p own.old → Sound p own.new }
+    ensures tied { (since : Log) (start : LivingState) → TiedAt knows_living since start own.old → TiedAt knows_living since start own.new }
+    ensures sound { (p : ProgramValue) → Sound knows_living p own.old → Sound knows_living p own.new }
 {
     note(own, Entry::Ended);
     own.handlers.end();

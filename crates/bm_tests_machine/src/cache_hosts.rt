@@ -80,17 +80,17 @@ impl<R: Recorder> Host<R> for Ground<R> {
 
     ghost tests_back = { λ h c. refl };
 
-    ghost asked_back = { λ h c e s. s };
+    ghost asked_back = { λ h c p e s. s };
 
-    ghost sound_back = { λ h c e s. s };
+    ghost sound_back = { λ h c p e s. s };
 
-    ghost sound_stepped = { λ h c e i a k. k };
+    ghost sound_stepped = { λ h c e i p a k. k };
 
-    ghost sound_said = { λ h c e i a s. s };
+    ghost sound_said = { λ h c e i p a s. s };
 
-    ghost sound_given = { λ h c u n x a s. s };
+    ghost sound_given = { λ h c u n x p a s. s };
 
-    ghost sound_freed = { λ h c e u n i a s. s };
+    ghost sound_freed = { λ h c e u n i p a s. s };
 
     ghost keeps_back = { λ h c. tt };
 
@@ -145,17 +145,17 @@ impl<'a, R: Recorder> Host<R> for First<'a, R> {
 
     ghost tests_back = { λ h c. refl };
 
-    ghost asked_back = { λ h c e s. s };
+    ghost asked_back = { λ h c p e s. s };
 
-    ghost sound_back = { λ h c e s. s };
+    ghost sound_back = { λ h c p e s. s };
 
-    ghost sound_stepped = { λ h c e i a k. k };
+    ghost sound_stepped = { λ h c e i p a k. k };
 
-    ghost sound_said = { λ h c e i a s. s };
+    ghost sound_said = { λ h c e i p a s. s };
 
-    ghost sound_given = { λ h c u n x a s. s };
+    ghost sound_given = { λ h c u n x p a s. s };
 
-    ghost sound_freed = { λ h c e u n i a s. s };
+    ghost sound_freed = { λ h c e u n i p a s. s };
 
     ghost keeps_back = { λ h c. tt };
 
@@ -211,17 +211,17 @@ impl<'a, R: Recorder> Host<R> for Second<'a, R> {
 
     ghost tests_back = { λ h c. refl };
 
-    ghost asked_back = { λ h c e s. s };
+    ghost asked_back = { λ h c p e s. s };
 
-    ghost sound_back = { λ h c e s. s };
+    ghost sound_back = { λ h c p e s. s };
 
-    ghost sound_stepped = { λ h c e i a k. k };
+    ghost sound_stepped = { λ h c e i p a k. k };
 
-    ghost sound_said = { λ h c e i a s. s };
+    ghost sound_said = { λ h c e i p a s. s };
 
-    ghost sound_given = { λ h c u n x a s. s };
+    ghost sound_given = { λ h c u n x p a s. s };
 
-    ghost sound_freed = { λ h c e u n i a s. s };
+    ghost sound_freed = { λ h c e u n i p a s. s };
 
     ghost keeps_back = { λ h c. tt };
 

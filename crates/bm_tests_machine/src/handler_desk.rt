@@ -73,17 +73,17 @@ impl<R: Recorder, S: World> Host<R> for Ground<R, S> {
 
     ghost tests_back = { λ h c. refl };
 
-    ghost sound_back = { λ h c e s. s };
+    ghost sound_back = { λ h c p e s. s };
 
-    ghost asked_back = { λ h c e s. s };
+    ghost asked_back = { λ h c p e s. s };
 
-    ghost sound_stepped = { λ h c e i a k. k };
+    ghost sound_stepped = { λ h c e i p a k. k };
 
-    ghost sound_said = { λ h c e i a s. s };
+    ghost sound_said = { λ h c e i p a s. s };
 
-    ghost sound_given = { λ h c u n x a s. s };
+    ghost sound_given = { λ h c u n x p a s. s };
 
-    ghost sound_freed = { λ h c e u n i a s. s };
+    ghost sound_freed = { λ h c e u n i p a s. s };
 
     ghost keeps_back = { λ h c. refl };
 
@@ -160,7 +160,7 @@ impl<R: Recorder, S: World> Desk<R> for Ground<R, S> {
 
     ghost owes_done = { λ h w A B es a d o. o };
 
-    ghost owes_said = { λ h c A es e i a o. o };
+    ghost owes_said = { λ h c A es e i p a o. o };
 
     ghost owes_closed = { λ h A es x o. o };
 
@@ -170,7 +170,7 @@ impl<R: Recorder, S: World> Desk<R> for Ground<R, S> {
 
     ghost asked_closed = { λ h A x o. o };
 
-    ghost asked_stepped = { λ h c A e i x a o. o };
+    ghost asked_stepped = { λ h c A e i x p a o. o };
 
     ghost rested_looked = { λ h d x f o. o };
 
@@ -190,7 +190,7 @@ impl<R: Recorder, S: World> Desk<R> for Ground<R, S> {
 
     ghost rested_done = { λ h w d x A B a m o. o };
 
-    ghost rested_passed = { λ h c i d x n w a o. o };
+    ghost rested_passed = { λ h c i d x n w p a o. o };
 }
 
 impl<'a, R: Recorder, S: World> Host<R> for Upper<'a, R, S> {
@@ -222,17 +222,17 @@ impl<'a, R: Recorder, S: World> Host<R> for Upper<'a, R, S> {
 
     ghost tests_back = { λ h c. refl };
 
-    ghost sound_back = { λ h c e s. s };
+    ghost sound_back = { λ h c p e s. s };
 
-    ghost asked_back = { λ h c e s. s };
+    ghost asked_back = { λ h c p e s. s };
 
-    ghost sound_stepped = { λ h c e i a k. k };
+    ghost sound_stepped = { λ h c e i p a k. k };
 
-    ghost sound_said = { λ h c e i a s. s };
+    ghost sound_said = { λ h c e i p a s. s };
 
-    ghost sound_given = { λ h c u n x a s. s };
+    ghost sound_given = { λ h c u n x p a s. s };
 
-    ghost sound_freed = { λ h c e u n i a s. s };
+    ghost sound_freed = { λ h c e u n i p a s. s };
 
     ghost keeps_back = { λ h c. refl };
 

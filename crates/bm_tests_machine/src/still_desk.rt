@@ -58,17 +58,17 @@ impl<R: Recorder, S: World> Host<R> for StillDesk<R, S> {
 
     ghost tests_back = { λ h c. refl };
 
-    ghost sound_back = { λ h c e s. s };
+    ghost sound_back = { λ h c p e s. s };
 
-    ghost asked_back = { λ h c e s. s };
+    ghost asked_back = { λ h c p e s. s };
 
-    ghost sound_stepped = { λ h c e i a k. k };
+    ghost sound_stepped = { λ h c e i p a k. k };
 
-    ghost sound_said = { λ h c e i a s. s };
+    ghost sound_said = { λ h c e i p a s. s };
 
-    ghost sound_given = { λ h c u n x a s. s };
+    ghost sound_given = { λ h c u n x p a s. s };
 
-    ghost sound_freed = { λ h c e u n i a s. s };
+    ghost sound_freed = { λ h c e u n i p a s. s };
 
     ghost keeps_back = { λ h c. refl };
 
@@ -138,7 +138,7 @@ impl<R: Recorder, S: World> Desk<R> for StillDesk<R, S> {
 
     ghost owes_done = { λ h w A B es a d o. o };
 
-    ghost owes_said = { λ h c A es e i a o. o };
+    ghost owes_said = { λ h c A es e i p a o. o };
 
     ghost owes_closed = { λ h A es x o. o };
 
@@ -148,7 +148,7 @@ impl<R: Recorder, S: World> Desk<R> for StillDesk<R, S> {
 
     ghost asked_closed = { λ h A x o. o };
 
-    ghost asked_stepped = { λ h c A e i x a o. o };
+    ghost asked_stepped = { λ h c A e i x p a o. o };
 
     ghost rested_looked = { λ h d x f o. o };
 
@@ -168,11 +168,11 @@ impl<R: Recorder, S: World> Desk<R> for StillDesk<R, S> {
 
     ghost rested_done = { λ h w d x A B a m o. o };
 
-    ghost rested_passed = { λ h c i d x n w a o. o };
+    ghost rested_passed = { λ h c i d x n w p a o. o };
 }
 
 impl<R: Recorder, S: World> Ended<R> for StillDesk<R, S> {
-    ghost owes_noted = { λ h c A es more a o. o };
+    ghost owes_noted = { λ h c A es more p a o. o };
 
     ghost owes_told = { λ h A B es others s o. o };
 

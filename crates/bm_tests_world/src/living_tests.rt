@@ -10,7 +10,7 @@ use bm_grace::PlainGrace;
 use bm_journal::ObjId;
 use bm_page::Unit;
 use bm_post::{PlainPost, Post};
-use bm_world::{LivingSide, OneSide};
+use bm_world::{Lives, LivingSide, OneSide};
 use std::process::Abort;
 
 /// The side of the one processor, where nothing lives and no object was asked for.

@@ -36,16 +36,16 @@ owes-called shared with_shared known does Q law h v w k more e n a d done q =
     law h w done more (subst (λ x. Alike (known x) (known w)) e (subst (λ x. Alike (known v) x) (sym n) a)) (subst (λ x. does more x w) e d) q
 
 -- an entry that is no step
-pub owes-noted : {H R : Type 0} (F : H → Face) (D : H → Caches R) (W : H → Caches R → H) (log : R → Option Log) (owes : List Act → List Entry → H → Type 0) → ((h : H) (c : Caches R) (done : List Act) (es : List Entry) (e : Entry) → is_reply e ≡ true → Appends (log (D h).recorder) (F h).level e (log c.recorder) → owes done es h → owes done (es ++ e ∷ []) (W h c)) → (h : H) (w z : Caches R) (j : ℕ) (e : Entry) → j ≡ (F h).level → w ≡ D h → is_reply e ≡ true → Appends (log w.recorder) j e (log z.recorder) → (done : List Act) (es : List Entry) → owes done es h → owes done (es ++ e ∷ []) (W h z)
-owes-noted {H} {R} F D W log owes law h w z j e l k i a done es o =
+pub owes-noted : {H R : Type 0} (F : H → Face) (D : H → Caches R) (W : H → Caches R → H) (log : R → Option Log) (owes : List Act → List Entry → H → Type 0) → ((h : H) (c : Caches R) (done : List Act) (es : List Entry) (e : Entry) → is_reply e ≡ true → c.processor ≡ (D h).processor → Appends (log (D h).recorder) (F h).level e (log c.recorder) → owes done es h → owes done (es ++ e ∷ []) (W h c)) → (h : H) (w z : Caches R) (j : ℕ) (e : Entry) → j ≡ (F h).level → w ≡ D h → is_reply e ≡ true → Appends (log w.recorder) j e (log z.recorder) → z.processor ≡ w.processor → (done : List Act) (es : List Entry) → owes done es h → owes done (es ++ e ∷ []) (W h z)
+owes-noted {H} {R} F D W log owes law h w z j e l k i a p done es o =
     let P : ℕ → Caches R → Type 0 = λ n c. Appends (log c.recorder) n e (log z.recorder) in
-    law h z done es e i (subst (λ n. P n (D h)) l (subst (λ c. P j c) k a)) o
+    law h z done es e i (p ∙ ap (λ (c : Caches R). c.processor) k) (subst (λ n. P n (D h)) l (subst (λ c. P j c) k a)) o
 
 -- the entry of a step, which stands for what was done
-pub owes-stepped : {H R : Type 0} (F : H → Face) (D : H → Caches R) (W : H → Caches R → H) (log : R → Option Log) (sound : H → Type 0) (owes : List Act → H → Type 0) → ((h : H) (c : Caches R) (done : List Act) (e : Entry) → is_step e ≡ true → (IsSome (log c.recorder) → Shows done (e ∷ [])) → Appends (log (D h).recorder) (F h).level e (log c.recorder) → owes done h → sound (W h c)) → (h : H) (w z : Caches R) (j : ℕ) (e : Entry) → j ≡ (F h).level → w ≡ D h → is_step e ≡ true → Appends (log w.recorder) j e (log z.recorder) → (done : List Act) → (IsSome (log z.recorder) → Shows done (e ∷ [])) → owes done h → sound (W h z)
-owes-stepped {H} {R} F D W log sound owes law h w z j e l k i a done s o =
+pub owes-stepped : {H R : Type 0} (F : H → Face) (D : H → Caches R) (W : H → Caches R → H) (log : R → Option Log) (sound : H → Type 0) (owes : List Act → H → Type 0) → ((h : H) (c : Caches R) (done : List Act) (e : Entry) → is_step e ≡ true → (IsSome (log c.recorder) → Shows done (e ∷ [])) → c.processor ≡ (D h).processor → Appends (log (D h).recorder) (F h).level e (log c.recorder) → owes done h → sound (W h c)) → (h : H) (w z : Caches R) (j : ℕ) (e : Entry) → j ≡ (F h).level → w ≡ D h → is_step e ≡ true → Appends (log w.recorder) j e (log z.recorder) → z.processor ≡ w.processor → (done : List Act) → (IsSome (log z.recorder) → Shows done (e ∷ [])) → owes done h → sound (W h z)
+owes-stepped {H} {R} F D W log sound owes law h w z j e l k i a p done s o =
     let P : ℕ → Caches R → Type 0 = λ n c. Appends (log c.recorder) n e (log z.recorder) in
-    law h z done e i s (subst (λ n. P n (D h)) l (subst (λ c. P j c) k a)) o
+    law h z done e i s (p ∙ ap (λ (c : Caches R). c.processor) k) (subst (λ n. P n (D h)) l (subst (λ c. P j c) k a)) o
 
 pub shows : (x : Chunk) → chunk.is_judged x ≡ false → Shows (chunk.acts_of x) (chunk.entries_of x)
 shows x s = record { chunk = x; free = s; acts_are = refl; entries_are = refl }

@@ -93,7 +93,7 @@ pub trait Desk<R: Recorder>: Host<R> {
 
     ghost owes_done: { (h : Self) (w : Self.W) (done more : List Act) (es : List EntryValue) → Alike (Self.W.Knows.known (shared h)) (Self.W.Knows.known w) → Self.W.Knows.does more (shared h) w → owes done es h → owes (done ++ more) es (with_shared h w) };
 
-    ghost owes_said: { (h : Self) (c : Caches R) (done : List Act) (es : List EntryValue) (e : EntryValue) → is_reply e ≡ true → Appends (R.log (Self.Host.held h).recorder) (Self.Host.face h).level e (R.log c.recorder) → owes done es h → owes done (es ++ e ∷ []) (Self.Host.with_held h c) };
+    ghost owes_said: { (h : Self) (c : Caches R) (done : List Act) (es : List EntryValue) (e : EntryValue) → is_reply e ≡ true → c.processor ≡ (Self.Host.held h).processor → Appends (R.log (Self.Host.held h).recorder) (Self.Host.face h).level e (R.log c.recorder) → owes done es h → owes done (es ++ e ∷ []) (Self.Host.with_held h c) };
 
     ghost owes_closed: { (h : Self) (done : List Act) (es : List EntryValue) → Shows done es → owes done es h → Self.Host.sound h };
 
@@ -103,7 +103,7 @@ pub trait Desk<R: Recorder>: Host<R> {
 
     ghost asked_closed: { (h : Self) (done : List Act) → Shows done [] → asked_owes done h → Self.Host.asked h };
 
-    ghost asked_stepped: { (h : Self) (c : Caches R) (done : List Act) (e : EntryValue) → is_step e ≡ true → (IsSome (R.log c.recorder) → Shows done (e ∷ [])) → Appends (R.log (Self.Host.held h).recorder) (Self.Host.face h).level e (R.log c.recorder) → asked_owes done h → Self.Host.sound (Self.Host.with_held h c) };
+    ghost asked_stepped: { (h : Self) (c : Caches R) (done : List Act) (e : EntryValue) → is_step e ≡ true → (IsSome (R.log c.recorder) → Shows done (e ∷ [])) → c.processor ≡ (Self.Host.held h).processor → Appends (R.log (Self.Host.held h).recorder) (Self.Host.face h).level e (R.log c.recorder) → asked_owes done h → Self.Host.sound (Self.Host.with_held h c) };
 
     // A look in vain, also at a period that began just now for a batch that waits for the stamp, below it; a number that needs no
     // begin; a begin that was too late for the number that was read; and such a period that ended at once.
@@ -126,5 +126,5 @@ pub trait Desk<R: Recorder>: Host<R> {
 
     ghost rested_done: { (h : Self) (w : Self.W) (d : DomainValue) (x : ℕ) (done more : List Act) → Alike (Self.W.Knows.known (shared h)) (Self.W.Knows.known w) → Self.W.Knows.does more (shared h) w → asked_rested d x done h → asked_rested d x (done ++ more) (with_shared h w) };
 
-    ghost rested_passed: { (h : Self) (c : Caches R) (i : ℕ) (d : DomainValue) (x n : ℕ) → (minds → HasStamp R.log (Self.Host.face h).processors i d x (Self.Host.held h)) → Appends (R.log (Self.Host.held h).recorder) (Self.Host.face h).level (entry.Pass i d n) (R.log c.recorder) → asked_rested d x (act.Reads d x n ∷ []) h → Self.Host.sound (Self.Host.with_held h c) };
+    ghost rested_passed: { (h : Self) (c : Caches R) (i : ℕ) (d : DomainValue) (x n : ℕ) → (minds → HasStamp R.log (Self.Host.face h).processors i d x (Self.Host.held h)) → c.processor ≡ (Self.Host.held h).processor → Appends (R.log (Self.Host.held h).recorder) (Self.Host.face h).level (entry.Pass i d n) (R.log c.recorder) → asked_rested d x (act.Reads d x n ∷ []) h → Self.Host.sound (Self.Host.with_held h c) };
 }

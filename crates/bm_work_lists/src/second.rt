@@ -34,7 +34,7 @@ fn wants_second<R: Recorder, H: Host<R>>(host: &mut H, class: Class) -> bool
     caches.counts(class).ready > 0 && caches.in_progress(class, Domain::Tracing).is_none()
 }
 
-/// A point, and all of Ready becomes the tracing batch, which has no stamp by now.
+/// A point, and all of Ready becomes the tracing batch, which has no stamp so far.
 fn make_second<R: Recorder, H: Host<R>>(host: &mut H, class: Class)
     requires sound { H.sound host.old }
     requires fine { Fine R.log R.counts (H.tests host.old) (H.face host.old).processors ((H.face host.old).level + 1) (H.held host.old) }

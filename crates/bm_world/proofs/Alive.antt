@@ -12,7 +12,7 @@ use Rattle.bm_page.specs.declared.units.Seal.{Seal}
 use Rattle.bm_page.specs.Out.{IsFromStock}
 use Rattle.bm_page.specs.Stock.{fetched, stocked_at}
 use Rattle.bm_post.specs.HasRoom.{has_room, room-of}
-use Rattle.bm_post.specs.Rights.{AreSame, Gains, Holds, Lasting, Loses, MayLeave, numbers}
+use Rattle.bm_post.specs.Rights.{AreSame, Gains, Holds, Loses, MayLeave, numbers}
 use Rattle.bm_post.specs.Calls.{Fetches, Receives, Takes}
 use Rattle.bm_post.specs.PostState.{Parcels, PostState, is_mine, rights_in, sent_to, taken_by, times_in, waits}
 use Rattle.bm_post.proofs.Counts.{at-number, here-times, zero-or-more}
@@ -280,20 +280,6 @@ begun-gone post slots begun begun' n v there = record {
       let same : unit_at (set slots n (Some v)) m ≡ Some v = ap (unit_at (set slots n (Some v))) (one-times m n h) ∙ at-same slots n (Some v) there in
       ap (λ o. is_mine post m && not (is_some o)) same ∙ and-false (is_mine post m);
   others = λ m h. ap (λ o. is_mine post m && not (is_some o)) (at-other slots n m (Some v) (not-one m n h));
-}
-
--- what was mine and is mine lives as before
-others-may : (post : PostState) (slots : Slotted) (begun : List ℕ) (n k : ℕ) (v : UnitState) → n < length slots → (m life : ℕ) → (rights_with_living post (set slots n (Some v)) (set begun n k)).mine m ≡ true → may_live begun m life ≡ true → may_live (set begun n k) m life ≡ true
-others-may post slots begun n k v there m life now fit =
-    let other : m ≢ n = λ same. not-both (unit_at (set slots n (Some v)) m) v (lives-not post (set slots n (Some v)) (set begun n k) m now) (ap (unit_at (set slots n (Some v))) same ∙ at-same slots n (Some v) there) in
-    may-live (set begun n k) m life (has-room begun m life fit) (lives-as begun m life fit ∙ sym (counted-other begun n m k other))
-
-pub begun-lasts : (post : PostState) (slots : Slotted) (begun : List ℕ) (n k : ℕ) (v : UnitState) → n < length slots → Lasting [] (rights_with_living post slots begun) (rights_with_living post (set slots n (Some v)) (set begun n k))
-begun-lasts post slots begun n k v there = record {
-  settled = λ m life seal was now fit. may-be-used (set begun n k) m life seal (others-may post slots begun n k v there m life now (lives-so begun m life seal fit)) (seal-none begun m life seal fit);
-  due = λ m life seal was now none fit. fit;
-  ripe = λ m life seal was now none fit. fit;
-  since = λ d x m was now h. refl;
 }
 
 -- a life ends

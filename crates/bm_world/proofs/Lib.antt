@@ -5,3 +5,4 @@ pub mod Lived
 pub mod SlotLemmas
 pub mod Did
 pub mod LivingDid
+pub mod KnownLiving

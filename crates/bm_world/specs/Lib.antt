@@ -1,3 +1,4 @@
+pub mod Lives
 pub mod LivingState
 pub mod SideState
 pub mod Slots

@@ -11,7 +11,8 @@ use Rattle.bm_page.specs.Stock.{stocked_at}
 use Rattle.bm_grace.specs.Known.{Known, Living, Lives, side}
 use Rattle.bm_grace.specs.Rights.{Rights}
 use Rattle.bm_post.specs.HasRoom.{has_room, room-of}
-use Rattle.bm_post.specs.PostState.{PostState, is_mine}
+use Rattle.bm_grace.specs.PlainState.{idle}
+use Rattle.bm_post.specs.PostState.{PostState, is_mine, no_parcels}
 use Rattle.bm_world.specs.SideState.{SideAtRest, SideState, idle-of, known_of}
 use Rattle.bm_world.specs.Slots.{unit_at}
 
@@ -125,3 +126,15 @@ room-living p n life seal h =
 pub idle-living : (world : LivingState) (d : Domain) (n : ℕ) → LivingAtRest world d n → n % 2 ≡ 0 → (side d (known_living world)).number ≡ 0
 idle-living world Plain n rest even = idle-of world.side Plain n rest even
 idle-living world Tracing n rest even = idle-of world.side Tracing n rest even
+
+-- a side of which nobody did anything, without pages
+abbrev pub no_living_state : LivingState
+no_living_state = record {
+  side = record {
+    post = record { pool = record { classes = []; units = [] }; processors = 1; processor = 0; inboxes = no_parcels };
+    grace = record { processors = 1; processor = 0; plain = idle; tracing = idle };
+  };
+  slots = [];
+  begun = [];
+  asked = 0;
+}

@@ -1,5 +1,5 @@
 -- What the world with the units that live in it tells of what processors share, and what its side did.
-use Rattle.std.specs.Prelude.{ℕ, Option, None, Some, List, [], ◌++◌}
+use Rattle.std.specs.Prelude.{ℕ, false, Option, None, Some, List, [], ◌++◌}
 use Rattle.bm_law_order.specs.Act.{Act}
 use Rattle.bm_page.specs.UnitState.{UnitState}
 use Rattle.bm_law_order.specs.Acts.{ActsLead}
@@ -8,7 +8,8 @@ use Rattle.bm_law_order.specs.Seals.{NothingWaits}
 use Rattle.bm_law_order.specs.Shared.{Shared}
 use Rattle.bm_law_order.proofs.ActsJoin.{acts-join, acts-same}
 use Rattle.bm_law_order.proofs.Unwaited.{waits-append}
-use Rattle.bm_world.specs.LivingState.{LivingState, begun_at}
+use Rattle.bm_grace.specs.declared.grace.Knows.{Ghosts as Knows}
+use Rattle.bm_world.specs.LivingState.{LivingAtRest, LivingState, begun_at, known_living, rights_living}
 use Rattle.bm_world.specs.Slots.{unit_at}
 use Rattle.bm_world.specs.Told.{IsSideOf, told}
 
@@ -43,4 +44,16 @@ living-join es fs a b c x y = record {
       let u = x.did p s in
       let v = y.did p u.stays in
       record { leads = acts-join p es fs (told_living a) (told_living b) (told_living c) u.leads v.leads; stays = v.stays };
+}
+
+-- all that this world tells
+abbrev pub knows_living : Knows LivingState
+knows_living = record {
+  known = known_living;
+  tells = false;
+  rights = rights_living;
+  rest = LivingAtRest;
+  does = LivingDoes;
+  does_same = living-same;
+  does_join = living-join;
 }

@@ -2,11 +2,13 @@
 //!
 //! - `World` is a `Post` and a `Grace` in one value, so that a grace period that has passed can make the post's units ripe.
 //! - `OneSide` is the world on one thread for any number of processors, of which one has its turn.
-//! - `LivingSide` owns the units that live beside it, by their numbers, and counts their lives: `begin_life`, `end_life`, `ask`.
+//! - `Lives` is a `World` in which units live: `begin_life`, `end_life`, `ask`.
+//! - `LivingSide` is such a world on one thread: beside a `OneSide` it owns the units that live, by their numbers.
+//! - `Since` says since when a processor's log and its side are tied.
 //! - `WaitingSide` tells which units wait and since when; the tests of delayed frees stand on it.
 //! - `Slots` holds the units that live.
 //!
-//! Deferred work (`bm_work`) is generic over any world; the machines of a run (`bm_exec_levels`) have a `LivingSide`.
+//! Deferred work (`bm_work`) is generic over any world, and the machines of a run (`bm_exec_levels`) over any world with lives.
 //!
 //! Each call says by which acts the side came to be what it is (`LivingDoes`, specs/ToldLiving): that is the side's half of the
 //! tie between a log and what is shared, whose other half is the log's (`bm_law_order`). A unit that lives is nobody's to free
@@ -17,8 +19,10 @@
 
 mod begun;
 mod law;
+mod lives;
 mod living;
 mod one_side;
+mod since;
 mod slots;
 mod wait;
 mod waiting;
@@ -26,8 +30,10 @@ mod waiting_law;
 mod world;
 
 pub use law::aged_law;
+pub use lives::Lives;
 pub use living::LivingSide;
 pub use one_side::OneSide;
+pub use since::Since;
 pub use slots::Slots;
 pub use wait::Wait;
 pub use waiting::WaitingSide;

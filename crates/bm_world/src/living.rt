@@ -23,11 +23,13 @@ ghost use Rattle.bm_world.specs.ToldLiving.{LivingDoes, living-join, living-same
 ghost use Rattle.bm_law_order.specs.Act as act;
 ghost use Rattle.bm_law_order.specs.Act.{sealed};
 ghost use Rattle.bm_grace.specs.Begins.{begin_act};
-ghost use Rattle.bm_world.specs.LivingState.{HaveLived, LivingAtRest, begun_at, idle-living, known_living, next_life, rights_living, room-living, with_asked, with_begun, with_ended};
+ghost use Rattle.bm_world.specs.LivingState.{HaveLived, LivingAtRest, begun_at, idle-living, known_living, lives_of, rights_living, room-living, with_asked, with_begun, with_ended};
+ghost use Rattle.bm_world.specs.Lives.{OthersAsBefore, asked_once, life_begun, life_ended, life_of_unit};
+ghost use Rattle.bm_page.specs.declared.units.Seal.{Seal as SealValue};
 
 use crate::begun::Begun;
 use crate::slots::Slots;
-use crate::{OneSide, World};
+use crate::{Lives, OneSide, World};
 use bm_class::Class;
 use bm_grace::{Began, Done, Grace, Knows, Look};
 use bm_journal::{Domain, ObjId, Period};
@@ -143,67 +145,6 @@ impl LivingSide {
         ensures sole { (d : DomainValue) → IsSole (side d (known_living self.now)).number (domain_in d self.now.side.grace).number }
     {
         self.side.one_at_rest();
-    }
-
-    /// An object is asked for, and there is none to give.
-    pub fn ask(&mut self)
-        requires room { self.old.asked + 1 < 2 ^ 31 }
-        ensures state { self.new ≡ with_asked self.old }
-        ensures same { AreSame (rights_living self.old) (rights_living self.new) }
-        ensures lasts { Lasting [] (rights_living self.old) (rights_living self.new) }
-        ensures rest { StaysAtRest LivingAtRest self.old self.new }
-        ensures does { LivingDoes [] self.old self.new }
-    {
-        self.asked += 1;
-    }
-
-    /// An object is asked for, and a unit of mine begins its next life for it, in its slot. It is mine no more.
-    pub fn begin_life(&mut self, unit: Unit) -> ObjId
-        requires room { self.old.asked + 1 < 2 ^ 31 }
-        requires mine { (rights_living self.old).mine unit.number ≡ true }
-        requires settled { IsSettled (rights_living self.old) unit }
-        requires home { unit.home < self.old.side.grace.processors }
-        ensures object { result ≡ record { unit = unit.number; life = unit.life + 1 } }
-        ensures next { unit.life ≡ begun_at self.old.begun unit.number }
-        ensures none { unit_at self.old.slots unit.number ≡ None }
-        ensures state { self.new ≡ with_begun unit self.old }
-        ensures lives { unit_at self.new.slots unit.number ≡ Some (next_life unit) }
-        ensures counted { (n : ℕ) → begun_at self.new.begun n ≡ (if eqb unit.number n then begun_at self.old.begun n + 1 else begun_at self.old.begun n) }
-        ensures gone { Loses (unit.number ∷ []) (rights_living self.old) (rights_living self.new) }
-        ensures lasts { Lasting [] (rights_living self.old) (rights_living self.new) }
-        ensures rest { StaysAtRest LivingAtRest self.old self.new }
-        ensures does { unit.home ≡ self.old.side.grace.processor
-            → LivingDoes (act.Makes unit.number (unit.life + 1) unit.seal ∷ []) self.old self.new }
-    {
-        self.side.processors_agree();
-        let mut unit = unit;
-        unit.begin_life();
-        let object = ObjId {
-            unit: unit.number(),
-            life: unit.life(),
-        };
-        self.begun.set(object.unit, object.life);
-        self.slots.put(unit);
-        self.asked += 1;
-        object
-    }
-
-    /// The life of a unit ends. The unit is mine again, and may be used again.
-    pub fn end_life(&mut self, number: u16) -> Unit
-        requires lives { is_some (unit_at self.old.slots number) ≡ true }
-        ensures unit { unit_at self.old.slots number ≡ Some result }
-        ensures number { result.number ≡ number }
-        ensures last { result.life ≡ begun_at self.old.begun number }
-        ensures state { self.new ≡ with_ended number self.old }
-        ensures mine { Gains (number ∷ []) (rights_living self.old) (rights_living self.new) }
-        ensures settled { IsSettled (rights_living self.new) result }
-        ensures home { result.home < self.old.side.grace.processors }
-        ensures lasts { Lasting [] (rights_living self.old) (rights_living self.new) }
-        ensures rest { StaysAtRest LivingAtRest self.old self.new }
-        ensures does { LivingDoes (act.Ends number result.life result.home false ∷ []) self.old self.new }
-    {
-        self.side.processors_agree();
-        self.slots.take(number)
     }
 }
 
@@ -450,3 +391,65 @@ impl Post for LivingSide {
 }
 
 impl World for LivingSide {}
+
+impl Lives for LivingSide {
+    fn ask(&mut self)
+        requires room { self.old.asked + 1 < 2 ^ 31 }
+        ensures state { self.new ≡ with_asked self.old }
+        ensures known { known_living self.new ≡ asked_once (known_living self.old) }
+        ensures same { AsBefore (rights_living self.old) (rights_living self.new) }
+        ensures rest { StaysAtRest LivingAtRest self.old self.new }
+        ensures does { LivingDoes [] self.old self.new }
+    {
+        self.asked += 1;
+    }
+
+    fn begin_life(&mut self, unit: Unit) -> ObjId
+        requires room { self.old.asked + 1 < 2 ^ 31 }
+        requires mine { (rights_living self.old).mine unit.number ≡ true }
+        requires settled { IsSettled (rights_living self.old) unit }
+        requires home { unit.home < self.old.side.grace.processors }
+        ensures object { result ≡ record { unit = unit.number; life = unit.life + 1 } }
+        ensures next { unit.life ≡ begun_at self.old.begun unit.number }
+        ensures none { lives_of self.old.slots unit.number ≡ None }
+        ensures state { self.new ≡ with_begun unit self.old }
+        ensures known { known_living self.new ≡ life_begun unit (known_living self.old) }
+        ensures gone { Loses (unit.number ∷ []) (rights_living self.old) (rights_living self.new) }
+        ensures others { OthersAsBefore unit.number (rights_living self.old) (rights_living self.new) }
+        ensures rest { StaysAtRest LivingAtRest self.old self.new }
+        ensures does { unit.home ≡ self.old.side.grace.processor
+            → LivingDoes (act.Makes unit.number (unit.life + 1) unit.seal ∷ []) self.old self.new }
+    {
+        self.side.processors_agree();
+        let mut unit = unit;
+        unit.begin_life();
+        let object = ObjId {
+            unit: unit.number(),
+            life: unit.life(),
+        };
+        self.begun.set(object.unit, object.life);
+        self.slots.put(unit);
+        self.asked += 1;
+        object
+    }
+
+    fn end_life(&mut self, number: u16) -> Unit
+        requires lives { is_some (lives_of self.old.slots number) ≡ true }
+        ensures unit { unit_at self.old.slots number ≡ Some result }
+        ensures lived { lives_of self.old.slots number ≡ Some (life_of_unit result) }
+        ensures number { result.number ≡ number }
+        ensures last { result.life ≡ begun_at self.old.begun number }
+        ensures state { self.new ≡ with_ended number self.old }
+        ensures known { known_living self.new ≡ life_ended number (known_living self.old) }
+        ensures mine { Gains (number ∷ []) (rights_living self.old) (rights_living self.new) }
+        ensures others { OthersAsBefore number (rights_living self.old) (rights_living self.new) }
+        ensures settled { IsSettled (rights_living self.new) result }
+        ensures undue { (life : ℕ) (seal : Option SealValue) → (rights_living self.new).due number life seal ≡ false }
+        ensures home { result.home < self.old.side.grace.processors }
+        ensures rest { StaysAtRest LivingAtRest self.old self.new }
+        ensures does { LivingDoes (act.Ends number result.life result.home false ∷ []) self.old self.new }
+    {
+        self.side.processors_agree();
+        self.slots.take(number)
+    }
+}

@@ -62,7 +62,7 @@ returns-clause-at_end g c =
     let did-call = owes-called g.H.Desk.shared g.H.Desk.with_shared N g.H.W.Knows.does (λ (done : List Act). g.H.Desk.owes done []) (λ x y done more. g.met.H.Desk.owes_done x y done more []) in
     let o1 = did-call h v v (N v) [] c.world.ensures.held refl (alike-same (N v)) (g.H.W.Knows.does_same v) [] (g.met.H.Desk.owes_open h c.requires.at_end.sound) in
     let o2 = did-call h1 c.world-2.result.now w (N w) acts c.world-2.ensures.held refl c.end_driven-period.ensures.alike did.1 [] o1 in
-    let o3 = owes-noted g.H.Host.face g.H.Host.held g.H.Host.with_held g.R.Recorder.log g.H.Desk.owes g.met.H.Desk.owes_said h2 c.caches.result.now z c.level-level.result (entry.Finish p) c.level-level.ensures.same c.caches.ensures.held refl c.finished.ensures.step.records acts [] o2 in
+    let o3 = owes-noted g.H.Host.face g.H.Host.held g.H.Host.with_held g.R.Recorder.log g.H.Desk.owes g.met.H.Desk.owes_said h2 c.caches.result.now z c.level-level.result (entry.Finish p) c.level-level.ensures.same c.caches.ensures.held refl c.finished.ensures.step.records c.finished.ensures.step.processor acts [] o2 in
     let sound = g.met.H.Desk.owes_closed (g.H.Host.with_held h2 z) acts (entry.Finish p ∷ []) (finishing d did.0 p c.end_driven-period.ensures.domain) o3 in
     let a3 = at-end-noted g.R.Recorder.log g.R.Recorder.counts Whatever g.H.Host.tests g.H.Host.face g.H.Host.held h2 (g.H.Host.with_held h2 z) z (g.met.H.Host.held_back h2 z) (g.met.H.Host.face_back h2 z) (g.met.H.Host.tests_back h2 z) tt (c.finished.ensures.same ∙ ap shown c.caches.ensures.held) (c.finished.ensures.step.processor ∙ ap (λ (x : Caches g.row.R.Denot). x.processor) c.caches.ensures.held) c.finished.ensures.placed a2 in
     at-end-with g.R.Recorder.log g.R.Recorder.counts Whatever g.H.Host.sound g.H.Host.tests g.H.Host.face g.H.Host.held (g.H.Host.with_held h2 z) sound a3

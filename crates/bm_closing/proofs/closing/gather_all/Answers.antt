@@ -81,7 +81,7 @@ returns-clause-at_end g c =
     let there : shown (g.H.Host.held k) ≡ batched i ns us x (shown (g.H.Host.held h1)) = ap (λ (y : Caches g.row.R.Denot). shown y) (g.met.H.Host.held_back h1 z) ∙ lists in
     let own : ((batched i ns us x (shown (g.H.Host.held h1))).rows i).deferred.tracing ≡ Some x = rw (eq-eqb i i refl) refl in
     let waits = has-stamp g.R.Recorder.log g.R.Recorder.counts (g.H.Host.tests k) (g.H.Host.face k).processors _ (g.H.Host.held k) a2.fine i Tracing x (ap (λ (t : State Token). (t.rows i).deferred.tracing) there ∙ own) in
-    let sound = gathered-sound g.H.Host.face g.H.Host.held g.H.Host.with_held g.R.Recorder.log g.H.Desk.owes g.met.H.Ended.owes_noted g.H.Host.sound g.met.H.Ended.owes_told g.met.H.Ended.owes_passed h1 n c.gather.new.caches i all (swept i us (shown n)) ps e.does.0 waited c.caches.ensures.held
+    let sound = gathered-sound g.H.Host.face g.H.Host.held g.H.Host.with_held g.R.Recorder.log g.H.Desk.owes g.met.H.Ended.owes_noted g.H.Host.sound g.met.H.Ended.owes_told g.met.H.Ended.owes_passed h1 n c.gather.new.caches i all (swept i us (shown n)) ps e.does.0 waited c.caches.ensures.held c.gather.ensures.gathered.processor
     (ap (λ (f : Face). f.level) (g.met.H.Desk.face_apart h w (subst (λ y. Alike (N y) (N w)) c.world.ensures.held e.alike)) ∙ c.requires.at_end.ordinary) named at.domain (omega (arith, b, stamp)) waits c.gather.ensures.gathered.gained o in
     at-end-with g.R.Recorder.log g.R.Recorder.counts Whatever g.H.Host.sound g.H.Host.tests g.H.Host.face g.H.Host.held (g.H.Host.with_held h1 z) sound a2
 

@@ -12,5 +12,5 @@ returns-clause-at_rest g c =
     let e = g.met.H.Host.held_back h z ∙ c.caches.ensures.held in
     let f = g.met.H.Host.face_back h z in
     settled-asked g.R.Recorder.log g.R.Recorder.counts g.H.Host.sound g.H.Host.tests g.H.Host.face g.H.Host.held h k e f
-    (stands-side g.R.Recorder.log g.R.Recorder.counts g.H.Host.sound g.H.Host.tests g.H.Host.face g.H.Host.held h k e f (sound-silent g.H.Host.held g.H.Host.with_held g.R.Recorder.log g.H.Host.sound g.met.H.Host.sound_back h z z c.requires.at_rest.stands.sound c.caches.ensures.held refl) (onward-same (g.H.Host.tests h) (g.H.Host.tests k) (g.met.H.Host.tests_back h z)) c.requires.at_rest.stands)
+    (stands-side g.R.Recorder.log g.R.Recorder.counts g.H.Host.sound g.H.Host.tests g.H.Host.face g.H.Host.held h k e f (sound-silent g.H.Host.held g.H.Host.with_held g.R.Recorder.log g.H.Host.sound g.met.H.Host.sound_back h z z c.requires.at_rest.stands.sound c.caches.ensures.held refl refl) (onward-same (g.H.Host.tests h) (g.H.Host.tests k) (g.met.H.Host.tests_back h z)) c.requires.at_rest.stands)
     c.requires.at_rest

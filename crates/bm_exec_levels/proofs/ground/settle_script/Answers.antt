@@ -13,12 +13,12 @@ use Rattle.bm_exec_levels.proofs.ground.settle_script.Goals as goal
 
 pub returns-clause-statements : goal.returns-clause-statements
 returns-clause-statements g c =
-    let m : Processor = c.args.own.now in
-    let k : Processor = c.work_behind-settled.new.host.own.now in
+    let m : Processor g.row.W.Denot = c.args.own.now in
+    let k : Processor g.row.W.Denot = c.work_behind-settled.new.host.own.now in
     on-ok c.work_behind-settled.result _ _ c.work_behind-settled.ensures.works (λ w.
     let through = ap (λ (f : Face). f.through) w.goes.face in
     let lent : c.own-2-1.given.0 ≡ k = search (rules, through) in
-    subst (Statements m) (sym lent) (statements-worked c.args.program.now m k w.goes.keeps.0 w.goes.pending record {
+    subst (Statements g.W.Knows m) (sym lent) (statements-worked g.W.Knows c.args.program.now m k w.goes.keeps.0 w.goes.pending record {
       processors = w.goes.keeps.0.processors;
       processor = w.goes.keeps.0.processor;
     }))
@@ -26,8 +26,8 @@ returns-clause-statements g c =
 pub returns-clause-sound : goal.returns-clause-sound
 returns-clause-sound g c =
     let p = c.args.program.now in
-    let m : Processor = c.args.own.now in
-    let k : Processor = c.work_behind-settled.new.host.own.now in
+    let m : Processor g.row.W.Denot = c.args.own.now in
+    let k : Processor g.row.W.Denot = c.work_behind-settled.new.host.own.now in
     let r = c.work_behind-settled.result in
     let e = c.work_behind-settled.ensures in
     let classes = length c.args.classes.now in
@@ -40,18 +40,18 @@ returns-clause-sound g c =
     let few = c.requires.few in
     let fewer = w.goes.pending in
     let most = begun-few classes (length (left_of m) - length (left_of k) + 1) few in
-    let at : IsAt StandsAt 0 p k = subst (λ (q : Program). IsAt StandsAt 0 q k) w.goes.keeps.2 t.stands.sound.0 in
-    subst (Sound p) (sym lent) (sound-worked p m k n (omega (arith, few, fewer, most)) w.goes.keeps.0.settled
+    let at : IsAt g.W.Knows StandsAt 0 p k = subst (λ (q : Program). IsAt g.W.Knows StandsAt 0 q k) w.goes.keeps.2 t.stands.sound.0 in
+    subst (Sound g.W.Knows p) (sym lent) (sound-worked g.W.Knows p m k n (omega (arith, few, fewer, most)) w.goes.keeps.0.settled
     at t.stands.fine t.quiet t.stands.dated t.stamped w.plain_begins w.tracing_begins c.requires.sound))
 
 pub returns-clause-asked : goal.returns-clause-asked
 returns-clause-asked g c =
-    let m : Processor = c.args.own.now in
+    let m : Processor g.row.W.Denot = c.args.own.now in
     let s = c.args.program.now.scenario.now in
-    let k : Processor = c.work_behind-settled.new.host.own.now in
+    let k : Processor g.row.W.Denot = c.work_behind-settled.new.host.own.now in
     on-ok c.work_behind-settled.result _ _ c.work_behind-settled.ensures.works (λ w.
     let through = ap (λ (f : Face). f.through) w.goes.face in
     let lent : c.own-2-1.given.0 ≡ k = search (rules, through) in
     let most = w.goes.keeps.0.asks_most in
-    let F : Processor → Type 0 = λ x. asked_of s x ≤ asked_of s m + 1 in
+    let F : Processor g.row.W.Denot → Type 0 = λ x. asked_of g.W.Knows s x ≤ asked_of g.W.Knows s m + 1 in
     subst F (sym lent) (omega (arith, most)))

@@ -11,7 +11,7 @@ use Rattle.bm_exec_levels.proofs.Turn.{entered}
 use Rattle.bm_exec_levels.proofs.handlers.begin_handler.Goals as goal
 
 pub returns-clause-at : goal.returns-clause-at
-returns-clause-at c =
+returns-clause-at g c =
     let m = c.args.own.now in
     let p = c.args.program.now in
     let due = c.args.due.now in
@@ -21,13 +21,13 @@ returns-clause-at c =
     let e = c.in-Some.ensures.items in
     let n : length b.tables.items + 1 ≡ length m.tables.items = sym (ap (λ (xs : List NameTable). length xs) e ∙ one-longer b.tables.items c.in-Some.table) in
     let free = All-pop (BindsAll p.scenario.now.scripts) m.tables.items b.tables.items (Some c.in-Some.table) e d.ready.bound in
-    entered c.requires.due.0 p due c.args.script.now m b d c.requires.found (subst A c.duplicate.ensures c.note.ensures.step.records) c.in-Ok.ensures.items c.push.ensures.capacity n c.pop.ensures.capacity free.0
+    entered g.W.Knows c.requires.due.0 p due c.args.script.now m b d c.requires.found c.note.ensures.step.processor (subst A c.duplicate.ensures c.note.ensures.step.records) c.in-Ok.ensures.items c.push.ensures.capacity n c.pop.ensures.capacity free.0
 
 pub returns-clause-came : goal.returns-clause-came
-returns-clause-came c = came-said c.args.due.now.level (entry.Handler c.duplicate.result) c.args.own.now c.note.new.self c.note.ensures.step c.note.ensures.same
+returns-clause-came g c = came-said g.W.Knows c.args.due.now.level (entry.Handler c.duplicate.result) c.args.own.now c.note.new.self c.note.ensures.step c.note.ensures.same
 
 pub returns-clause-bound : goal.returns-clause-bound
-returns-clause-bound c =
+returns-clause-bound g c =
     let p = c.args.program.now in
     let free = All-pop (BindsAll p.scenario.now.scripts) c.args.own.now.tables.items c.pop.new.self.items (Some c.in-Some.table) c.in-Some.ensures.items c.requires.due.1.ready.bound in
     free.1

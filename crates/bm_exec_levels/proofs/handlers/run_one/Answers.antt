@@ -16,7 +16,7 @@ end_handler-requires-clause-phrase g c =
     let b = c.begin_handler-table.new.own in
     let e = c.begin_handler-table.ensures in
     let l = c.args.due.now.level in
-    has-phrase g.L.Rank.number l s c.script_of-script.result.now.name (known_of m) (word_of Plain b) (lists_of b) (log_of m) (log_of b) (log_of c.run_inside.new.own) c.requires.level (ap (λ (y : Processor). word_of Plain y) e.same) c.requires.due.1.tells e.said c.run_inside.ensures.phrase
+    has-phrase g.L.Rank.number l s c.script_of-script.result.now.name (known_of g.W.Knows m) (word_of g.W.Knows Plain b) (lists_of b) (log_of m) (log_of b) (log_of c.run_inside.new.own) c.requires.level (ap (λ (y : Processor g.row.W.Denot). word_of g.W.Knows Plain y) e.same) c.requires.due.1.tells e.said c.run_inside.ensures.phrase
 
 pub returns-clause-at : goal.returns-clause-at
 returns-clause-at g c k d =
@@ -33,16 +33,16 @@ returns-clause-between g c =
     let d = c.end_handler.new.own in
     let e = c.begin_handler-table.ensures in
     let f = c.end_handler.ensures in
-    let inside : Between (due_cost p due) 2 due.level p b z = between-as (2 * script_cost (Some x)) (due_cost p due) g.L.Rank.number due.level p b z (cost-is p due x c.script_of-script.ensures) c.requires.level c.run_inside.ensures.between in
+    let inside : Between g.W.Knows (due_cost p due) 2 due.level p b z = between-as g.W.Knows (2 * script_cost (Some x)) (due_cost p due) g.L.Rank.number due.level p b z (cost-is p due x c.script_of-script.ensures) c.requires.level c.run_inside.ensures.between in
     let runs : z.running.items ≡ m.running.items ++ due ∷ [] = c.run_inside.ensures.between.stays.running ∙ e.running in
-    ran (due_cost p due) due.level p due m b z d e.same f.same inside e.came f.came f.fine (f.running m.running.items runs) e.tables f.tables
+    ran g.W.Knows (due_cost p due) due.level p due m b z d e.same f.same inside e.came f.came f.fine (f.running m.running.items runs) e.tables f.tables
 
 pub run_inside-requires-clause-tied : goal.run_inside-requires-clause-tied
 run_inside-requires-clause-tied g c =
     let e = c.begin_handler-table.ensures in
-    tied-turned g.B.Since.since g.B.Since.start c.args.due.now.level c.args.own.now c.begin_handler-table.new.own (entry.Handler c.script_of-script.result.now.name) refl e.said (ap (λ (y : Processor). y.side) e.same) c.requires.tied
+    tied-turned g.W.Knows g.B.Since.since g.B.Since.start c.args.due.now.level c.args.own.now c.begin_handler-table.new.own (entry.Handler c.script_of-script.result.now.name) refl e.said (ap (λ (y : Processor g.row.W.Denot). y.side) e.same) c.requires.tied
 
 pub returns-clause-tied : goal.returns-clause-tied
 returns-clause-tied g c =
     let f = c.end_handler.ensures in
-    tied-turned g.B.Since.since g.B.Since.start c.args.due.now.level c.run_inside.new.own c.end_handler.new.own (entry.Back c.script_of-script.result.now.name) refl f.said (ap (λ (y : Processor). y.side) f.same) c.run_inside.ensures.tied
+    tied-turned g.W.Knows g.B.Since.since g.B.Since.start c.args.due.now.level c.run_inside.new.own c.end_handler.new.own (entry.Back c.script_of-script.result.now.name) refl f.said (ap (λ (y : Processor g.row.W.Denot). y.side) f.same) c.run_inside.ensures.tied

@@ -1,4 +1,5 @@
 use Rattle.std.proofs.Common.{◌≡◌, [], ap, sym, ◌∙◌, subst, Some, Option, IfSome}
+use Rattle.bm_world.specs.ToldLiving.{knows_living}
 use Rattle.bm_journal.specs.Recording.{Kept as Recorded}
 use Rattle.bm_law.specs.Alone.{Alone}
 use Rattle.bm_law.specs.Lists.{Leaves, Log}
@@ -15,7 +16,6 @@ use Rattle.bm_exec_levels.specs.Ready.{known_of}
 use Rattle.bm_run.specs.ClosingTie.{Ends}
 use Rattle.bm_run.proofs.Results.{not-err, if-told}
 use Rattle.bm_run.proofs.Sections.{ends-even}
-use Rattle.bm_run.proofs.Written.{first-of}
 use Rattle.bm_run.proofs.journals.close.Goals as goal
 
 pub close-swept-requires-clause-rest : goal.close-swept-requires-clause-rest
@@ -31,11 +31,11 @@ returns-clause-closed g c =
     let alone = not-err c.close-swept.result _ e done.alone in
     let end = not-err c.close-swept.result _ e done.at_end in
     let processor = not-err c.close-swept.result _ e done.processor in
-    let home : n.caches.processor ≡ 0 = processor ∙ first-of c.requires.sound.0 m c.requires.sound.1 in
+    let home : n.caches.processor ≡ 0 = processor ∙ (c.requires.sound.1.at.ready.here ∙ c.requires.first) in
     rw c.ok_or.ensures.value (if-told c.into_log.result _ _ (λ l q.
     let told : n.caches.recorder.told ≡ Some l = ap (λ (k : Recorded). k.told) (sym c.finish.ensures) ∙ (sym c.into_log.ensures.told ∙ q) in
     record {
-      closes = subst (λ (o : Option Log). GrewBy (Then (EndsBegun (known_of m)) (SweepsTold c.args.classes.now (told_in m.side.side.post))) (lists_of m) (log_of m) o) told closes;
+      closes = subst (λ (o : Option Log). GrewBy (Then (EndsBegun (known_of knows_living m)) (SweepsTold c.args.classes.now (told_in m.side.side.post))) (lists_of m) (log_of m) o) told closes;
       alone = subst (Alone 0 (log_of m)) told alone;
       last = shown n.caches;
       leaves = subst (λ p. Leaves p l (seen number_of (shown n.caches))) home (subst (λ (o : Option Log). IfSome o (λ es. Leaves n.caches.processor es (seen number_of (shown n.caches)))) told end.fine.placed.told);

@@ -1,4 +1,5 @@
 use Rattle.std.specs.Prelude.{None}
+use Rattle.bm_world.specs.ToldLiving.{knows_living}
 use Rattle.std.proofs.Common.{◌≡◌, ◌≤◌, ◌%◌, ℕ, [], ◌∷◌, IfOk, ap, lit≤, sym, subst, ◌∙◌, arith}
 use Rattle.bm_grace.specs.Known.{Lives, Objects, side}
 use Rattle.bm_law.specs.Lists.{Log}
@@ -10,7 +11,7 @@ use Rattle.bm_exec.specs.Living.{home_of}
 use Rattle.bm_law_order.specs.Orders.{IsLaid, by}
 use Rattle.bm_law_order.specs.Whole.{whole}
 use Rattle.bm_law_order.specs.Tie.{Tied}
-use Rattle.bm_exec_levels.specs.AtPolls.{polled}
+use Rattle.bm_exec_levels.specs.AtPolls.{DoesHere, polled, tied-bare}
 use Rattle.bm_world.specs.ToldLiving.{LivingDoes}
 use Rattle.bm_run.specs.Opened.{outset}
 use Rattle.bm_exec_levels.specs.AtProcessor.{lists_of}
@@ -46,10 +47,10 @@ run_lines-requires-clause-few g c = few-when c.when_on.result c.parts-parts.resu
 pub run_lines-requires-clause-cost : goal.run_lines-requires-clause-cost
 run_lines-requires-clause-cost g c =
     let s = c.args.scenario.now in
-    let m : Processor = c.in_ok-own.own in
+    let m : Processor LivingState = c.in_ok-own.own in
     let o = c.in_ok-own.ensures in
     let w = within s (some-processors s.processors c.requires.yet.one) c.requires.checked.within_limits in
-    rw c.parts-parts.ensures.value (room-for s (known_of m).objects.asked m.settled (lines_cost s.scripts s.runs) (left_of m) _ (rw c.parts-parts.ensures.value at o.planned) o.asked (room-all s w))
+    rw c.parts-parts.ensures.value (room-for s (known_of knows_living m).objects.asked m.settled (lines_cost s.scripts s.runs) (left_of m) _ (rw c.parts-parts.ensures.value at o.planned) o.asked (room-all s w))
 
 pub run_lines-requires-clause-handlers : goal.run_lines-requires-clause-handlers
 run_lines-requires-clause-handlers g c =
@@ -70,6 +71,17 @@ close-requires-clause-few g c = rw c.requires.opened (opened-few c.args.scenario
 
 pub close-requires-clause-sound : goal.close-requires-clause-sound
 close-requires-clause-sound g c = (_, c.begin_closing.ensures.sound _ (not-err c.run_lines.result _ c.if-is_err.ensures.value c.run_lines.ensures.sound))
+
+-- it is the same processor, of as many, behind its scripts and once its closing has begun
+pub close-requires-clause-one : goal.close-requires-clause-one
+close-requires-clause-one g c =
+    let wrote = not-err c.run_lines.result _ c.if-is_err.ensures.value c.run_lines.ensures.wrote in
+    c.begin_closing.ensures.wrote.ordinary.processors ∙ (wrote.ordinary.processors ∙ c.in_ok-own.ensures.one)
+
+pub close-requires-clause-first : goal.close-requires-clause-first
+close-requires-clause-first g c =
+    let wrote = not-err c.run_lines.result _ c.if-is_err.ensures.value c.run_lines.ensures.wrote in
+    c.begin_closing.ensures.wrote.ordinary.processor ∙ (wrote.ordinary.processor ∙ c.in_ok-own.ensures.first)
 
 pub close-requires-clause-outside : goal.close-requires-clause-outside
 close-requires-clause-outside g c d = ap (λ (x : LivingState). (side d (known_living x)).word % 2) c.begin_closing.ensures.side ∙ not-err c.run_lines.result _ c.if-is_err.ensures.value c.run_lines.ensures.outside d
@@ -99,7 +111,7 @@ run-left g c final x =
         scripts = wrote;
         lives = λ u. ap (λ (f : Lives). f u) lives ∙ o.none u;
         sound = sound;
-        tied = subst (λ l. TiedAt l (outset c.args.scenario.now.pages) c.run_lines.new.own) c.requires.since (subst (λ w. TiedAt g.B.Since.since w c.run_lines.new.own) c.requires.start tied);
+        tied = subst (λ l. TiedAt knows_living l (outset c.args.scenario.now.pages) c.run_lines.new.own) c.requires.since (subst (λ w. TiedAt knows_living g.B.Since.since w c.run_lines.new.own) c.requires.start tied);
         ends = c.begin_closing.ensures.wrote;
         ended = c.begin_closing.ensures.ended;
         same = c.begin_closing.ensures.side;
@@ -111,16 +123,19 @@ run-left g c final x =
 
 -- the log is tied since the outset, and leads from there to a world in which nobody has a period in progress
 abbrev TiedSince : Log → LivingState → Log → LivingState → Type 0
-TiedSince since start log world = Tied (polled since start) LivingDoes since start 0 [] [] log world
+TiedSince since start log world = Tied (polled knows_living since start) (DoesHere knows_living) since start 0 [] [] log world
 
-since-outset : (g : Over) (c : goal.After-close g) (final : Log) (world : LivingState) → TiedSince g.B.Since.since g.B.Since.start final world → TiedSince [] (outset c.args.scenario.now.pages) final world
+since-outset : (g : Over) (c : goal.After-close g) (final : Log) (world : LivingState) → TiedSince g.B.Since.since g.B.Since.start final world →
+    Tied (polled knows_living [] (outset c.args.scenario.now.pages)) LivingDoes [] (outset c.args.scenario.now.pages) 0 [] [] final world
 since-outset g c final world t =
-    subst (λ l. TiedSince l (outset c.args.scenario.now.pages) final world) c.requires.since (subst (λ w. TiedSince g.B.Since.since w final world) c.requires.start t)
+    let start = outset c.args.scenario.now.pages in
+    tied-bare knows_living (polled knows_living [] start) [] start 0 [] [] final world
+    (subst (λ l. TiedSince l start final world) c.requires.since (subst (λ w. TiedSince g.B.Since.since w final world) c.requires.start t))
 
 led-log : (g : Over) (c : goal.After-close g) → IfOk c.close.result (λ final. IsLaid 1 c.args.scenario.now.pages (by 0 final) × IsIdleAfter c.args.scenario.now.pages final)
 led-log g c = if-ok c.close.result _ _ c.close.ensures.tied (λ final t.
     let pages = c.args.scenario.now.pages in
-    let led = tied-led (polled [] (outset pages)) pages final t.world (since-outset g c final t.world t.tied) in (led.fit, led-idle pages final t.world led t.idle))
+    let led = tied-led (polled knows_living [] (outset pages)) pages final t.world (since-outset g c final t.world t.tied) in (led.fit, led-idle pages final t.world led t.idle))
 
 pub returns-clause-lawful : goal.returns-clause-lawful
 returns-clause-lawful g c = both-if-ok c.close.result _ _ _ c.close.ensures.closed (led-log g c) (λ final x h.
@@ -135,7 +150,7 @@ lived-log g c = both-if-ok c.close.result _ _ _ c.close.ensures.closed c.close.e
     let objects = (known_living t.world).objects in
     let none : (u : ℕ) → objects.lives u ≡ None = λ u. ap (λ (o : Objects). o.lives u) t.objects ∙ (ap (λ (w : LivingState). lives_of w.slots u) r.1.same ∙ r.1.lives u) in
     let law = c.lives_law.ensures in
-    lived-run final (lived_in objects) law.one law.whole law.freed (tied-lives (polled [] (outset c.args.scenario.now.pages)) c.args.scenario.now.pages final t.world (since-outset g c final t.world t.tied)) (λ u. ap home_of (none u)))
+    lived-run final (lived_in objects) law.one law.whole law.freed (tied-lives (polled knows_living [] (outset c.args.scenario.now.pages)) c.args.scenario.now.pages final t.world (since-outset g c final t.world t.tied)) (λ u. ap home_of (none u)))
 
 pub returns-clause-lives : goal.returns-clause-lives
 returns-clause-lives g c = if-ok c.close.result _ _ (lived-log g c) (λ final h. h.0)
@@ -145,9 +160,9 @@ returns-clause-returns g c = both-if-ok c.close.result _ _ _ (returns-clause-law
 
 pub run_lines-requires-clause-tied : goal.run_lines-requires-clause-tied
 run_lines-requires-clause-tied g c =
-    let m : Processor = c.in_ok-own.own in
-    let o : TiedAt [] (outset c.args.scenario.now.pages) m = rw c.parts-parts.ensures.value at c.in_ok-own.ensures.tied in
-    subst (λ l. TiedAt l g.B.Since.start m) (sym c.requires.since) (subst (λ w. TiedAt [] w m) (sym c.requires.start) o)
+    let m : Processor LivingState = c.in_ok-own.own in
+    let o : TiedAt knows_living [] (outset c.args.scenario.now.pages) m = rw c.parts-parts.ensures.value at c.in_ok-own.ensures.tied in
+    subst (λ l. TiedAt knows_living l g.B.Since.start m) (sym c.requires.since) (subst (λ w. TiedAt knows_living [] w m) (sym c.requires.start) o)
 
 pub close-requires-clause-tied : goal.close-requires-clause-tied
 close-requires-clause-tied g c =
@@ -163,7 +178,7 @@ pub returns-clause-polled : goal.returns-clause-polled
 returns-clause-polled g c = if-ok c.close.result _ _ c.close.ensures.tied (λ final t. tied-polled c.args.scenario.now.pages final t.world (since-outset g c final t.world t.tied))
 
 pub returns-clause-sealed : goal.returns-clause-sealed
-returns-clause-sealed g c = if-ok c.close.result _ _ c.close.ensures.tied (λ final t. tied-sealed (polled [] (outset c.args.scenario.now.pages)) c.args.scenario.now.pages final t.world (since-outset g c final t.world t.tied))
+returns-clause-sealed g c = if-ok c.close.result _ _ c.close.ensures.tied (λ final t. tied-sealed (polled knows_living [] (outset c.args.scenario.now.pages)) c.args.scenario.now.pages final t.world (since-outset g c final t.world t.tied))
 
 pub returns-clause-seals : goal.returns-clause-seals
-returns-clause-seals g c = if-ok c.close.result _ _ c.close.ensures.tied (λ final t. tied-seals (polled [] (outset c.args.scenario.now.pages)) c.args.scenario.now.pages final t.world (since-outset g c final t.world t.tied))
+returns-clause-seals g c = if-ok c.close.result _ _ c.close.ensures.tied (λ final t. tied-seals (polled knows_living [] (outset c.args.scenario.now.pages)) c.args.scenario.now.pages final t.world (since-outset g c final t.world t.tied))

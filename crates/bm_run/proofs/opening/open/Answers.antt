@@ -1,4 +1,5 @@
 use Rattle.std.proofs.Common.{◌≡◌, [], map, ap, sym, subst, ◌∙◌, refl, lit<, lit≤, arith, false}
+use Rattle.bm_world.specs.ToldLiving.{knows_living}
 use Rattle.bm_page.specs.Stock.{Stock}
 use Rattle.bm_journal.specs.Recording.{Kept as Recorded}
 use Rattle.bm_world.specs.LivingState.{LivingState, rights_living}
@@ -9,6 +10,7 @@ use Rattle.bm_work.specs.DeskTests.{tests_by}
 use Rattle.bm_due.specs.Due.{planned_for}
 use Rattle.bm_lang.specs.declared.scenario.Parts.{Parts}
 use Rattle.bm_lang.specs.Fine.{HasConditions}
+use Rattle.bm_exec_levels.specs.declared.kept.Kept.{Kept}
 use Rattle.bm_exec_levels.specs.declared.processor.Processor.{Processor}
 use Rattle.bm_exec_levels.specs.declared.program.Program.{Program}
 use Rattle.bm_law_scenario.specs.Fills.{fresh_stock}
@@ -29,12 +31,12 @@ pub create-requires-2-clause-once : goal.create-requires-2-clause-once
 create-requires-2-clause-once c =
     fills-once (map (λ f. (f.0, f.1.items)) c.in-Ok.fills.items) c.fill.new.pool c.in-Ok.ensures.out
 
-pub returns-in-Ok-create : goal.returns-in-Ok-create
-returns-in-Ok-create c =
+pub returns-in-Ok-create-2 : goal.returns-in-Ok-create-2
+returns-in-Ok-create-2 c =
     let v = c.in-Ok.ensures in
     let w = c.in-Ok-open_side.ensures in
-    let room = c.in_ok-room.room in
-    let r = c.in_ok-room.ensures in
+    let kept : Kept = c.in-Ok-create-2.kept in
+    let r = c.in-Ok-create-2.ensures in
     let p : Program = c.args.program.now in
     let s : Parts = c.args.scenario.now in
     let same : s ≡ p.scenario.now = sym c.requires.same in
@@ -49,8 +51,10 @@ returns-in-Ok-create c =
     let limits : Within s = within s fine.processors c.requires.limits in
     let first : c.in_ok-pool.pool ≡ fresh_stock s.pages = opened-pool c.in_ok-pool.pool p.scenario.now.pages c.in_ok-pool.ensures.classes c.in_ok-pool.ensures.units ∙ ap (λ (x : Parts). fresh_stock x.pages) c.requires.same in
     let named : fs ≡ (filling c.args.classes.now (fresh_stock s.pages)).fills = v.fills ∙ ap (λ (x : Stock). (filling c.args.classes.now x).fills) first in
-    let machine : LivingState → Processor = λ side. record { alloc = c.args.alloc; caches = caches; side = side; settled = 0; inside = false; handlers = room.handlers; running = room.running; tables = room.tables } in
-    let m : Processor = machine world in
+    let turn : Kept → LivingState → Processor LivingState = λ k side. record { alloc = k.alloc; caches = k.caches; side = side; settled = k.settled; inside = k.inside; handlers = k.handlers; running = k.running; tables = k.tables } in
+    let fresh_kept : Kept = record kept { alloc = c.args.alloc; caches = caches; settled = 0; inside = false } in
+    let machine : LivingState → Processor LivingState = turn fresh_kept in
+    let m : Processor LivingState = machine world in
     let fresh : IsFresh s m = record {
       planned = r.planned;
       scripts = r.scripts;
@@ -60,7 +64,7 @@ returns-in-Ok-create c =
       tables = r.tables;
       room_tables = r.room_tables;
       inside = refl;
-      one = refl;
+      home = o.processor;
       first = refl;
       words = no-words pool slots begun;
       asked = refl;
@@ -81,11 +85,14 @@ returns-in-Ok-create c =
       begun = w.begun;
       asked = refl;
       numbers = no-numbers pool slots begun;
+      one = refl;
+      first = refl;
       words = no-words pool slots begun;
       planned = left-is s m fresh ∙ ap (planned_for 0) same;
       running = r.running;
       inside = refl;
-      tied = subst (λ (x : Parts). TiedAt [] (outset x.pages) m) same
+      tied = subst (λ (x : Parts). TiedAt knows_living [] (outset x.pages) m) same
           (opened-tied c.args.classes.now s.pages pool slots begun caches.recorder.told (v.pool ∙ ap (λ (x : Stock). (filling c.args.classes.now x).pool) first) w.slots w.begun (rw (sym named) o.told));
     } in
-    subst (λ x. IsOpen p (filling c.args.classes.now (fresh_stock s.pages)) (machine x)) (sym (side-is c.in-Ok-open_side.side pool w.side w.asked)) done
+    let opened = subst (λ x. IsOpen p (filling c.args.classes.now (fresh_stock s.pages)) (machine x)) (sym (side-is c.in-Ok-open_side.side pool w.side w.asked)) done in
+    rw c.open.ensures (subst (λ k. IsOpen p (filling c.args.classes.now (fresh_stock s.pages)) (turn k c.in-Ok-open_side.side)) (sym r.fresh) opened)

@@ -1,4 +1,5 @@
 use Rattle.std.proofs.Common.{◌∙◌, ◌+◌, ◌*◌, arith, length, refl}
+use Rattle.bm_world.specs.ToldLiving.{knows_living}
 use Rattle.std.proofs.lemmas.List.{drop_all}
 use Rattle.bm_journal.specs.declared.ids.Domain.TheVariants.{Plain}
 use Rattle.bm_exec_levels.specs.Ready.{asked_of, left_of, word_of}
@@ -32,7 +33,7 @@ run_line-requires-clause-room g c =
     let lt = rw c.as_slice-run-items.ensures at c.loop-run-test.true in
     let look = rw c.as_slice-run-items.ensures at (rw c.as_slice.ensures at c.in-Some.ensures.lookup) in
     let e = get-is _ _ c.in-Some.script.now look.3.0 (look.3.1 _) in
-    let r = (line-room s.scripts s.runs c.loop-run.run-index _ c.in-Some.script.now (asked_of s m) (word_of Plain m + 2 * length (left_of m)) lt (rw c.as_slice-run-items.ensures at c.if-run-eq0.true) e (rw c.as_slice-run-items.ensures at c.loop-run.invariant.cost) (rw c.as_slice-run-items.ensures at c.loop-run.invariant.words)).0 in
+    let r = (line-room s.scripts s.runs c.loop-run.run-index _ c.in-Some.script.now (asked_of knows_living s m) (word_of knows_living Plain m + 2 * length (left_of m)) lt (rw c.as_slice-run-items.ensures at c.if-run-eq0.true) e (rw c.as_slice-run-items.ensures at c.loop-run.invariant.cost) (rw c.as_slice-run-items.ensures at c.loop-run.invariant.words)).0 in
     omega (arith, r)
 
 pub run_line-requires-clause-found : goal.run_line-requires-clause-found
@@ -50,7 +51,7 @@ loop-run-preserved g c =
     let n = c.loop-run.run-index in
     let v = c.loop-run.invariant in
     let m = c.loop-run.own in
-    let words = word_of Plain m + 2 * length (left_of m) in
+    let words = word_of knows_living Plain m + 2 * length (left_of m) in
     let lt = rw c.as_slice-run-items.ensures at c.loop-run-test.true in
     let cost = rw c.as_slice-run-items.ensures at v.cost in
     let most = rw c.as_slice-run-items.ensures at v.words in
@@ -62,7 +63,7 @@ loop-run-preserved g c =
           let here = rw c.as_slice-run-items.ensures at w.if-run-eq0.true in
           let k = w.run_line.new.own in
           let o = w.in_ok-run_line.ensures in
-          let r = line-room s.scripts s.runs n _ w.in-Some.script.now (asked_of s m) words lt here e cost most in
+          let r = line-room s.scripts s.runs n _ w.in-Some.script.now (asked_of knows_living s m) words lt here e cost most in
           let one = r.0 in
           let two = r.1 in
           let more = o.words in
@@ -75,10 +76,10 @@ loop-run-preserved g c =
             even = rw w.own-is (λ d. o.outside d ∙ v.even d);
             cost = rw (w.own-is, c.as_slice-run-items.ensures) (omega (arith, one, asked));
             words = rw (w.own-is, c.as_slice-run-items.ensures) (omega (arith, two, more, asked));
-            wrote = rw (w.own-is, c.as_slice-run-items.ensures) (lines-line s n _ w.in-Some.script.now (word_of Plain m + 1) p c.args.own.now m k lt here e v.sound o.sound wrote o.wrote);
+            wrote = rw (w.own-is, c.as_slice-run-items.ensures) (lines-line s n _ w.in-Some.script.now (word_of knows_living Plain m + 1) p c.args.own.now m k lt here e v.sound o.sound wrote o.wrote);
           }
       | else-run-eq0 w ↦
-          let r = other-room s.scripts s.runs n (record { line = 0; processor = 0; script = record { 0 = 0 } }) (asked_of s m) words lt cost most in
+          let r = other-room s.scripts s.runs n (record { line = 0; processor = 0; script = record { 0 = 0 } }) (asked_of knows_living s m) words lt cost most in
           record {
             sound = rw w.own-is v.sound;
             tied = rw w.own-is v.tied;

@@ -1,4 +1,5 @@
 use Rattle.std.proofs.Common.{◌≡◌, ◌≤◌, ◌+◌, ◌*◌, ◌%◌, [], drop, length}
+use Rattle.bm_world.specs.ToldLiving.{knows_living}
 use Rattle.bm_journal.specs.declared.ids.Domain.{Domain}
 use Rattle.bm_journal.specs.declared.ids.Domain.TheVariants.{Plain}
 use Rattle.bm_exec.specs.Lists.{Behind, behind_of}
@@ -12,12 +13,12 @@ use Rattle.bm_run.proofs.scripts.run_lines.Given as goal
 
 abbrev pub invariant-loop-run : goal.invariant-loop-run
 invariant-loop-run g l = record {
-  sound : Sound l.program l.own;
-  tied : TiedAt g.B.Since.since g.B.Since.start l.own;
-  lives : SameLives l.initial.own l.own;
+  sound : Sound knows_living l.program l.own;
+  tied : TiedAt knows_living g.B.Since.since g.B.Since.start l.own;
+  lives : SameLives knows_living l.initial.own l.own;
   down : Behind (behind_of l.deferred.behind) (lists_of l.own) [];
-  even : (d : Domain) → word_of d l.own % 2 ≡ 0;
-  cost : asked_of l.scenario l.own + 2 * lines_cost l.scenario.scripts (drop l.run-index l.run-items) ≤ 40000;
-  words : asked_of l.scenario l.own + (9 * (word_of Plain l.own + 2 * length (left_of l.own)) + 2 * lines_cost l.scenario.scripts (drop l.run-index l.run-items)) ≤ 60000;
+  even : (d : Domain) → word_of knows_living d l.own % 2 ≡ 0;
+  cost : asked_of knows_living l.scenario l.own + 2 * lines_cost l.scenario.scripts (drop l.run-index l.run-items) ≤ 40000;
+  words : asked_of knows_living l.scenario l.own + (9 * (word_of knows_living Plain l.own + 2 * length (left_of l.own)) + 2 * lines_cost l.scenario.scripts (drop l.run-index l.run-items)) ≤ 60000;
   wrote : Wrote_so_far l.scenario (drop l.run-index l.run-items) l.initial.own l.own;
 }

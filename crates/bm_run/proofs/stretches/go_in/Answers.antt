@@ -1,4 +1,6 @@
 use Rattle.std.proofs.Common.{◌+◌, ap}
+use Rattle.bm_world.specs.LivingState.{LivingState}
+use Rattle.bm_world.specs.ToldLiving.{knows_living}
 use Rattle.bm_grace.specs.declared.step.StepKind.TheVariants.{Enter}
 use Rattle.bm_journal.specs.declared.entry.Entry.TheVariants as entry
 use Rattle.bm_journal.specs.declared.ids.Domain.TheVariants.{Plain}
@@ -10,12 +12,12 @@ use Rattle.bm_run.proofs.stretches.go_in.Goals as goal
 
 pub returns-clause-wrote : goal.returns-clause-wrote
 returns-clause-wrote c =
-    let m : Processor = c.args.own.now in
+    let m : Processor LivingState = c.args.own.now in
     let e = rw c.ordinary.ensures at c.enter_section.ensures in
-    wrote-one m c.enter_section.new.own (entry.In Plain (word_of Plain m + 1)) e.said (ordinary-moved Enter m c.enter_section.new.own e.known)
+    wrote-one m c.enter_section.new.own (entry.In Plain (word_of knows_living Plain m + 1)) e.said (ordinary-moved Enter m c.enter_section.new.own e.known)
 
 pub returns-clause-sound : goal.returns-clause-sound
 returns-clause-sound c p s =
-    let m : Processor = c.args.own.now in
+    let m : Processor LivingState = c.args.own.now in
     let e = rw c.ordinary.ensures at c.enter_section.ensures in
-    sound-moved Enter p m c.enter_section.new.own e.rights e.lists e.known (ap left_of e.same) (ap (λ (x : Processor). x.settled) e.same) (e.at p s.at c.requires.room) e.fine s
+    sound-moved Enter p m c.enter_section.new.own e.rights e.lists e.known (ap left_of e.same) (ap (λ (x : Processor LivingState). x.settled) e.same) (e.at p s.at c.requires.room) e.fine s

@@ -38,4 +38,4 @@ returns-clause-sound g c o =
     let ns = map number_of c.args.units.items in
     let t = c.take_fetched.ensures.step in
     let F : Units → Type 0 = λ us. Shows (act.Fetches i n ns ∷ []) (entry.Fetch i n us ∷ []) in
-    owes-stepped g.H.Host.face g.H.Host.held g.H.Host.with_held g.R.Recorder.log g.H.Host.sound g.H.Desk.asked_owes g.met.H.Desk.asked_stepped c.args.host.now c.caches.result.now c.take_fetched.new.self c.level-level.result (entry.Fetch i n t.units) c.level-level.ensures.same c.caches.ensures.held refl t.records (act.Fetches i n ns ∷ []) (λ k. subst F (sym (t.whole (t.told k))) (shows (chunk.Fetching i n ns) refl)) o
+    owes-stepped g.H.Host.face g.H.Host.held g.H.Host.with_held g.R.Recorder.log g.H.Host.sound g.H.Desk.asked_owes g.met.H.Desk.asked_stepped c.args.host.now c.caches.result.now c.take_fetched.new.self c.level-level.result (entry.Fetch i n t.units) c.level-level.ensures.same c.caches.ensures.held refl t.records t.processor (act.Fetches i n ns ∷ []) (λ k. subst F (sym (t.whole (t.told k))) (shows (chunk.Fetching i n ns) refl)) o

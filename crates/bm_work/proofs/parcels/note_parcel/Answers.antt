@@ -6,7 +6,6 @@ use Rattle.bm_cache.specs.Shown.{shown}
 use Rattle.bm_cache.specs.Tokens.{number_of}
 use Rattle.bm_cache.specs.declared.caches.Caches.{Caches}
 use Rattle.bm_work.proofs.Steps.{dated-alike, dated-with-row, stands-entry, units-at}
-use Rattle.bm_law_order.specs.Act.{Act}
 use Rattle.bm_law_order.specs.Act as act
 use Rattle.bm_law_order.specs.Chunk as chunk
 use Rattle.bm_law_order.specs.Chunk.{Shows}
@@ -38,4 +37,4 @@ returns-clause-sound g c o =
     let ns = map number_of c.args.units.items in
     let t = c.take_parcel.ensures.step in
     let F : Units → Type 0 = λ us. Shows (act.Receives i ns ∷ []) (entry.Receive i us ∷ []) in
-    owes-stepped g.H.Host.face g.H.Host.held g.H.Host.with_held g.R.Recorder.log g.H.Host.sound g.H.Desk.asked_owes g.met.H.Desk.asked_stepped c.args.host.now c.caches.result.now c.take_parcel.new.self c.level-level.result (entry.Receive i t.units) c.level-level.ensures.same c.caches.ensures.held refl t.records (act.Receives i ns ∷ []) (λ k. subst F (sym (t.whole (t.told k))) (shows (chunk.Receiving i ns) refl)) o
+    owes-stepped g.H.Host.face g.H.Host.held g.H.Host.with_held g.R.Recorder.log g.H.Host.sound g.H.Desk.asked_owes g.met.H.Desk.asked_stepped c.args.host.now c.caches.result.now c.take_parcel.new.self c.level-level.result (entry.Receive i t.units) c.level-level.ensures.same c.caches.ensures.held refl t.records t.processor (act.Receives i ns ∷ []) (λ k. subst F (sym (t.whole (t.told k))) (shows (chunk.Receiving i ns) refl)) o

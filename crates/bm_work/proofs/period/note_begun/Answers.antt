@@ -12,4 +12,4 @@ returns-clause-stands g c =
 
 pub returns-clause-owes : goal.returns-clause-owes
 returns-clause-owes g c done es o =
-    owes-noted g.H.Host.face g.H.Host.held g.H.Host.with_held g.R.Recorder.log g.H.Desk.owes g.met.H.Desk.owes_said c.args.host.now c.caches.result.now c.began.new.self c.level-level.result (entry.Begin c.args.domain c.args.number) c.level-level.ensures.same c.caches.ensures.held refl c.began.ensures.step.records done es o
+    owes-noted g.H.Host.face g.H.Host.held g.H.Host.with_held g.R.Recorder.log g.H.Desk.owes g.met.H.Desk.owes_said c.args.host.now c.caches.result.now c.began.new.self c.level-level.result (entry.Begin c.args.domain c.args.number) c.level-level.ensures.same c.caches.ensures.held refl c.began.ensures.step.records c.began.ensures.step.processor done es o

@@ -33,4 +33,5 @@ returns-clause-sound g c stamp batch o =
     let e = entry.Pass c.args.class c.args.domain c.args.number in
     let l = (g.H.Host.face h).level in
     let T : Caches g.row.R.Denot → Type 0 = λ x. Took g.R.Recorder.log l e [] (g.H.Host.held h) x in
-    g.met.H.Desk.rested_passed h z c.args.class c.args.domain stamp c.args.number (λ m. has-stamp g.R.Recorder.log g.R.Recorder.counts (g.H.Host.tests h) (g.H.Host.face h).processors (l + 1) (g.H.Host.held h) c.requires.stands.fine c.args.class c.args.domain stamp (batch m)) (let t : T z = took-at g.R.Recorder.log l c.level-level.result e [] (g.H.Host.held h) c.caches.result.now z c.level-level.ensures.same c.caches.ensures.held c.passed.ensures.step in t.records) o
+    let t : T z = took-at g.R.Recorder.log l c.level-level.result e [] (g.H.Host.held h) c.caches.result.now z c.level-level.ensures.same c.caches.ensures.held c.passed.ensures.step in
+    g.met.H.Desk.rested_passed h z c.args.class c.args.domain stamp c.args.number (λ m. has-stamp g.R.Recorder.log g.R.Recorder.counts (g.H.Host.tests h) (g.H.Host.face h).processors (l + 1) (g.H.Host.held h) c.requires.stands.fine c.args.class c.args.domain stamp (batch m)) t.processor t.records o

@@ -6,10 +6,8 @@ use Rattle.bm_cache.specs.declared.caches.Caches.{Caches}
 use Rattle.bm_cache.proofs.Moments.{took-at}
 use Rattle.bm_work.proofs.Batches.{dated-stamped}
 use Rattle.bm_work.proofs.Steps.{stamped-active, stands-entry, works-entry}
-use Rattle.bm_law_order.specs.Act.{Act}
 use Rattle.bm_law_order.specs.Act as act
 use Rattle.bm_law_order.specs.Chunk as chunk
-use Rattle.bm_law_order.specs.Chunk.{Shows}
 use Rattle.bm_work.proofs.Owing.{owes-stepped, shows}
 use Rattle.bm_work.proofs.stamps.note_stamp.Goals as goal
 
@@ -40,4 +38,4 @@ returns-clause-sound g c o =
     let i = c.args.class in
     let d = c.args.domain in
     let x = c.args.stamp in
-    owes-stepped g.H.Host.face g.H.Host.held g.H.Host.with_held g.R.Recorder.log g.H.Host.sound g.H.Desk.asked_owes g.met.H.Desk.asked_stepped c.args.host.now c.caches.result.now c.stamped.new.self c.level-level.result (entry.Stamp i d x) c.level-level.ensures.same c.caches.ensures.held refl c.stamped.ensures.step.records (act.Stamps d x ∷ []) (λ _. shows (chunk.Stamping i d x) refl) o
+    owes-stepped g.H.Host.face g.H.Host.held g.H.Host.with_held g.R.Recorder.log g.H.Host.sound g.H.Desk.asked_owes g.met.H.Desk.asked_stepped c.args.host.now c.caches.result.now c.stamped.new.self c.level-level.result (entry.Stamp i d x) c.level-level.ensures.same c.caches.ensures.held refl c.stamped.ensures.step.records c.stamped.ensures.step.processor (act.Stamps d x ∷ []) (λ _. shows (chunk.Stamping i d x) refl) o

@@ -59,4 +59,4 @@ returns-clause-flags g c =
 pub returns-clause-sound : goal.returns-clause-sound
 returns-clause-sound g c =
     let q = c.push.ensures.pushed in
-    sound-step g.H.Host.face g.H.Host.held g.H.Host.with_held g.R.Recorder.log g.H.Host.asked g.H.Host.sound g.met.H.Host.sound_stepped c.args.host.now c.point.new.self c.caches.result.now c.push.new.self c.level-level.result (entry.Push c.args.class q.0.number) c.point.ensures.goes.face c.point.ensures.asked c.level-level.ensures.same c.caches.ensures.held refl q.3.records
+    sound-step g.H.Host.face g.H.Host.held g.H.Host.with_held g.R.Recorder.log g.H.Host.asked g.H.Host.sound g.met.H.Host.sound_stepped c.args.host.now c.point.new.self c.caches.result.now c.push.new.self c.level-level.result (entry.Push c.args.class q.0.number) c.point.ensures.goes.face c.point.ensures.asked c.level-level.ensures.same c.caches.ensures.held refl q.3.records q.3.processor

@@ -78,4 +78,4 @@ returns-clause-sound g c =
     let w = c.caches.result.now in
     let us : List ℕ = map number_of ((shown w).rows i).extra_delayed in
     let q = took-list g.R.Recorder.log c.level-level.result (entry.TakeDelayed i) us w z refl c.take_extra_delayed.ensures.step in
-    sound-step g.H.Host.face g.H.Host.held g.H.Host.with_held g.R.Recorder.log g.H.Host.asked g.H.Host.sound g.met.H.Host.sound_stepped c.args.host.now c.point.new.self w z c.level-level.result (entry.TakeDelayed i (Whole us)) c.point.ensures.goes.face c.point.ensures.asked c.level-level.ensures.same c.caches.ensures.held refl q.records
+    sound-step g.H.Host.face g.H.Host.held g.H.Host.with_held g.R.Recorder.log g.H.Host.asked g.H.Host.sound g.met.H.Host.sound_stepped c.args.host.now c.point.new.self w z c.level-level.result (entry.TakeDelayed i (Whole us)) c.point.ensures.goes.face c.point.ensures.asked c.level-level.ensures.same c.caches.ensures.held refl q.records q.processor

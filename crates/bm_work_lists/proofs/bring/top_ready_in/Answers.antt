@@ -101,7 +101,7 @@ returns-clause-sound g c =
     go : (b : Bool) → c.take_ready.result ≡ b → g.H.Host.sound (g.H.Host.with_held c.point.new.self c.take_ready.new.self)
     go true h =
         let q = c.take_ready.ensures.some h in
-        sound-step g.H.Host.face g.H.Host.held g.H.Host.with_held g.R.Recorder.log g.H.Host.asked g.H.Host.sound g.met.H.Host.sound_stepped c.args.host.now c.point.new.self c.caches.result.now c.take_ready.new.self c.level-level.result (entry.Ready c.args.class q.0.number) c.point.ensures.goes.face c.point.ensures.asked c.level-level.ensures.same c.caches.ensures.held refl q.3.records
+        sound-step g.H.Host.face g.H.Host.held g.H.Host.with_held g.R.Recorder.log g.H.Host.asked g.H.Host.sound g.met.H.Host.sound_stepped c.args.host.now c.point.new.self c.caches.result.now c.take_ready.new.self c.level-level.result (entry.Ready c.args.class q.0.number) c.point.ensures.goes.face c.point.ensures.asked c.level-level.ensures.same c.caches.ensures.held refl q.3.records q.3.processor
     go false h =
         let q = c.take_ready.ensures.none h in
         let r : ((shown (g.H.Host.held c.point.new.self)).rows c.args.class).deferred.ready ≡ [] = ap (λ (d : Caches g.row.R.Denot). ((shown d).rows c.args.class).deferred.ready) (sym c.caches.ensures.held) ∙ q.0 in

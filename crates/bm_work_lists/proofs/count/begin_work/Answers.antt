@@ -53,4 +53,4 @@ returns-clause-flags g c =
 
 pub returns-clause-sound : goal.returns-clause-sound
 returns-clause-sound g c =
-    sound-say g.H.Host.face g.H.Host.held g.H.Host.with_held g.R.Recorder.log g.H.Host.sound g.met.H.Host.sound_said c.args.host.now c.caches.result.now c.lower.new.self c.level-level.result (entry.Work c.args.class) c.requires.sound c.level-level.ensures.same c.caches.ensures.held refl c.lower.ensures.step.records
+    sound-say g.H.Host.face g.H.Host.held g.H.Host.with_held g.R.Recorder.log g.H.Host.sound g.met.H.Host.sound_said c.args.host.now c.caches.result.now c.lower.new.self c.level-level.result (entry.Work c.args.class) c.requires.sound c.level-level.ensures.same c.caches.ensures.held refl c.lower.ensures.step.records c.lower.ensures.step.processor

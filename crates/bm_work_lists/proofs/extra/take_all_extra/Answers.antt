@@ -94,4 +94,4 @@ returns-clause-sound g c =
     let i = c.args.class in
     let z = c.take_extra.new.self in
     let q = took-list g.R.Recorder.log c.level-level.result (entry.TakeExtra i) _ c.caches.result.now z refl c.take_extra.ensures.step in
-    sound-step g.H.Host.face g.H.Host.held g.H.Host.with_held g.R.Recorder.log g.H.Host.asked g.H.Host.sound g.met.H.Host.sound_stepped c.args.host.now c.point.new.self c.caches.result.now z c.level-level.result (entry.TakeExtra i (Whole _)) c.point.ensures.goes.face c.point.ensures.asked c.level-level.ensures.same c.caches.ensures.held refl q.records
+    sound-step g.H.Host.face g.H.Host.held g.H.Host.with_held g.R.Recorder.log g.H.Host.asked g.H.Host.sound g.met.H.Host.sound_stepped c.args.host.now c.point.new.self c.caches.result.now z c.level-level.result (entry.TakeExtra i (Whole _)) c.point.ensures.goes.face c.point.ensures.asked c.level-level.ensures.same c.caches.ensures.held refl q.records q.processor

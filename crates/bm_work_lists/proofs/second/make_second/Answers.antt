@@ -104,4 +104,4 @@ returns-clause-sound g c =
     let w = c.caches.result.now in
     let us : List ℕ = map number_of ((shown w).rows i).deferred.ready in
     let q = took-list g.R.Recorder.log c.level-level.result (entry.BeginSecond i) us w z refl c.take_all_ready.ensures.step in
-    sound-step g.H.Host.face g.H.Host.held g.H.Host.with_held g.R.Recorder.log g.H.Host.asked g.H.Host.sound g.met.H.Host.sound_stepped c.args.host.now c.point.new.self w z c.level-level.result (entry.BeginSecond i (Whole us)) c.point.ensures.goes.face c.point.ensures.asked c.level-level.ensures.same c.caches.ensures.held refl q.records
+    sound-step g.H.Host.face g.H.Host.held g.H.Host.with_held g.R.Recorder.log g.H.Host.asked g.H.Host.sound g.met.H.Host.sound_stepped c.args.host.now c.point.new.self w z c.level-level.result (entry.BeginSecond i (Whole us)) c.point.ensures.goes.face c.point.ensures.asked c.level-level.ensures.same c.caches.ensures.held refl q.records q.processor

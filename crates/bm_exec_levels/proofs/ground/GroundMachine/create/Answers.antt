@@ -6,9 +6,9 @@ pub returns-clause-sound : goal.returns-clause-sound
 returns-clause-sound g c =
     let s = c.requires.sound in
     let e = c.make.ensures in
-    (sound-still 1 c.args.self.now.program.now c.args.self.now.own.now c.make.new.own e.between e.at s.0, s.1, c.make.ensures.tied)
+    (sound-still g.W.Knows 1 c.args.self.now.program.now c.args.self.now.own.now c.make.new.own e.between e.at s.0, s.1, c.make.ensures.tied)
 
 pub returns-clause-keeps : goal.returns-clause-keeps
 returns-clause-keeps g c =
     let e = c.make.ensures in
-    (statements-still 1 c.args.self.now.program.now c.args.self.now.own.now c.make.new.own e.between, refl)
+    (statements-still g.W.Knows 1 c.args.self.now.program.now c.args.self.now.own.now c.make.new.own e.between, refl)

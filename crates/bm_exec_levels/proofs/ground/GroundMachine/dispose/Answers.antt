@@ -6,9 +6,9 @@ pub returns-clause-sound : goal.returns-clause-sound
 returns-clause-sound g c =
     let s = c.requires.sound in
     let e = c.give_up.ensures in
-    (sound-still 0 c.args.self.now.program.now c.args.self.now.own.now c.give_up.new.own e.between e.at s.0, s.1, c.give_up.ensures.tied)
+    (sound-still g.W.Knows 0 c.args.self.now.program.now c.args.self.now.own.now c.give_up.new.own e.between e.at s.0, s.1, c.give_up.ensures.tied)
 
 pub returns-clause-keeps : goal.returns-clause-keeps
 returns-clause-keeps g c =
     let e = c.give_up.ensures in
-    (statements-still 0 c.args.self.now.program.now c.args.self.now.own.now c.give_up.new.own e.between, refl)
+    (statements-still g.W.Knows 0 c.args.self.now.program.now c.args.self.now.own.now c.give_up.new.own e.between, refl)

@@ -13,4 +13,4 @@ pub returns-clause-between : goal.returns-clause-between
 returns-clause-between g c below =
     let p = c.args.program.now in
     let due = c.args.due.now in
-    between-down (due_cost p due) 2 3 due.level p c.args.own.now c.run_one.new.own (c.requires.due below).above c.requires.fine c.run_one.ensures.between
+    between-down g.W.Knows (due_cost p due) 2 3 due.level p c.args.own.now c.run_one.new.own (c.requires.due below).above c.requires.fine c.run_one.ensures.between

@@ -1,11 +1,13 @@
-use Rattle.std.proofs.Common.{Some, true, arith, ◌≡◌, ◌+◌, ◌<◌, ◌^◌, length, refl, set, subst, sym}
+use Rattle.std.proofs.Common.{Some, ap, true, arith, ◌≡◌, ◌+◌, ◌<◌, ◌^◌, length, refl, set, subst, sym}
 use Rattle.bm_post.specs.HasRoom.{room-of}
-use Rattle.bm_world.specs.LivingState.{LivingState, may_be_used, with_begun, next_life, rights_living}
-use Rattle.bm_world.proofs.Alive.{begun-gone, begun-lasts, counted, has-room, lives-as, lives-so, living-begun, seal-none}
+use Rattle.bm_world.specs.LivingState.{LivingState, living_of, may_be_used, with_begun, next_life, rights_living}
+use Rattle.bm_world.proofs.Alive.{begun-gone, counted, has-room, lives-as, lives-so, living-begun, seal-none}
+use Rattle.std.proofs.lemmas.List.{get_or-set_same}
+use Rattle.bm_world.proofs.KnownLiving.{begun-others, known-begun}
 use Rattle.bm_world.proofs.SlotLemmas.{at-same}
 use Rattle.bm_world.proofs.LivingDid.{does-make}
 use Rattle.bm_world.proofs.Alive.{lives-not}
-use Rattle.bm_world.proofs.living.LivingSide.begin_life.Goals as goal
+use Rattle.bm_world.proofs.living.LivingSideLives.begin_life.Goals as goal
 
 pub invariant_of-self : goal.invariant_of-self
 invariant_of-self c =
@@ -28,18 +30,6 @@ returns-clause-next c =
     let settled = lives-so i.begun.counts.items u.number u.life u.seal used in
     rw (← c.self.view_is) (lives-as i.begun.counts.items u.number u.life settled)
 
-pub returns-clause-counted : goal.returns-clause-counted
-returns-clause-counted c n =
-    let i = c.self.inside in
-    let u = c.args.unit in
-    let used = subst (λ (s : LivingState). may_be_used s.begun u.number u.life u.seal ≡ true) (sym c.self.view_is) c.requires.settled in
-    let settled = lives-so i.begun.counts.items u.number u.life u.seal used in
-    let number = (room-of u.number u.life u.seal (has-room i.begun.counts.items u.number u.life settled)).0 in
-    let size = c.self.invariant.counts in
-    let there : u.number < length i.begun.counts.items = omega (arith, number, size) in
-    let said = rw c.begin_life.ensures at (rw c.life.ensures at (rw c.number.ensures at c.set.ensures)) in
-    rw (← c.self.view_is, said) (counted i.begun.counts.items u.number u.life n there (lives-as i.begun.counts.items u.number u.life settled))
-
 pub returns-clause-gone : goal.returns-clause-gone
 returns-clause-gone c =
     let i = c.self.inside in
@@ -52,31 +42,6 @@ returns-clause-gone c =
     let put = rw c.begin_life.ensures at c.put.ensures in
     let said = rw c.begin_life.ensures at (rw c.life.ensures at (rw c.number.ensures at c.set.ensures)) in
     rw (← c.self.view_is, put, said) (begun-gone i.side.post i.slots.slots.items i.begun.counts.items (set i.begun.counts.items u.number (u.life + 1)) u.number (next_life u) there)
-
-pub returns-clause-lasts : goal.returns-clause-lasts
-returns-clause-lasts c =
-    let i = c.self.inside in
-    let u = c.args.unit in
-    let used = subst (λ (s : LivingState). may_be_used s.begun u.number u.life u.seal ≡ true) (sym c.self.view_is) c.requires.settled in
-    let settled = lives-so i.begun.counts.items u.number u.life u.seal used in
-    let number = (room-of u.number u.life u.seal (has-room i.begun.counts.items u.number u.life settled)).0 in
-    let size = c.self.invariant.size in
-    let there : u.number < length i.slots.slots.items = omega (arith, number, size) in
-    let put = rw c.begin_life.ensures at c.put.ensures in
-    let said = rw c.begin_life.ensures at (rw c.life.ensures at (rw c.number.ensures at c.set.ensures)) in
-    rw (← c.self.view_is, put, said) (begun-lasts i.side.post i.slots.slots.items i.begun.counts.items u.number (u.life + 1) (next_life u) there)
-
-pub returns-clause-lives : goal.returns-clause-lives
-returns-clause-lives c =
-    let i = c.self.inside in
-    let u = c.args.unit in
-    let used = subst (λ (s : LivingState). may_be_used s.begun u.number u.life u.seal ≡ true) (sym c.self.view_is) c.requires.settled in
-    let settled = lives-so i.begun.counts.items u.number u.life u.seal used in
-    let number = (room-of u.number u.life u.seal (has-room i.begun.counts.items u.number u.life settled)).0 in
-    let size = c.self.invariant.size in
-    let there : u.number < length i.slots.slots.items = omega (arith, number, size) in
-    let put = rw c.begin_life.ensures at c.put.ensures in
-    rw put (at-same i.slots.slots.items u.number (Some (next_life u)) there)
 
 pub returns-clause-does : goal.returns-clause-does
 returns-clause-does c h =
@@ -96,3 +61,34 @@ returns-clause-does c h =
     let home = subst (λ (s : LivingState). u.home ≡ s.side.grace.processor) (sym c.self.view_is) h in
     let lives = lives-as i.begun.counts.items u.number u.life settled in
     rw (← c.self.view_is, put, said) (does-make u a (with_begun u a) refl (seal-none i.begun.counts.items u.number u.life u.seal used) (lives-not i.side.post i.slots.slots.items i.begun.counts.items u.number mine) lives (λ n. counted i.begun.counts.items u.number u.life n counts lives) there home)
+
+pub returns-clause-none : goal.returns-clause-none
+returns-clause-none c =
+    let i = c.self.inside in
+    let mine = subst (λ (s : LivingState). (rights_living s).mine c.args.unit.number ≡ true) (sym c.self.view_is) c.requires.mine in
+    rw (← c.self.view_is) (ap living_of (lives-not i.side.post i.slots.slots.items i.begun.counts.items c.args.unit.number mine))
+
+pub returns-clause-known : goal.returns-clause-known
+returns-clause-known c =
+    let i = c.self.inside in
+    let u = c.args.unit in
+    let a : LivingState = record { side = i.side; slots = i.slots.slots.items; begun = i.begun.counts.items; asked = i.asked } in
+    let used = subst (λ (s : LivingState). may_be_used s.begun u.number u.life u.seal ≡ true) (sym c.self.view_is) c.requires.settled in
+    let settled = lives-so i.begun.counts.items u.number u.life u.seal used in
+    let number = (room-of u.number u.life u.seal (has-room i.begun.counts.items u.number u.life settled)).0 in
+    let size = c.self.invariant.size in
+    let sizes = c.self.invariant.counts in
+    let there : u.number < length i.slots.slots.items = omega (arith, number, size) in
+    let counts : u.number < length i.begun.counts.items = omega (arith, number, sizes) in
+    let put = rw c.begin_life.ensures at c.put.ensures in
+    let said = rw c.begin_life.ensures at (rw c.life.ensures at (rw c.number.ensures at c.set.ensures)) in
+    rw (← c.self.view_is, put, said) (known-begun u a (at-same i.slots.slots.items u.number (Some (next_life u)) there) (get_or-set_same i.begun.counts.items u.number (u.life + 1) 0 counts))
+
+pub returns-clause-others : goal.returns-clause-others
+returns-clause-others c =
+    let i = c.self.inside in
+    let u = c.args.unit in
+    let a : LivingState = record { side = i.side; slots = i.slots.slots.items; begun = i.begun.counts.items; asked = i.asked } in
+    let put = rw c.begin_life.ensures at c.put.ensures in
+    let said = rw c.begin_life.ensures at (rw c.life.ensures at (rw c.number.ensures at c.set.ensures)) in
+    rw (← c.self.view_is, put, said) (begun-others u a)

@@ -1,7 +1,7 @@
 use Rattle.std.proofs.Common.{[], refl, ◌+◌}
 use Rattle.bm_world.proofs.LivingDid.{lifts}
 use Rattle.bm_world.specs.Told.{does-same}
-use Rattle.bm_world.proofs.living.LivingSide.ask.Goals as goal
+use Rattle.bm_world.proofs.living.LivingSideLives.ask.Goals as goal
 
 pub returns-clause-does : goal.returns-clause-does
 returns-clause-does c =

@@ -1,6 +1,6 @@
 use Rattle.std.proofs.Common.{◌≡◌, ◌≤◌, All, length, vec_capacity}
 use Rattle.bm_exec_levels.specs.Ready.{BindsAll}
-use Rattle.bm_run.proofs.room.three_tables.Given as goal
+use Rattle.bm_exec_levels.proofs.kept.three_tables.Given as goal
 
 abbrev pub invariant-loop-level : goal.invariant-loop-level
 invariant-loop-level l = record {

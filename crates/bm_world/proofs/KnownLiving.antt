@@ -1,0 +1,60 @@
+-- What the world with the units that live in it knows once a life began or ended, and tells of all other units.
+use Rattle.std.proofs.Common.{◌≡◌, ◌≢◌, ◌∙◌, ◌+◌, ℕ, List, Option, None, Some, Bool, refl, sym, ap, subst, inl, inr, set}
+use Rattle.std.specs.Prelude.{◌&&◌, not, is_none, is_some, if◌then◌else◌, eqb}
+use Rattle.std.proofs.lemmas.Bool.Decides.{eqb_tells}
+use Rattle.std.proofs.lemmas.List.{get_or-set_other}
+use mathlib.Core.Path.{fun_ext}
+use Rattle.bm_page.specs.UnitState.{UnitState}
+use Rattle.bm_grace.specs.Known.{Known, Lives}
+use Rattle.bm_post.specs.PostState.{PostState, is_mine}
+use Rattle.bm_world.specs.Lives.{OthersAsBefore, life_begun, life_ended, with_life}
+use Rattle.bm_world.specs.LivingState.{LivingState, begun_at, known_living, lives_of, living_of, may_live, next_life, rights_living, rights_with_living, with_begun, with_ended}
+use Rattle.bm_world.specs.SideState.{known_of}
+use Rattle.bm_world.specs.Slots.{unit_at}
+use Rattle.bm_world.proofs.SlotLemmas.{Slotted, at-other}
+
+-- the object of one number, after its slot was written
+pub lives-set : (slots : Slotted) (n : ℕ) (x : Option UnitState) → unit_at (set slots n x) n ≡ x → lives_of (set slots n x) ≡ with_life n (living_of x) (lives_of slots)
+lives-set slots n x e = fun_ext (λ v. elim (eqb_tells n v) [
+  | inl y ↦ (let F : ℕ → Type 0 = λ k. living_of (unit_at (set slots n x) k) ≡ living_of x in let h : F v = subst F y.1 (ap living_of e) in rw y.0 h)
+  | inr y ↦ (let h : unit_at (set slots n x) v ≡ unit_at slots v = at-other slots n v x (λ q. y.1 (sym q)) in rw y.0 (ap living_of h))
+])
+
+-- how many lives of one unit
+counts-set : (begun : List ℕ) (n x : ℕ) → begun_at (set begun n x) n ≡ x → begun_at (set begun n x) ≡ (λ v. if eqb n v then x else begun_at begun v)
+counts-set begun n x e = fun_ext (λ v. elim (eqb_tells n v) [
+  | inl y ↦ (let F : ℕ → Type 0 = λ k. begun_at (set begun n x) k ≡ x in let h : F v = subst F y.1 e in rw y.0 h)
+  | inr y ↦ (let h : begun_at (set begun n x) v ≡ begun_at begun v = get_or-set_other begun n v x 0 (λ q. y.1 (sym q)) in rw y.0 h)
+])
+
+-- a unit begins a life
+pub known-begun : (u : UnitState) (w : LivingState) → unit_at (set w.slots u.number (Some (next_life u))) u.number ≡ Some (next_life u) → begun_at (set w.begun u.number (u.life + 1)) u.number ≡ u.life + 1 → known_living (with_begun u w) ≡ life_begun u (known_living w)
+known-begun u w s b =
+    let K : Lives → (ℕ → ℕ) → Known = λ xs ys. record (known_of w.side) { objects = record { lives = xs; begun = ys; asked = w.asked + 1 } } in
+    ap (λ xs. K xs (begun_at (set w.begun u.number (u.life + 1)))) (lives-set w.slots u.number (Some (next_life u)) s)
+    ∙ ap (K (with_life u.number (Some (record { class = u.class; life = u.life + 1; home = u.home })) (lives_of w.slots))) (counts-set w.begun u.number (u.life + 1) b)
+
+-- a life ends
+pub known-ended : (n : ℕ) (w : LivingState) → unit_at (set w.slots n None) n ≡ None → known_living (with_ended n w) ≡ life_ended n (known_living w)
+known-ended n w s =
+    let K : Lives → Known = λ xs. record (known_of w.side) { objects = record { lives = xs; begun = begun_at w.begun; asked = w.asked } } in
+    ap K (lives-set w.slots n None s)
+
+-- ---- all other units
+
+-- rights of the same post, by slots and counts that agree on all units but one
+others-as : (post : PostState) (slots slots' : List (Option UnitState)) (begun begun' : List ℕ) (u : ℕ) → ((n : ℕ) → n ≢ u → unit_at slots' n ≡ unit_at slots n) → ((n : ℕ) → n ≢ u → begun_at begun' n ≡ begun_at begun n) → OthersAsBefore u (rights_with_living post slots begun) (rights_with_living post slots' begun')
+others-as post slots slots' begun begun' u e f = record {
+  mine = λ n h. ap (λ (o : Option UnitState). is_mine post n && not (is_some o)) (e n h);
+  settled = λ n life seal h. (let may : may_live begun' n life ≡ may_live begun n life = rw (f n h) refl in ap (λ (b : Bool). b && is_none seal) may);
+  due = λ n life seal h. refl;
+  ripe = λ n life seal h. refl;
+  since = λ d x n h. refl;
+}
+
+pub begun-others : (u : UnitState) (w : LivingState) → OthersAsBefore u.number (rights_living w) (rights_living (with_begun u w))
+begun-others u w = others-as w.side.post w.slots (set w.slots u.number (Some (next_life u))) w.begun (set w.begun u.number (u.life + 1)) u.number
+    (λ n h. at-other w.slots u.number n (Some (next_life u)) h) (λ n h. get_or-set_other w.begun u.number n (u.life + 1) 0 h)
+
+pub ended-others : (n : ℕ) (w : LivingState) → OthersAsBefore n (rights_living w) (rights_living (with_ended n w))
+ended-others n w = others-as w.side.post w.slots (set w.slots n None) w.begun w.begun n (λ m h. at-other w.slots n m None h) (λ m h. refl)

@@ -1,0 +1,60 @@
+//! Lives of units.
+
+ghost use Rattle.std.specs.Prelude.{◌≡◌, ◌+◌, ◌^◌, ◌<◌, ◌∷◌, [], ℕ, Option, None, Some, false, is_some, true};
+ghost use Rattle.bm_law_order.specs.Act as act;
+ghost use Rattle.bm_grace.specs.Rest.{StaysAtRest};
+ghost use Rattle.bm_grace.specs.Rights.{AsBefore};
+ghost use Rattle.bm_page.specs.declared.units.Seal.{Seal as SealValue};
+ghost use Rattle.bm_post.specs.Rights.{Gains, IsSettled, Loses};
+ghost use Rattle.bm_world.specs.Lives.{OthersAsBefore, asked_once, life_begun, life_ended, life_of_unit};
+
+use crate::World;
+use bm_journal::ObjId;
+use bm_page::Unit;
+
+/// A world in which units live: it owns each unit that lives, by its number, and counts how many lives each unit has begun and
+/// how many objects were asked for. A unit that lives isn't mine: its number can be named, and nothing can be done with it, until
+/// its life ends. No call takes memory, and each changes what the side knows by one equation. This project's own; in the kernel
+/// an object that lives is a pointer, which a program owns.
+pub trait Lives: World {
+    /// An object is asked for, and there is none to give.
+    fn ask(&mut self)
+        requires room { (Self.known self.old).objects.asked + 1 < 2 ^ 31 }
+        ensures known { Self.known self.new ≡ asked_once (Self.known self.old) }
+        ensures same { AsBefore (Self.rights self.old) (Self.rights self.new) }
+        ensures rest { StaysAtRest Self.rest self.old self.new }
+        ensures does { Self.does [] self.old self.new };
+
+    /// An object is asked for, and a unit of mine begins its next life for it. It is mine no more, and of all other units
+    /// everything is as before.
+    fn begin_life(&mut self, unit: Unit) -> ObjId
+        requires room { (Self.known self.old).objects.asked + 1 < 2 ^ 31 }
+        requires mine { (Self.rights self.old).mine unit.number ≡ true }
+        requires settled { IsSettled (Self.rights self.old) unit }
+        requires home { unit.home < (Self.known self.old).grace.processors }
+        ensures object { result ≡ record { unit = unit.number; life = unit.life + 1 } }
+        ensures next { unit.life ≡ (Self.known self.old).objects.begun unit.number }
+        ensures none { (Self.known self.old).objects.lives unit.number ≡ None }
+        ensures known { Self.known self.new ≡ life_begun unit (Self.known self.old) }
+        ensures gone { Loses (unit.number ∷ []) (Self.rights self.old) (Self.rights self.new) }
+        ensures others { OthersAsBefore unit.number (Self.rights self.old) (Self.rights self.new) }
+        ensures rest { StaysAtRest Self.rest self.old self.new }
+        ensures does { unit.home ≡ (Self.known self.old).grace.processor
+            → Self.does (act.Makes unit.number (unit.life + 1) unit.seal ∷ []) self.old self.new };
+
+    /// The life of a unit ends, by a drop whose free is a plain one: the unit is mine again, may be used again, and isn't due.
+    /// Of all other units everything is as before.
+    fn end_life(&mut self, number: u16) -> Unit
+        requires lives { is_some ((Self.known self.old).objects.lives number) ≡ true }
+        ensures lived { (Self.known self.old).objects.lives number ≡ Some (life_of_unit result) }
+        ensures number { result.number ≡ number }
+        ensures last { result.life ≡ (Self.known self.old).objects.begun number }
+        ensures known { Self.known self.new ≡ life_ended number (Self.known self.old) }
+        ensures mine { Gains (number ∷ []) (Self.rights self.old) (Self.rights self.new) }
+        ensures others { OthersAsBefore number (Self.rights self.old) (Self.rights self.new) }
+        ensures settled { IsSettled (Self.rights self.new) result }
+        ensures undue { (life : ℕ) (seal : Option SealValue) → (Self.rights self.new).due number life seal ≡ false }
+        ensures home { result.home < (Self.known self.old).grace.processors }
+        ensures rest { StaysAtRest Self.rest self.old self.new }
+        ensures does { Self.does (act.Ends number result.life result.home false ∷ []) self.old self.new };
+}
