@@ -1,5 +1,5 @@
 -- A block is its list of statements.
-use Rattle.std.proofs.Common.{◌≡◌, ℕ, ◌+◌, ◌&&◌, Option, List, refl, ap}
+use Rattle.std.proofs.Common.{◌≡◌, ℕ, ◌+◌, Option, List, refl, ap}
 use mathlib.Core.Path.{fun_ext}
 use mathlib.Core.Former.{Count}
 use Rattle.bm_lang.specs.declared.scenario.Block.{Block, Block', Row_of-Statement, end_of-Statement, more_of-Statement, items-the_row-Statement}
@@ -13,7 +13,6 @@ use Rattle.bm_exec.specs.Stores.{store_of}
 use Rattle.bm_exec.specs.Lists.{block_list, Behind, RunsStatement, RunsList, SafeList}
 use Rattle.bm_exec.specs.Stack.{Closes}
 use Rattle.bm_exec.specs.Cost.{list_cost}
-use Rattle.bm_exec.specs.Runnable.{can_run_action, can_run_list, can_run_block, can_run_row}
 
 row-runs : (types : List TypeDeclaration) (l : ℕ) (w : Option (List ℕ)) (n : Count) (row : Row_of-Statement n) → RunsRow types l (Behind w) row ≡ RunsList types l w (items-the_row-Statement n row)
 row-runs types l w _ end_of-Statement = refl
@@ -28,13 +27,6 @@ row-safe e s Q _ (more_of-Statement line action rest) = ap (SafeAction e s actio
 
 pub block-safe : (e : Setting) (names : Names) (b : Block) (Q : Store → Type 0) → SafeBlock e (store_of names) b Q ≡ SafeList e (store_of names) (block_list b) (Closes Q)
 block-safe e names (Block' shape row end_line) Q = row-safe e (store_of names) (Closes Q) _ row
-
-row-can : (types : List TypeDeclaration) (n : Count) (row : Row_of-Statement n) → can_run_row types row ≡ can_run_list types (items-the_row-Statement n row)
-row-can types _ end_of-Statement = refl
-row-can types _ (more_of-Statement line action rest) = ap (λ b. can_run_action types action && b) (row-can types _ rest)
-
-pub block-can : (types : List TypeDeclaration) (b : Block) → can_run_block types b ≡ can_run_list types (block_list b)
-block-can types (Block' shape row end_line) = row-can types _ row
 
 row-cost : (n : Count) (row : Row_of-Statement n) → row_cost row ≡ list_cost (items-the_row-Statement n row)
 row-cost _ end_of-Statement = refl

@@ -44,7 +44,7 @@ went-none types l w s names os lives asked log d = record {
   grew = λ last final z. z;
   safe = λ e y. y;
   holds = λ base h. h;
-  can = λ y. y;
+  meets = λ p h y. y;
   cost = omega arith;
   down = d;
 }
@@ -55,7 +55,7 @@ went-step types l v s s0 s1 s2 n0 n1 n2 b0 b1 b2 b3 lives lives' lives'' a0 a1 a
   grew = λ last final z. w.grew last final (grew-map (Followed (RunsStatement types l v s.action) (RunsStack types l v b2) n1 last) (RunsStack types l v b1 n1 last) s1 log1 final (λ part y. t.runs types l v n1 last s1 part w.down y) (p.grew last final z));
   safe = λ e x. p.safe e (t.safe e n1 (w.safe e x));
   holds = λ base h. p.holds base (w.holds base h);
-  can = λ x. p.can (t.can_action types (w.can x)) (t.can types (w.can x));
+  meets = λ q h x. p.meets q h (t.meets_action q (w.meets q h x)) (t.meets q (w.meets q h x));
   cost = omega (arith, w.cost, t.cost, p.cost);
   down = p.down;
 }

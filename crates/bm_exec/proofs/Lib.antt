@@ -1,7 +1,7 @@
 mod Then
 mod Bound
-mod Handling
-mod Sizes
+mod Meeting
+mod KnownNames
 mod Blocks
 mod Stacks
 mod Tables

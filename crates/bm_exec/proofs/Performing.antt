@@ -1,5 +1,5 @@
 -- Statements that were performed.
-use Rattle.std.proofs.Common.{◌≡◌, ◌≤◌, ℕ, suc, zero, ◌+◌, ◌*◌, Bool, true, false, ◌&&◌, List, [], ◌∷◌, length, ◌<◌, refl, sym, ap, ◌∙◌, Option, Some, None, IfSome, slice_get, arith, inl, max, not}
+use Rattle.std.proofs.Common.{◌≡◌, ◌≤◌, ℕ, suc, zero, ◌+◌, ◌*◌, Bool, true, false, ◌&&◌, List, [], ◌∷◌, length, ◌<◌, refl, ap, Option, Some, None, IfSome, slice_get, arith, inl, max, not}
 use Rattle.std.specs.List.{list_all}
 use Rattle.bm_journal.specs.declared.entry.Entry.TheVariants as entry
 use Rattle.bm_journal.specs.declared.ids.ObjId.{ObjId}
@@ -24,8 +24,10 @@ use Rattle.bm_exec.specs.Lists.{block_list, Behind, RunsStatement, RunsList}
 use Rattle.bm_exec.specs.Cost.{open_cost}
 use Rattle.bm_exec.specs.Stack.{RunsOpen, RunsStack, SafeStack}
 use Rattle.bm_exec.specs.Steps.{Pushed}
-use Rattle.bm_exec.proofs.Blocks.{block-runs, block-safe, block-can, block-cost}
-use Rattle.bm_exec.specs.Runnable.{Classes, can_run_action, can_run_else, can_run_block, can_run_list, can_run_stack}
+use Rattle.bm_exec.proofs.Blocks.{block-runs, block-safe, block-cost}
+use Rattle.std.specs.Borrow.{Bor}
+use Rattle.bm_exec.specs.Meets.{Inherits, Test, body_meets, list_meets, stack_meets}
+use Rattle.bm_exec.specs.Runnable.{Classes}
 use Rattle.bm_exec.specs.Living.{Lives, Created, Disposed, reply_of}
 use Rattle.bm_exec.specs.Running.{Performed}
 use Rattle.bm_exec.proofs.Objects.{class-at, store-with, holds-reply, holds-less}
@@ -56,7 +58,7 @@ new-performed types classes l w p s s1 s' x t values names names' lives lives' l
           (record { class = c; declared = d; of_class = of; own = made.own; reply = reply_of reply; part_is = refl; allocates = made.allocates; after_is = e })) work;
       safe = λ s y. rw e (safe-reply s os names x t values reply y);
       holds = λ base h. rw same (rw e (holds-reply types base lives lives' names x t c d reply of free made.begins h));
-      can = λ a b. b;
+      meets = λ p h a b. b;
       cost = omega (arith, n);
       weight = omega arith;
       down = down;
@@ -85,7 +87,7 @@ drop-performed types classes l w p s s1 s' x t o names names' lives lives' lives
       (record { type = t; unit = o.unit; life = o.life; held = held; class = c; declared = d; of_class = of; plain = plain-at types t.0 d cs.plain of.found; home = gone.home; own = gone.own; part_is = refl; frees = gone.frees; after_is = e })) work;
   safe = λ s y. rw e (rw (store-with x Nothing names) y.1.3);
   holds = λ base h. rw same (rw e (holds-less types base lives lives' names x t o.unit o.life held gone.ends h));
-  can = λ a b. b;
+  meets = λ p h a b. b;
   cost = omega (arith, n);
   weight = omega arith;
   down = down;
@@ -97,9 +99,9 @@ block-once types l w o body r n names last s part x =
     let y : Followed (RunsList types l w (block_list body)) Done names last s part = rw n at (rw r at x) in
     rw (block-runs types l w body) (undone-last (RunsList types l w (block_list body)) names last s part y)
 
-block-times : (types : List TypeDeclaration) (l : ℕ) (w : Option (List ℕ)) (o : Open) (k : ℕ) (body : Block) → o.rest.now ≡ [] → o.repeats ≡ k → o.body.now ≡ body → (names last : Names) (s : State ℕ) (part : Log) → RunsOpen types l w o names last s part → Times (RunsBlock types l (Behind w) body) k names last s part
-block-times types l w o k body r n b names last s part x =
-    let y : Followed Done (Times (RunsBlock types l (Behind w) body) k) names last s part = rw b at (rw n at (rw r at x)) in
+block-times : (types : List TypeDeclaration) (l : ℕ) (w : Option (List ℕ)) (o : Open) (k : ℕ) (body : Block) (b : Bor Block) → o.rest.now ≡ [] → o.repeats ≡ k → o.body ≡ Some b → b.now ≡ body → (names last : Names) (s : State ℕ) (part : Log) → RunsOpen types l w o names last s part → Times (RunsBlock types l (Behind w) body) k names last s part
+block-times types l w o k body b r n f g names last s part x =
+    let y : Followed Done (Times (RunsBlock types l (Behind w) body) k) names last s part = rw g at (rw f at (rw n at (rw r at x))) in
     undone-first (Times (RunsBlock types l (Behind w) body) k) names last s part y
 
 -- a block that a statement opened, and what is around it: the block of that statement, at least
@@ -115,8 +117,8 @@ opened types l w a o (p ∷ ps) names last s part some f x =
 pub once-safe : (e : Setting) (o : Open) (os : List Open) (names : Names) (body : Block) → o.rest.now ≡ block_list body → o.repeats ≡ 0 → safe.SafeBlock e (store_of names) body (λ r. SafeStack e r os) → SafeStack e (store_of names) (o ∷ os)
 once-safe e o os names body r n x = rw r (rw n (rw (block-safe e names body (λ s. SafeStack e s os)) at x))
 
-times-safe : (e : Setting) (o : Open) (os : List Open) (names : Names) (k : ℕ) (body : Block) → o.rest.now ≡ [] → o.repeats ≡ k → o.body.now ≡ body → safe.Times k (λ r. safe.SafeBlock e r body) (store_of names) (λ r. SafeStack e r os) → SafeStack e (store_of names) (o ∷ os)
-times-safe e o os names k body r n b x = rw r (rw n (rw b (refl, x)))
+times-safe : (e : Setting) (o : Open) (os : List Open) (names : Names) (k : ℕ) (body : Block) (b : Bor Block) → o.rest.now ≡ [] → o.repeats ≡ k → o.body ≡ Some b → b.now ≡ body → safe.Times k (λ r. safe.SafeBlock e r body) (store_of names) (λ r. SafeStack e r os) → SafeStack e (store_of names) (o ∷ os)
+times-safe e o os names k body b r n f g x = rw r (rw n (rw f (rw g (refl, x))))
 
 pub both : (a b : Bool) → a ≡ true → b ≡ true → (a && b) ≡ true
 both true b e f = f
@@ -140,14 +142,18 @@ max-right a b = omega arith
 push-performed : (types : List TypeDeclaration) (l : ℕ) (w : Option (List ℕ)) (s : State ℕ) (a : Action) (names : Names) (before now : List Open) (rest : List Statement) (n : ℕ) (body : Block) (lives : Lives) (asked : ℕ) (log : Option Log) → 0 < length before → Behind w s [] → (o : Pushed before now rest n body) →
     ((m : Names) (p : Log) → RunsOpen types l w o.top names m s p → RunsAction types l (Behind w) a names m s p) →
     ((e : Setting) → safe.SafeAction e (store_of names) a (λ r. SafeStack e r before) → SafeStack e (store_of names) (o.top ∷ before)) →
-    (can_run_action types a ≡ true → (can_run_list types o.top.rest.now ≡ true) × (can_run_block types o.top.body.now ≡ true)) →
+    ((p : Test) → Inherits p → p (length before) a ≡ true → (list_meets (p (suc (length before))) o.top.rest.now ≡ true) × (list_meets (p (suc (length before))) (block_list body) ≡ true)) →
     suc (open_cost o.top) ≤ action_cost a →
     Performed types l w s s a names names before now lives lives asked asked log log
-push-performed types l w s a names before now rest n body lives asked log some down o runs safe can cost = record {
+push-performed types l w s a names before now rest n body lives asked log some down o runs safe meets cost = record {
   grew = λ last final z. grew-map (RunsStack types l w (o.top ∷ before) names last) (Followed (RunsStatement types l w a) (RunsStack types l w before) names last) s log final (λ part y. opened types l w a o.top before names last s part some runs y) (rw o.now_is at z);
   safe = λ e y. rw o.now_is (safe e y);
   holds = λ base h. h;
-  can = λ x y. rw o.now_is (let c = can x in both (can_run_list types o.top.rest.now) (can_run_block types o.top.body.now && can_run_stack types before) c.0 (both (can_run_block types o.top.body.now) (can_run_stack types before) c.1 y));
+  meets = λ p h x y.
+      let d = suc (length before) in
+      let c = meets p h x in
+      let blocks : body_meets (p d) o.top.body ≡ true = rw o.body_is (rw o.block_is c.1) in
+      rw o.now_is (both (list_meets (p d) o.top.rest.now) (body_meets (p d) o.top.body && stack_meets p before) c.0 (both (body_meets (p d) o.top.body) (stack_meets p before) blocks y));
   cost = rw o.now_is (omega (arith, cost));
   weight = rw o.now_is (omega (arith, cost));
   down = down;
@@ -156,23 +162,23 @@ push-performed types l w s a names before now rest n body lives asked log some d
 pub once-cost : (types : List TypeDeclaration) (o : Open) (body : Block) → o.rest.now ≡ block_list body → o.repeats ≡ 0 → open_cost o ≡ block_cost body
 once-cost types o body r n = rw r (rw n (omega (arith, block-cost body)))
 
-times-cost : (o : Open) (k : ℕ) (body : Block) → o.rest.now ≡ [] → o.repeats ≡ k → o.body.now ≡ body → open_cost o ≡ k * (1 + block_cost body)
-times-cost o k body r n b = rw r (rw n (rw b (omega arith)))
+times-cost : (o : Open) (k : ℕ) (body : Block) (b : Bor Block) → o.rest.now ≡ [] → o.repeats ≡ k → o.body ≡ Some b → b.now ≡ body → open_cost o ≡ k * (1 + block_cost body)
+times-cost o k body b r n f g = rw r (rw n (rw f (rw g (omega arith))))
 
 pub repeat-performed : (types : List TypeDeclaration) (l : ℕ) (w : Option (List ℕ)) (s : State ℕ) (k : ℕ) (body : Block) (names : Names) (before now : List Open) (lives : Lives) (asked : ℕ) (log : Option Log) → 0 < length before → Behind w s [] → Pushed before now [] k body → Performed types l w s s (Repeat k body) names names before now lives lives asked asked log log
 repeat-performed types l w s k body names before now lives asked log some down o =
     push-performed types l w s (Repeat k body) names before now [] k body lives asked log some down o
-    (λ m p y. block-times types l w o.top k body o.rest_is o.repeats_is o.body_is names m s p y)
-    (λ e y. times-safe e o.top before names k body o.rest_is o.repeats_is o.body_is y)
-    (λ y. (rw o.rest_is refl, rw o.body_is y))
-    (let c = times-cost o.top k body o.rest_is o.repeats_is o.body_is in omega (arith, c))
+    (λ m p y. block-times types l w o.top k body o.block o.rest_is o.repeats_is o.body_is o.block_is names m s p y)
+    (λ e y. times-safe e o.top before names k body o.block o.rest_is o.repeats_is o.body_is o.block_is y)
+    (λ p h y. (rw o.rest_is refl, h.again (length before) k body y))
+    (let c = times-cost o.top k body o.block o.rest_is o.repeats_is o.body_is o.block_is in omega (arith, c))
 
 pub first-performed : (types : List TypeDeclaration) (l : ℕ) (w : Option (List ℕ)) (s : State ℕ) (x : List ℕ) (t : TypeId) (u n : ℕ) (body : Block) (otherwise : Held-Action-If-2) (names : Names) (before now : List Open) (lives : Lives) (asked : ℕ) (log : Option Log) → 0 < length before → Behind w s [] → names x ≡ Object t u n → Pushed before now (block_list body) 0 body → Performed types l w s s (If' x body otherwise) names names before now lives lives asked asked log log
 first-performed types l w s x t u n body otherwise names before now lives asked log some down held o =
     push-performed types l w s (If' x body otherwise) names before now (block_list body) 0 body lives asked log some down o
     (λ m p y. rw held (block-once types l w o.top body o.rest_is o.repeats_is names m s p y))
     (λ e y. once-safe e o.top before names body o.rest_is o.repeats_is (y.1 t (inl (ap value_of held))))
-    (λ y. let c = left (can_run_block types body) (can_run_else types otherwise) y in (rw o.rest_is (sym (block-can types body) ∙ c), rw o.body_is c))
+    (λ p h y. let c = h.first (length before) x body otherwise y in (rw o.rest_is c, c))
     (let c = once-cost types o.top body o.rest_is o.repeats_is in omega (arith, c, max-left (block_cost body) (else_cost otherwise)))
 
 pub other-performed : (types : List TypeDeclaration) (l : ℕ) (w : Option (List ℕ)) (s : State ℕ) (x : List ℕ) (body other : Block) (otherwise : Held-Action-If-2) (names : Names) (before now : List Open) (lives : Lives) (asked : ℕ) (log : Option Log) → 0 < length before → Behind w s [] → names x ≡ Null → otherwise ≡ Some' other → Pushed before now (block_list other) 0 other → Performed types l w s s (If' x body otherwise) names names before now lives lives asked asked log log
@@ -180,7 +186,7 @@ other-performed types l w s x body other otherwise names before now lives asked 
     push-performed types l w s (If' x body otherwise) names before now (block_list other) 0 other lives asked log some down o
     (λ m p y. rw held (rw q (block-once types l w o.top other o.rest_is o.repeats_is names m s p y)))
     (λ e y. once-safe e o.top before names other o.rest_is o.repeats_is (rw q at (y.0 (ap value_of held))))
-    (λ y. let c = rw q at (right (can_run_block types body) (can_run_else types otherwise) y) in (rw o.rest_is (sym (block-can types other) ∙ c), rw o.body_is c))
+    (λ p h y. let c = h.other (length before) x body other (rw q at y) in (rw o.rest_is c, c))
     (let c = once-cost types o.top other o.rest_is o.repeats_is in let d : else_cost otherwise ≡ block_cost other = ap else_cost q in omega (arith, c, d, max-right (block_cost body) (else_cost otherwise)))
 
 skip-runs : (types : List TypeDeclaration) (l : ℕ) (w : Option (List ℕ)) (s : State ℕ) (x : List ℕ) (body : Block) (otherwise : Held-Action-If-2) (names : Names) → names x ≡ Null → otherwise ≡ None' → RunsAction types l (Behind w) (If' x body otherwise) names names s []
@@ -192,7 +198,7 @@ skip-performed types l w s x body otherwise names before lives asked log down he
       (λ part y. (names, record { one = []; two = part; part_is = refl; is_first = (names, record { one = []; two = []; part_is = refl; is_first = skip-runs types l w s x body otherwise names held q; is_second = (refl, down) }); is_second = y })) z;
   safe = λ e y. rw q at (y.0 (ap value_of held));
   holds = λ base h. h;
-  can = λ x y. y;
+  meets = λ p h x y. y;
   cost = omega arith;
   weight = omega arith;
   down = down;

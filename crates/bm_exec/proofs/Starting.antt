@@ -1,5 +1,5 @@
 -- A frame at a script's beginning.
-use Rattle.std.proofs.Common.{◌≡◌, true, ◌&&◌, List, [], refl, sym, ◌∙◌, arith, ℕ, Option, inl}
+use Rattle.std.proofs.Common.{◌≡◌, true, ◌&&◌, List, [], refl, arith, ℕ, Option, inl}
 use Rattle.bm_lang.specs.declared.scenario.Block.{Block}
 use Rattle.bm_lang.specs.declared.scenario.TypeDeclaration.{TypeDeclaration}
 use Rattle.bm_lang.specs.Limits.{block_cost}
@@ -14,10 +14,9 @@ use Rattle.bm_exec.specs.Stores.{store_of}
 use Rattle.bm_exec.specs.Lists.{block_list, Behind}
 use Rattle.bm_exec.specs.Cost.{stack_cost}
 use Rattle.bm_exec.specs.Stack.{RunsOpen, RunsStack, SafeStack}
-use Rattle.bm_exec.specs.Runnable.{can_run_block, can_run_list, can_run_stack}
+use Rattle.bm_exec.specs.Meets.{Test, body_meets, list_meets, stack_meets}
 use Rattle.bm_exec.specs.Living.{Lives, Holds}
 use Rattle.bm_exec.specs.Steps.{Pushed}
-use Rattle.bm_exec.proofs.Blocks.{block-can}
 use Rattle.bm_exec.proofs.Objects.{nothing-is-none}
 use Rattle.bm_exec.proofs.Then.{undone-last}
 use Rattle.bm_exec.proofs.Performing.{block-once, once-safe, once-cost, both}
@@ -25,8 +24,10 @@ use Rattle.bm_exec.proofs.Performing.{block-once, once-safe, once-cost, both}
 pub start-cost : (types : List TypeDeclaration) (b : Block) (now : List Open) → Pushed [] now (block_list b) 0 b → stack_cost now ≡ block_cost b
 start-cost types b now p = rw p.now_is (let c = once-cost types p.top b p.rest_is p.repeats_is in omega (arith, c))
 
-pub start-can : (types : List TypeDeclaration) (b : Block) (now : List Open) → Pushed [] now (block_list b) 0 b → can_run_block types b ≡ true → can_run_stack types now ≡ true
-start-can types b now p e = rw p.now_is (rw p.rest_is (rw p.body_is (both (can_run_list types (block_list b)) (can_run_block types b && true) (sym (block-can types b) ∙ e) (both (can_run_block types b) true e refl))))
+pub start-meets : (p : Test) (b : Block) (now : List Open) → Pushed [] now (block_list b) 0 b → list_meets (p 1) (block_list b) ≡ true → stack_meets p now ≡ true
+start-meets p b now o e =
+    let blocks : body_meets (p 1) o.top.body ≡ true = rw o.body_is (rw o.block_is e) in
+    rw o.now_is (both (list_meets (p 1) o.top.rest.now) (body_meets (p 1) o.top.body && true) (rw o.rest_is e) (both (body_meets (p 1) o.top.body) true blocks refl))
 
 pub start-safe : (e : Setting) (b : Block) (now : List Open) (names : Names) → names ≡ no_names → Pushed [] now (block_list b) 0 b → safe.SafeBlock e safe.empty_store b safe.OwnsNothing → SafeStack e (store_of names) now
 start-safe e b now names q p s = rw q (rw p.now_is (once-safe e p.top [] no_names b p.rest_is p.repeats_is s))

@@ -3,9 +3,10 @@ pub mod Bindings
 pub mod Stores
 pub mod Lists
 pub mod Stack
-pub mod Handling
 pub mod Cost
 pub mod Runnable
 pub mod Living
 pub mod Steps
 pub mod Running
+pub mod Depth
+pub mod Meets

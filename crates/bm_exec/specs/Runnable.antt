@@ -1,13 +1,11 @@
 -- Which scripts run so far: those of `new`, `drop`, `if` and `repeat`.
-use Rattle.std.specs.Prelude.{◌≡◌, ℕ, Bool, true, false, ◌&&◌, not, List, [], ◌∷◌, length, nat_le, is_some, slice_get, map, Some}
+use Rattle.std.specs.Prelude.{◌≡◌, ℕ, Bool, true, false, ◌&&◌, not, List, length, nat_le, is_some, slice_get, map, Some}
 use Rattle.std.specs.List.{list_all}
 use Rattle.bm_class.specs.Sizes.{class_of_size}
 use Rattle.bm_lang.specs.declared.scenario.Action.{Action, New, Drop, Acquire, Get, Exchange, If', Repeat, Section, Lock, Unlock, Yield, PushFront, PushBack, PopFront, PopBack, Add, First, Remove, Held-Action-If-2, None', Some'}
 use Rattle.bm_lang.specs.declared.scenario.Block.{Block, Block', Row_of-Statement, end_of-Statement, more_of-Statement}
-use Rattle.bm_lang.specs.declared.scenario.Statement.{Statement}
 use Rattle.bm_lang.specs.declared.scenario.TypeDeclaration.{TypeDeclaration}
 use Rattle.bm_law_scenario.specs.Opened.{object_size}
-use Rattle.bm_exec.specs.declared.frame.Open.{Open}
 
 abbrev mutual
   pub can_run_action : List TypeDeclaration → Action → Bool
@@ -40,15 +38,6 @@ abbrev mutual
   pub can_run_row : List TypeDeclaration → {m : _} → Row_of-Statement m → Bool
   can_run_row types end_of-Statement = true
   can_run_row types (more_of-Statement line action rest) = can_run_action types action && can_run_row types rest
-
--- the same of a list of statements, and of open blocks
-abbrev pub can_run_list : List TypeDeclaration → List Statement → Bool
-can_run_list types [] = true
-can_run_list types (s ∷ ss) = can_run_action types s.action && can_run_list types ss
-
-abbrev pub can_run_stack : List TypeDeclaration → List Open → Bool
-can_run_stack types [] = true
-can_run_stack types (o ∷ os) = can_run_list types o.rest.now && (can_run_block types o.body.now && can_run_stack types os)
 
 -- Each type has a class, which stands at its place in this list, and no reference count.
 pub record Classes (types : List TypeDeclaration) (classes : List ℕ) : Type 0 where

@@ -1,6 +1,6 @@
 -- A script that runs on a machine: what its frame, its names and the log are after some of its statements. Behind each
 -- statement deferred work runs for the classes w until no flag is up, or none does.
-use Rattle.std.specs.Prelude.{◌≡◌, ◌<◌, ◌≤◌, ℕ, ◌+◌, ◌*◌, true, List, [], Option}
+use Rattle.std.specs.Prelude.{◌≡◌, ◌<◌, ◌≤◌, ℕ, ◌+◌, ◌*◌, true, List, [], Option, length}
 use Rattle.bm_lang.specs.declared.scenario.Action.{Action}
 use Rattle.bm_lang.specs.declared.scenario.Script.{Script}
 use Rattle.bm_lang.specs.declared.scenario.TypeDeclaration.{TypeDeclaration}
@@ -17,7 +17,7 @@ use Rattle.bm_exec.specs.Stores.{store_of}
 use Rattle.bm_exec.specs.Lists.{Behind, RunsStatement}
 use Rattle.bm_exec.specs.Stack.{RunsStack, SafeStack}
 use Rattle.bm_exec.specs.Cost.{stack_cost}
-use Rattle.bm_exec.specs.Runnable.{can_run_action, can_run_stack}
+use Rattle.bm_exec.specs.Meets.{Inherits, Test, stack_meets}
 use Rattle.bm_exec.specs.Living.{Lives, Holds}
 use Rattle.bm_exec.specs.Steps.{weight}
 
@@ -28,7 +28,7 @@ pub record Performed (types : List TypeDeclaration) (l : ℕ) (w : Option (List 
   pub grew : (after : Names) (final : Option Log) → GrewBy (RunsStack types l w now names' after) s' log' final → GrewBy (Followed (RunsStatement types l w a) (RunsStack types l w before) names after) s log final
   pub safe : (e : Setting) → SafeAction e (store_of names) a (λ r. SafeStack e r before) → SafeStack e (store_of names') now
   pub holds : (base : Lives) → Holds types base lives names → Holds types base lives' names'
-  pub can : can_run_action types a ≡ true → can_run_stack types before ≡ true → can_run_stack types now ≡ true
+  pub meets : (p : Test) → Inherits p → p (length before) a ≡ true → stack_meets p before ≡ true → stack_meets p now ≡ true
   pub cost : asked' + 2 * stack_cost now ≤ asked + 2 * (action_cost a + stack_cost before)
   pub weight : weight now < 2 * action_cost a + weight before
   pub down : Behind w s' []
@@ -38,7 +38,7 @@ pub record Went (types : List TypeDeclaration) (l : ℕ) (w : Option (List ℕ))
   pub grew : (after : Names) (final : Option Log) → GrewBy (RunsStack types l w now names' after) s' log' final → GrewBy (RunsStack types l w before names after) s log final
   pub safe : (e : Setting) → SafeStack e (store_of names) before → SafeStack e (store_of names') now
   pub holds : (base : Lives) → Holds types base lives names → Holds types base lives' names'
-  pub can : can_run_stack types before ≡ true → can_run_stack types now ≡ true
+  pub meets : (p : Test) → Inherits p → stack_meets p before ≡ true → stack_meets p now ≡ true
   pub cost : asked' + 2 * stack_cost now ≤ asked + 2 * stack_cost before
   pub down : Behind w s' []
 

@@ -16,7 +16,7 @@ use Rattle.bm_exec.specs.Stores.{store_of}
 use Rattle.bm_exec.specs.Lists.{Behind, RunsStatement}
 use Rattle.bm_exec.specs.Stack.{RunsStack, SafeStack}
 use Rattle.bm_exec.specs.Cost.{stack_cost}
-use Rattle.bm_exec.specs.Runnable.{can_run_action, can_run_stack}
+use Rattle.bm_exec.specs.Meets.{Test, stack_meets}
 
 -- what gets smaller with each statement taken and each block ended
 abbrev pub weight : List Open → ℕ
@@ -27,7 +27,7 @@ weight os = 2 * stack_cost os + length os
 pub record Passed (before now : List Open) : Type 0 where
   pub runs : (types : List TypeDeclaration) (l : ℕ) (w : Option (List ℕ)) (names after : Names) (s : State ℕ) (part : Log) → Behind w s [] → RunsStack types l w now names after s part → RunsStack types l w before names after s part
   pub safe : (e : Setting) (names : Names) → SafeStack e (store_of names) before → SafeStack e (store_of names) now
-  pub can : (types : List TypeDeclaration) → can_run_stack types before ≡ true → can_run_stack types now ≡ true
+  pub meets : (p : Test) → stack_meets p before ≡ true → stack_meets p now ≡ true
   pub cost : stack_cost now ≤ stack_cost before
   pub weight : weight now ≤ weight before
 
@@ -35,8 +35,8 @@ pub record Passed (before now : List Open) : Type 0 where
 pub record Taken (before now : List Open) (s : Statement) : Type 0 where
   pub runs : (types : List TypeDeclaration) (l : ℕ) (w : Option (List ℕ)) (names after : Names) (t : State ℕ) (part : Log) → Behind w t [] → Followed (RunsStatement types l w s.action) (RunsStack types l w now) names after t part → RunsStack types l w before names after t part
   pub safe : (e : Setting) (names : Names) → SafeStack e (store_of names) before → SafeAction e (store_of names) s.action (λ r. SafeStack e r now)
-  pub can_action : (types : List TypeDeclaration) → can_run_stack types before ≡ true → can_run_action types s.action ≡ true
-  pub can : (types : List TypeDeclaration) → can_run_stack types before ≡ true → can_run_stack types now ≡ true
+  pub meets_action : (p : Test) → stack_meets p before ≡ true → p (length now) s.action ≡ true
+  pub meets : (p : Test) → stack_meets p before ≡ true → stack_meets p now ≡ true
   pub cost : action_cost s.action + stack_cost now ≤ stack_cost before
   pub weight : 2 * action_cost s.action + weight now ≤ weight before
   pub some : 0 < length now
@@ -56,4 +56,6 @@ pub record Pushed (before now : List Open) (rest : List Statement) (n : ℕ) (bo
   pub now_is : now ≡ top ∷ before
   pub rest_is : top.rest.now ≡ rest
   pub repeats_is : top.repeats ≡ n
-  pub body_is : top.body.now ≡ body
+  pub block : Bor Block
+  pub body_is : top.body ≡ Some block
+  pub block_is : block.now ≡ body

@@ -80,6 +80,16 @@ impl NameTable {
     ghost use Rattle.bm_lang.specs.declared.scenario.Script.{Script};
     ghost use Rattle.bm_law_scenario.specs.Held.{no_names};
 
+    /// A table for a script: each name that it binds is there, and holds nothing. Out of memory is the only refusal.
+    pub fn for_script(alloc: Global, script: &Script) -> Result<NameTable, NoMemory>
+        ensures bound { IfOk result (λ table. binds_among (has_name table) script.now.body ≡ true) }
+        ensures none { IfOk result (λ table. names_of table ≡ no_names) }
+    {
+        let mut table = NameTable::new(alloc);
+        add_block(&mut table, &script.body)?;
+        Ok(table)
+    }
+
     /// A table for some scripts: each name that one of them binds is there, and holds nothing. Want of memory is the only
     /// refusal.
     pub fn for_scripts(alloc: Global, scripts: &[Script]) -> Result<NameTable, NoMemory>

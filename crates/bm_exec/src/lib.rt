@@ -2,10 +2,11 @@
 //!
 //! - `Machine` is the trait: what a statement needs of a processor. `create` asks for an object, `dispose` ends one, `settle` is
 //!   the work after a statement; `keeps` is what a call leaves as it was.
-//! - `Frame` is a running script: its position over the scenario's own blocks, with the blocks that are open (`Open`), and the
-//!   table of its names (`NameTable`). `Holding` is what a name holds.
-//! - `resume` runs the script of a frame to its end; `run_script` makes the frame first; `run_handler` runs a handler's script in
-//!   place, with no memory but the recorder's. `Stopped` says why a script stopped.
+//! - `Frame` is where a running script stands: a position over the scenario's own blocks, with those that are open (`Open`), in
+//!   place. Beside it stands the table of its names (`NameTable`). `Holding` is what a name holds.
+//! - `resume` runs the script of a frame to its end; `run_script` makes the names and the frame first; `run_handler` runs a
+//!   handler's script the same way, with names that were made beforehand, so with no memory but the recorder's. `Stopped` says why a
+//!   script stopped.
 //!
 //! `bm_exec_levels` has the machines; `bm_run_yet` says which forms have no statement here so far.
 //!
@@ -18,15 +19,13 @@
 
 mod binding;
 mod frame;
-mod handlers;
 mod holding;
 mod machine;
 mod names;
 mod running;
 
 pub use frame::{Frame, Open};
-pub use handlers::run_handler;
 pub use holding::Holding;
 pub use machine::Machine;
 pub use names::NameTable;
-pub use running::{Stopped, Types, resume, run_script};
+pub use running::{Stopped, Types, resume, run_handler, run_script};

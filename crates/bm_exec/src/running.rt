@@ -1,25 +1,27 @@
 //! Running a script.
 
-ghost use Rattle.std.specs.Prelude.{◌≡◌, ◌+◌, ◌*◌, ◌<◌, ◌≤◌, ◌^◌, ◌∷◌, [], OnOk, IsOk, IfOk, true, false, Some, None, ℕ, List, Option, IfSome, reverse, length, slice_get};
+ghost use Rattle.std.specs.Prelude.{◌≡◌, ◌+◌, ◌*◌, ◌<◌, ◌≤◌, ◌^◌, ◌∷◌, [], OnOk, IsOk, true, false, Some, None, List, reverse, length};
 ghost use Rattle.bm_lang.specs.declared.scenario.Action.TheVariants as action;
 ghost use Rattle.bm_lang.specs.declared.scenario.TypeDeclaration.{TypeDeclaration};
 ghost use Rattle.bm_lang.specs.Limits.{block_cost};
 ghost use Rattle.bm_check.specs.Scripts.{Accepted};
-ghost use Rattle.bm_law_scenario.specs.Held.{Held};
 ghost use Rattle.bm_check.specs.Statements.{Setting};
 ghost use Rattle.bm_check.specs.Values.{SafeAction, is_owning};
 ghost use Rattle.bm_exec.specs.Seen.{names_of, has_name};
 ghost use Rattle.bm_exec.specs.Stores.{store_of, value_of};
 ghost use Rattle.bm_exec.specs.Stack.{SafeStack};
 ghost use Rattle.bm_exec.specs.Cost.{stack_cost};
-ghost use Rattle.bm_exec.specs.Runnable.{Classes, can_run_action, can_run_block, can_run_stack};
+ghost use Rattle.bm_exec.specs.Bindings.{binds_among};
+ghost use Rattle.bm_exec.specs.Depth.{block_fits};
+ghost use Rattle.bm_exec.specs.Meets.{may_run, stack_meets};
+ghost use Rattle.bm_exec.specs.Runnable.{Classes, can_run_action, can_run_block};
 ghost use Rattle.bm_exec.specs.Lists.{Behind};
 ghost use Rattle.bm_exec.specs.Living.{Holds, Lives};
 ghost use Rattle.bm_exec.specs.declared.frame.Open.{Open};
 ghost use Rattle.bm_exec.specs.Running.{Performed, Ran, RanScript};
 ghost use Rattle.bm_exec.specs.declared.running.Stopped.TheVariants as stopped;
 
-use crate::frame::{Frame, Open, next_statement, open_block, repeat_block};
+use crate::frame::{Frame, next_statement, open_block, repeat_block};
 use crate::holding::{Holding, holding_of};
 use crate::machine::Machine;
 use crate::names::NameTable;
@@ -47,7 +49,7 @@ pub enum Stopped {
 }
 
 // `new x T v..`: asks for an object, which the name then holds, or null. Deferred work runs behind it.
-pub(crate) fn perform_new<'s, M: Machine>(
+fn perform_new<'s, M: Machine>(
     names: &mut NameTable,
     machine: &mut M,
     types: &Types<'s>,
@@ -61,6 +63,7 @@ pub(crate) fn perform_new<'s, M: Machine>(
     requires holds { (base : Lives) × Holds types.now.declared.now base (M.lives machine.old) (names_of names.old) }
     requires can { can_run_action types.now.declared.now (action.New name.now type_id values.now) ≡ true }
     requires free { is_owning (value_of (names_of names.old name.now)) ≡ false }
+    requires there { has_name names.old name.now ≡ true }
     ensures performed { OnOk result ((os : List Open) → Performed types.now.declared.now (M.level machine.old) (M.behind machine.old) (M.lists machine.old) (M.lists machine.new) (action.New name.now type_id values.now) (names_of names.old) (names_of names.new) os os (M.lives machine.old) (M.lives machine.new) (M.asked machine.old) (M.asked machine.new) (M.log machine.old) (M.log machine.new)) }
     ensures sound { OnOk result (M.sound machine.new) }
     ensures level { OnOk result (M.level machine.new ≡ M.level machine.old) }
@@ -69,8 +72,8 @@ pub(crate) fn perform_new<'s, M: Machine>(
     ensures through { M.through machine.new ≡ M.through machine.old }
     ensures asked { OnOk result (M.asked machine.new ≤ M.asked machine.old + 2) }
     ensures keeps { OnOk result (M.keeps machine.old machine.new) }
-    ensures ok { M.behind machine.old ≡ None → has_name names.old name.now ≡ true → IsOk result }
-    ensures same { has_name names.old name.now ≡ true → names.new.names.keys ≡ names.old.names.keys }
+    ensures known { names.new.names.keys ≡ names.old.names.keys }
+    ensures bare { M.behind machine.old ≡ None → IsOk result }
 {
     let Some(declared) = types.declared.get(type_id.0) else {
         unreachable!();
@@ -82,12 +85,14 @@ pub(crate) fn perform_new<'s, M: Machine>(
         unreachable!();
     };
     let reply = machine.create(*class, declared.name.duplicate(), values);
-    names.put(name.as_bytes(), holding_of(type_id, reply))?;
+    let Ok(()) = names.put(name.as_bytes(), holding_of(type_id, reply)) else {
+        unreachable!();
+    };
     machine.settle()
 }
 
 // `drop x`: gives up the object that the name holds. Deferred work runs behind it.
-pub(crate) fn perform_drop<'s, M: Machine>(
+fn perform_drop<'s, M: Machine>(
     names: &mut NameTable,
     machine: &mut M,
     types: &Types<'s>,
@@ -106,20 +111,24 @@ pub(crate) fn perform_drop<'s, M: Machine>(
     ensures through { M.through machine.new ≡ M.through machine.old }
     ensures asked { OnOk result (M.asked machine.new ≤ M.asked machine.old + 2) }
     ensures keeps { OnOk result (M.keeps machine.old machine.new) }
-    ensures ok { M.behind machine.old ≡ None → has_name names.old name.now ≡ true → IsOk result }
-    ensures same { has_name names.old name.now ≡ true → names.new.names.keys ≡ names.old.names.keys }
+    ensures known { names.new.names.keys ≡ names.old.names.keys }
+    ensures bare { M.behind machine.old ≡ None → IsOk result }
 {
     let Holding::Object(_, object) = names.holding(name.as_bytes()) else {
         unreachable!();
     };
     machine.dispose(object);
-    names.put(name.as_bytes(), Holding::Nothing)?;
+    let Ok(()) = names.put(name.as_bytes(), Holding::Nothing) else {
+        unreachable!();
+    };
     machine.settle()
 }
 
-// Performs a statement that was taken off the open blocks, where no work is left to run. Deferred work runs behind a call.
+// Performs a statement that was taken off the open blocks, where no work is left to run. Deferred work runs behind a call, and is
+// out of memory where this is; so no statement is where no work runs.
 fn perform<'s, M: Machine>(
     frame: &mut Frame<'s>,
+    names: &mut NameTable,
     machine: &mut M,
     types: &Types<'s>,
     statement: &'s Statement,
@@ -127,12 +136,12 @@ fn perform<'s, M: Machine>(
     requires sound { M.sound machine.old }
     requires classes { Classes types.now.declared.now types.now.classes.now }
     requires room { M.asked machine.old + 2 < 2 ^ 22 }
-    requires holds { (base : Lives) × Holds types.now.declared.now base (M.lives machine.old) (names_of frame.old.names) }
-    requires can { can_run_action types.now.declared.now statement.now.action ≡ true }
+    requires holds { (base : Lives) × Holds types.now.declared.now base (M.lives machine.old) (names_of names.old) }
+    requires may { may_run types.now.declared.now (has_name names.old) (length (reverse frame.old.blocks.items)) statement.now.action ≡ true }
     requires down { Behind (M.behind machine.old) (M.lists machine.old) [] }
     requires open { 0 < length (reverse frame.old.blocks.items) }
-    requires needed { (e : Setting) × SafeAction e (store_of (names_of frame.old.names)) statement.now.action (λ r. SafeStack e r (reverse frame.old.blocks.items)) }
-    ensures performed { OnOk result (Performed types.now.declared.now (M.level machine.old) (M.behind machine.old) (M.lists machine.old) (M.lists machine.new) statement.now.action (names_of frame.old.names) (names_of frame.new.names) (reverse frame.old.blocks.items) (reverse frame.new.blocks.items) (M.lives machine.old) (M.lives machine.new) (M.asked machine.old) (M.asked machine.new) (M.log machine.old) (M.log machine.new)) }
+    requires needed { (e : Setting) × SafeAction e (store_of (names_of names.old)) statement.now.action (λ r. SafeStack e r (reverse frame.old.blocks.items)) }
+    ensures performed { OnOk result (Performed types.now.declared.now (M.level machine.old) (M.behind machine.old) (M.lists machine.old) (M.lists machine.new) statement.now.action (names_of names.old) (names_of names.new) (reverse frame.old.blocks.items) (reverse frame.new.blocks.items) (M.lives machine.old) (M.lives machine.new) (M.asked machine.old) (M.asked machine.new) (M.log machine.old) (M.log machine.new)) }
     ensures sound { OnOk result (M.sound machine.new) }
     ensures level { OnOk result (M.level machine.new ≡ M.level machine.old) }
     ensures processor { OnOk result (M.processor machine.new ≡ M.processor machine.old) }
@@ -140,45 +149,62 @@ fn perform<'s, M: Machine>(
     ensures through { M.through machine.new ≡ M.through machine.old }
     ensures asked { OnOk result (M.asked machine.new ≤ M.asked machine.old + 2) }
     ensures keeps { OnOk result (M.keeps machine.old machine.new) }
+    ensures known { names.new.names.keys ≡ names.old.names.keys }
+    ensures bare { M.behind machine.old ≡ None → IsOk result }
 {
     match &statement.action {
         Action::New {
             name,
             type_id,
             values,
-        } => perform_new(&mut frame.names, machine, types, name, *type_id, values),
-        Action::Drop { name } => perform_drop(&mut frame.names, machine, types, name),
+        } => perform_new(names, machine, types, name, *type_id, values),
+        Action::Drop { name } => perform_drop(names, machine, types, name),
         Action::If {
             name,
             body,
             otherwise,
-        } => match frame.names.holding(name.as_bytes()) {
-            Holding::Object(_, _) => open_block(&mut frame.blocks, body),
+        } => match names.holding(name.as_bytes()) {
+            Holding::Object(_, _) => {
+                open_block(&mut frame.blocks, body);
+                Ok(())
+            }
             Holding::Null => match otherwise {
-                Some(block) => open_block(&mut frame.blocks, block),
+                Some(block) => {
+                    open_block(&mut frame.blocks, block);
+                    Ok(())
+                }
                 None => Ok(()),
             },
             Holding::Nothing => unreachable!(),
         },
-        Action::Repeat { count, body } => repeat_block(&mut frame.blocks, *count, body),
+        Action::Repeat { count, body } => {
+            repeat_block(&mut frame.blocks, *count, body);
+            Ok(())
+        }
         _ => unreachable!(),
     }
 }
 
 /// Runs a script from where its frame stands to its end: one statement after the other, each with the deferred work behind
 /// it. No work is left to run before it, nor at its end. A script that the checker accepts is never stuck, whatever the machine
-/// replies, and owns nothing at its end: those objects live then that lived before the script began. Want of memory is the only
-/// other way to stop; the machine is of no further use then.
-pub fn resume<'s, M: Machine>(frame: &mut Frame<'s>, machine: &mut M, types: &Types<'s>) -> Stopped
+/// replies, and owns nothing at its end: those objects live then that lived before the script began. The names that it binds are
+/// in the table already. So out of memory in the deferred work is the only other way to stop, and where no work runs there is
+/// none; the machine is of no further use then.
+pub fn resume<'s, M: Machine>(
+    frame: &mut Frame<'s>,
+    names: &mut NameTable,
+    machine: &mut M,
+    types: &Types<'s>,
+) -> Stopped
     requires sound { M.sound machine.old }
     requires classes { Classes types.now.declared.now types.now.classes.now }
     requires room { M.asked machine.old + 2 * stack_cost (reverse frame.old.blocks.items) < 2 ^ 22 }
-    requires holds { (base : Lives) × Holds types.now.declared.now base (M.lives machine.old) (names_of frame.old.names) }
-    requires can { can_run_stack types.now.declared.now (reverse frame.old.blocks.items) ≡ true }
+    requires holds { (base : Lives) × Holds types.now.declared.now base (M.lives machine.old) (names_of names.old) }
+    requires may { stack_meets (may_run types.now.declared.now (has_name names.old)) (reverse frame.old.blocks.items) ≡ true }
     requires down { Behind (M.behind machine.old) (M.lists machine.old) [] }
-    requires accepted { (e : Setting) × SafeStack e (store_of (names_of frame.old.names)) (reverse frame.old.blocks.items) }
-    ensures ended { result ≡ stopped.Ended → Ran types.now.declared.now (M.level machine.old) (M.behind machine.old) (M.lists machine.old) (names_of frame.old.names) (names_of frame.new.names) (reverse frame.old.blocks.items) (M.log machine.old) (M.log machine.new) }
-    ensures lives { result ≡ stopped.Ended → (base : Lives) → Holds types.now.declared.now base (M.lives machine.old) (names_of frame.old.names) → M.lives machine.new ≡ base }
+    requires accepted { (e : Setting) × SafeStack e (store_of (names_of names.old)) (reverse frame.old.blocks.items) }
+    ensures ended { result ≡ stopped.Ended → Ran types.now.declared.now (M.level machine.old) (M.behind machine.old) (M.lists machine.old) (names_of names.old) (names_of names.new) (reverse frame.old.blocks.items) (M.log machine.old) (M.log machine.new) }
+    ensures lives { result ≡ stopped.Ended → (base : Lives) → Holds types.now.declared.now base (M.lives machine.old) (names_of names.old) → M.lives machine.new ≡ base }
     ensures asked { result ≡ stopped.Ended → M.asked machine.new ≤ M.asked machine.old + 2 * stack_cost (reverse frame.old.blocks.items) }
     ensures down { result ≡ stopped.Ended → Behind (M.behind machine.old) (M.lists machine.new) [] }
     ensures sound { result ≡ stopped.Ended → M.sound machine.new }
@@ -187,24 +213,21 @@ pub fn resume<'s, M: Machine>(frame: &mut Frame<'s>, machine: &mut M, types: &Ty
     ensures behind { result ≡ stopped.Ended → M.behind machine.new ≡ M.behind machine.old }
     ensures through { M.through machine.new ≡ M.through machine.old }
     ensures keeps { result ≡ stopped.Ended → M.keeps machine.old machine.new }
+    ensures known { names.new.names.keys ≡ names.old.names.keys }
+    ensures bare { M.behind machine.old ≡ None → result ≡ stopped.Ended }
 {
-    loop {
-        let Ok(next) = next_statement(&mut frame.blocks) else {
-            return Stopped::NoMemory;
-        };
-        let Some(statement) = next else {
-            return Stopped::Ended;
-        };
-        if perform(frame, machine, types, statement).is_err() {
+    while let Some(statement) = next_statement(&mut frame.blocks) {
+        if perform(frame, names, machine, types, statement).is_err() {
             return Stopped::NoMemory;
         }
     }
+    Stopped::Ended
 }
 
 /// Runs a script that the checker accepted, from its beginning to its end. It is never stuck, whatever the machine
 /// replies; what it leaves in the log is a run of its block from names that hold nothing, with the deferred work behind each
-/// statement, and at its end its names own nothing, and those objects live that lived before it. Want of memory is the only other
-/// way to stop; the machine is of no further use then.
+/// statement, and at its end its names own nothing, and those objects live that lived before it. Out of memory is the only other
+/// way to stop, for the table of its names or in the deferred work; the machine is of no further use then.
 pub fn run_script<'s, M: Machine>(
     alloc: Global,
     machine: &mut M,
@@ -216,6 +239,7 @@ pub fn run_script<'s, M: Machine>(
     requires classes { Classes types.now.declared.now types.now.classes.now }
     requires room { M.asked machine.old + 2 * block_cost script.now.body < 2 ^ 22 }
     requires can { can_run_block types.now.declared.now script.now.body ≡ true }
+    requires fits { block_fits 16 script.now.body ≡ true }
     requires down { Behind (M.behind machine.old) (M.lists machine.old) [] }
     requires accepted { Accepted scenario.now script.now }
     ensures ended { result ≡ stopped.Ended → RanScript types.now.declared.now (M.level machine.old) (M.behind machine.old) (M.lists machine.old) script.now (M.log machine.old) (M.log machine.new) }
@@ -230,8 +254,48 @@ pub fn run_script<'s, M: Machine>(
     ensures keeps { result ≡ stopped.Ended → M.keeps machine.old machine.new }
 {
     accepted_scripts_are_safe();
-    let Ok(mut frame) = Frame::start(alloc, script) else {
+    let Ok(mut names) = NameTable::for_script(alloc, script) else {
         return Stopped::NoMemory;
     };
-    resume(&mut frame, machine, types)
+    let mut frame = Frame::start(script);
+    resume(&mut frame, &mut names, machine, types)
+}
+
+/// Runs a handler's script that the checker accepted, whole, on a machine behind whose statements no deferred work runs. The
+/// names that it binds are in the table already, so it takes no memory but the recorder's and refuses nothing. Whatever the
+/// machine replies it is never stuck; what it leaves in the log is a run of its block from names that hold nothing, and at its
+/// end its names own nothing, and those objects live that lived before it.
+pub fn run_handler<'s, M: Machine>(
+    machine: &mut M,
+    names: &mut NameTable,
+    types: &Types<'s>,
+    scenario: &Parts,
+    script: &'s Script,
+)
+    requires sound { M.sound machine.old }
+    requires bare { M.behind machine.old ≡ None }
+    requires classes { Classes types.now.declared.now types.now.classes.now }
+    requires room { M.asked machine.old + 2 * block_cost script.now.body < 2 ^ 22 }
+    requires can { can_run_block types.now.declared.now script.now.body ≡ true }
+    requires fits { block_fits 16 script.now.body ≡ true }
+    requires accepted { Accepted scenario.now script.now }
+    requires bound { binds_among (has_name names.old) script.now.body ≡ true }
+    ensures ran { RanScript types.now.declared.now (M.level machine.old) None (M.lists machine.old) script.now (M.log machine.old) (M.log machine.new) }
+    ensures lives { M.lives machine.new ≡ M.lives machine.old }
+    ensures asked { M.asked machine.new ≤ M.asked machine.old + 2 * block_cost script.now.body }
+    ensures names { names.new.names.keys ≡ names.old.names.keys }
+    ensures sound { M.sound machine.new }
+    ensures level { M.level machine.new ≡ M.level machine.old }
+    ensures processor { M.processor machine.new ≡ M.processor machine.old }
+    ensures behind { M.behind machine.new ≡ M.behind machine.old }
+    ensures through { M.through machine.new ≡ M.through machine.old }
+    ensures keeps { M.keeps machine.old machine.new }
+{
+    accepted_scripts_are_safe();
+    names.clear();
+    let mut frame = Frame::start(script);
+    match resume(&mut frame, names, machine, types) {
+        Stopped::Ended => {}
+        Stopped::NoMemory => unreachable!(),
+    }
 }

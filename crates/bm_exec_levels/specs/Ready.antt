@@ -11,6 +11,7 @@ use Rattle.bm_lang.specs.Limits.{script_cost}
 use Rattle.bm_check.specs.Scripts.{AllAccepted}
 use Rattle.bm_grace.specs.Known.{Known, side}
 use Rattle.bm_exec.specs.Bindings.{binds_among}
+use Rattle.bm_exec.specs.Depth.{block_fits}
 use Rattle.bm_exec.specs.Seen.{has_name}
 use Rattle.bm_exec.specs.Runnable.{Classes, can_run_block}
 use Rattle.bm_exec.specs.declared.names.NameTable.{NameTable}
@@ -36,12 +37,13 @@ pub record IsHandlerLine (s : Parts) (line : AtLine) : Type 0 where
 abbrev pub BindsAll : List Script → NameTable → Type 0
 BindsAll scripts t = list_all (λ (x : Script). binds_among (has_name t) x.body) scripts ≡ true
 
--- A program whose scripts can run: its types are the scenario's, each with its class, and each script is accepted, and has only
--- statements that run so far.
+-- A program whose scripts can run: its types are the scenario's, each with its class, and each script is accepted, nests at most
+-- sixteen blocks, and has only statements that run so far.
 pub record IsProgram (p : Program) : Type 0 where
   pub types : p.types.declared.now ≡ p.scenario.now.types
   pub classes : Classes p.types.declared.now p.types.classes.now
   pub accepted : AllAccepted p.scenario.now
+  pub fits : (i : ℕ) (x : Script) → slice_get p.scenario.now.scripts i ≡ Some x → block_fits 16 x.body ≡ true
   pub can : (i : ℕ) (x : Script) → slice_get p.scenario.now.scripts i ≡ Some x → can_run_block p.types.declared.now x.body ≡ true
 
 module _ {W : Type 0} (knows : Knows W) where

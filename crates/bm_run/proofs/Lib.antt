@@ -21,3 +21,4 @@ pub mod ParcelsTold
 pub mod StampsBound
 pub mod PollsTold
 pub mod SealsTold
+pub mod Nesting

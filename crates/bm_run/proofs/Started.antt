@@ -107,5 +107,6 @@ idle_program p same none types scripts = record {
   types = same;
   classes = no-types p.types.declared.now p.types.classes.now (ap length same ∙ types) none;
   accepted = λ i x h. absurd (nothing-there p.scenario.now.scripts i x scripts h);
+  fits = λ i x h. absurd (nothing-there p.scenario.now.scripts i x scripts h);
   can = λ i x h. absurd (nothing-there p.scenario.now.scripts i x scripts h);
 }

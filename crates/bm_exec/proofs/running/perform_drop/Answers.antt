@@ -2,6 +2,7 @@ use Rattle.std.proofs.Common.{arith, ◌∙◌, sym}
 use Rattle.bm_exec.specs.Seen.{names_of}
 use Rattle.bm_exec.proofs.Performing.{drop-performed}
 use Rattle.bm_exec.proofs.Results.{on-ok, both-ok}
+use Rattle.bm_exec.proofs.KnownNames.{owning-there}
 use Rattle.bm_exec.proofs.running.perform_drop.Goals as goal
 
 pub returns-clause-performed : goal.returns-clause-performed
@@ -19,8 +20,19 @@ returns-clause-performed g c =
     (names_of c.args.names.now) (names_of c.put.new.self) (g.M.Machine.lives m0) (g.M.Machine.lives m1) (g.M.Machine.lives m2) (g.M.Machine.asked m0) (g.M.Machine.asked m2)
     (g.M.Machine.log m0) (g.M.Machine.log m1) (g.M.Machine.log m2) living.0 living.1
     (g.met.M.Machine.told m0 c.requires.sound) (rw c.dispose.ensures.processor at (g.met.M.Machine.told m1 c.dispose.ensures.sound))
-    (rw (f.1.0.1 ∙ c.dispose.ensures.processor) at (g.met.M.Machine.told m2 f.1.0.0)) c.requires.classes living.2 (sym held) (c.dispose.ensures.disposed living.0 living.3) (rw c.as_bytes-2.ensures.value at c.in_ok-put.ensures.ok) (let x = f.1.1.1 in let y = c.dispose.ensures.asked in omega (arith, x, y))
+    (rw (f.1.0.1 ∙ c.dispose.ensures.processor) at (g.met.M.Machine.told m2 f.1.0.0)) c.requires.classes living.2 (sym held) (c.dispose.ensures.disposed living.0 living.3) (rw c.as_bytes-2.ensures.value at c.in-Ok.ensures.ok) (let x = f.1.1.1 in let y = c.dispose.ensures.asked in omega (arith, x, y))
     f.1.1.0 (rw c.dispose.ensures.behind at f.0.0) (rw c.dispose.ensures.behind at f.0.1) os)
 
 pub returns-clause-keeps : goal.returns-clause-keeps
 returns-clause-keeps g c = on-ok c.settle.result _ _ c.settle.ensures.keeps (λ k. g.met.M.Machine.keeps_join c.args.machine.now c.dispose.new.self c.settle.new.self c.dispose.ensures.keeps k)
+
+pub unreachable-requires-in_default-put : goal.unreachable-requires-in_default-put
+unreachable-requires-in_default-put g c =
+    let there = owning-there c.args.names.now c.args.name.now c.requires.owned in
+    let ok = rw c.in_default-put.is at (c.put.ensures.known (rw c.as_bytes-2.ensures.value there)) in
+    cc
+
+pub returns-clause-known : goal.returns-clause-known
+returns-clause-known g c =
+    let there = owning-there c.args.names.now c.args.name.now c.requires.owned in
+    c.put.ensures.same (rw c.as_bytes-2.ensures.value there)

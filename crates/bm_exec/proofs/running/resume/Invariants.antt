@@ -4,9 +4,10 @@ use Rattle.bm_exec.specs.Running.{Went}
 use Rattle.bm_exec.specs.Steps.{weight}
 use Rattle.bm_exec.proofs.running.resume.Given as goal
 
-abbrev pub invariant-loop-next : goal.invariant-loop-next
-invariant-loop-next g l = record {
-  went : Went l.types.declared.now (g.M.Machine.level l.initial.machine) (g.M.Machine.behind l.initial.machine) (g.M.Machine.lists l.initial.machine) (g.M.Machine.lists l.machine) (names_of l.initial.frame.names) (names_of l.frame.names) (reverse l.initial.frame.blocks.items) (reverse l.frame.blocks.items) (g.M.Machine.lives l.initial.machine) (g.M.Machine.lives l.machine) (g.M.Machine.asked l.initial.machine) (g.M.Machine.asked l.machine) (g.M.Machine.log l.initial.machine) (g.M.Machine.log l.machine);
+abbrev pub invariant-loop-statement : goal.invariant-loop-statement
+invariant-loop-statement g l = record {
+  went : Went l.types.declared.now (g.M.Machine.level l.initial.machine) (g.M.Machine.behind l.initial.machine) (g.M.Machine.lists l.initial.machine) (g.M.Machine.lists l.machine) (names_of l.initial.names) (names_of l.names) (reverse l.initial.frame.blocks.items) (reverse l.frame.blocks.items) (g.M.Machine.lives l.initial.machine) (g.M.Machine.lives l.machine) (g.M.Machine.asked l.initial.machine) (g.M.Machine.asked l.machine) (g.M.Machine.log l.initial.machine) (g.M.Machine.log l.machine);
+  known : l.names.names.keys ≡ l.initial.names.names.keys;
   sound : g.M.Machine.sound l.machine;
   level : g.M.Machine.level l.machine ≡ g.M.Machine.level l.initial.machine;
   processor : g.M.Machine.processor l.machine ≡ g.M.Machine.processor l.initial.machine;
@@ -15,5 +16,5 @@ invariant-loop-next g l = record {
   keeps : g.M.Machine.keeps l.initial.machine l.machine;
 }
 
-abbrev pub decreases-loop-next : goal.decreases-loop-next
-decreases-loop-next g l = weight (reverse l.frame.blocks.items)
+abbrev pub decreases-loop-statement : goal.decreases-loop-statement
+decreases-loop-statement g l = weight (reverse l.frame.blocks.items)

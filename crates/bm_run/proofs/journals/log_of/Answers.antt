@@ -1,13 +1,17 @@
 use Rattle.std.specs.Prelude.{None}
 use Rattle.bm_world.specs.ToldLiving.{knows_living}
-use Rattle.std.proofs.Common.{◌≡◌, ◌≤◌, ◌%◌, ℕ, [], ◌∷◌, IfOk, ap, lit≤, sym, subst, ◌∙◌, arith}
+use Rattle.std.proofs.Common.{◌≡◌, ◌≤◌, ◌%◌, ℕ, List, [], ◌∷◌, Some, true, slice_get, IfOk, ap, lit≤, sym, subst, ◌∙◌, arith}
 use Rattle.bm_grace.specs.Known.{Lives, Objects, side}
+use Rattle.bm_lang.specs.declared.scenario.Parts.{Parts}
+use Rattle.bm_lang.specs.declared.scenario.TypeDeclaration.{TypeDeclaration}
+use Rattle.bm_check.specs.Scripts.{AllAccepted}
 use Rattle.bm_law.specs.Lists.{Log}
 use Rattle.bm_law_lives.specs.Lives.{WholeLives}
 use Rattle.bm_law_logs.specs.Units.{FreedAsGiven}
 use Rattle.bm_world.specs.LivingState.{LivingState, known_living, lives_of}
 use Rattle.bm_exec.specs.Lists.{Behind}
 use Rattle.bm_exec.specs.Living.{home_of}
+use Rattle.bm_exec.specs.Runnable.{Classes, can_run_block}
 use Rattle.bm_law_order.specs.Orders.{IsLaid, by}
 use Rattle.bm_law_order.specs.Whole.{whole}
 use Rattle.bm_law_order.specs.Tie.{Tied}
@@ -25,6 +29,7 @@ use Rattle.bm_run.specs.IdleAfter.{IsIdleAfter}
 use Rattle.bm_run.specs.Lines.{lines_cost}
 use Rattle.bm_run.proofs.Declared.{all-declared, few-left, room-all, room-for}
 use Rattle.bm_run.proofs.Lines.{down-when, few-when}
+use Rattle.bm_run.proofs.Nesting.{all-nest}
 use Rattle.bm_run.proofs.LivesTold.{lived_in, tied-lives}
 use Rattle.bm_run.proofs.Laid.{laid-whole, led-idle, tied-led}
 use Rattle.bm_run.proofs.LogLaw.{RunLeft, alone-sends, lawful-run, lived-run, unused-rows}
@@ -37,6 +42,22 @@ use Rattle.bm_run.proofs.journals.log_of.Goals as goal
 
 some-processors : (n : ℕ) → n ≡ 1 → 1 ≤ n
 some-processors n e = omega (arith, e)
+
+pub open-requires-clause-fits : goal.open-requires-clause-fits
+open-requires-clause-fits g c =
+    let s = c.args.scenario.now in
+    let same = c.parts-parts.ensures.value in
+    let types : c.as_slice.result.now ≡ s.types = c.as_slice.ensures ∙ ap (λ (p : Parts). p.types) same in
+    let classes : Classes s.types c.args.classes.now = record { each = c.requires.classes; plain = c.requires.yet.uncounted } in
+    record {
+      types = c.as_slice.ensures;
+      classes = subst (λ (ts : List TypeDeclaration). Classes ts c.args.classes.now) (sym types) classes;
+      accepted = subst AllAccepted (sym same) c.requires.checked.accepted;
+      fits = rw same (all-nest s c.requires.fine);
+      can = λ i x h.
+          let there : slice_get s.scripts i ≡ Some x = subst (λ (p : Parts). slice_get p.scripts i ≡ Some x) same h in
+          subst (λ (ts : List TypeDeclaration). can_run_block ts x.body ≡ true) (sym types) (c.requires.yet.scripts i x there);
+    }
 
 pub open-requires-clause-ascend : goal.open-requires-clause-ascend
 open-requires-clause-ascend g c = rw c.requires.opened (opened-ascend c.args.scenario.now.types)

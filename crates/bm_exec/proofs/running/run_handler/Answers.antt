@@ -1,0 +1,46 @@
+use Rattle.std.proofs.Common.{None, arith}
+use Rattle.bm_check.specs.Statements.{setting_of}
+use Rattle.bm_law_work.proofs.Grown.{grew-map}
+use Rattle.bm_exec.specs.Meets.{may_run}
+use Rattle.bm_exec.specs.Seen.{has_name}
+use Rattle.bm_exec.proofs.KnownNames.{same-names}
+use Rattle.bm_exec.proofs.Meeting.{block-meets}
+use Rattle.bm_exec.proofs.Starting.{start-cost, start-meets, start-safe, start-runs, start-holds}
+use Rattle.bm_exec.proofs.running.run_handler.Goals as goal
+
+pub resume-requires-clause-room : goal.resume-requires-clause-room
+resume-requires-clause-room g c =
+    let o = c.start-frame.ensures.pushed in
+    omega (arith, c.requires.room, start-cost c.args.types.now.declared.now _ _ o)
+
+pub resume-requires-clause-holds : goal.resume-requires-clause-holds
+resume-requires-clause-holds g c = (g.M.Machine.lives c.args.machine.now, start-holds _ _ _ c.clear.ensures.names)
+
+pub resume-requires-clause-may : goal.resume-requires-clause-may
+resume-requires-clause-may g c =
+    let types = c.args.types.now.declared.now in
+    let known = has_name c.clear.new.self in
+    start-meets (may_run types known) c.args.script.now.body _ c.start-frame.ensures.pushed (block-meets types known 0 c.args.script.now.body c.requires.can c.requires.fits (rw (same-names c.args.names.now c.clear.new.self c.clear.ensures.keys) c.requires.bound))
+
+pub resume-requires-clause-accepted : goal.resume-requires-clause-accepted
+resume-requires-clause-accepted g c =
+    (setting_of c.args.scenario.now c.args.script.now.kind, (start-safe _ _ _ _ c.clear.ensures.names c.start-frame.ensures.pushed (c.accepted_scripts_are_safe.ensures c.args.scenario.now c.args.script.now c.requires.accepted)))
+
+pub returns-clause-ran : goal.returns-clause-ran
+returns-clause-ran g c =
+    let o = c.start-frame.ensures.pushed in
+    let w = c.requires.bare in
+    let r = rw w at (c.resume.ensures.ended c.in-Ended.is) in
+    record {
+      after = _;
+      grew = grew-map _ _ (g.M.Machine.lists c.args.machine.now) (g.M.Machine.log c.args.machine.now) _ (λ part y. start-runs c.args.types.now.declared.now (g.M.Machine.level c.args.machine.now) None _ _ o _ _ (g.M.Machine.lists c.args.machine.now) part y) (rw c.clear.ensures.names at r.grew);
+      owns_nothing = r.owns_nothing;
+    }
+
+pub returns-clause-lives : goal.returns-clause-lives
+returns-clause-lives g c = c.resume.ensures.lives c.in-Ended.is (g.M.Machine.lives c.args.machine.now) (start-holds _ _ _ c.clear.ensures.names)
+
+pub returns-clause-asked : goal.returns-clause-asked
+returns-clause-asked g c =
+    let o = c.start-frame.ensures.pushed in
+    omega (arith, c.resume.ensures.asked c.in-Ended.is, start-cost c.args.types.now.declared.now _ _ o)
