@@ -1,0 +1,4 @@
+pub mod World
+pub mod Place
+pub mod Placed
+pub mod WorkedPlaces
