@@ -13,7 +13,7 @@ use Rattle.bm_law_order.specs.Lives.{Dropping, Life, Lives, answered_last, answe
 use Rattle.bm_law_order.specs.Orders.{Event, Order, by, part_of}
 use Rattle.bm_page.specs.Stock.{stocked_at}
 use Rattle.bm_law_places.specs.Place.{Place, Stock, Inbox, Cache, Hand, Living, Ending, ending, times_at}
-use Rattle.bm_law_places.specs.Placed.{AllPlaced, InOnePlace, IsEmptied, IsOf, IsOnlyWith, IsStanding, IsUntouched, IsWith, LeavesAlone}
+use Rattle.bm_law_places.specs.Placed.{AllPlaced, InOnePlace, IsEmptied, IsOf, IsOnlyWith, IsWellPlaced, IsUntouched, IsWith, LeavesAlone}
 use Rattle.bm_law_places.specs.World.{AllFound, Finds, World, world_after, world_over}
 use Rattle.bm_law_places.proofs.Same.{place_tells}
 use Rattle.bm_law_places.proofs.Standing.{lists-of, other-lists, standing-on, standing-over}
@@ -121,7 +121,7 @@ begun-one q u p l (entry.Still k) w ne s n own = still-begun u p l (w.shared.liv
 begun-one q u p l entry.Last w ne s n own = last-begun u p l (w.shared.lives.dropping p l) w.shared.lives
 begun-one q u p l _ w ne s n own = refl
 
-begun-over : (q u : ℕ) (o : Order) (w : World) → part_of q o ≡ [] → IsStanding w → AllFound o w → IsWith q u w → (world_over o w).shared.lives.begun u ≡ w.shared.lives.begun u
+begun-over : (q u : ℕ) (o : Order) (w : World) → part_of q o ≡ [] → IsWellPlaced w → AllFound o w → IsWith q u w → (world_over o w).shared.lives.begun u ≡ w.shared.lives.begun u
 begun-over q u [] w none s f own = refl
 begun-over q u (e ∷ o) w none s f own =
     let now : World = world_after e.processor e.level e.entry w in
@@ -129,7 +129,7 @@ begun-over q u (e ∷ o) w none s f own =
     begun-over q u o now is.rest (standing-on e.processor e.level e.entry w s f.0) f.1 (still-with q u w now (other-lists q e w is.other) own)
     ∙ begun-one q u e.processor e.level e.entry w is.other s.placed f.0.lists own
 
-pub leaves-alone : (q : ℕ) (o : Order) (w : World) → part_of q o ≡ [] → IsStanding w → AllFound o w → LeavesAlone q w (world_over o w)
+pub leaves-alone : (q : ℕ) (o : Order) (w : World) → part_of q o ≡ [] → IsWellPlaced w → AllFound o w → LeavesAlone q w (world_over o w)
 leaves-alone q o w none s f =
     let now : World = world_over o w in
     let same : now.lists q ≡ w.lists q = lists-of q o w ∙ ap (after (w.lists q)) none in

@@ -1,4 +1,4 @@
-pub mod Same
+mod Same
 mod Moved
 mod MoveOf
 mod Inboxes
@@ -9,3 +9,4 @@ mod Lived
 mod Standing
 mod Apart
 mod Logs
+mod Once

@@ -22,7 +22,7 @@ same-is Living Living h = refl
 same-is (Ending p l) (Ending q k) h = let both = and_parts (eqb p q) (eqb l k) h in ap (λ n. Ending n l) (eqb-true p q both.0) ∙ ap (Ending q) (eqb-true l k both.1)
 same-is x y h = absurd (false≢true h)
 
-same-self : (x : Place) → same_place x x ≡ true
+pub same-self : (x : Place) → same_place x x ≡ true
 same-self Stock = refl
 same-self (Inbox p c) = rw (eq-eqb p p refl, eq-eqb c c refl) refl
 same-self (Cache p c) = rw (eq-eqb p p refl, eq-eqb c c refl) refl

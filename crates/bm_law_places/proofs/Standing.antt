@@ -12,7 +12,7 @@ use Rattle.bm_law_order.specs.Pages.{fresh_pages}
 use Rattle.bm_law_order.specs.Shared.{Shared, shared_after}
 use Rattle.bm_law_order.proofs.Along.{fit-append, fit-front, fit-rest, over-append}
 use Rattle.bm_law_places.specs.Place.{Place, Stock, Inbox, Cache, Hand, Living, Ending, times_at}
-use Rattle.bm_law_places.specs.Placed.{AllPlaced, InOnePlace, IsPlaced, IsStanding}
+use Rattle.bm_law_places.specs.Placed.{AllPlaced, InOnePlace, IsPlaced, IsWellPlaced}
 use Rattle.bm_law_places.specs.World.{AllFound, Finds, SweepsInbox, World, outset, world_after, world_over}
 use Rattle.bm_law_places.proofs.Caches.{cache-balanced}
 use Rattle.bm_law_places.proofs.Hands.{hand-balanced}
@@ -32,7 +32,7 @@ balanced u p l e w s f (Hand q j) = hand-balanced u p l q j e w f.lists
 balanced u p l e w s f Living = life-balanced u p l e w f.shared.lives
 balanced u p l e w s f (Ending q j) = ending-balanced u p l q j e w f.shared.lives
 
-pub standing-on : (p l : ℕ) (e : Entry) (w : World) → IsStanding w → Finds p l e w → IsStanding (world_after p l e w)
+pub standing-on : (p l : ℕ) (e : Entry) (w : World) → IsWellPlaced w → Finds p l e w → IsWellPlaced (world_after p l e w)
 standing-on p l e w s f = record {
   placed = λ u. once-one u (world_after p l e w) (once-moved _ _ u (move_of p l e w) (balanced u p l e w s.settled f) (one-once u w (s.placed u)));
   settled = settled-on p l e w.shared.pool s.settled f.shared.pages;
@@ -40,13 +40,13 @@ standing-on p l e w s f = record {
 
 -- ---- an order
 
-pub standing-over : (o : Order) (w : World) → IsStanding w → AllFound o w → IsStanding (world_over o w)
+pub standing-over : (o : Order) (w : World) → IsWellPlaced w → AllFound o w → IsWellPlaced (world_over o w)
 standing-over [] w s h = s
 standing-over (e ∷ o) w s h = standing-over o (world_after e.processor e.level e.entry w) (standing-on e.processor e.level e.entry w s h.0) h.1
 
 -- ---- the outset
 
-pub standing-outset : (processors pages : ℕ) → IsStanding (outset processors pages)
+pub standing-outset : (processors pages : ℕ) → IsWellPlaced (outset processors pages)
 standing-outset processors pages = record {
   placed = λ u. record {
     place = Stock;

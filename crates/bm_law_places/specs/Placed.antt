@@ -73,6 +73,6 @@ pub record IsEmptied (w : World) : Type 0 where
 -- ---- going on
 
 -- What holds from the outset on: each unit is in exactly one place, and the stock is settled.
-pub record IsStanding (w : World) : Type 0 where
+pub record IsWellPlaced (w : World) : Type 0 where
   pub placed : AllPlaced w
   pub settled : IsSettled w.shared.pool

@@ -57,6 +57,10 @@ swept_home =
 abbrev pub filled_twice : Order
 filled_twice = entries 0 (entry.Fill 10 (Whole (0 ∷ [])) ∷ []) ++ entries 1 (entry.Fill 10 (Whole (0 ∷ [])) ∷ [])
 
+-- The stock gives a unit that comes to no list.
+abbrev pub lost_at_fill : Order
+lost_at_fill = entries 0 (entry.Fill 10 (Whole []) ∷ [])
+
 -- The unit that processor 0 has freed and pushed on its list is freed and pushed by processor 1 too.
 abbrev pub pushed_twice : Order
 pushed_twice = all_of borrowed ++ entries 1 (entry.Free 256 1 ∷ entry.Enter 10 1 ∷ entry.Push 10 256 ∷ [])

@@ -3,6 +3,7 @@
 ghost use Rattle.std.specs.Prelude.{◌≡◌, ◌≢◌, ℕ, List, [], false};
 ghost use Rattle.bm_journal.specs.declared.entry.Entry.{Entry};
 ghost use Rattle.bm_law.specs.Lists.{AllName, Leaves, Log, after};
+ghost use Rattle.bm_law.specs.Stands.{Once};
 ghost use Rattle.bm_law.specs.State.{State, opening};
 ghost use Rattle.bm_law_laid.specs.OrderOf.{IsOrderOf};
 ghost use Rattle.bm_law_lives.specs.Together.{EachLog};
@@ -10,14 +11,14 @@ ghost use Rattle.bm_law_order.specs.Orders.{AllFit, AllShared, IsLaid, Order, by
 ghost use Rattle.bm_law_scenario.specs.Parcels.{ParcelLaw};
 ghost use Rattle.bm_page.specs.Stock.{stocked_at};
 ghost use Rattle.bm_law_places.specs.World.{AllFound, Finds, SweepsInbox, World, outset, world_after, world_over};
-ghost use Rattle.bm_law_places.specs.Placed.{InOnePlace, IsEmptied, IsOnlyWith, IsPlaced, IsStanding, IsWith, LeavesAlone};
+ghost use Rattle.bm_law_places.specs.Placed.{AllPlaced, InOnePlace, IsEmptied, IsOnlyWith, IsPlaced, IsWellPlaced, IsWith, LeavesAlone};
 
 /// Each unit is in exactly one place: at the outset, and after each entry that finds what it needs if it was so before. So it is
 /// along an order of which each entry does, wherever one stops.
 pub fn places_law()
-    ensures outset { (processors pages : ℕ) → IsStanding (outset processors pages) }
-    ensures entry { (p l : ℕ) (e : Entry) (w : World) → IsStanding w → Finds p l e w → IsStanding (world_after p l e w) }
-    ensures along { (o : Order) (w : World) → IsStanding w → AllFound o w → IsStanding (world_over o w) }
+    ensures outset { (processors pages : ℕ) → IsWellPlaced (outset processors pages) }
+    ensures entry { (p l : ℕ) (e : Entry) (w : World) → IsWellPlaced w → Finds p l e w → IsWellPlaced (world_after p l e w) }
+    ensures along { (o : Order) (w : World) → IsWellPlaced w → AllFound o w → IsWellPlaced (world_over o w) }
     ensures all { (processors pages : ℕ) (o : Order) → AllFound o (outset processors pages) → IsPlaced processors pages o }
 {}
 
@@ -42,12 +43,13 @@ pub fn logs_law()
 {}
 
 /// A unit that is in a list or hand of one processor is in none of another, in no inbox, out of the stock, and neither lives nor has
-/// just ended. Entries of other processors leave a processor's lists and hands, and what there is of units in them, as they were. Where
+/// just ended; and it is there once. Entries of other processors leave a processor's lists and hands, and what there is of units in them, as they were. Where
 /// no list, hand or inbox has a unit and nothing lives or is dropped, each unit is in the stock.
 pub fn apart_law()
     ensures only { (p u : ℕ) (w : World) → InOnePlace u w → IsWith p u w → IsOnlyWith p u w }
+    ensures once { (p : ℕ) (w : World) → AllPlaced w → Once (w.lists p) }
     ensures others { (q : ℕ) (o : Order) (w : World) →
-        part_of q o ≡ [] → IsStanding w → AllFound o w → LeavesAlone q w (world_over o w) }
+        part_of q o ≡ [] → IsWellPlaced w → AllFound o w → LeavesAlone q w (world_over o w) }
     ensures stretch { (p q : ℕ) (log : Log) → q ≢ p → part_of q (by p log) ≡ [] }
     ensures ended { (u : ℕ) (w : World) → IsEmptied w → InOnePlace u w → (stocked_at w.shared.pool.units u).out ≡ false }
 {}

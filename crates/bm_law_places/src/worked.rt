@@ -7,12 +7,14 @@ ghost use Rattle.bm_law_lives.specs.Worked.{both_stages};
 ghost use Rattle.bm_law_order.specs.Orders.{IsLaid, part_of};
 ghost use Rattle.bm_law_order.specs.Whole.{whole};
 ghost use Rattle.bm_law_places.specs.Placed.{IsPlaced};
-ghost use Rattle.bm_law_places.specs.WorkedPlaces.{GoesThrough, all_of, borrowed, fetched_from_other, filled_twice, given_in_stock, pushed_twice, received_unsent, returned_though_kept, sent_home, sent_though_kept, swept_from_stock, swept_home};
+ghost use Rattle.bm_law_places.specs.WorkedPlaces.{GoesThrough, all_of, borrowed, fetched_from_other, filled_twice, given_in_stock, lost_at_fill, pushed_twice, received_unsent, returned_though_kept, sent_home, sent_though_kept, swept_from_stock, swept_home};
 ghost use Rattle.bm_law_places.specs.World.{outset};
+
+use bm_law_laid::worked_journal;
 
 /// Orders of two processors with three pages, computed. A unit goes from a list of processor 1 over its hand, a life, a drop and the
 /// hand of processor 0 to a list there, and then home: over an inbox to the lists of processor 1 and the stock, or, where processor 1
-/// closes first, by the sweep. In each of the wrong orders a unit is in two places at last; of `swept` each entry fits by itself what
+/// closes first, by the sweep. In each of the wrong orders a unit is in two places at last, and in `lost` in none; of `swept` each entry fits by itself what
 /// is shared, and the lists.
 pub fn worked_places()
     ensures through { GoesThrough 256 (borrowed ++ sent_home) (outset 2 3) }
@@ -20,6 +22,7 @@ pub fn worked_places()
     ensures through_sweep { GoesThrough 256 (borrowed ++ swept_home) (outset 2 3) }
     ensures placed_sweep { IsPlaced 2 3 (all_of (borrowed ++ swept_home)) }
     ensures filled { ¬ IsPlaced 2 3 filled_twice }
+    ensures lost { ¬ IsPlaced 2 3 lost_at_fill }
     ensures pushed { ¬ IsPlaced 2 3 pushed_twice }
     ensures fetched { ¬ IsPlaced 2 3 fetched_from_other }
     ensures received { ¬ IsPlaced 2 3 received_unsent }
@@ -35,4 +38,6 @@ pub fn worked_places()
 /// at last.
 pub fn worked_journal_places()
     ensures { IsPlaced 1 1 (whole [] both_stages) }
-{}
+{
+    worked_journal();
+}
