@@ -1,6 +1,5 @@
 -- What follows for a unit that a processor has, where each unit is in exactly one place.
-use Rattle.std.specs.Prelude.{◌≡◌, ◌≢◌, ◌<◌, ◌+◌, ℕ, eqb, if◌then◌else◌, Bool, true, false, List, [], ◌∷◌, ◌++◌, take, Option, Some, None, is_some}
-use Rattle.std.specs.List.{concat}
+use Rattle.std.specs.Prelude.{◌≡◌, ◌≢◌, ◌<◌, ℕ, if◌then◌else◌, Bool, true, false, [], ◌∷◌, take, Option, Some, None, is_some}
 use Rattle.std.proofs.Common.{refl, sym, ◌∙◌, ap, subst, arith, inl, inr, eq-eqb, ne_eqb}
 use Rattle.std.proofs.lemmas.Bool.Decides.{eqb_tells}
 use Rattle.bm_journal.specs.declared.entry.Entry.{Entry}
@@ -13,8 +12,8 @@ use Rattle.bm_law_order.specs.Lives.{Dropping, Life, Lives, answered_last, answe
 use Rattle.bm_law_order.specs.Orders.{Event, Order, by, part_of}
 use Rattle.bm_page.specs.Stock.{stocked_at}
 use Rattle.bm_law_places.specs.Place.{Place, Stock, Inbox, Cache, Hand, Living, Ending, ending, times_at}
-use Rattle.bm_law_places.specs.Placed.{AllPlaced, InOnePlace, IsEmptied, IsOf, IsOnlyWith, IsWellPlaced, IsUntouched, IsWith, LeavesAlone}
-use Rattle.bm_law_places.specs.World.{AllFound, Finds, World, world_after, world_over}
+use Rattle.bm_law_places.specs.Placed.{AllPlaced, InOnePlace, IsEmptied, IsOf, IsOnlyWith, IsWellPlaced, IsWith, LeavesAlone}
+use Rattle.bm_law_places.specs.World.{AllFound, World, world_after, world_over}
 use Rattle.bm_law_places.proofs.Same.{place_tells}
 use Rattle.bm_law_places.proofs.Standing.{lists-of, other-lists, standing-on, standing-over}
 
@@ -157,6 +156,7 @@ back-in-stock u w e h = go h.place h.here
   where
     none : (x y : ℕ) → x ≡ 1 → x ≡ y → y ≡ 0 → ⊥
     none x y p q r = omega (arith, p, q, r)
+
     go : (a : Place) → times_at u a w ≡ 1 → (stocked_at w.shared.pool.units u).out ≡ false
     go Stock k = one-in _ 1 refl k
     go (Inbox p c) k = absurd (none _ 0 k (ap (times u) (e.inboxes p c)) refl)

@@ -1,7 +1,7 @@
 -- What an entry moves to the lists of a cache and from them.
-use Rattle.std.specs.Prelude.{◌≡◌, ◌+◌, ℕ, Some, eqb, if◌then◌else◌, ◌&&◌, Bool, true, false, List, [], ◌∷◌, ◌++◌, length, take, drop, reverse}
+use Rattle.std.specs.Prelude.{◌≡◌, ◌+◌, ℕ, eqb, if◌then◌else◌, Bool, true, false, List, [], ◌∷◌, take, reverse}
 use Rattle.std.specs.List.{concat}
-use Rattle.std.proofs.Common.{refl, sym, ◌∙◌, ap, subst, arith, inl, inr, eqb-true}
+use Rattle.std.proofs.Common.{refl, ap, arith, inl, inr, eqb-true}
 use Rattle.std.proofs.lemmas.Bool.Decides.{eqb_tells}
 use Rattle.bm_journal.specs.EntryText.{unit_list}
 use Rattle.bm_journal.specs.declared.ids.Domain.{Domain}

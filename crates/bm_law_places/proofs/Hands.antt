@@ -1,6 +1,6 @@
 -- What an entry moves to a hand and from it.
-use Rattle.std.specs.Prelude.{◌≡◌, ◌+◌, ℕ, Some, eqb, if◌then◌else◌, ◌&&◌, Bool, true, false, List, [], ◌∷◌, ◌++◌, length, take, drop, reverse}
-use Rattle.std.proofs.Common.{refl, sym, ◌∙◌, ap, subst, arith, inl, inr, eqb-true}
+use Rattle.std.specs.Prelude.{◌≡◌, ◌+◌, ℕ, eqb, if◌then◌else◌, Bool, true, false, List, [], ◌∷◌, take}
+use Rattle.std.proofs.Common.{refl, ap, arith, inl, inr, eqb-true}
 use Rattle.std.proofs.lemmas.Bool.Decides.{eqb_tells}
 use Rattle.bm_journal.specs.EntryText.{unit_list}
 use Rattle.bm_journal.specs.declared.entry.Entry.{Entry}
@@ -11,7 +11,7 @@ use Rattle.bm_law.specs.Stands.{times}
 use Rattle.bm_law.specs.State.{Side, State, with_side}
 use Rattle.bm_law.proofs.Stands.{times-append, times-take-drop}
 use Rattle.bm_law_places.specs.Place.{Hand, Inbox, times_at}
-use Rattle.bm_law_places.specs.World.{Finds, World, world_after}
+use Rattle.bm_law_places.specs.World.{World, world_after}
 use Rattle.bm_law_places.proofs.Caches.{other-names}
 use Rattle.bm_law_places.proofs.MoveOf.{move_of, sent_from}
 use Rattle.bm_law_places.proofs.Moved.{come, moves, taken}

@@ -1,5 +1,5 @@
 -- What each log names, an order of logs finds; and a log of the one processor that there is, with its parcels.
-use Rattle.std.specs.Prelude.{◌≡◌, ◌≢◌, ◌<◌, ◌≤◌, ◌+◌, ℕ, zero, suc, eqb, if◌then◌else◌, Bool, true, false, List, [], ◌∷◌, ◌++◌, length, get_or, drop}
+use Rattle.std.specs.Prelude.{◌≡◌, ◌<◌, ◌≤◌, ◌+◌, ℕ, zero, suc, List, [], ◌∷◌, ◌++◌, length, get_or, drop}
 use Rattle.std.specs.List.{concat}
 use Rattle.std.proofs.Common.{refl, sym, ◌∙◌, ap, subst, arith, inl, inr, eq-eqb, ne_eqb}
 use Rattle.std.proofs.lemmas.Bool.{cases_lt}
@@ -12,12 +12,11 @@ use Rattle.bm_law.specs.Lists.{AllName, Leaves, Log, Names, brought, next}
 use Rattle.bm_law.specs.State.{State, opening}
 use Rattle.bm_law_laid.specs.OrderOf.{AllBelow, IsOrderOf}
 use Rattle.bm_law_lives.specs.Together.{EachLog, LogsFrom}
-use Rattle.bm_law_order.specs.Orders.{AllFit, AllShared, IsLaid, Order, by, event, part_of}
+use Rattle.bm_law_order.specs.Orders.{AllFit, AllShared, IsLaid, Order, by, part_of}
 use Rattle.bm_law_order.specs.Parcels.{Boxes, boxes_after}
-use Rattle.bm_law_order.specs.Shared.{Shared, shared_after}
 use Rattle.bm_law_scenario.specs.Parcels.{ParcelFits, ParcelLaw, ParcelsFit, no_parcels}
 use Rattle.bm_law_places.specs.Placed.{IsPlaced}
-use Rattle.bm_law_places.specs.World.{AllFound, Finds, SweepsInbox, World, outset, world_after}
+use Rattle.bm_law_places.specs.World.{AllFound, SweepsInbox, World, outset, world_after}
 use Rattle.bm_law_places.proofs.Standing.{all-placed, found-in-parts}
 
 -- ---- any number of logs

@@ -1,9 +1,8 @@
 -- Where each unit is in exactly one place, no unit stands twice in the lists and hands of a processor.
-use Rattle.std.specs.Prelude.{◌≡◌, ◌≢◌, ◌<◌, ◌≤◌, ◌+◌, ℕ, zero, suc}
+use Rattle.std.specs.Prelude.{◌≡◌, ◌≢◌, ◌≤◌, ◌+◌, ℕ, zero, suc}
 use Rattle.std.proofs.Common.{refl, sym, ◌∙◌, ap, subst, arith, inl, inr}
 use Rattle.std.proofs.lemmas.Bool.{cases_eq}
 use Rattle.bm_law.specs.Stands.{Once, in_row, stands, sum_to, times}
-use Rattle.bm_law.specs.State.{State, seven_lists}
 use Rattle.bm_law.proofs.Stands.{times-seven}
 use Rattle.bm_law_places.specs.Place.{Place, Stock, Inbox, Cache, Hand, Living, Ending, times_at}
 use Rattle.bm_law_places.specs.Placed.{AllPlaced, InOnePlace}
@@ -58,12 +57,16 @@ once-each p w all u = go (all u) (all u).place refl
   where
     rows : ℕ
     rows = sum_to 11 (λ c. in_row u ((w.lists p).rows c))
+
     hands : ℕ
     hands = sum_to 4 (λ l. times u ((w.lists p).sides l).hand)
+
     no-rows : (h : InOnePlace u w) → ((c : ℕ) → Cache p c ≢ h.place) → rows ≤ 0
     no-rows h ne = none-most rows (sum-none 11 (λ c. in_row u ((w.lists p).rows c)) (λ c. cache-none u p c w h (ne c)))
+
     no-hands : (h : InOnePlace u w) → ((l : ℕ) → Hand p l ≢ h.place) → hands ≤ 0
     no-hands h ne = none-most hands (sum-none 4 (λ l. times u ((w.lists p).sides l).hand) (λ l. h.only (Hand p l) (ne l)))
+
     go : (h : InOnePlace u w) (a : Place) → h.place ≡ a → rows + hands ≤ 1
     go h Stock is = both rows hands 0 0 (no-rows h (λ c e. cc)) (no-hands h (λ l e. cc)) (omega arith)
     go h (Inbox q c) is = both rows hands 0 0 (no-rows h (λ k e. cc)) (no-hands h (λ l e. cc)) (omega arith)

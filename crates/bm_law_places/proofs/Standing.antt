@@ -1,18 +1,17 @@
 -- Each unit is in exactly one place, along an order.
-use Rattle.std.specs.Prelude.{◌≡◌, ◌≢◌, ◌+◌, ℕ, eqb, if◌then◌else◌, Bool, true, false, List, [], ◌∷◌, ◌++◌}
+use Rattle.std.specs.Prelude.{◌≡◌, ◌≢◌, ℕ, [], ◌∷◌}
 use Rattle.std.proofs.Common.{refl, sym, ◌∙◌, ap, subst, arith, inl, inr, eq-eqb, ne_eqb}
 use Rattle.std.proofs.lemmas.Bool.Decides.{eqb_tells}
 use Rattle.bm_journal.specs.declared.entry.Entry.{Entry}
-use Rattle.bm_law.specs.Lists.{AllName, Log, after, next}
-use Rattle.bm_law.specs.State.{State, opening}
-use Rattle.bm_law_laid.specs.UnitsOut.{IsSettled, times_out}
+use Rattle.bm_law.specs.Lists.{AllName, after, next}
+use Rattle.bm_law.specs.State.{State}
+use Rattle.bm_law_laid.specs.UnitsOut.{IsSettled}
 use Rattle.bm_law_laid.proofs.Settled.{none-out, settled-fresh}
-use Rattle.bm_law_order.specs.Orders.{AllFit, AllShared, Event, IsLaid, Order, over, part_of, shared_over}
+use Rattle.bm_law_order.specs.Orders.{AllFit, AllShared, Event, Order, part_of, shared_over}
 use Rattle.bm_law_order.specs.Pages.{fresh_pages}
-use Rattle.bm_law_order.specs.Shared.{Shared, shared_after}
-use Rattle.bm_law_order.proofs.Along.{fit-append, fit-front, fit-rest, over-append}
+use Rattle.bm_law_order.proofs.Along.{fit-front}
 use Rattle.bm_law_places.specs.Place.{Place, Stock, Inbox, Cache, Hand, Living, Ending, times_at}
-use Rattle.bm_law_places.specs.Placed.{AllPlaced, InOnePlace, IsPlaced, IsWellPlaced}
+use Rattle.bm_law_places.specs.Placed.{IsPlaced, IsWellPlaced}
 use Rattle.bm_law_places.specs.World.{AllFound, Finds, SweepsInbox, World, outset, world_after, world_over}
 use Rattle.bm_law_places.proofs.Caches.{cache-balanced}
 use Rattle.bm_law_places.proofs.Hands.{hand-balanced}

@@ -1,6 +1,6 @@
 -- What an entry moves to the stock and from it.
 use Rattle.std.specs.Prelude.{◌≡◌, ◌+◌, ℕ, Some, eqb, if◌then◌else◌, true, false, List, [], ◌∷◌, reverse, Bool}
-use Rattle.std.proofs.Common.{refl, sym, ◌∙◌, ap, arith}
+use Rattle.std.proofs.Common.{refl, ap, arith}
 use Rattle.bm_journal.specs.EntryText.{unit_list}
 use Rattle.bm_journal.specs.declared.entry.Entry.{Entry}
 use Rattle.bm_journal.specs.declared.entry.Entry.TheVariants as entry
@@ -15,7 +15,7 @@ use Rattle.bm_page.specs.Stock.{fetched, stocked_at, Stock as StockValue}
 use Rattle.bm_law_places.specs.Place.{Inbox, Stock, times_at}
 use Rattle.bm_law_places.specs.World.{World, world_after}
 use Rattle.bm_law_places.proofs.MoveOf.{move_of, sent_from}
-use Rattle.bm_law_places.proofs.Moved.{Move, come, taken}
+use Rattle.bm_law_places.proofs.Moved.{come, taken}
 
 -- both ways to count are the same
 pub counted-so : (u : ℕ) (xs : List ℕ) → times_of u xs ≡ times u xs

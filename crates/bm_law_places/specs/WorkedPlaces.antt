@@ -2,7 +2,6 @@
 -- 512.
 use Rattle.std.specs.Prelude.{◌≡◌, ℕ, List, [], ◌∷◌, ◌++◌}
 use Rattle.bm_journal.specs.declared.units.Units.TheVariants.{Whole}
-use Rattle.bm_journal.specs.declared.entry.Entry.{Entry}
 use Rattle.bm_journal.specs.declared.entry.Entry.TheVariants as entry
 use Rattle.bm_law_laid.specs.WorkedOrders.{entries, fills}
 use Rattle.bm_law_order.specs.Orders.{Order}

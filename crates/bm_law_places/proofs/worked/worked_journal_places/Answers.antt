@@ -1,4 +1,4 @@
-use Rattle.std.specs.Prelude.{◌<◌, ℕ, zero, suc, [], ◌∷◌}
+use Rattle.std.specs.Prelude.{◌<◌, ℕ, zero, suc, []}
 use Rattle.std.proofs.Common.{refl, arith, lit<}
 use Rattle.bm_law.specs.Lists.{AllName}
 use Rattle.bm_law.specs.State.{opening}
