@@ -1,6 +1,7 @@
 -- What follows for a unit that a processor has, where each unit is in exactly one place.
 use Rattle.std.specs.Prelude.{◌≡◌, ◌≢◌, ◌<◌, ℕ, if◌then◌else◌, Bool, true, false, [], ◌∷◌, take, Option, Some, None, is_some}
-use Rattle.std.proofs.Common.{refl, sym, ◌∙◌, ap, subst, arith, inl, inr, eq-eqb, ne_eqb}
+use Rattle.std.proofs.Common.{refl, sym, ◌∙◌, ap, subst, append-nil, arith, inl, inr, eq-eqb, ne_eqb}
+use Rattle.std.proofs.lemmas.Bool.{false≢true}
 use Rattle.std.proofs.lemmas.Bool.Decides.{eqb_tells}
 use Rattle.bm_journal.specs.declared.entry.Entry.{Entry}
 use Rattle.bm_journal.specs.declared.entry.Entry.TheVariants as entry
@@ -12,9 +13,9 @@ use Rattle.bm_law_order.specs.Lives.{Dropping, Life, Lives, answered_last, answe
 use Rattle.bm_law_order.specs.Orders.{Event, Order, by, part_of}
 use Rattle.bm_page.specs.Stock.{stocked_at}
 use Rattle.bm_law_places.specs.Place.{Place, Stock, Inbox, Cache, Hand, Living, Ending, ending, times_at}
-use Rattle.bm_law_places.specs.Placed.{AllPlaced, InOnePlace, IsEmptied, IsOf, IsOnlyWith, IsWellPlaced, IsWith, LeavesAlone}
-use Rattle.bm_law_places.specs.World.{AllFound, World, world_after, world_over}
-use Rattle.bm_law_places.proofs.Same.{place_tells}
+use Rattle.bm_law_places.specs.Placed.{AllPlaced, InOnePlace, IsEmptied, IsOf, IsOnlyWith, IsPlaced, IsWellPlaced, IsWith, LeavesAlone}
+use Rattle.bm_law_places.specs.World.{AllFound, World, outset, world_after, world_over}
+use Rattle.bm_law_places.proofs.Same.{place_tells, same-self, same_place}
 use Rattle.bm_law_places.proofs.Standing.{lists-of, other-lists, standing-on, standing-over}
 
 -- ---- the one place
@@ -26,6 +27,14 @@ is-there u a w h lt =
       | inl y ↦ y.1
       | inr y ↦ (let none = h.only a y.1 in absurd (omega (arith, lt, none)))
     ]
+
+-- after an order that is placed no two places name a unit
+pub not-twice : (processors pages u : ℕ) (o : Order) (a b : Place) → same_place a b ≡ false → 0 < times_at u a (world_over o (outset processors pages)) → 0 < times_at u b (world_over o (outset processors pages)) → IsPlaced processors pages o → ⊥
+not-twice processors pages u o a b other here there placed =
+    let w : World = world_over o (outset processors pages) in
+    let one : InOnePlace u w = placed o [] (sym (append-nil o)) u in
+    let same : a ≡ b = is-there u a w one here ∙ sym (is-there u b w one there) in
+    false≢true (sym other ∙ (ap (same_place a) (sym same) ∙ same-self a))
 
 of-one : (p q : ℕ) (a : Place) → IsOf p a → IsOf q a → q ≡ p
 of-one p q (Cache k c) h g = sym g ∙ h
@@ -136,11 +145,11 @@ leaves-alone q o w none s f =
       lists = same;
       units = λ u own.
           let before = only-with q u w (s.placed u) own in
-          let behind = only-with q u now ((standing-over o w s f).placed u) (still-with q u w now same own) in
+          let later = only-with q u now ((standing-over o w s f).placed u) (still-with q u w now same own) in
           record {
-            out = behind.out ∙ sym before.out;
-            inboxes = λ p c. behind.inboxes p c ∙ sym (before.inboxes p c);
-            holds = behind.lifeless ∙ sym before.lifeless;
+            out = later.out ∙ sym before.out;
+            inboxes = λ p c. later.inboxes p c ∙ sym (before.inboxes p c);
+            holds = later.lifeless ∙ sym before.lifeless;
             begun = begun-over q u o w none s f own;
           };
     }

@@ -20,7 +20,7 @@ pub record InOnePlace (u : ℕ) (w : World) : Type 0 where
 abbrev pub AllPlaced : World → Type 0
 AllPlaced w = (u : ℕ) → InOnePlace u w
 
--- Wherever an order is cut in two, each unit is in exactly one place between the entries before and those behind.
+-- Wherever an order is cut in two, each unit is in exactly one place between the entries before the cut and those after it.
 abbrev pub IsPlaced : (processors pages : ℕ) → Order → Type 0
 IsPlaced processors pages order =
     (done rest : Order) → order ≡ done ++ rest → AllPlaced (world_over done (outset processors pages))

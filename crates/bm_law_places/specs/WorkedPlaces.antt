@@ -3,6 +3,8 @@
 use Rattle.std.specs.Prelude.{◌≡◌, ℕ, List, [], ◌∷◌, ◌++◌}
 use Rattle.bm_journal.specs.declared.units.Units.TheVariants.{Whole}
 use Rattle.bm_journal.specs.declared.entry.Entry.TheVariants as entry
+use Rattle.bm_law.specs.Lists.{Log}
+use Rattle.bm_law.specs.Ordinary.{ordinary}
 use Rattle.bm_law_laid.specs.WorkedOrders.{entries, fills}
 use Rattle.bm_law_order.specs.Orders.{Order}
 use Rattle.bm_law_places.specs.Place.{Place, Stock, Inbox, Cache, Hand, Living, Ending, times_at}
@@ -88,3 +90,7 @@ returned_though_kept = fills ++ entries 0 (entry.Return 10 (Whole (0 ∷ [])) �
 -- names what is in the lists: only both together say that it doesn't.
 abbrev pub swept_from_stock : Order
 swept_from_stock = fills ++ entries 0 (entry.Sweep 10 (Whole (0 ∷ 512 ∷ [])) ∷ [])
+
+-- The log of one processor with two pages, whose closing sweeps a unit that is in the stock.
+abbrev pub sweeps_from_stock : List Log
+sweeps_from_stock = ordinary (entry.Fill 10 (Whole (0 ∷ [])) ∷ entry.Ended ∷ entry.Sweep 10 (Whole (0 ∷ 256 ∷ [])) ∷ []) ∷ []

@@ -25,7 +25,7 @@ world_after p l e w = record {
   lists = λ q. if eqb q p then next (w.lists q) (l, e) else w.lists q;
 }
 
--- What a sweep takes from outside, behind the units of the lists, is just what waits in the inbox. (Neither the lists nor the
+-- What a sweep takes from outside, after the units of the lists, is just what waits in the inbox. (Neither the lists nor the
 -- inboxes say so by themselves: the former say how the sweep begins, the latter how it ends.)
 abbrev pub SweepsInbox : (p l : ℕ) → Entry → World → Type 0
 SweepsInbox p l (entry.Sweep c us) w = brought (entry.Sweep c us) (w.lists p) ≡ concat (w.shared.boxes p c)

@@ -7,7 +7,7 @@ ghost use Rattle.bm_law_lives.specs.Worked.{both_stages};
 ghost use Rattle.bm_law_order.specs.Orders.{IsLaid, part_of};
 ghost use Rattle.bm_law_order.specs.Whole.{whole};
 ghost use Rattle.bm_law_places.specs.Placed.{IsPlaced};
-ghost use Rattle.bm_law_places.specs.WorkedPlaces.{GoesThrough, all_of, borrowed, fetched_from_other, filled_twice, given_in_stock, lost_at_fill, pushed_twice, received_unsent, returned_though_kept, sent_home, sent_though_kept, swept_from_stock, swept_home};
+ghost use Rattle.bm_law_places.specs.WorkedPlaces.{GoesThrough, all_of, borrowed, fetched_from_other, filled_twice, given_in_stock, lost_at_fill, pushed_twice, received_unsent, returned_though_kept, sent_home, sent_though_kept, sweeps_from_stock, swept_from_stock, swept_home};
 ghost use Rattle.bm_law_places.specs.World.{outset};
 
 use bm_law_laid::worked_journal;
@@ -35,9 +35,10 @@ pub fn worked_places()
 {}
 
 /// The order of a whole journal of one processor, made by hand, in which a unit goes through both stages, is given again and is swept
-/// at last.
+/// at last; and one whose closing sweeps a unit that is in the stock.
 pub fn worked_journal_places()
-    ensures { IsPlaced 1 1 (whole [] both_stages) }
+    ensures both_stages { IsPlaced 1 1 (whole [] both_stages) }
+    ensures swept { ¬ IsPlaced 1 2 (whole [] sweeps_from_stock) }
 {
     worked_journal();
 }

@@ -1,6 +1,5 @@
-use Rattle.std.specs.Prelude.{◌≡◌, ◌<◌, ℕ, zero, suc, false, [], ◌∷◌, ◌++◌}
-use Rattle.std.proofs.Common.{refl, sym, ◌∙◌, ap, arith, append-nil, inl, inr, lit<}
-use Rattle.std.proofs.lemmas.Bool.{false≢true}
+use Rattle.std.specs.Prelude.{◌≡◌, ◌<◌, ℕ, zero, suc, [], ◌∷◌, ◌++◌}
+use Rattle.std.proofs.Common.{refl, sym, arith, append-nil, inl, inr, lit<}
 use Rattle.std.proofs.lemmas.Bool.Decides.{eqb_tells}
 use Rattle.bm_class.specs.Sizes.{size_of_class}
 use Rattle.bm_page.specs.Stock.{any_out, fetched, given, is_stock_of, least_below, next_unit, returned, unit_given}
@@ -11,11 +10,10 @@ use Rattle.bm_law_order.specs.Orders.{AllFit, IsLaid, Order, part_of}
 use Rattle.bm_law_places.specs.Place.{Place, Stock, Inbox, Cache, Hand, Living, Ending, times_at}
 use Rattle.bm_law_places.specs.Placed.{InOnePlace, IsPlaced}
 use Rattle.bm_law_places.specs.WorkedPlaces.{all_of, borrowed, fetched_from_other, filled_twice, given_in_stock, lost_at_fill, pushed_twice, received_unsent, returned_though_kept, sent_home, sent_though_kept, swept_from_stock, swept_home}
-use Rattle.bm_law_places.specs.World.{SweepsInbox, World, outset, world_after, world_over}
-use Rattle.bm_law_places.proofs.Apart.{is-there}
+use Rattle.bm_law_places.specs.World.{SweepsInbox, outset, world_after, world_over}
+use Rattle.bm_law_places.proofs.Apart.{not-twice}
 use Rattle.bm_law_places.proofs.Logs.{parts-name}
 use Rattle.bm_law_places.proofs.Standing.{all-placed, found-in-parts}
-use Rattle.bm_law_places.proofs.Same.{same_place, same-self}
 use Rattle.bm_law_places.proofs.worked.worked_places.Goals as goal
 
 -- ---- right orders
@@ -66,45 +64,37 @@ returns-clause-through_sweep c = (refl, (refl, (refl, (refl, (refl, (refl, (refl
 
 -- ---- wrong orders
 
--- two places name a unit after an order
-twice : (u : ℕ) (o : Order) (a b : Place) → same_place a b ≡ false → 0 < times_at u a (world_over o (outset 2 3)) → 0 < times_at u b (world_over o (outset 2 3)) → IsPlaced 2 3 o → ⊥
-twice u o a b other here there placed =
-    let w : World = world_over o (outset 2 3) in
-    let one : InOnePlace u w = placed o [] (sym (append-nil o)) u in
-    let same : a ≡ b = is-there u a w one here ∙ sym (is-there u b w one there) in
-    false≢true (sym other ∙ (ap (same_place a) (sym same) ∙ same-self a))
-
 pub returns-clause-filled : goal.returns-clause-filled
 unfolding any_out fetched given is_stock_of least_below next_unit returned size_of_class unit_given
-returns-clause-filled c = twice 0 filled_twice (Cache 0 10) (Cache 1 10) refl (lit< tt) (lit< tt)
+returns-clause-filled c = not-twice 2 3 0 filled_twice (Cache 0 10) (Cache 1 10) refl (lit< tt) (lit< tt)
 
 pub returns-clause-pushed : goal.returns-clause-pushed
 unfolding any_out fetched given is_stock_of least_below next_unit returned size_of_class unit_given
-returns-clause-pushed c = twice 256 pushed_twice (Cache 0 10) (Cache 1 10) refl (lit< tt) (lit< tt)
+returns-clause-pushed c = not-twice 2 3 256 pushed_twice (Cache 0 10) (Cache 1 10) refl (lit< tt) (lit< tt)
 
 pub returns-clause-fetched : goal.returns-clause-fetched
 unfolding any_out fetched given is_stock_of least_below next_unit returned size_of_class unit_given
-returns-clause-fetched c = twice 256 fetched_from_other (Hand 0 0) (Cache 1 10) refl (lit< tt) (lit< tt)
+returns-clause-fetched c = not-twice 2 3 256 fetched_from_other (Hand 0 0) (Cache 1 10) refl (lit< tt) (lit< tt)
 
 pub returns-clause-received : goal.returns-clause-received
 unfolding any_out fetched given is_stock_of least_below next_unit returned size_of_class unit_given
-returns-clause-received c = twice 0 received_unsent (Cache 0 10) (Cache 1 10) refl (lit< tt) (lit< tt)
+returns-clause-received c = not-twice 2 3 0 received_unsent (Cache 0 10) (Cache 1 10) refl (lit< tt) (lit< tt)
 
 pub returns-clause-sent : goal.returns-clause-sent
 unfolding any_out fetched given is_stock_of least_below next_unit returned size_of_class unit_given
-returns-clause-sent c = twice 0 sent_though_kept (Cache 0 10) (Inbox 1 10) refl (lit< tt) (lit< tt)
+returns-clause-sent c = not-twice 2 3 0 sent_though_kept (Cache 0 10) (Inbox 1 10) refl (lit< tt) (lit< tt)
 
 pub returns-clause-given : goal.returns-clause-given
 unfolding any_out fetched given is_stock_of least_below next_unit returned size_of_class unit_given
-returns-clause-given c = twice 512 given_in_stock (Stock) (Living) refl (lit< tt) (lit< tt)
+returns-clause-given c = not-twice 2 3 512 given_in_stock (Stock) (Living) refl (lit< tt) (lit< tt)
 
 pub returns-clause-returned : goal.returns-clause-returned
 unfolding any_out fetched given is_stock_of least_below next_unit returned size_of_class unit_given
-returns-clause-returned c = twice 0 returned_though_kept (Stock) (Cache 0 10) refl (lit< tt) (lit< tt)
+returns-clause-returned c = not-twice 2 3 0 returned_though_kept (Stock) (Cache 0 10) refl (lit< tt) (lit< tt)
 
 pub returns-clause-swept : goal.returns-clause-swept
 unfolding any_out fetched given is_stock_of least_below next_unit returned size_of_class unit_given
-returns-clause-swept c = twice 512 swept_from_stock (Stock) (Cache 0 10) refl (lit< tt) (lit< tt)
+returns-clause-swept c = not-twice 2 3 512 swept_from_stock (Stock) (Cache 0 10) refl (lit< tt) (lit< tt)
 
 pub returns-clause-swept_laid : goal.returns-clause-swept_laid
 unfolding any_out fetched given is_stock_of least_below next_unit returned size_of_class unit_given
