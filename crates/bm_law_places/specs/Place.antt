@@ -23,7 +23,7 @@ abbrev pub ending : Option Dropping → List ℕ
 ending None = []
 ending (Some drop) = if is_some drop.ended then drop.unit ∷ [] else []
 
--- how often a place names unit u
+-- How often a place names unit u. The stock has what isn't out; so it has a number beyond its pages too, which never is.
 abbrev pub times_at : ℕ → Place → World → ℕ
 times_at u Stock w = if (stocked_at w.shared.pool.units u).out then 0 else 1
 times_at u (Inbox p c) w = times u (concat (w.shared.boxes p c))

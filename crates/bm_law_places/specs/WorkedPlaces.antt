@@ -48,7 +48,8 @@ sent_home =
 -- Processor 1 closes without receiving it, and sweeps it out of its inbox.
 abbrev pub swept_home : Way
 swept_home =
-    (entries 0 (entry.Enter 10 1 ∷ entry.Pop 10 256 ∷ entry.Count 10 1 ∷ entry.Leave 10 0 ∷ entry.Send 10 1 (Whole (256 ∷ [])) ∷ []), Inbox 1 10)
+    (entries 0 (entry.Enter 10 1 ∷ entry.Pop 10 256 ∷ entry.Count 10 1 ∷ entry.Leave 10 0 ∷ []), Hand 0 0)
+    ∷ (entries 0 (entry.Send 10 1 (Whole (256 ∷ [])) ∷ []), Inbox 1 10)
     ∷ (entries 1 (entry.Sweep 10 (Whole (256 ∷ [])) ∷ []), Cache 1 10)
     ∷ []
 

@@ -17,9 +17,11 @@ ghost use Rattle.bm_law_places.specs.Placed.{AllPlaced, InOnePlace, IsEmptied, I
 /// along an order of which each entry does, wherever one stops.
 pub fn places_law()
     ensures outset { (processors pages : ℕ) → IsWellPlaced (outset processors pages) }
-    ensures entry { (p l : ℕ) (e : Entry) (w : World) → IsWellPlaced w → Finds p l e w → IsWellPlaced (world_after p l e w) }
+    ensures entry { (p l : ℕ) (e : Entry) (w : World) →
+        IsWellPlaced w → Finds p l e w → IsWellPlaced (world_after p l e w) }
     ensures along { (o : Order) (w : World) → IsWellPlaced w → AllFound o w → IsWellPlaced (world_over o w) }
-    ensures all { (processors pages : ℕ) (o : Order) → AllFound o (outset processors pages) → IsPlaced processors pages o }
+    ensures all { (processors pages : ℕ) (o : Order) →
+        AllFound o (outset processors pages) → IsPlaced processors pages o }
 {}
 
 /// An order finds what it needs where each entry finds it of what is shared, each processor's own entries name what is in its lists
@@ -27,29 +29,33 @@ pub fn places_law()
 /// leave.
 pub fn found_law()
     ensures parts { (o : Order) (w : World) → AllShared o w.shared →
-        ((p : ℕ) → AllName (w.lists p) (part_of p o)) → AllFit world_after SweepsInbox o w → AllFound o w }
+        ((p : ℕ) → AllName (w.lists p) (part_of p o)) → AllFit world_after SweepsInbox o w →
+        AllFound o w }
     ensures shared { (o : Order) (w : World) → (world_over o w).shared ≡ shared_over o w.shared }
-    ensures lists { (p : ℕ) (o : Order) (w : World) → (world_over o w).lists p ≡ after (w.lists p) (part_of p o) }
+    ensures lists { (p : ℕ) (o : Order) (w : World) →
+        (world_over o w).lists p ≡ after (w.lists p) (part_of p o) }
 {}
 
 /// In an order of logs each unit is in exactly one place where the order is laid, each log names what is in the lists and hands of its
 /// processor, and sweeps take what waits in the inboxes; the law of parcels says so of the log of the one processor that there is.
 pub fn logs_law()
     ensures logs { (processors pages : ℕ) (logs : List Log) (o : Order) →
-        IsOrderOf logs o → IsLaid processors pages o → EachLog (λ p log. AllName (opening p) log) logs →
+        IsOrderOf logs o → IsLaid processors pages o →
+        EachLog (λ p log. AllName (opening p) log) logs →
         AllFit world_after SweepsInbox o (outset processors pages) → IsPlaced processors pages o }
     ensures one { (pages : ℕ) (log : Log) (last : State ℕ) →
         IsLaid 1 pages (by 0 log) → Leaves 0 log last → ParcelLaw 0 log → IsPlaced 1 pages (by 0 log) }
 {}
 
-/// A unit that is in a list or hand of one processor is in none of another, in no inbox, out of the stock, and neither lives nor has
-/// just ended; and it is there once. Entries of other processors leave a processor's lists and hands, and what there is of units in them, as they were. Where
-/// no list, hand or inbox has a unit and nothing lives or is dropped, each unit is in the stock.
+/// A unit that is in a list or hand of one processor is there once, and is in none of another, in no inbox, out of the stock, and neither
+/// lives nor has just ended. Entries of other processors leave a processor's lists and hands as they were, and what is known of the units
+/// in them. Where no list, hand or inbox has a unit and nothing lives or is dropped, each unit is in the stock.
 pub fn apart_law()
     ensures only { (p u : ℕ) (w : World) → InOnePlace u w → IsWith p u w → IsOnlyWith p u w }
     ensures once { (p : ℕ) (w : World) → AllPlaced w → Once (w.lists p) }
     ensures others { (q : ℕ) (o : Order) (w : World) →
         part_of q o ≡ [] → IsWellPlaced w → AllFound o w → LeavesAlone q w (world_over o w) }
     ensures stretch { (p q : ℕ) (log : Log) → q ≢ p → part_of q (by p log) ≡ [] }
-    ensures ended { (u : ℕ) (w : World) → IsEmptied w → InOnePlace u w → (stocked_at w.shared.pool.units u).out ≡ false }
+    ensures ended { (u : ℕ) (w : World) →
+        IsEmptied w → InOnePlace u w → (stocked_at w.shared.pool.units u).out ≡ false }
 {}

@@ -14,8 +14,8 @@ use bm_law_laid::worked_journal;
 
 /// Orders of two processors with three pages, computed. A unit goes from a list of processor 1 over its hand, a life, a drop and the
 /// hand of processor 0 to a list there, and then home: over an inbox to the lists of processor 1 and the stock, or, where processor 1
-/// closes first, by the sweep. In each of the wrong orders a unit is in two places at last, and in `lost` in none; of `swept` each entry fits by itself what
-/// is shared, and the lists.
+/// closes first, by the sweep. In each of the wrong orders a unit is in two places at last, and in `lost` in none. Each entry of `swept`
+/// fits what is shared, and names what is in the lists.
 pub fn worked_places()
     ensures through { GoesThrough 256 (borrowed ++ sent_home) (outset 2 3) }
     ensures placed { IsPlaced 2 3 (all_of (borrowed ++ sent_home)) }

@@ -60,7 +60,7 @@ returns-clause-through c = (refl, (refl, (refl, (refl, (refl, (refl, (refl, (ref
 
 pub returns-clause-through_sweep : goal.returns-clause-through_sweep
 unfolding any_out fetched given is_stock_of least_below next_unit returned size_of_class unit_given
-returns-clause-through_sweep c = (refl, (refl, (refl, (refl, (refl, (refl, (refl, (refl, tt))))))))
+returns-clause-through_sweep c = (refl, (refl, (refl, (refl, (refl, (refl, (refl, (refl, (refl, tt)))))))))
 
 -- ---- wrong orders
 
