@@ -2,7 +2,7 @@
 use Rattle.std.specs.Prelude.{◌≡◌, ◌<◌, ◌≤◌, ◌+◌, ℕ, zero, suc, List, [], ◌∷◌, ◌++◌, length, get_or, drop}
 use Rattle.std.specs.List.{concat}
 use Rattle.std.proofs.Common.{refl, sym, ◌∙◌, ap, subst, arith, inl, inr, eq-eqb, ne_eqb}
-use Rattle.std.proofs.lemmas.Bool.{cases_lt}
+use Rattle.std.proofs.lemmas.Bool.{cases_eq, cases_lt}
 use Rattle.std.proofs.lemmas.Bool.Decides.{eqb_tells}
 use Rattle.bm_journal.specs.EntryText.{unit_list}
 use Rattle.bm_journal.specs.declared.entry.Entry.{Entry}
@@ -16,7 +16,9 @@ use Rattle.bm_law_order.specs.Orders.{AllFit, AllShared, IsLaid, Order, by, part
 use Rattle.bm_law_order.specs.Parcels.{Boxes, boxes_after}
 use Rattle.bm_law_scenario.specs.Parcels.{ParcelFits, ParcelLaw, ParcelsFit, no_parcels}
 use Rattle.bm_law_places.specs.Placed.{IsPlaced}
-use Rattle.bm_law_places.specs.World.{AllFound, SweepsInbox, World, outset, world_after}
+use Rattle.bm_law_places.specs.World.{AllFound, Finds, SweepsInbox, World, outset, world_after, world_over}
+use Rattle.bm_law_order.proofs.Along.{fit-append}
+use Rattle.bm_law_places.proofs.Apart.{others-part}
 use Rattle.bm_law_places.proofs.Standing.{all-placed, found-in-parts}
 
 -- ---- any number of logs
@@ -43,6 +45,23 @@ each-at P q (suc i) p (log ∷ logs) h lt e = each-at P (q + 1) i p logs h.1 (om
 pub logs-placed : (processors pages : ℕ) (logs : List Log) (o : Order) → IsOrderOf logs o → IsLaid processors pages o → EachLog (λ p log. AllName (opening p) log) logs → AllFit world_after SweepsInbox o (outset processors pages) → IsPlaced processors pages o
 logs-placed processors pages logs o is laid names sweeps =
     all-placed processors pages o (found-in-parts o (outset processors pages) laid (parts-name (length logs) o is.below (λ p lt. subst (AllName (opening p)) (sym (is.parts p lt)) (each-at (λ p log. AllName (opening p) log) 0 p p logs names lt (omega arith)))) sweeps)
+
+-- ---- one stretch after the other
+
+own-log : (p : ℕ) (log : Log) → part_of p (by p log) ≡ log
+own-log p [] = refl
+own-log p (e ∷ log) = rw (eq-eqb p p refl) (ap (λ (x : Log). e ∷ x) (own-log p log))
+
+-- a stretch of a processor's log finds what it needs where that log goes on naming what is there
+pub stretch-found : (p : ℕ) (log : Log) (w : World) → AllShared (by p log) w.shared → AllName (w.lists p) log → AllFit world_after SweepsInbox (by p log) w → AllFound (by p log) w
+stretch-found p log w shared names sweeps =
+    found-in-parts (by p log) w shared (λ q. elim (cases_eq q p) [
+      | inl same ↦ subst (λ k. AllName (w.lists k) (part_of k (by p log))) (sym same) (subst (AllName (w.lists p)) (sym (own-log p log)) names)
+      | inr other ↦ subst (AllName (w.lists q)) (sym (others-part p q log other)) tt
+    ]) sweeps
+
+pub found-join : (a b : Order) (w : World) → AllFound a w → AllFound b (world_over a w) → AllFound (a ++ b) w
+found-join a b w f g = fit-append world_after Finds a b w f g
 
 -- ---- the log of the one processor that there is
 

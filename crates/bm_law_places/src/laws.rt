@@ -1,6 +1,6 @@
 //! The laws of places.
 
-ghost use Rattle.std.specs.Prelude.{◌≡◌, ◌≢◌, ℕ, List, [], false};
+ghost use Rattle.std.specs.Prelude.{◌≡◌, ◌≢◌, ◌++◌, ℕ, List, [], false};
 ghost use Rattle.bm_journal.specs.declared.entry.Entry.{Entry};
 ghost use Rattle.bm_law.specs.Lists.{AllName, Leaves, Log, after};
 ghost use Rattle.bm_law.specs.Stands.{Once};
@@ -25,12 +25,17 @@ pub fn places_law()
 {}
 
 /// An order finds what it needs where each entry finds it of what is shared, each processor's own entries name what is in its lists
-/// and hands, and its sweeps take from outside what waits in its inboxes. The lists of a processor are those that its own entries
-/// leave.
+/// and hands, and its sweeps take from outside what waits in its inboxes. So a stretch of one processor's log does, and one order after
+/// the other. The lists of a processor are those that its own entries leave.
 pub fn found_law()
     ensures parts { (o : Order) (w : World) → AllShared o w.shared →
         ((p : ℕ) → AllName (w.lists p) (part_of p o)) → AllFit world_after SweepsInbox o w →
         AllFound o w }
+    ensures stretch { (p : ℕ) (log : Log) (w : World) → AllShared (by p log) w.shared →
+        AllName (w.lists p) log → AllFit world_after SweepsInbox (by p log) w →
+        AllFound (by p log) w }
+    ensures join { (a b : Order) (w : World) →
+        AllFound a w → AllFound b (world_over a w) → AllFound (a ++ b) w }
     ensures shared { (o : Order) (w : World) → (world_over o w).shared ≡ shared_over o w.shared }
     ensures lists { (p : ℕ) (o : Order) (w : World) →
         (world_over o w).lists p ≡ after (w.lists p) (part_of p o) }

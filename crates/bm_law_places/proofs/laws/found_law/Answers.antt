@@ -1,3 +1,4 @@
+use Rattle.bm_law_places.proofs.Logs.{found-join, stretch-found}
 use Rattle.bm_law_places.proofs.Standing.{found-in-parts, lists-of, shared-of}
 use Rattle.bm_law_places.proofs.laws.found_law.Goals as goal
 
@@ -9,3 +10,9 @@ returns-clause-shared c = shared-of
 
 pub returns-clause-lists : goal.returns-clause-lists
 returns-clause-lists c = lists-of
+
+pub returns-clause-stretch : goal.returns-clause-stretch
+returns-clause-stretch c = stretch-found
+
+pub returns-clause-join : goal.returns-clause-join
+returns-clause-join c = found-join
