@@ -8,6 +8,7 @@ use Rattle.bm_law_order.specs.Orders.{IsLaid, Order}
 use Rattle.bm_law_order.specs.Polls.{IsPolled}
 use Rattle.bm_law_order.specs.Seals.{IsSealed}
 use Rattle.bm_law_order.specs.Whole.{whole}
+use Rattle.bm_law_places.specs.Placed.{IsPlaced}
 use Rattle.bm_law_scenario.specs.Lawful.{LawfulLogs}
 use Rattle.bm_law_lives.specs.GraceLaw.{WholeGrace}
 use Rattle.bm_law_lives.specs.Lives.{WholeLives}
@@ -44,6 +45,9 @@ order_of s j = whole (named_turns s.turns) j.logs
 pub record Laid (s : Parts) (j : Journal) : Type 0 where
   -- In that order each entry finds what it needs of what processors share, from the outset on. (bm_law_order, specs/Orders)
   pub laid : IsLaid j.processors j.pages (order_of s j)
+  -- Wherever one stops in it, each unit is in exactly one place: in the stock, in an inbox, in a list or hand of one processor, alive, or
+  -- on its way from the end of its life to the free that follows. (bm_law_places, specs/Placed)
+  pub placed : IsPlaced j.processors j.pages (order_of s j)
   -- Each poll has done what there was to do, and each period was begun for a batch that waits. (bm_law_order, specs/Polls)
   pub polled : IsPolled j.processors j.pages (order_of s j)
   -- Each unit is given with what it has waited for. (bm_law_order, specs/Seals)

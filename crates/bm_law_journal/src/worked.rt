@@ -7,9 +7,11 @@ ghost use Rattle.bm_law_scenario.specs.WorkedDeferred.{one_block as block_made_a
 ghost use Rattle.bm_law_journal.specs.Lawful.{Laid, Lawful};
 ghost use Rattle.bm_law_lives.specs.Worked.{both_stages};
 ghost use Rattle.bm_law_lives.specs.Wrong.{ends_in_section, given_twice, never_ended, never_received, never_returned, no_seal, other_home, other_stamp, returned_too_early, sealed_though_plain, sent_too_early, sent_unseen};
+ghost use Rattle.bm_law_places.specs.WorkedPlaces.{sweeps_from_stock};
 
 use bm_law_laid::{worked_journal, worked_polls, worked_seals};
 use bm_law_lives::{worked_grace, worked_lives, worked_returns, worked_stamps};
+use bm_law_places::worked_journal_places;
 use bm_law_scenario::worked_deferred;
 
 /// Lawful is the journal of a block that is made and dropped, with deferred work. Whatever its scenario, a journal isn't whose logs
@@ -35,7 +37,8 @@ pub fn worked_lawful()
 
 /// Laid is the journal of one processor in which a unit goes through both stages, is given again with its seal, and is swept at last,
 /// where the scenario names no turns. A journal isn't laid whose logs give a unit without a seal after a delayed free, with another stamp
-/// than its batch's, or with a seal after a plain free, or that send a batch before its stamp was reached or without a pass.
+/// than its batch's, or with a seal after a plain free, that send a batch before its stamp was reached or without a pass, or that sweep
+/// a unit which is in the stock.
 pub fn worked_laid()
     ensures both_stages { (s : Parts) (j : Journal) → s.turns ≡ None → j.processors ≡ 1 → j.pages ≡ 1 →
         j.logs ≡ both_stages → Laid s j }
@@ -44,8 +47,11 @@ pub fn worked_laid()
     ensures too_early { (s : Parts) (j : Journal) → s.turns ≡ None → j.logs ≡ sent_too_early → ¬ Laid s j }
     ensures unseen { (s : Parts) (j : Journal) → s.turns ≡ None → j.logs ≡ sent_unseen → ¬ Laid s j }
     ensures plain { (s : Parts) (j : Journal) → s.turns ≡ None → j.logs ≡ sealed_though_plain → ¬ Laid s j }
+    ensures swept { (s : Parts) (j : Journal) → s.turns ≡ None → j.processors ≡ 1 → j.pages ≡ 2 →
+        j.logs ≡ sweeps_from_stock → ¬ Laid s j }
 {
     worked_journal();
+    worked_journal_places();
     worked_polls();
     worked_seals();
 }

@@ -47,6 +47,7 @@ use bm_journal::{Histories, Journal, Log, Logs, Names, Opened, Recorder, totals_
 use bm_lang::{Parts, Scenario, Script, TypeDeclaration};
 use bm_law_laid::{journal_law, whole_law};
 use bm_law_logs::{handled_law, lives_law, parcels_law, returned_law, returns_law, sweeps_law};
+use bm_law_places::logs_law;
 use bm_word::NoMemory;
 use bm_world::LivingSide;
 use std::alloc::Global;
@@ -107,6 +108,7 @@ fn journal_of(
 {
     whole_law();
     journal_law();
+    logs_law();
     returned_law();
     let types = type_names(alloc, scenario.types.as_slice())?;
     let scripts = script_names(alloc, scenario.scripts.as_slice())?;
@@ -240,8 +242,9 @@ fn log_of<B: Since<LivingSide>>(
     close::<B>(alloc, own, opened)
 }
 
-/// Runs a checked scenario of the forms that run so far, and gives its journal, which is lawful and laid, in which each poll has
-/// rested, each unit was given with what it had waited for, and each grace period has ended. Its time grows with the statements
+/// Runs a checked scenario of the forms that run so far, and gives its journal, which is lawful and laid, in which each unit is in
+/// exactly one place at each entry, each poll has rested, each unit was given with what it had waited for, and each grace period has
+/// ended. Its time grows with the statements
 /// run. Out of memory is the only refusal.
 pub fn replay(alloc: Global, checked: &Checked) -> Result<Journal, NoMemory>
     requires { RunsYet checked.now }

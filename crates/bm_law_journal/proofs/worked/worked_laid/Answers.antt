@@ -7,6 +7,8 @@ use Rattle.bm_law_order.specs.Polls.{IsPolled}
 use Rattle.bm_law_order.specs.Seals.{IsSealed}
 use Rattle.bm_law_order.specs.Whole.{whole}
 use Rattle.bm_law_lives.specs.Worked.{both_stages}
+use Rattle.bm_law_places.specs.Placed.{IsPlaced}
+use Rattle.bm_law_places.specs.WorkedPlaces.{sweeps_from_stock}
 use Rattle.bm_law_lives.specs.Wrong.{no_seal, other_stamp, sealed_though_plain, sent_too_early, sent_unseen}
 use Rattle.bm_law_journal.specs.Lawful.{Laid, named_turns, order_of}
 use Rattle.bm_law_journal.proofs.worked.worked_laid.Goals as goal
@@ -24,6 +26,7 @@ sealed s j logs e f h = subst IsSealed (order-is s j logs e f) h.sealed
 pub returns-clause-both_stages : goal.returns-clause-both_stages
 returns-clause-both_stages c s j e p q f = record {
   laid = on-journal IsLaid s j both_stages e p q f c.worked_journal.ensures;
+  placed = on-journal IsPlaced s j both_stages e p q f c.worked_journal_places.ensures.both_stages;
   polled = on-journal IsPolled s j both_stages e p q f c.worked_polls.ensures.both_stages;
   sealed = on-journal (λ n m o. IsSealed o) s j both_stages e p q f c.worked_seals.ensures.both_stages;
 }
@@ -42,3 +45,8 @@ returns-clause-unseen c s j e f h = c.worked_seals.ensures.unseen (sealed s j se
 
 pub returns-clause-plain : goal.returns-clause-plain
 returns-clause-plain c s j e f h = c.worked_seals.ensures.plain (sealed s j sealed_though_plain e f h)
+
+pub returns-clause-swept : goal.returns-clause-swept
+returns-clause-swept c s j e p q f h =
+    let here : IsPlaced j.processors j.pages (whole [] sweeps_from_stock) = subst (λ o. IsPlaced j.processors j.pages o) (order-is s j sweeps_from_stock e f) h.placed in
+    c.worked_journal_places.ensures.swept (subst (λ n. IsPlaced 1 n (whole [] sweeps_from_stock)) q (subst (λ n. IsPlaced n j.pages (whole [] sweeps_from_stock)) p here))

@@ -8,7 +8,9 @@ use Rattle.bm_law_order.specs.Seals.{IsSealed}
 use Rattle.bm_law_order.specs.Shared.{fresh}
 use Rattle.bm_law_order.specs.Whole.{whole}
 use Rattle.bm_law_journal.specs.Lawful.{named_turns}
+use Rattle.bm_law_places.specs.Placed.{IsPlaced}
 use Rattle.bm_run.proofs.Laid.{laid-whole, whole-one}
+use Rattle.bm_run.proofs.LogLaw.{alone-sends}
 use Rattle.bm_run.proofs.PollsTold.{polled-whole}
 use Rattle.bm_run.proofs.SealsTold.{sealed-whole}
 use Rattle.bm_law_scenario.specs.Lawful.{LawfulLog}
@@ -74,8 +76,11 @@ returns-clause-laid c =
     let turns = named_turns s.turns in
     let one = sym c.in_ok-logs.ensures in
     let processors = sym c.requires.yet.one in
+    let l : LawfulLog s 0 log = c.requires.lawful in
+    let placed = c.logs_law.ensures.one s.pages log l.last c.requires.laid l.lists (l.parcels (alone-sends s c.requires.yet.one)) in
     record {
       laid = subst (λ (x : List Log). IsLaid s.processors s.pages (whole turns x)) one (subst (λ (n : ℕ). IsLaid n s.pages (whole turns (log ∷ []))) processors (laid-whole turns s.pages log c.requires.laid));
+      placed = subst (λ (x : List Log). IsPlaced s.processors s.pages (whole turns x)) one (subst (λ (n : ℕ). IsPlaced n s.pages (whole turns (log ∷ []))) processors (subst (λ (o : Order). IsPlaced 1 s.pages o) (sym (whole-one turns log)) placed));
       polled = subst (λ (x : List Log). IsPolled s.processors s.pages (whole turns x)) one (subst (λ (n : ℕ). IsPolled n s.pages (whole turns (log ∷ []))) processors (polled-whole turns s.pages log c.requires.polled));
       sealed = subst (λ (x : List Log). IsSealed (whole turns x)) one (sealed-whole turns log c.requires.sealed);
     }
