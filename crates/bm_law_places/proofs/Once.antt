@@ -1,12 +1,13 @@
 -- Where each unit is in exactly one place, no unit stands twice in the lists and hands of a processor.
-use Rattle.std.specs.Prelude.{◌≡◌, ◌≢◌, ◌≤◌, ◌+◌, ℕ, zero, suc}
+use Rattle.std.specs.Prelude.{◌≡◌, ◌≢◌, ◌<◌, ◌≤◌, ◌+◌, ℕ, zero, suc}
 use Rattle.std.proofs.Common.{refl, sym, ◌∙◌, ap, subst, arith, inl, inr}
 use Rattle.std.proofs.lemmas.Bool.{cases_eq}
 use Rattle.bm_law.specs.Stands.{Once, in_row, stands, sum_to, times}
 use Rattle.bm_law.proofs.Stands.{times-seven}
 use Rattle.bm_law_places.specs.Place.{Place, Stock, Inbox, Cache, Hand, Living, Ending, times_at}
-use Rattle.bm_law_places.specs.Placed.{AllPlaced, InOnePlace}
+use Rattle.bm_law_places.specs.Placed.{AllPlaced, InOnePlace, IsOf}
 use Rattle.bm_law_places.specs.World.{World}
+use Rattle.bm_law_places.proofs.Apart.{is-there}
 use Rattle.bm_law_places.proofs.Same.{place_tells}
 
 sum-none : (N : ℕ) (f : ℕ → ℕ) → ((k : ℕ) → f k ≡ 0) → sum_to N f ≡ 0
@@ -82,3 +83,17 @@ once-each p w all u = go (all u) (all u).place refl
         (omega arith)
     go h Living is = both rows hands 0 0 (no-rows h (λ c e. cc)) (no-hands h (λ l e. cc)) (omega arith)
     go h (Ending q j) is = both rows hands 0 0 (no-rows h (λ c e. cc)) (no-hands h (λ l e. cc)) (omega arith)
+
+-- ---- where a unit isn't
+
+no-sum : (a b : ℕ) → a ≡ 0 → b ≡ 0 → a + b ≡ 0
+no-sum a b p q = omega (arith, p, q)
+
+-- a unit that another place names doesn't stand in the lists and hands of a processor
+pub stands-none : (p u : ℕ) (a : Place) (w : World) → InOnePlace u w → 0 < times_at u a w → (IsOf p a → ⊥) → stands u (w.lists p) ≡ 0
+unfolding stands
+stands-none p u a w h lt out =
+    let there : a ≡ h.place = is-there u a w h lt in
+    no-sum _ _
+    (sum-none 11 (λ c. in_row u ((w.lists p).rows c)) (λ c. cache-none u p c w h (λ e. out (subst (IsOf p) (e ∙ sym there) refl))))
+    (sum-none 4 (λ l. times u ((w.lists p).sides l).hand) (λ l. h.only (Hand p l) (λ e. out (subst (IsOf p) (e ∙ sym there) refl))))

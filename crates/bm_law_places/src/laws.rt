@@ -1,9 +1,9 @@
 //! The laws of places.
 
-ghost use Rattle.std.specs.Prelude.{◌≡◌, ◌≢◌, ◌++◌, ℕ, List, [], false};
+ghost use Rattle.std.specs.Prelude.{◌≡◌, ◌≢◌, ◌<◌, ◌++◌, ℕ, List, [], false};
 ghost use Rattle.bm_journal.specs.declared.entry.Entry.{Entry};
 ghost use Rattle.bm_law.specs.Lists.{AllName, Leaves, Log, after};
-ghost use Rattle.bm_law.specs.Stands.{Once};
+ghost use Rattle.bm_law.specs.Stands.{Once, stands};
 ghost use Rattle.bm_law.specs.State.{State, opening};
 ghost use Rattle.bm_law_laid.specs.OrderOf.{IsOrderOf};
 ghost use Rattle.bm_law_lives.specs.Together.{EachLog};
@@ -11,7 +11,8 @@ ghost use Rattle.bm_law_order.specs.Orders.{AllFit, AllShared, IsLaid, Order, by
 ghost use Rattle.bm_law_scenario.specs.Parcels.{ParcelLaw};
 ghost use Rattle.bm_page.specs.Stock.{stocked_at};
 ghost use Rattle.bm_law_places.specs.World.{AllFound, Finds, SweepsInbox, World, outset, world_after, world_over};
-ghost use Rattle.bm_law_places.specs.Placed.{AllPlaced, InOnePlace, IsEmptied, IsOnlyWith, IsPlaced, IsWellPlaced, IsWith, LeavesAlone};
+ghost use Rattle.bm_law_places.specs.Place.{Place, times_at};
+ghost use Rattle.bm_law_places.specs.Placed.{AllPlaced, InOnePlace, IsEmptied, IsOf, IsOnlyWith, IsPlaced, IsWellPlaced, IsWith, LeavesAlone};
 
 /// Each unit is in exactly one place: at the outset, and after each entry that finds what it needs if it was so before. So it is
 /// along an order of which each entry does, wherever one stops.
@@ -53,11 +54,14 @@ pub fn logs_law()
 {}
 
 /// A unit that is in a list or hand of one processor is there once, and is in none of another, in no inbox, out of the stock, and neither
-/// lives nor has just ended. Entries of other processors leave a processor's lists and hands as they were, and what is known of the units
-/// in them. Where no list, hand or inbox has a unit and nothing lives or is dropped, each unit is in the stock.
+/// lives nor has just ended; one that is in any other place stands in no list or hand of the processor. Entries of other processors leave a
+/// processor's lists and hands as they were, and what is known of the units in them. Where no list, hand or inbox has a unit and nothing
+/// lives or is dropped, each unit is in the stock.
 pub fn apart_law()
     ensures only { (p u : ℕ) (w : World) → InOnePlace u w → IsWith p u w → IsOnlyWith p u w }
     ensures once { (p : ℕ) (w : World) → AllPlaced w → Once (w.lists p) }
+    ensures elsewhere { (p u : ℕ) (a : Place) (w : World) →
+        InOnePlace u w → 0 < times_at u a w → (IsOf p a → ⊥) → stands u (w.lists p) ≡ 0 }
     ensures others { (q : ℕ) (o : Order) (w : World) →
         part_of q o ≡ [] → IsWellPlaced w → AllFound o w → LeavesAlone q w (world_over o w) }
     ensures stretch { (p q : ℕ) (log : Log) → q ≢ p → part_of q (by p log) ≡ [] }

@@ -1,5 +1,5 @@
 use Rattle.bm_law_places.proofs.Apart.{back-in-stock, leaves-alone, only-with, others-part}
-use Rattle.bm_law_places.proofs.Once.{once-each}
+use Rattle.bm_law_places.proofs.Once.{once-each, stands-none}
 use Rattle.bm_law_places.proofs.laws.apart_law.Goals as goal
 
 pub returns-clause-only : goal.returns-clause-only
@@ -16,3 +16,6 @@ returns-clause-ended c = back-in-stock
 
 pub returns-clause-once : goal.returns-clause-once
 returns-clause-once c = once-each
+
+pub returns-clause-elsewhere : goal.returns-clause-elsewhere
+returns-clause-elsewhere c = stands-none
