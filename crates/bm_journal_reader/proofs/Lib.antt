@@ -1,0 +1,10 @@
+pub mod Clean
+pub mod EntriesBack
+pub mod Gathered
+pub mod ItemsFit
+pub mod LinesBack
+pub mod OneText
+pub mod PartsBack
+pub mod Same
+pub mod Spelled
+pub mod TextBack
