@@ -2,9 +2,13 @@ pub mod Clean
 pub mod EntriesBack
 pub mod Gathered
 pub mod ItemsFit
+pub mod Later
 pub mod LinesBack
+pub mod NumbersRead
 pub mod OneText
+pub mod Options
 pub mod PartsBack
 pub mod Same
+pub mod Shapes
 pub mod Spelled
 pub mod TextBack

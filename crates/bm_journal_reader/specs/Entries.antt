@@ -122,9 +122,15 @@ refused_entry kind.PushBack n o owner p = Some (entry.PushBackAlready n o.unit o
 refused_entry kind.Add n o owner p = Some (entry.AddAlready n o.unit o.life owner p)
 refused_entry k n o owner p = None
 
+abbrev pub pushed_at : Kind → List ℕ → Option ObjId → Option ℕ → Option Entry
+pushed_at k n o p = after (name n) (λ n. after o (λ o. after p (pushed_entry k n o)))
+
+abbrev pub refused_at : Kind → List ℕ → Option ObjId → List ℕ → List ℕ → Option ℕ → Option Entry
+refused_at k n o y owner p = only_if (word_is (codes "already") y) (after (name n) (λ n. after o (λ o. after (name owner) (λ owner. after p (refused_entry k n o owner)))))
+
 abbrev pub pushed : Kind → Words → Option Entry
-pushed k (n ∷ u ∷ l ∷ a ∷ p ∷ []) = after (name n) (λ n. after (object_id u l) (λ o. after (at_position a p) (pushed_entry k n o)))
-pushed k (n ∷ u ∷ l ∷ y ∷ owner ∷ a ∷ p ∷ []) = only_if (word_is (codes "already") y) (after (name n) (λ n. after (object_id u l) (λ o. after (name owner) (λ owner. after (at_position a p) (refused_entry k n o owner)))))
+pushed k (n ∷ u ∷ l ∷ a ∷ p ∷ []) = pushed_at k n (object_id u l) (at_position a p)
+pushed k (n ∷ u ∷ l ∷ y ∷ owner ∷ a ∷ p ∷ []) = refused_at k n (object_id u l) y owner (at_position a p)
 pushed k words = None
 
 abbrev pub found_entry : Kind → List ℕ → Option ObjId → ℕ → Option Entry
@@ -133,15 +139,24 @@ found_entry kind.PopBack n x p = Some (entry.PopBack n x p)
 found_entry kind.First n x p = Some (entry.First n x p)
 found_entry k n x p = None
 
+abbrev pub found_none : Kind → List ℕ → List ℕ → Option ℕ → Option Entry
+found_none k n x p = only_if (word_is (codes "none") x) (after (name n) (λ n. after p (found_entry k n None)))
+
+abbrev pub found_at : Kind → List ℕ → Option ObjId → Option ℕ → Option Entry
+found_at k n o p = after (name n) (λ n. after o (λ o. after p (found_entry k n (Some o))))
+
 abbrev pub found : Kind → Words → Option Entry
-found k (n ∷ x ∷ a ∷ p ∷ []) = only_if (word_is (codes "none") x) (after (name n) (λ n. after (at_position a p) (found_entry k n None)))
-found k (n ∷ u ∷ l ∷ a ∷ p ∷ []) = after (name n) (λ n. after (object_id u l) (λ o. after (at_position a p) (found_entry k n (Some o))))
+found k (n ∷ x ∷ a ∷ p ∷ []) = found_none k n x (at_position a p)
+found k (n ∷ u ∷ l ∷ a ∷ p ∷ []) = found_at k n (object_id u l) (at_position a p)
 found k words = None
 
 -- ---- the end of a period: the words before `later` and those behind it
 
+abbrev pub both_few : Words → Words → Option (List ℕ × List ℕ)
+both_few before behind = after (few 16 before) (λ first. after (few 16 behind) (λ later. Some (first, later)))
+
 abbrev pub words_at : Words → ℕ → Option (List ℕ × List ℕ)
-words_at words place = after (few 16 (take place words)) (λ first. after (few 16 (drop (place + 1) words)) (λ later. Some (first, later)))
+words_at words place = both_few (take place words) (drop (place + 1) words)
 
 abbrev pub looked_at : Words → Option (List ℕ × List ℕ)
 looked_at words = after (position (λ w. word_is (codes "later") w) words) (words_at words)

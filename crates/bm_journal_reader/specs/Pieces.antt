@@ -1,6 +1,8 @@
 -- The pieces of a text: its lines, each without its line feed, and behind the last line feed the end. The words of a line.
 use Rattle.std.specs.Prelude.{ℕ, ◌==◌, List}
 use Rattle.std.specs.List.{slice_split}
+use Rattle.std.specs.Prelude.{map}
+use denote.Ref.{Bor}
 use Rattle.bm_journal.specs.EntryText.{Words}
 
 abbrev pub pieces : List ℕ → List (List ℕ)
@@ -8,3 +10,7 @@ pieces bytes = slice_split (λ b. b == 10) bytes
 
 abbrev pub words : List ℕ → Words
 words piece = slice_split (λ b. b == 32) piece
+
+-- what slices hold
+abbrev pub texts : List (Bor (List ℕ)) → Words
+texts slices = map (λ s. s.now) slices

@@ -70,6 +70,21 @@ pub enum Kind {
     Sweep,
 }
 
+/// The kind with this word. None exactly where no entry begins with it.
+#[tactic(auto, unfolding(crate::specs::Kinds::kind_of))]
+pub fn kind_of(word: &[u8]) -> Option<Kind>
+    ensures { result ≡ kind_of word.now }
+{
+    first_spelled(&Kind::all(), word)
+}
+
+// The first of some kinds whose word is this.
+fn first_spelled(kinds: &[Kind], word: &[u8]) -> Option<Kind>
+    ensures { result ≡ find (λ kind. bytes_eq (kind_text kind) word.now) kinds.now }
+{
+    kinds.iter().copied().find(|kind| kind.text() == word)
+}
+
 impl Kind {
     /// All kinds, each once.
     pub fn all() -> [Kind; 61]

@@ -1,9 +1,16 @@
 //! Journals read back.
 #![tactic(auto)]
 
+mod calls;
+mod entry;
+mod exchange;
 mod kind;
 mod law;
 mod line;
+mod lists;
+mod named;
+mod parts;
+mod steps;
 
 pub use kind::Kind;
 pub use law::one_text;
