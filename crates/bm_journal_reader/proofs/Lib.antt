@@ -7,6 +7,7 @@ pub mod LinesBack
 pub mod NumbersRead
 pub mod OneText
 pub mod Options
+pub mod OwnersPut
 pub mod PartsBack
 pub mod Same
 pub mod Shapes

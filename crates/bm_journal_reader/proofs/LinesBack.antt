@@ -16,8 +16,8 @@ use Rattle.bm_journal.specs.WellFormed.{all_differ, owner_below}
 use Rattle.bm_journal_reader.specs.declared.line.Line.{Line}
 use Rattle.bm_journal_reader.specs.declared.line.Line.TheVariants as line_as
 use Rattle.bm_journal_reader.specs.Kinds.{kind_of}
-use Rattle.bm_journal_reader.specs.Parts.{number}
-use Rattle.bm_journal_reader.specs.Reading.{names, owner_place, past_call, total_words, line_of}
+use Rattle.bm_journal_reader.specs.Parts.{names, number}
+use Rattle.bm_journal_reader.specs.Reading.{owner_place, past_call, total_words, line_of}
 use Rattle.bm_journal_reader.specs.Lines.{line_head, line_tail}
 use Rattle.bm_journal_reader.specs.Fits.{Each, IsName, PastCallFits, LineFits}
 use Rattle.bm_journal_reader.proofs.PartsBack.{number-decimal, name-back, class-back, id-back, tag-back}
@@ -49,12 +49,20 @@ not_any x (y ∷ ys) (suc place) w none at = not_any x ys place w ((neither (byt
 same_bytes : (x : List ℕ) → bytes_eq x x ≡ true
 same_bytes x = (bytes_eq-Decides x x).1 refl
 
-owner_at : (maps : List (List ℕ)) (place : ℕ) (w : List ℕ) → IsTrue (all_differ maps) → slice_get maps place ≡ Some w → position_or_len (λ m. bytes_eq m w) maps ≡ place
+swapped : (x w : List ℕ) → bytes_eq x w ≡ false → bytes_eq w x ≡ false
+swapped x w no =
+    let case : (b : Bool) → bytes_eq w x ≡ b → bytes_eq w x ≡ false = λ b.
+        elim b as (λ b. bytes_eq w x ≡ b → bytes_eq w x ≡ false)
+        [ true ↦ λ e. let same : w ≡ x = (bytes_eq-Decides w x).0 e in let yes : bytes_eq x w ≡ true = (bytes_eq-Decides x w).1 (sym same) in cc
+        | false ↦ λ e. e ]
+    in case (bytes_eq w x) refl
+
+owner_at : (maps : List (List ℕ)) (place : ℕ) (w : List ℕ) → IsTrue (all_differ maps) → slice_get maps place ≡ Some w → position_or_len (λ m. bytes_eq w m) maps ≡ place
 owner_at [] place w differ at = cc
 owner_at (x ∷ xs) zero w differ at = let same : x ≡ w = cc in rw (← same) (rw (same_bytes x) refl)
 owner_at (x ∷ xs) (suc place) w differ at =
     let d = both (not (list_any (bytes_eq x) xs)) (all_differ xs) differ in
-    rw (not_any x xs place w (no_not (list_any (bytes_eq x) xs) d.0) at) (omega (arith, owner_at xs place w d.1 at))
+    rw (swapped x w (not_any x xs place w (no_not (list_any (bytes_eq x) xs) d.0) at)) (omega (arith, owner_at xs place w d.1 at))
 
 owner_word : (maps : List (List ℕ)) (place : ℕ) → place < length maps → (w : List ℕ) × (slice_get maps place ≡ Some w)
 owner_word [] place lt = absurd (omega arith)
@@ -64,7 +72,7 @@ owner_word (x ∷ xs) (suc place) lt = owner_word xs place (omega arith)
 owner-back : (maps : List (List ℕ)) (place : ℕ) (w : List ℕ) → IsTrue (all_differ maps) → place < length maps → place < 2 ^ 8 → slice_get maps place ≡ Some w → owner_place maps w ≡ Some place
 unfolding owner_place
 owner-back maps place w differ lt small at =
-    let here : position_or_len (λ m. bytes_eq m w) maps ≡ place = owner_at maps place w differ at in
+    let here : position_or_len (λ m. bytes_eq w m) maps ≡ place = owner_at maps place w differ at in
     let yes : nat_lt place (length maps) ≡ true = grind (arith, nat_tests) in
     let fits : nat_lt place (2 ^ 8) ≡ true = grind (arith, nat_tests) in
     rw here (rw yes (rw fits refl))

@@ -4,32 +4,30 @@ use Rattle.std.proofs.lemmas.Bool.Decides.{nat_tests}
 use Rattle.std.specs.Prelude.{nat_le}
 use Rattle.bm_journal.specs.EntryText.{Words}
 use Rattle.bm_journal_reader.specs.Pieces.{texts}
-use Rattle.bm_journal_reader.specs.Parts.{after, only_if, number, numbers, few}
+use Rattle.bm_journal_reader.specs.Parts.{after, only_if, each_read, number, numbers, few}
 use Rattle.bm_journal_reader.proofs.Options.{after-some}
 
-more_suc : (limit : ℕ) (xs : List (Bor (List ℕ))) (i : ℕ) (d : Bor (List ℕ)) (ns : List ℕ) (n : ℕ) → i < length xs → numbers limit (texts (take i xs)) ≡ Some ns → number limit (get_or xs i d).now ≡ Some n → numbers limit (texts (take (suc i) xs)) ≡ Some (ns ++ n ∷ [])
-unfolding numbers
-more_suc limit [] i d ns n lt so_far here = absurd (omega arith)
-more_suc limit (x ∷ xs) zero d ns n lt so_far here = let none : [] ≡ ns = cc in rw here (rw (← none) refl)
-more_suc limit (x ∷ xs) (suc i) d ns n lt so_far here =
-    let a = after-some (number limit x.now) (λ n. after (numbers limit (texts (take i xs))) (λ ns. Some (n ∷ ns))) ns so_far in
-    let b = after-some (numbers limit (texts (take i xs))) (λ ms. Some (a.0 ∷ ms)) ns a.2 in
-    let whole : a.0 ∷ b.0 ≡ ns = cc (b.2) in
-    let rest = more_suc limit xs i d b.0 n (omega arith) b.1 here in
-    rw (a.1) (rw rest (ap (λ ms. Some (ms ++ n ∷ [])) whole))
+more_suc : {A : Type 0} (f : List ℕ → Option A) (xs : List (Bor (List ℕ))) (i : ℕ) (d : Bor (List ℕ)) (ys : List A) (a : A) → i < length xs → each_read f (texts (take i xs)) ≡ Some ys → f (get_or xs i d).now ≡ Some a → each_read f (texts (take (suc i) xs)) ≡ Some (ys ++ a ∷ [])
+more_suc f [] i d ys a lt so_far here = absurd (omega arith)
+more_suc f (x ∷ xs) zero d ys a lt so_far here = let none : [] ≡ ys = cc in rw here (ap (λ bs. Some (bs ++ a ∷ [])) none)
+more_suc f (x ∷ xs) (suc i) d ys a lt so_far here =
+    let p = after-some (f x.now) (λ n. after (each_read f (texts (take i xs))) (λ ns. Some (n ∷ ns))) ys so_far in
+    let q = after-some (each_read f (texts (take i xs))) (λ ms. Some (p.0 ∷ ms)) ys p.2 in
+    let whole : p.0 ∷ q.0 ≡ ys = cc (q.2) in
+    let rest = more_suc f xs i d q.0 a (omega arith) q.1 here in
+    rw (p.1) (rw rest (ap (λ ms. Some (ms ++ a ∷ [])) whole))
 
-pub numbers-more : (limit : ℕ) (xs : List (Bor (List ℕ))) (i : ℕ) (d : Bor (List ℕ)) (ns : List ℕ) (n : ℕ) → i < length xs → numbers limit (texts (take i xs)) ≡ Some ns → number limit (get_or xs i d).now ≡ Some n → numbers limit (texts (take (i + 1) xs)) ≡ Some (ns ++ n ∷ [])
-numbers-more limit xs i d ns n lt so_far here = rw add-one (more_suc limit xs i d ns n lt so_far here)
+pub each-more : {A : Type 0} (f : List ℕ → Option A) (xs : List (Bor (List ℕ))) (i : ℕ) (d : Bor (List ℕ)) (ys : List A) (a : A) → i < length xs → each_read f (texts (take i xs)) ≡ Some ys → f (get_or xs i d).now ≡ Some a → each_read f (texts (take (i + 1) xs)) ≡ Some (ys ++ a ∷ [])
+each-more f xs i d ys a lt so_far here = rw add-one (more_suc f xs i d ys a lt so_far here)
 
 after_none : {A B : Type 0} (o : Option A) → after o (λ x. let none : Option B = None in none) ≡ None
 after_none None = refl
 after_none (Some x) = refl
 
-pub numbers-none : (limit : ℕ) (xs : List (Bor (List ℕ))) (i : ℕ) (d : Bor (List ℕ)) → i < length xs → number limit (get_or xs i d).now ≡ None → None ≡ numbers limit (texts xs)
-unfolding numbers
-numbers-none limit [] i d lt here = absurd (omega arith)
-numbers-none limit (x ∷ xs) zero d lt here = rw here refl
-numbers-none limit (x ∷ xs) (suc i) d lt here = rw (← numbers-none limit xs i d (omega arith) here) (sym (after_none (number limit x.now)))
+pub each-none : {A : Type 0} (f : List ℕ → Option A) (xs : List (Bor (List ℕ))) (i : ℕ) (d : Bor (List ℕ)) → i < length xs → f (get_or xs i d).now ≡ None → None ≡ each_read f (texts xs)
+each-none f [] i d lt here = absurd (omega arith)
+each-none f (x ∷ xs) zero d lt here = rw here refl
+each-none f (x ∷ xs) (suc i) d lt here = rw (← each-none f xs i d (omega arith) here) (sym (after_none (f x.now)))
 
 take_all : {A : Type 0} (xs : List A) (i : ℕ) → length xs ≤ i → take i xs ≡ xs
 take_all [] zero le = refl
@@ -37,18 +35,34 @@ take_all [] (suc i) le = refl
 take_all (x ∷ xs) zero le = absurd (omega arith)
 take_all (x ∷ xs) (suc i) le = rw (take_all xs i (omega arith)) refl
 
+pub each-all : {A : Type 0} (f : List ℕ → Option A) (xs : List (Bor (List ℕ))) (i : ℕ) (ys : List A) → length xs ≤ i → each_read f (texts (take i xs)) ≡ Some ys → Some ys ≡ each_read f (texts xs)
+each-all f xs i ys le so_far = sym so_far ∙ ap (λ zs. each_read f (texts zs)) (take_all xs i le)
+
+pub each-length : {A : Type 0} (f : List ℕ → Option A) (ws : Words) (ys : List A) → each_read f ws ≡ Some ys → length ys ≡ length ws
+each-length f [] ys h = let e : [] ≡ ys = cc in ap length (sym e)
+each-length f (w ∷ ws) ys h =
+    let a = after-some (f w) (λ n. after (each_read f ws) (λ ns. Some (n ∷ ns))) ys h in
+    let b = after-some (each_read f ws) (λ ms. Some (a.0 ∷ ms)) ys a.2 in
+    let whole : a.0 ∷ b.0 ≡ ys = cc (b.2) in
+    sym (ap length whole) ∙ ap suc (each-length f ws b.0 b.1)
+
+-- ---- numbers
+
+pub numbers-more : (limit : ℕ) (xs : List (Bor (List ℕ))) (i : ℕ) (d : Bor (List ℕ)) (ns : List ℕ) (n : ℕ) → i < length xs → numbers limit (texts (take i xs)) ≡ Some ns → number limit (get_or xs i d).now ≡ Some n → numbers limit (texts (take (i + 1) xs)) ≡ Some (ns ++ n ∷ [])
+unfolding numbers
+numbers-more limit xs i d ns n lt so_far here = each-more (number limit) xs i d ns n lt so_far here
+
+pub numbers-none : (limit : ℕ) (xs : List (Bor (List ℕ))) (i : ℕ) (d : Bor (List ℕ)) → i < length xs → number limit (get_or xs i d).now ≡ None → None ≡ numbers limit (texts xs)
+unfolding numbers
+numbers-none limit xs i d lt here = each-none (number limit) xs i d lt here
+
 pub numbers-all : (limit : ℕ) (xs : List (Bor (List ℕ))) (i : ℕ) (ns : List ℕ) → length xs ≤ i → numbers limit (texts (take i xs)) ≡ Some ns → Some ns ≡ numbers limit (texts xs)
-numbers-all limit xs i ns le so_far = let whole : take i xs ≡ xs = take_all xs i le in rw (← whole) (sym so_far)
+unfolding numbers
+numbers-all limit xs i ns le so_far = each-all (number limit) xs i ns le so_far
 
 pub numbers-length : (limit : ℕ) (ws : Words) (ns : List ℕ) → numbers limit ws ≡ Some ns → length ns ≡ length ws
 unfolding numbers
-numbers-length limit [] ns h = let e : [] ≡ ns = cc in rw (← e) refl
-numbers-length limit (w ∷ ws) ns h =
-    let a = after-some (number limit w) (λ n. after (numbers limit ws) (λ ns. Some (n ∷ ns))) ns h in
-    let b = after-some (numbers limit ws) (λ ms. Some (a.0 ∷ ms)) ns a.2 in
-    let whole : a.0 ∷ b.0 ≡ ns = cc (b.2) in
-    let same = numbers-length limit ws b.0 b.1 in
-    sym (ap length whole) ∙ ap suc same
+numbers-length limit ws ns h = each-length (number limit) ws ns h
 
 -- too many words are no few numbers
 pub few-long : (most : ℕ) (ws : Words) → most < length ws → None ≡ few most ws

@@ -41,10 +41,18 @@ class word = after (number_of word) (λ n. find (λ c. size_of_class c == n) cla
 unfoldable pub domain : List ℕ → Option Domain
 domain word = if word_is (codes "plain") word then Some Plain else (if word_is (codes "tracing") word then Some Tracing else None)
 
--- numbers below a limit, to the end of the line
+-- each word read, to the end of the line
+abbrev pub each_read : {A : Type 0} → (List ℕ → Option A) → Words → Option (List A)
+each_read read [] = Some []
+each_read read (word ∷ words) = after (read word) (λ x. after (each_read read words) (λ xs. Some (x ∷ xs)))
+
+-- numbers below a limit
 unfoldable pub numbers : ℕ → Words → Option (List ℕ)
-numbers limit [] = Some []
-numbers limit (word ∷ words) = after (number limit word) (λ n. after (numbers limit words) (λ ns. Some (n ∷ ns)))
+numbers limit words = each_read (number limit) words
+
+-- names
+unfoldable pub names : Words → Option (List (List ℕ))
+names words = each_read name words
 
 -- the same, and so many at most
 abbrev pub few : ℕ → Words → Option (List ℕ)

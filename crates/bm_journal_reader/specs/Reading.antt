@@ -13,14 +13,10 @@ use Rattle.bm_journal_reader.specs.declared.kind.Kind.TheVariants as kind
 use Rattle.bm_journal_reader.specs.declared.line.Line.{Line}
 use Rattle.bm_journal_reader.specs.declared.line.Line.TheVariants as line_as
 use Rattle.bm_journal_reader.specs.Kinds.{kind_of}
-use Rattle.bm_journal_reader.specs.Parts.{after, only_if, word_is, number, name, class, object_id, tag}
+use Rattle.bm_journal_reader.specs.Parts.{after, only_if, word_is, number, name, names, class, object_id, tag}
 use Rattle.bm_journal_reader.specs.Entries.{entry_of}
 
 -- ---- the heading and the totals
-
-unfoldable pub names : Words → Option (List (List ℕ))
-names [] = Some []
-names (w ∷ ws) = after (name w) (λ n. after (names ws) (λ ns. Some (n ∷ ns)))
 
 abbrev pub size_words : Words → Option Line
 size_words (p ∷ w ∷ g ∷ []) = only_if (word_is (codes "pages") w) (after (number (2 ^ 8) p) (λ p. after (number (2 ^ 16) g) (λ g. Some (line_as.Size p g))))
@@ -45,7 +41,7 @@ total_words words = None
 -- ---- histories; an owner is one of the maps, at a place that a byte can say
 
 unfoldable pub owner_place : List (List ℕ) → List ℕ → Option ℕ
-owner_place maps word = after (position (λ m. bytes_eq m word) maps) (λ place. only_if (nat_lt place (2 ^ 8)) (Some place))
+owner_place maps word = after (position (λ m. bytes_eq word m) maps) (λ place. only_if (nat_lt place (2 ^ 8)) (Some place))
 
 abbrev pub past_pushed_call : Kind → ObjId → Option PastCall
 past_pushed_call kind.PushFront o = Some (past.PushFront o)

@@ -9,6 +9,7 @@ mod law;
 mod line;
 mod lists;
 mod named;
+mod owners;
 mod parts;
 mod steps;
 

@@ -1,13 +1,13 @@
-//! Numbers to the end of a line.
+//! Numbers and names to the end of a line.
 
 ghost use Rattle.std.specs.Prelude.{◌≡◌, ◌^◌, IfOk, option_map};
 ghost use Rattle.bm_journal_reader.specs.Pieces.{texts};
-ghost use Rattle.bm_journal_reader.specs.Parts.{numbers, few};
+ghost use Rattle.bm_journal_reader.specs.Parts.{numbers, names, few};
 
 use crate::parts;
 use arrayvec::ArrayVec;
 use bm_journal::{UnitNumbers, Values, Words};
-use bm_word::NoMemory;
+use bm_word::{Name, NoMemory};
 use std::alloc::Global;
 
 /// Numbers of units.
@@ -56,4 +56,18 @@ pub fn values(words: &[&[u8]]) -> Option<Values>
     ensures { result ≡ few 8 (texts words.now) }
 {
     Values::new(few(words)?.as_slice())
+}
+
+/// Names.
+pub fn names(alloc: Global, words: &[&[u8]]) -> Result<Option<Vec<Name>>, NoMemory>
+    ensures { IfOk result (λ read. option_map (λ names. names.items) read ≡ names (texts words.now)) }
+{
+    let mut names = Vec::new(alloc);
+    for word in words {
+        let Some(name) = parts::name(word) else {
+            return Ok(None);
+        };
+        names.push(name)?;
+    }
+    Ok(Some(names))
 }
