@@ -1,5 +1,5 @@
 -- Each line is read back from its words.
-use Rattle.std.proofs.Common.{◌≡◌, ℕ, zero, suc, ◌<◌, ◌^◌, Bool, true, false, ◌&&◌, not, ◌||◌, List, [], ◌∷◌, Some, length, refl, arith, decimal, lit≤}
+use Rattle.std.proofs.Common.{◌≡◌, ℕ, zero, suc, ◌<◌, ◌^◌, Bool, true, false, ◌&&◌, not, ◌||◌, List, [], ◌∷◌, Some, length, refl, arith, decimal, lit≤, sym}
 use Rattle.std.proofs.lemmas.Bool.Decides.{nat_tests}
 use Rattle.std.proofs.lemmas.Slice.Eq.{bytes_eq-Decides}
 use Rattle.std.specs.List.{position_or_len, list_any}
@@ -50,7 +50,7 @@ same_bytes : (x : List ℕ) → bytes_eq x x ≡ true
 same_bytes x = (bytes_eq-Decides x x).1 refl
 
 swapped : (x w : List ℕ) → bytes_eq x w ≡ false → bytes_eq w x ≡ false
-swapped x w no =
+swapped x w apart =
     let case : (b : Bool) → bytes_eq w x ≡ b → bytes_eq w x ≡ false = λ b.
         elim b as (λ b. bytes_eq w x ≡ b → bytes_eq w x ≡ false)
         [ true ↦ λ e. let same : w ≡ x = (bytes_eq-Decides w x).0 e in let yes : bytes_eq x w ≡ true = (bytes_eq-Decides x w).1 (sym same) in cc

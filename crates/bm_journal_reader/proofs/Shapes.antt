@@ -4,6 +4,7 @@ use Rattle.bm_journal.specs.declared.entry.Entry.{Entry}
 use Rattle.bm_journal_reader.specs.declared.kind.Kind.{Kind}
 use Rattle.bm_journal_reader.specs.Pieces.{texts}
 use Rattle.bm_journal_reader.specs.Entries.{pushed, found, class_domain}
+use Rattle.bm_journal_reader.specs.Reading.{past_pushed, total_words}
 
 pub class_domain_other : (k : Kind) (ws : List (Bor (List ℕ))) → (length ws ≡ 3 → ⊥) → class_domain k (texts ws) ≡ None
 class_domain_other k [] other = refl
@@ -31,3 +32,17 @@ found_other k (a ∷ b ∷ c ∷ []) four five = refl
 found_other k (a ∷ b ∷ c ∷ d ∷ []) four five = absurd (four refl)
 found_other k (a ∷ b ∷ c ∷ d ∷ e ∷ []) four five = absurd (five refl)
 found_other k (a ∷ b ∷ c ∷ d ∷ e ∷ f ∷ ws) four five = refl
+
+pub past_pushed_other : (maps : List (List ℕ)) (k : Kind) (ws : List (Bor (List ℕ))) → (length ws ≡ 2 → ⊥) → (length ws ≡ 4 → ⊥) → past_pushed maps k (texts ws) ≡ None
+past_pushed_other maps k [] two four = refl
+past_pushed_other maps k (a ∷ []) two four = refl
+past_pushed_other maps k (a ∷ b ∷ []) two four = absurd (two refl)
+past_pushed_other maps k (a ∷ b ∷ c ∷ []) two four = refl
+past_pushed_other maps k (a ∷ b ∷ c ∷ d ∷ []) two four = absurd (four refl)
+past_pushed_other maps k (a ∷ b ∷ c ∷ d ∷ e ∷ ws) two four = refl
+
+pub total_words_other : (ws : List (Bor (List ℕ))) → (length ws ≡ 2 → ⊥) → total_words (texts ws) ≡ None
+total_words_other [] two = refl
+total_words_other (a ∷ []) two = refl
+total_words_other (a ∷ b ∷ []) two = absurd (two refl)
+total_words_other (a ∷ b ∷ c ∷ ws) two = refl

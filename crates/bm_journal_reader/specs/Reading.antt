@@ -53,9 +53,12 @@ past_refused_call kind.PushFront o owner = Some (past.PushFrontAlready o owner)
 past_refused_call kind.PushBack o owner = Some (past.PushBackAlready o owner)
 past_refused_call k o owner = None
 
+abbrev pub past_refused : Kind → Option ObjId → List ℕ → Option ℕ → Option PastCall
+past_refused k o y owner = only_if (word_is (codes "already") y) (after o (λ o. after owner (past_refused_call k o)))
+
 abbrev pub past_pushed : List (List ℕ) → Kind → Words → Option PastCall
 past_pushed maps k (u ∷ l ∷ []) = after (object_id u l) (past_pushed_call k)
-past_pushed maps k (u ∷ l ∷ y ∷ owner ∷ []) = only_if (word_is (codes "already") y) (after (object_id u l) (λ o. after (owner_place maps owner) (past_refused_call k o)))
+past_pushed maps k (u ∷ l ∷ y ∷ owner ∷ []) = past_refused k (object_id u l) y (owner_place maps owner)
 past_pushed maps k words = None
 
 abbrev pub past_added : List (List ℕ) → Words → Option PastCall
@@ -97,24 +100,33 @@ past_line_words maps words = None
 
 -- ---- the whole: a line that begins with a number is an entry, and any other is told by its first word
 
-abbrev pub titled : List (List ℕ) → List ℕ → Words → Option Line
-titled maps w ws =
+abbrev pub heading_titled : List ℕ → Words → Option Line
+heading_titled w ws =
+    if word_is (codes "processors") w then size_words ws
+    else (if word_is (codes "types") w then after (names ws) (λ ns. Some (line_as.Types ns))
+    else (if word_is (codes "maps") w then after (names ws) (λ ns. only_if (all_differ ns) (Some (line_as.Maps ns)))
+    else (if word_is (codes "scripts") w then after (names ws) (λ ns. Some (line_as.Scripts ns))
+    else None)))
+
+abbrev pub body_titled : List (List ℕ) → List ℕ → Words → Option Line → Option Line
+body_titled maps w ws other =
     if word_is (codes "at") w then past_line_words maps ws
     else (if word_is (codes "graph") w then graph_words ws
     else (if word_is (codes "processor") w then processor_words ws
     else (if word_is (codes "total") w then total_words ws
     else (if word_is (codes "class") w then class_words ws
-    else (if word_is (codes "processors") w then size_words ws
-    else (if word_is (codes "types") w then after (names ws) (λ ns. Some (line_as.Types ns))
-    else (if word_is (codes "maps") w then after (names ws) (λ ns. only_if (all_differ ns) (Some (line_as.Maps ns)))
-    else (if word_is (codes "scripts") w then after (names ws) (λ ns. Some (line_as.Scripts ns))
-    else None))))))))
+    else other))))
 
-abbrev pub headed : List (List ℕ) → Option ℕ → List ℕ → Words → Option Line
-headed maps None w ws = titled maps w ws
-headed maps (Some l) w ws = after (entry_of ws) (λ e. Some (line_as.Entry l e))
+abbrev pub headed : List (List ℕ) → Option ℕ → List ℕ → Words → Option Line → Option Line
+headed maps None w ws other = body_titled maps w ws other
+headed maps (Some l) w ws other = after (entry_of ws) (λ e. Some (line_as.Entry l e))
 
 -- what the words of a line say, where the maps have these names
 abbrev pub line_of : List (List ℕ) → Words → Option Line
 line_of maps [] = None
-line_of maps (w ∷ ws) = headed maps (number 4 w) w ws
+line_of maps (w ∷ ws) = headed maps (number 4 w) w ws (heading_titled w ws)
+
+-- the same of a line behind the heading's first four
+abbrev pub body_line_of : List (List ℕ) → Words → Option Line
+body_line_of maps [] = None
+body_line_of maps (w ∷ ws) = headed maps (number 4 w) w ws None

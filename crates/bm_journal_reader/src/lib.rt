@@ -4,6 +4,7 @@
 mod calls;
 mod entry;
 mod exchange;
+mod history;
 mod kind;
 mod law;
 mod line;
@@ -12,6 +13,7 @@ mod named;
 mod owners;
 mod parts;
 mod steps;
+mod told;
 
 pub use kind::Kind;
 pub use law::one_text;

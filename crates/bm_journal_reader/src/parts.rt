@@ -5,7 +5,7 @@ ghost use Rattle.bm_class.specs.Sizes.{size_of_class};
 ghost use Rattle.bm_journal_reader.specs.Parts.{number, name, class, domain, object_id, tag};
 
 use bm_class::Class;
-use bm_journal::{Domain, ObjId, Tag};
+use bm_journal::{Domain, Level, ObjId, Tag};
 use bm_word::{Name, read_number};
 
 /// A number of 8 bits.
@@ -35,6 +35,22 @@ pub fn number(word: &[u8]) -> Option<u32>
     } else {
         None
     }
+}
+
+/// A number of 64 bits.
+#[tactic(auto, unfolding(crate::specs::Parts::number))]
+pub fn long(word: &[u8]) -> Option<u64>
+    ensures { result ≡ number (2 ^ 64) word.now }
+{
+    read_number(word)
+}
+
+/// A level.
+#[tactic(auto, unfolding(crate::specs::Parts::number))]
+pub fn level(word: &[u8]) -> Option<Level>
+    ensures { result ≡ number 4 word.now }
+{
+    Level::new(byte(word)?)
 }
 
 /// A name.
