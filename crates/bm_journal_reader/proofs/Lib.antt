@@ -1,5 +1,6 @@
 pub mod Clean
 pub mod EntriesBack
+pub mod EntriesSound
 pub mod Gathered
 pub mod ItemsFit
 pub mod Later
@@ -9,6 +10,7 @@ pub mod OneText
 pub mod Options
 pub mod OwnersPut
 pub mod PartsBack
+pub mod PartsSound
 pub mod Same
 pub mod Shapes
 pub mod Spelled
