@@ -1,3 +1,4 @@
+pub mod BodyLines
 pub mod Clean
 pub mod EntriesBack
 pub mod EntriesSound
@@ -5,6 +6,7 @@ pub mod Gathered
 pub mod ItemsFit
 pub mod Later
 pub mod LinesBack
+pub mod LinesSound
 pub mod NumbersRead
 pub mod OneText
 pub mod Options

@@ -1,6 +1,7 @@
 //! Journals read back.
 #![tactic(auto)]
 
+mod body;
 mod calls;
 mod entry;
 mod exchange;
