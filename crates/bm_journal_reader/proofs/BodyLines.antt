@@ -77,19 +77,19 @@ placed total.Handlers = refl
 
 -- ---- what is read so far, with one line more
 
-push-class : (cs : List (ℕ × Marks)) (x : ℕ × Marks) → parts_lines (cs ++ x ∷ []) [] [] [] ≡ parts_lines cs [] [] [] ++ line_as.Class x.0 x.1 ∷ []
+pub push-class : (cs : List (ℕ × Marks)) (x : ℕ × Marks) → parts_lines (cs ++ x ∷ []) [] [] [] ≡ parts_lines cs [] [] [] ++ line_as.Class x.0 x.1 ∷ []
 push-class cs x = append-nil (class_items (cs ++ x ∷ [])) ∙ class-push cs x ∙ ap (λ ls. ls ++ line_as.Class x.0 x.1 ∷ []) (sym (append-nil (class_items cs)))
 
 two-nil : (a b : List Line) → a ++ (b ++ []) ≡ a ++ b
 two-nil a b = ap (λ ls. a ++ ls) (append-nil b)
 
-push-log : (cs : List (ℕ × Marks)) (ls : List (List (ℕ × Entry))) → parts_lines cs (ls ++ [] ∷ []) [] [] ≡ parts_lines cs ls [] [] ++ line_as.Processor (length ls) ∷ []
+pub push-log : (cs : List (ℕ × Marks)) (ls : List (List (ℕ × Entry))) → parts_lines cs (ls ++ [] ∷ []) [] [] ≡ parts_lines cs ls [] [] ++ line_as.Processor (length ls) ∷ []
 push-log cs ls =
     let e : 0 + length ls ≡ length ls = omega arith in
     two-nil (class_items cs) (log_items 0 (ls ++ [] ∷ [])) ∙ ap (λ xs. class_items cs ++ xs) (log-push 0 ls [] ∙ ap (λ n. log_items 0 ls ++ line_as.Processor n ∷ []) e)
     ∙ sym (append_assoc (class_items cs) (log_items 0 ls) (line_as.Processor (length ls) ∷ [])) ∙ ap (λ xs. xs ++ line_as.Processor (length ls) ∷ []) (sym (two-nil (class_items cs) (log_items 0 ls)))
 
-push-entry : (cs : List (ℕ × Marks)) (ls : List (List (ℕ × Entry))) (log : List (ℕ × Entry)) (x : ℕ × Entry) → parts_lines cs (ls ++ (log ++ x ∷ []) ∷ []) [] [] ≡ parts_lines cs (ls ++ log ∷ []) [] [] ++ line_as.Entry x.0 x.1 ∷ []
+pub push-entry : (cs : List (ℕ × Marks)) (ls : List (List (ℕ × Entry))) (log : List (ℕ × Entry)) (x : ℕ × Entry) → parts_lines cs (ls ++ (log ++ x ∷ []) ∷ []) [] [] ≡ parts_lines cs (ls ++ log ∷ []) [] [] ++ line_as.Entry x.0 x.1 ∷ []
 push-entry cs ls log x =
     let p = line_as.Processor (0 + length ls) in
     let e : log_items 0 (ls ++ (log ++ x ∷ []) ∷ []) ≡ log_items 0 (ls ++ log ∷ []) ++ line_as.Entry x.0 x.1 ∷ [] =
@@ -101,10 +101,10 @@ push-entry cs ls log x =
 three : (a b c : List Line) (x : Line) → a ++ (b ++ ((c ++ x ∷ []) ++ [])) ≡ (a ++ (b ++ (c ++ []))) ++ x ∷ []
 three a b c x = rw (append-nil (c ++ x ∷ []), append-nil c) (simp append_assoc)
 
-push-graph : (cs : List (ℕ × Marks)) (ls : List (List (ℕ × Entry))) (gs : List (List ℕ × List Past)) (n : List ℕ) → parts_lines cs ls (gs ++ (n, []) ∷ []) [] ≡ parts_lines cs ls gs [] ++ line_as.Graph n ∷ []
+pub push-graph : (cs : List (ℕ × Marks)) (ls : List (List (ℕ × Entry))) (gs : List (List ℕ × List Past)) (n : List ℕ) → parts_lines cs ls (gs ++ (n, []) ∷ []) [] ≡ parts_lines cs ls gs [] ++ line_as.Graph n ∷ []
 push-graph cs ls gs n = ap (λ xs. class_items cs ++ (log_items 0 ls ++ (xs ++ []))) (graph-push gs (n, [])) ∙ three (class_items cs) (log_items 0 ls) (graph_items gs) (line_as.Graph n)
 
-push-past : (cs : List (ℕ × Marks)) (ls : List (List (ℕ × Entry))) (gs : List (List ℕ × List Past)) (n : List ℕ) (xs : List Past) (x : Past) → parts_lines cs ls (gs ++ (n, xs ++ x ∷ []) ∷ []) [] ≡ parts_lines cs ls (gs ++ (n, xs) ∷ []) [] ++ line_as.Past (length xs) x ∷ []
+pub push-past : (cs : List (ℕ × Marks)) (ls : List (List (ℕ × Entry))) (gs : List (List ℕ × List Past)) (n : List ℕ) (xs : List Past) (x : Past) → parts_lines cs ls (gs ++ (n, xs ++ x ∷ []) ∷ []) [] ≡ parts_lines cs ls (gs ++ (n, xs) ∷ []) [] ++ line_as.Past (length xs) x ∷ []
 push-past cs ls gs n xs x =
     let z : 0 + length xs ≡ length xs = omega arith in
     let l = line_as.Past (length xs) x in
@@ -113,7 +113,7 @@ push-past cs ls gs n xs x =
         ∙ ap (λ es. es ++ l ∷ []) (sym (graph-push gs (n, xs))) in
     ap (λ es. class_items cs ++ (log_items 0 ls ++ (es ++ []))) e ∙ three (class_items cs) (log_items 0 ls) (graph_items (gs ++ (n, xs) ∷ [])) l
 
-push-total : (cs : List (ℕ × Marks)) (ls : List (List (ℕ × Entry))) (gs : List (List ℕ × List Past)) (vs : List ℕ) (t : Total) (v : ℕ) → total_place t ≡ length vs → parts_lines cs ls gs (vs ++ v ∷ []) ≡ parts_lines cs ls gs vs ++ line_as.Total t v ∷ []
+pub push-total : (cs : List (ℕ × Marks)) (ls : List (List (ℕ × Entry))) (gs : List (List ℕ × List Past)) (vs : List ℕ) (t : Total) (v : ℕ) → total_place t ≡ length vs → parts_lines cs ls gs (vs ++ v ∷ []) ≡ parts_lines cs ls gs vs ++ line_as.Total t v ∷ []
 push-total cs ls gs vs t v at =
     let here : slice_get all_totals (length vs) ≡ Some t = ap (slice_get all_totals) (sym at) ∙ placed t in
     let l = line_as.Total t v in

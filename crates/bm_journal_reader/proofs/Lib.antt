@@ -1,4 +1,5 @@
 pub mod BodyLines
+pub mod BodyTaken
 pub mod Clean
 pub mod EntriesBack
 pub mod EntriesSound

@@ -1,6 +1,6 @@
 //! A journal while its lines behind the heading are read.
 
-ghost use Rattle.std.specs.Prelude.{◌≡◌, ℕ, List, [], IfOk, OnOk};
+ghost use Rattle.std.specs.Prelude.{◌≡◌, ℕ, List, [], IfOk, OnOk, length};
 
 use crate::line::Line;
 use arrayvec::ArrayVec;
@@ -50,7 +50,7 @@ impl Body {
 
 impl Body {
     ghost use Rattle.bm_journal_reader.specs.declared.body.Part.TheVariants.{Totals};
-    ghost use Rattle.bm_journal_reader.specs.Drafts.{IsInOrder, Takes, read_logs, read_graphs};
+    ghost use Rattle.bm_journal_reader.specs.Drafts.{IsInOrder, Takes, begun_logs, read_logs, read_graphs};
     ghost use Rattle.bm_journal_reader.specs.declared.line.Line.TheVariants as line_as;
 
     // What is open is among the logs and histories, and nothing is open.
@@ -92,6 +92,91 @@ impl Body {
                 Ok(true)
             }
             _ => Ok(false),
+        }
+    }
+
+    fn take_past(&mut self, position: u64, past: Past) -> Result<bool, NoMemory>
+        requires { IsInOrder self.old }
+        ensures { (maps : List (List ℕ)) → IfOk result (λ taken. Takes taken maps self.old (line_as.Past position past) self.new) }
+    {
+        match &mut self.part {
+            Part::Graph(_, pasts) => {
+                if position != pasts.len() as u64 {
+                    return Ok(false);
+                }
+                pasts.push(past)?;
+                Ok(true)
+            }
+            _ => Ok(false),
+        }
+    }
+
+    // How many logs have begun, where another may.
+    fn begun_logs(&self) -> Option<u64>
+        ensures { result ≡ begun_logs self.now.part (length self.now.logs.items) }
+    {
+        match &self.part {
+            Part::Classes => Some(0),
+            Part::Log(_) => Some(self.logs.len() as u64 + 1),
+            _ => None,
+        }
+    }
+
+    fn take_processor(&mut self, alloc: Global, processor: u64) -> Result<bool, NoMemory>
+        requires { IsInOrder self.old }
+        ensures { (maps : List (List ℕ)) → IfOk result (λ taken. Takes taken maps self.old (line_as.Processor processor) self.new) }
+    {
+        let Some(begun) = self.begun_logs() else {
+            return Ok(false);
+        };
+        if processor != begun {
+            return Ok(false);
+        }
+        self.close()?;
+        self.part = Part::Log(Vec::new(alloc));
+        Ok(true)
+    }
+
+    fn take_graph(&mut self, alloc: Global, name: Name) -> Result<bool, NoMemory>
+        requires { IsInOrder self.old }
+        ensures { (maps : List (List ℕ)) → IfOk result (λ taken. Takes taken maps self.old (line_as.Graph name) self.new) }
+    {
+        match self.part {
+            Part::Totals => return Ok(false),
+            _ => {}
+        }
+        self.close()?;
+        self.part = Part::Graph(name, Vec::new(alloc));
+        Ok(true)
+    }
+
+    fn take_total(&mut self, total: Total, value: u64) -> Result<bool, NoMemory>
+        requires { IsInOrder self.old }
+        ensures { (maps : List (List ℕ)) → IfOk result (λ taken. Takes taken maps self.old (line_as.Total total value) self.new) }
+    {
+        if total.place() != self.totals.len() {
+            return Ok(false);
+        }
+        self.close()?;
+        match self.totals.try_push(value) {
+            Ok(()) => Ok(true),
+            Err(_) => Ok(false),
+        }
+    }
+
+    /// Takes a line, where it may come next, and answers whether it may. After a refusal nothing more is read.
+    pub fn take(&mut self, alloc: Global, line: Line) -> Result<bool, NoMemory>
+        requires { IsInOrder self.old }
+        ensures { (maps : List (List ℕ)) → IfOk result (λ taken. Takes taken maps self.old line self.new) }
+    {
+        match line {
+            Line::Class(class, marks) => self.take_class(class, marks),
+            Line::Processor(processor) => self.take_processor(alloc, processor),
+            Line::Entry(level, entry) => self.take_entry(level, entry),
+            Line::Graph(name) => self.take_graph(alloc, name),
+            Line::Past(position, past) => self.take_past(position, past),
+            Line::Total(total, value) => self.take_total(total, value),
+            Line::Size(_, _) | Line::Types(_) | Line::Maps(_) | Line::Scripts(_) => Ok(false),
         }
     }
 }
