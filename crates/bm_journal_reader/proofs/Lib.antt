@@ -1,6 +1,7 @@
 pub mod BodyLines
 pub mod BodyTaken
 pub mod Clean
+pub mod DraftRead
 pub mod EntriesBack
 pub mod EntriesSound
 pub mod Gathered

@@ -1,5 +1,5 @@
 -- How far a journal is read: which lines may come next, and the lines read so far.
-use Rattle.std.specs.Prelude.{◌≡◌, ℕ, ◌+◌, ◌==◌, Bool, true, false, List, [], ◌∷◌, ◌++◌, Option, Some, None, length}
+use Rattle.std.specs.Prelude.{◌≡◌, ℕ, ◌+◌, ◌==◌, Bool, true, false, List, [], ◌∷◌, ◌++◌, Option, Some, None, length, codes}
 use Rattle.bm_class.specs.declared.watermarks.Marks.{Marks}
 use Rattle.bm_journal.specs.declared.entry.Entry.{Entry}
 use Rattle.bm_journal.specs.declared.past.Past.{Past}
@@ -11,8 +11,13 @@ use Rattle.bm_journal_reader.specs.declared.body.Part.{Part}
 use Rattle.bm_journal_reader.specs.declared.body.Part.TheVariants as part
 use Rattle.bm_journal_reader.specs.declared.body.Body.{Body}
 use Rattle.bm_journal_reader.specs.Lines.{class_items, log_items, graph_items, total_items}
-use Rattle.bm_journal_reader.specs.Parts.{after, only_if}
-use Rattle.bm_journal_reader.specs.Reading.{line_of}
+use Rattle.bm_journal.specs.WellFormed.{all_differ}
+use Rattle.bm_journal_reader.specs.declared.draft.Head.{Head}
+use Rattle.bm_journal_reader.specs.declared.draft.Head.TheVariants as head
+use Rattle.bm_journal_reader.specs.declared.draft.Draft.{Draft}
+use Rattle.bm_journal_reader.specs.Parts.{after, only_if, names}
+use Rattle.bm_journal_reader.specs.Entries.{past_word}
+use Rattle.bm_journal_reader.specs.Reading.{line_of, size_words, body_line_of}
 
 -- ---- what may come next
 
@@ -66,6 +71,14 @@ next stage line = None
 -- the stage behind a line with these words
 abbrev pub step : Stage → Words → Option Stage
 step stage words = after (line_of (stage_maps stage) words) (next stage)
+
+-- the line that these words say at a stage, where only lines that may come there are looked for
+abbrev pub stage_line : Stage → Words → Option Line
+stage_line Begun ws = after (past_word (codes "processors") ws) size_words
+stage_line Sized ws = after (past_word (codes "types") ws) (λ ws. after (names ws) (λ ns. Some (line_as.Types ns)))
+stage_line Typed ws = after (past_word (codes "maps") ws) (λ ws. after (names ws) (λ ns. only_if (all_differ ns) (Some (line_as.Maps ns))))
+stage_line (Mapped maps) ws = after (past_word (codes "scripts") ws) (λ ws. after (names ws) (λ ns. Some (line_as.Scripts ns)))
+stage_line stage ws = body_line_of (stage_maps stage) ws
 
 -- ---- the lines read so far behind the heading's first four
 
@@ -129,3 +142,49 @@ pub record Taken (maps : List (List ℕ)) (old : Body) (line : Line) (new : Body
 abbrev pub Takes : Bool → List (List ℕ) → Body → Line → Body → Type 0
 Takes true maps old line new = Taken maps old line new
 Takes false maps old line new = next (body_stage maps old) line ≡ None
+
+-- ---- the whole of what is read so far
+
+abbrev pub head_stage : Head → List (List ℕ) → Body → Stage
+head_stage head.Size maps b = Begun
+head_stage head.Types maps b = Sized
+head_stage head.Maps maps b = Typed
+head_stage head.Scripts maps b = Mapped maps
+head_stage head.Behind maps b = body_stage maps b
+
+abbrev pub draft_stage : Draft → Stage
+draft_stage d = head_stage d.head d.maps.items d.body
+
+abbrev pub head_lines : Head → Draft → List Line
+head_lines head.Size d = []
+head_lines head.Types d = line_as.Size d.processors d.pages ∷ []
+head_lines head.Maps d = line_as.Size d.processors d.pages ∷ line_as.Types d.types.items ∷ []
+head_lines head.Scripts d = line_as.Size d.processors d.pages ∷ line_as.Types d.types.items ∷ line_as.Maps d.maps.items ∷ []
+head_lines head.Behind d = line_as.Size d.processors d.pages ∷ line_as.Types d.types.items ∷ line_as.Maps d.maps.items ∷ line_as.Scripts d.scripts.items ∷ body_lines d.body
+
+abbrev pub draft_lines : Draft → List Line
+draft_lines d = head_lines d.head d
+
+-- the names of the maps are those of the owners, and differ
+abbrev pub MapsKept : Draft → Type 0
+MapsKept d = (d.owners ≡ d.maps.items) × (all_differ d.maps.items ≡ true)
+
+abbrev pub head_order : Head → Draft → Type 0
+head_order head.Scripts d = MapsKept d
+head_order head.Behind d = MapsKept d × IsInOrder d.body
+head_order h d = Unit {0}
+
+abbrev pub IsSound : Draft → Type 0
+IsSound d = head_order d.head d
+
+-- words are taken, or no line that may come has them
+pub record Read (old : Draft) (ws : Words) (new : Draft) : Type 0 where
+  pub line : Line
+  pub said : stage_line (draft_stage old) ws ≡ Some line
+  pub stage : next (draft_stage old) line ≡ Some (draft_stage new)
+  pub lines : draft_lines new ≡ draft_lines old ++ line ∷ []
+  pub sound : IsSound new
+
+abbrev pub Reads : Bool → Draft → Words → Draft → Type 0
+Reads true old ws new = Read old ws new
+Reads false old ws new = after (stage_line (draft_stage old) ws) (next (draft_stage old)) ≡ None

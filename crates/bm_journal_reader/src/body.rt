@@ -34,9 +34,15 @@ pub struct Body {
 }
 
 impl Body {
+    ghost use Rattle.bm_journal_reader.specs.declared.body.Part.TheVariants.{Classes};
+
     /// Nothing is read so far.
     pub fn new(alloc: Global) -> Body
-        ensures { result.classes.items ≡ [] }
+        ensures classes { result.classes.items ≡ [] }
+        ensures logs { result.logs.items ≡ [] }
+        ensures graphs { result.graphs.items ≡ [] }
+        ensures totals { result.totals.items ≡ [] }
+        ensures part { result.part ≡ Classes }
     {
         Body {
             classes: Vec::new(alloc),

@@ -3,21 +3,12 @@
 ghost use Rattle.std.specs.Prelude.{◌≡◌, ◌+◌, ◌<◌, length, take, drop, option_map, position, codes, IfSome};
 ghost use Rattle.bm_journal_reader.specs.Pieces.{texts};
 ghost use Rattle.bm_journal_reader.specs.Parts.{word_is, object, object_some, call};
-ghost use Rattle.bm_journal_reader.specs.Entries.{past_word, exchanged, new, looked_at, both_few, finished};
+ghost use Rattle.bm_journal_reader.specs.Entries.{exchanged, new, looked_at, both_few, finished};
 
 use crate::lists::{section_words, values};
 use crate::parts;
+use crate::parts::past_word;
 use bm_journal::{Entry, ObjId, Period, Tag, Words};
-
-// The words after this one.
-fn past_word<'a, 'b>(text: &[u8], words: &'a [&'b [u8]]) -> Option<&'a [&'b [u8]]>
-    ensures { option_map (λ rest. texts rest.now) result ≡ past_word text.now (texts words.now) }
-{
-    let [word, rest @ ..] = words else {
-        return None;
-    };
-    if *word == text { Some(rest) } else { None }
-}
 
 fn object_some<'a, 'b>(unit: &[u8], words: &'a [&'b [u8]]) -> Option<(Option<ObjId>, &'a [&'b [u8]])>
     ensures { option_map (λ read. (read.0, texts read.1.now)) result ≡ object_some unit.now (texts words.now) }

@@ -44,7 +44,7 @@ fn past_refused(
 }
 
 // A push at the front or at the back, done or refused.
-fn past_pushed(owners: &Owners<'_>, kind: Kind, words: &[&[u8]]) -> Option<PastCall>
+fn past_pushed(owners: &Owners, kind: Kind, words: &[&[u8]]) -> Option<PastCall>
     ensures { result ≡ past_pushed owners.now kind (texts words.now) }
 {
     match words {
@@ -58,7 +58,7 @@ fn past_pushed(owners: &Owners<'_>, kind: Kind, words: &[&[u8]]) -> Option<PastC
 }
 
 // An addition, done or refused.
-fn past_added(owners: &Owners<'_>, words: &[&[u8]]) -> Option<PastCall>
+fn past_added(owners: &Owners, words: &[&[u8]]) -> Option<PastCall>
     ensures { result ≡ past_added owners.now (texts words.now) }
 {
     match words {
@@ -117,7 +117,7 @@ fn past_found(kind: Kind, words: &[&[u8]]) -> Option<PastCall>
     }
 }
 
-fn past_as(owners: &Owners<'_>, kind: Kind, words: &[&[u8]]) -> Option<PastCall>
+fn past_as(owners: &Owners, kind: Kind, words: &[&[u8]]) -> Option<PastCall>
     ensures { result ≡ past_as owners.now kind (texts words.now) }
 {
     match kind {
@@ -128,7 +128,7 @@ fn past_as(owners: &Owners<'_>, kind: Kind, words: &[&[u8]]) -> Option<PastCall>
 }
 
 /// The call with these words, where the maps have these names. None exactly where no call has them.
-pub fn past_call(owners: &Owners<'_>, words: &[&[u8]]) -> Option<PastCall>
+pub fn past_call(owners: &Owners, words: &[&[u8]]) -> Option<PastCall>
     ensures { result ≡ past_call owners.now (texts words.now) }
 {
     let [first, rest @ ..] = words else {

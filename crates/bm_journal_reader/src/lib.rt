@@ -3,6 +3,7 @@
 
 mod body;
 mod calls;
+mod draft;
 mod entry;
 mod exchange;
 mod history;

@@ -1,7 +1,9 @@
 //! What single words of a line say.
 
-ghost use Rattle.std.specs.Prelude.{◌≡◌, ◌^◌, ◌==◌, find};
+ghost use Rattle.std.specs.Prelude.{◌≡◌, ◌^◌, ◌==◌, find, option_map};
 ghost use Rattle.bm_class.specs.Sizes.{size_of_class};
+ghost use Rattle.bm_journal_reader.specs.Pieces.{texts};
+ghost use Rattle.bm_journal_reader.specs.Entries.{past_word};
 ghost use Rattle.bm_journal_reader.specs.Parts.{number, name, class, domain, object_id, tag};
 
 use bm_class::Class;
@@ -107,4 +109,14 @@ pub fn tag(processor: &[u8], serial: &[u8]) -> Option<Tag>
     let processor = byte(processor)?;
     let serial = number(serial)?;
     Some(Tag { processor, serial })
+}
+
+/// The words after this one.
+pub fn past_word<'a, 'b>(text: &[u8], words: &'a [&'b [u8]]) -> Option<&'a [&'b [u8]]>
+    ensures { option_map (λ rest. texts rest.now) result ≡ past_word text.now (texts words.now) }
+{
+    let [word, rest @ ..] = words else {
+        return None;
+    };
+    if *word == text { Some(rest) } else { None }
 }

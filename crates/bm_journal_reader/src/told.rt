@@ -1,10 +1,11 @@
 //! What one line says.
 
-ghost use Rattle.std.specs.Prelude.{◌≡◌, None, IfOk, find};
+ghost use Rattle.std.specs.Prelude.{◌≡◌, None, IfOk, find, option_map};
+ghost use Rattle.bm_journal_reader.specs.declared.line.Line.TheVariants.{Size};
 ghost use Rattle.std.specs.Str.{bytes_eq};
 ghost use Rattle.bm_journal.specs.TotalNames.{total_name};
 ghost use Rattle.bm_journal_reader.specs.Pieces.{texts};
-ghost use Rattle.bm_journal_reader.specs.Reading.{class_words, processor_words, graph_words, total_words, past_line_words, body_titled, body_line_of};
+ghost use Rattle.bm_journal_reader.specs.Reading.{size_words, class_words, processor_words, graph_words, total_words, past_line_words, body_titled, body_line_of};
 
 use crate::entry::entry_of;
 use crate::history::past_call;
@@ -15,6 +16,21 @@ use bm_class::Marks;
 use bm_journal::{Past, Total};
 use bm_word::NoMemory;
 use std::alloc::Global;
+
+/// How many processors and pages there are.
+pub fn size_words(words: &[&[u8]]) -> Option<(u8, u16)>
+    ensures { option_map (λ s. Size s.0 s.1) result ≡ size_words (texts words.now) }
+{
+    let [processors, by, pages] = words else {
+        return None;
+    };
+    if *by != b"pages".as_slice() {
+        return None;
+    }
+    let processors = parts::byte(processors)?;
+    let pages = parts::short(pages)?;
+    Some((processors, pages))
+}
 
 fn class_words(words: &[&[u8]]) -> Option<Line>
     ensures { result ≡ class_words (texts words.now) }
@@ -67,7 +83,7 @@ fn total_words(words: &[&[u8]]) -> Option<Line>
     Some(Line::Total(total, parts::long(value)?))
 }
 
-fn past_line_words(owners: &Owners<'_>, words: &[&[u8]]) -> Option<Line>
+fn past_line_words(owners: &Owners, words: &[&[u8]]) -> Option<Line>
     ensures { result ≡ past_line_words owners.now (texts words.now) }
 {
     let [position, by, processor, serial, call @ ..] = words else {
@@ -86,7 +102,7 @@ fn past_line_words(owners: &Owners<'_>, words: &[&[u8]]) -> Option<Line>
 /// words.
 pub fn body_line_of(
     alloc: Global,
-    owners: &Owners<'_>,
+    owners: &Owners,
     words: &[&[u8]],
 ) -> Result<Option<Line>, NoMemory>
     ensures { IfOk result (λ read. read ≡ body_line_of owners.now (texts words.now)) }
@@ -104,7 +120,7 @@ pub fn body_line_of(
 }
 
 // A line that doesn't begin with a level is told by its first word.
-fn titled(owners: &Owners<'_>, first: &[u8], words: &[&[u8]]) -> Option<Line>
+fn titled(owners: &Owners, first: &[u8], words: &[&[u8]]) -> Option<Line>
     ensures { result ≡ body_titled owners.now first.now (texts words.now) None }
 {
     if first == b"at".as_slice() {
