@@ -1,5 +1,0 @@
-use Rattle.bm_journal_reader.proofs.OneText.{one-text}
-use Rattle.bm_journal_reader.proofs.law.one_text.Goals as goal
-
-pub returns : goal.returns
-returns c = λ j k hj hk e. one-text c.numbers_round_trip.ensures j k hj hk e
