@@ -1,0 +1,14 @@
+pub mod Clean
+pub mod EntriesBack
+pub mod EntriesSound
+pub mod Gathered
+pub mod ItemsFit
+pub mod LinesBack
+pub mod LinesSound
+pub mod OneText
+pub mod Options
+pub mod PartsBack
+pub mod PartsSound
+pub mod Same
+pub mod Spelled
+pub mod TextBack

@@ -1,0 +1,7 @@
+pub mod Entries
+pub mod Fits
+pub mod Kinds
+pub mod Lines
+pub mod Parts
+pub mod Pieces
+pub mod Reading
