@@ -83,12 +83,14 @@ entries_of (Making u life seal) = given u life (seal_told seal) ∷ []
 entries_of (Ending u life home delayed) = entry.Drop u life ∷ entry.Last ∷ (if delayed then entry.Delay u home else entry.Free u home) ∷ []
 entries_of _ = []
 
--- What a pass, a period that begins and a given unit say is judged by the log before them; what other chunks say, by themselves.
+-- What a pass, a period that begins, a given unit and the end of a life say is judged by the log before them; what other chunks say, by
+-- themselves.
 abbrev pub is_judged : Chunk → Bool
 is_judged (Passing c d x n) = true
 is_judged (Beginning d n ws) = true
 is_judged (WholePeriod n ws p) = true
 is_judged (Making u life seal) = true
+is_judged (Ending u life home delayed) = true
 is_judged _ = false
 
 -- these entries stand for these acts, whatever the log before

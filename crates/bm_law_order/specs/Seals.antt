@@ -1,6 +1,6 @@
 -- What a unit that was freed with delay has to wait for before it is given again. (bpf_mem_free_rcu of kernel/bpf/memalloc.c puts it on
 -- free_by_rcu, from which call_rcu takes it; that a reply names the stamp and the number seen is this project's own.)
-use Rattle.std.specs.Prelude.{◌≡◌, ◌≤◌, ℕ, false, eqb, if◌then◌else◌, Option, Some, None, List, [], ◌∷◌}
+use Rattle.std.specs.Prelude.{◌≡◌, ◌≤◌, ℕ, Bool, true, false, eqb, if◌then◌else◌, Option, Some, None, List, [], ◌∷◌}
 use Rattle.bm_journal.specs.declared.ids.Domain.TheVariants.{Plain}
 use Rattle.bm_journal.specs.declared.entry.Entry.{Entry}
 use Rattle.bm_journal.specs.declared.entry.Entry.TheVariants as entry
@@ -8,7 +8,8 @@ use Rattle.bm_journal.specs.EntryText.{unit_list}
 use Rattle.bm_law.specs.Begun.{for_domain}
 use Rattle.bm_law.specs.State.{State, opening}
 use Rattle.bm_law.specs.Lists.{next as lists_after}
-use Rattle.bm_law_order.specs.Act.{Act}
+use Rattle.bm_page.specs.declared.units.Seal.{Seal}
+use Rattle.bm_law_order.specs.Act.{Act, Sealed}
 use Rattle.bm_law_order.specs.Act as act
 use Rattle.bm_law_order.specs.Orders.{AllFit, Order}
 use Rattle.bm_law_order.specs.Polls.{for_processor}
@@ -78,6 +79,63 @@ nobody_waits = record { waits = λ u. Nothing; lists = opening; passed = λ p. N
 -- Each unit of an order is given with what it has waited for.
 abbrev pub IsSealed : Order → Type 0
 IsSealed order = AllFit waiting_after SealFits order nobody_waits
+
+-- ---- as acts tell it
+
+-- what a unit with this seal has waited for
+abbrev pub waited_for : Option Seal → Wait
+waited_for None = Nothing
+waited_for (Some seal) = Over seal.stamp seal.seen
+
+-- a number that was seen isn't below the stamp
+abbrev pub HasPassed : Option Seal → Type 0
+HasPassed None = Unit {0}
+HasPassed (Some seal) = seal.stamp ≤ seal.seen
+
+-- what a unit waits for once its life has ended, by a free with delay or a plain one
+abbrev pub wait_after : (delayed : Bool) → Wait
+wait_after true = Batch
+wait_after false = Nothing
+
+-- the seal with which a unit is among these, if it is
+abbrev pub seal_among : List Sealed → ℕ → Option (Option Seal)
+seal_among [] u = None
+seal_among (s ∷ more) u = if eqb s.unit u then Some s.seal else seal_among more u
+
+-- A unit that waited for its batch goes away with the seal of what it waited for. Where it has none it waited for a tracing period alone,
+-- and nothing is said of it any more. What didn't wait for a batch goes as it was.
+abbrev pub GoesAway : Option Seal → (before now : Wait) → Type 0
+GoesAway None Batch now = Unit {0}
+GoesAway (Some seal) Batch now = (now ≡ Over seal.stamp seal.seen) × (seal.stamp ≤ seal.seen)
+GoesAway seal Nothing now = now ≡ Nothing
+GoesAway seal (Over stamp seen) now = now ≡ Over stamp seen
+
+-- .. if it goes
+abbrev pub Goes : Option (Option Seal) → (before now : Wait) → Type 0
+Goes None before now = now ≡ before
+Goes (Some seal) before now = GoesAway seal before now
+
+-- What units wait for before an act and after it: a unit begins a life with the seal of what it has waited for.
+abbrev pub WaitsBy : Act → (before now : ℕ → Wait) → Type 0
+WaitsBy (act.Makes u life seal) before now = (before u ≡ waited_for seal) × (HasPassed seal × (now ≡ on_unit u Nothing before))
+WaitsBy (act.Ends u life home delayed) before now = now ≡ on_unit u (wait_after delayed) before
+WaitsBy (act.Sends c to us) before now = (u : ℕ) → Goes (seal_among us u) (before u) (now u)
+WaitsBy (act.Returns us) before now = (u : ℕ) → Goes (seal_among us u) (before u) (now u)
+WaitsBy _ before now = now ≡ before
+
+-- .. and of some acts, in order
+abbrev pub WaitLeads : List Act → (before now : ℕ → Wait) → Type 0
+WaitLeads [] before now = now ≡ before
+WaitLeads (a ∷ more) before now = (mid : ℕ → Wait) × (WaitsBy a before mid × WaitLeads more mid now)
+
+-- no life ends by a delayed free
+abbrev pub IsPlainEnd : Act → Type 0
+IsPlainEnd (act.Ends u life home delayed) = delayed ≡ false
+IsPlainEnd _ = Unit {0}
+
+abbrev pub ArePlainEnds : List Act → Type 0
+ArePlainEnds [] = Unit {0}
+ArePlainEnds (a ∷ more) = IsPlainEnd a × ArePlainEnds more
 
 -- ---- where nothing waits
 
