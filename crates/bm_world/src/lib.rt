@@ -3,7 +3,8 @@
 //! - `World` is a `Post` and a `Grace` in one value, so that a grace period that has passed can make the post's units ripe.
 //! - `OneSide` is the world on one thread for any number of processors, of which one has its turn.
 //! - `Lives` is a `World` in which units live: `begin_life`, `end_life`, `ask`.
-//! - `LivingSide` is such a world on one thread: beside a `OneSide` it owns the units that live, by their numbers.
+//! - `LivingSide` is such a world on one thread: beside a `OneSide` it owns the units that live, by their numbers, and keeps what each
+//!   unit waits for (`Standing`).
 //! - `Since` says since when a processor's log and its side are tied.
 //! - `WaitingSide` tells which units wait and since when; the tests of delayed frees stand on it.
 //! - `Slots` holds the units that live.
