@@ -13,7 +13,7 @@ use Rattle.bm_law_order.specs.Chunk.{Chunk, acts_of, entries_of, seal_told}
 use Rattle.bm_law_order.specs.Chunk as chunk
 use Rattle.bm_law_order.specs.Orders.{AllFit, by}
 use Rattle.bm_law_order.specs.Quiet.{is_quiet}
-use Rattle.bm_law_order.specs.Seals.{ArePlainEnds, Batch, Goes, GoesAway, HasPassed, IsPlainEnd, IsSealed, Nothing, NothingWaits, Over, SealFits, Wait, WaitLeads, Waiting, WaitsBy, WaitsNot, all_ended, ended, nobody_waits, on_unit, seal_among, wait_after, waited, waited_for, waiting_after}
+use Rattle.bm_law_order.specs.Seals.{ArePlainEnds, Batch, Goes, GoesAway, IsPlainEnd, IsSealed, Nothing, NothingWaits, Over, SealFits, Wait, WaitLeads, Waiting, WaitsBy, WaitsNot, all_ended, ended, nobody_waits, on_unit, seal_among, waited, waited_for, waiting_after}
 use Rattle.bm_law_order.specs.Story.{Story, at_level, deeds, lines, lines_of}
 
 -- ---- acts
@@ -141,10 +141,6 @@ go-unread [] d x n a b h = h.1.1 ∙ h.1.0
 go-unread (e ∷ es) d x n a b h = (h.0, (h.1.0, go-unread es d x n h.0 b h.1.1))
 
 -- ---- where each life ends by a plain free
-
-pub ends-front : (as' bs : List Act) → ArePlainEnds (as' ++ bs) → ArePlainEnds as'
-ends-front [] bs h = tt
-ends-front (a ∷ as') bs h = (h.0, ends-front as' bs h.1)
 
 pub ends-append : (as' bs : List Act) → ArePlainEnds as' → ArePlainEnds bs → ArePlainEnds (as' ++ bs)
 ends-append [] bs h k = k

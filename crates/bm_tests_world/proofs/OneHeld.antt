@@ -14,4 +14,3 @@ one-held n before now u gains same =
     each : now.mine u.number ≡ true → (k : ℕ) (d : UnitState) → k < 1 → now.mine (get_or (u ∷ []) k d).number ≡ true
     each mine zero d lt = mine
     each mine (suc k) d lt = absurd (omega (arith, lt))
-

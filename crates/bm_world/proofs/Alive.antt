@@ -1,5 +1,5 @@
 -- What calls do where units live: what stays true, and what they do to the right to units.
-use Rattle.std.proofs.Common.{◌≡◌, ◌≢◌, ◌⊎◌, ℕ, ◌+◌, ◌<◌, ◌≤◌, ◌^◌, Bool, true, false, not, ◌&&◌, List, [], ◌∷◌, ◌++◌, length, length-set, get_or, set, reverse, refl, sym, ◌∙◌, ap, subst, inl, inr, arith, eqb, eq-eqb, ne_eqb, is_none, is_some, Option, Some, None, Result, Ok, Err, IfOk, OnOk, OnErr, IfSome, IfNone}
+use Rattle.std.proofs.Common.{◌≡◌, ◌≢◌, ◌⊎◌, ℕ, ◌+◌, ◌<◌, ◌≤◌, ◌^◌, Bool, true, false, not, ◌&&◌, List, [], ◌∷◌, ◌++◌, length, length-set, get_or, set, reverse, refl, sym, ◌∙◌, ap, subst, inl, inr, arith, eqb, eq-eqb, ne_eqb, is_some, Option, Some, None, Result, Ok, Err, IfOk, OnOk, OnErr, IfSome, IfNone}
 use Rattle.std.specs.List.{All}
 use Rattle.std.proofs.lemmas.Bool.{cases_eq, cases_lt, and_parts, and_from, eqb-true, false≢true}
 use Rattle.std.specs.Prelude.{if◌then◌else◌}
@@ -157,7 +157,6 @@ module _ (plain tracing : ℕ) (standings : Standings) where
   pub living-received : {A : Type 0} (r : Option A) (items : A → List UnitState) (class : ℕ) (post post' : PostState) (slots : Slotted) (begun : List ℕ) (asked : ℕ) → IfSome r (λ v. post' ≡ taken_by post.processor class post) → IfNone r (post' ≡ post) → IfSome r (λ v. Receives class (items v) (rights_in post) (rights_in post')) → IfNone r (AreSame (rights_in post) (rights_in post')) → HaveLived begun standings post' → AreLiving post plain tracing slots begun standings asked → AreLiving post' plain tracing slots begun standings asked
   living-received (Some v) items class post post' slots begun asked some none f s = living-over post post' slots begun asked (ap (λ (p : PostState). p.processors) some) (λ n u e m. mine-gained (items v) post post' n f.takes.gains m)
   living-received None items class post post' slots begun asked some none f s = living-over post post' slots begun asked (ap (λ (p : PostState). p.processors) none) (λ n u e m. s n ∙ m)
-
 
 -- a unit that is mine isn't in stock
 not-in-stock : (post : PostState) (n m : ℕ) → is_mine post n ≡ true → (stocked_at post.pool.units m).out ≡ false → m ≢ n
@@ -490,12 +489,8 @@ ended-settled post plain tracing slots begun standings asked n u there k =
     may-be-used begun standings u.number u.life u.seal (ended-lives post plain tracing slots begun standings asked n u there k)
     (ap (standing_at standings) (k.number n u there) ∙ (k.standing.living n u there ∙ ap standing_of (sym (k.unsealed n u there))))
 
-and-no : (b : Bool) → b && false ≡ false
-and-no true = refl
-and-no false = refl
-
 pub ended-undue : (post : PostState) (plain tracing : ℕ) (slots : Slotted) (begun : List ℕ) (standings : Standings) (asked n : ℕ) (u : UnitState) → unit_at slots n ≡ Some u → AreLiving post plain tracing slots begun standings asked → (life : ℕ) → (may_live begun n life && is_waiting (standing_at standings n)) ≡ false
-ended-undue post plain tracing slots begun standings asked n u there k life = ap (λ x. may_live begun n life && is_waiting x) (k.standing.living n u there) ∙ and-no (may_live begun n life)
+ended-undue post plain tracing slots begun standings asked n u there k life = ap (λ x. may_live begun n life && is_waiting x) (k.standing.living n u there) ∙ and-false (may_live begun n life)
 
 -- .. and behind one with delay it is due
 pub ended-due : (post : PostState) (plain tracing : ℕ) (slots : Slotted) (begun : List ℕ) (standings : Standings) (asked n : ℕ) (u : UnitState) (wait : Wait) → unit_at slots n ≡ Some u → AreLiving post plain tracing slots begun standings asked → (may_live begun n u.life && is_waiting (standing_at (set standings n (Waits wait)) n)) ≡ true
@@ -503,12 +498,9 @@ ended-due post plain tracing slots begun standings asked n u wait there k =
     let inside = within slots n u there in
     let size = k.size in
     let stands = k.standing.size in
-    and-from-so (may_live begun n u.life) (is_waiting (standing_at (set standings n (Waits wait)) n))
+    and_from (may_live begun n u.life) (is_waiting (standing_at (set standings n (Waits wait)) n))
     (subst (λ m. may_live begun m u.life ≡ true) (k.number n u there) (ended-lives post plain tracing slots begun standings asked n u there k))
     (ap is_waiting (standing-same standings n (Waits wait) (omega (arith, inside, size, stands))))
-  where
-    and-from-so : (a b : Bool) → a ≡ true → b ≡ true → (a && b) ≡ true
-    and-from-so a b = and_from a b
 
 -- the same, by how the life ended
 pub after-settled : (delayed : Bool) (post : PostState) (grace : PlainState) (slots : Slotted) (begun : List ℕ) (standings : Standings) (asked n : ℕ) (u : UnitState) → delayed ≡ false → unit_at slots n ≡ Some u → AreLiving post grace.plain.number grace.tracing.number slots begun standings asked → may_be_used begun (standings_after delayed n grace standings) u.number u.life u.seal ≡ true

@@ -1,6 +1,6 @@
 -- Units that go away, each with what it has waited for.
-use Rattle.std.proofs.Common.{◌≡◌, ◌≢◌, ◌⊎◌, ◌∙◌, ℕ, zero, suc, ◌+◌, ◌<◌, ◌≤◌, ◌^◌, true, false, List, [], ◌∷◌, ◌++◌, length, length-set, get_or, set, replicate, refl, sym, ap, subst, inl, inr, arith, eqb, eq-eqb, ne_eqb, Option, Some, None}
-use Rattle.std.specs.Prelude.{◌&&◌, if◌then◌else◌, nat_le}
+use Rattle.std.proofs.Common.{◌≡◌, ◌⊎◌, ◌∙◌, ℕ, zero, suc, ◌<◌, ◌≤◌, true, false, List, [], ◌∷◌, length, length-set, get_or, set, replicate, refl, sym, ap, subst, inl, inr, arith, eqb, eq-eqb, ne_eqb, Option, Some, None}
+use Rattle.std.specs.Prelude.{◌&&◌, nat_le}
 use Rattle.std.specs.List.{All}
 use Rattle.std.proofs.lemmas.Bool.{cases_eq, and_parts, and_from, eqb-true, false≢true, leb-true}
 use Rattle.std.proofs.lemmas.List.{get_or-set_other, get_or-set_same}
@@ -11,7 +11,7 @@ use Rattle.bm_page.specs.declared.units.Seal.{Seal}
 use Rattle.bm_law_order.specs.Act.{sealed}
 use Rattle.bm_law_order.specs.Seals.{Goes, GoesAway, seal_among}
 use Rattle.bm_post.specs.Rights.{numbers}
-use Rattle.bm_post.proofs.Counts.{at-number, here-times, zero-or-more}
+use Rattle.bm_post.proofs.Counts.{zero-or-more}
 use Rattle.bm_world.specs.Standings.{IsTimed, copied, has_waited, is_over, left_by, same_seal, standing_at, standing_of, told_standing, waits_told}
 use Rattle.bm_world.specs.WaitingState.{passes}
 use Rattle.bm_world.specs.declared.wait.Wait.{Wait}

@@ -1,5 +1,5 @@
 -- What each call of the world with the units that live in it does.
-use Rattle.std.proofs.Common.{◌≡◌, ◌⊎◌, Bool, ℕ, ◌+◌, ◌<◌, ◌≤◌, true, List, [], ◌∷◌, false, set, length, Option, None, Some, Result, Ok, Err, OnOk, OnErr, refl, sym, ◌∙◌, ap, subst, inl, inr, eq-eqb, ne_eqb}
+use Rattle.std.proofs.Common.{◌≡◌, ◌⊎◌, Bool, ℕ, ◌+◌, ◌<◌, ◌≤◌, true, List, [], ◌∷◌, false, set, length, Option, None, Some, Result, Ok, Err, OnOk, refl, sym, ◌∙◌, ap, subst, inl, inr, eq-eqb, ne_eqb}
 use Rattle.std.specs.Prelude.{eqb, if◌then◌else◌}
 use Rattle.std.specs.List.{All}
 use Rattle.std.proofs.lemmas.Bool.{cases_eq}
@@ -50,22 +50,9 @@ pub lifts-ok : {A E : Type 0} (r : Result A E) (acts : List Act) (a b : LivingSt
 lifts-ok (Ok x) acts a b slots begun w d = lifts-so acts a b slots begun w d
 lifts-ok (Err x) acts a b slots begun w d = tt
 
-pub lifts-err : {A E : Type 0} (r : Result A E) (acts : List Act) (a b : LivingState) → b.slots ≡ a.slots → b.begun ≡ a.begun → OnErr r (WaitLeads acts (waits_told a.standings) (waits_told b.standings)) → OnErr r (SideDoes acts a.side b.side) → OnErr r (LivingDoes acts a b)
-lifts-err (Err x) acts a b slots begun w d = lifts-so acts a b slots begun w d
-lifts-err (Ok x) acts a b slots begun w d = tt
-
 pub on-ok : {A E P : Type 0} (r : Result A E) → P → OnOk r P
 on-ok (Ok x) p = p
 on-ok (Err x) p = tt
-
--- the standings that a parcel leaves, sent or refused
-pub waits-sent : {A E : Type 0} (r : Result A E) (acts : List Act) (ss now : List Standing) (us : List UnitState) → OnOk r (now ≡ left_by us ss) → WaitLeads acts (waits_told ss) (waits_told (left_by us ss)) → OnOk r (WaitLeads acts (waits_told ss) (waits_told now))
-waits-sent (Ok x) acts ss now us e w = subst (λ (xs : List Standing). WaitLeads acts (waits_told ss) (waits_told xs)) (sym e) w
-waits-sent (Err x) acts ss now us e w = tt
-
-pub waits-refused : {A E : Type 0} (r : Result A E) (ss now : List Standing) → OnErr r (now ≡ ss) → OnErr r (WaitLeads [] (waits_told ss) (waits_told now))
-waits-refused (Ok x) ss now e = tt
-waits-refused (Err x) ss now e = ap waits_told e
 
 -- what an act that says nothing of units leaves
 pub keep-one : (a : Act) → ((w : ℕ → seals.Wait) → WaitsBy a w w) → KeepWaits (a ∷ [])

@@ -7,7 +7,6 @@ use Rattle.bm_grace.specs.Answers.{next}
 use Rattle.bm_law_order.specs.Seals as seals
 use Rattle.bm_world.specs.Slots.{unit_at}
 use Rattle.bm_world.specs.WaitingState.{passes, stamp_in}
-use Rattle.bm_world.specs.declared.wait.Wait.{Wait}
 use Rattle.bm_world.specs.declared.standing.Standing.{Standing}
 use Rattle.bm_world.specs.declared.standing.Standing.TheVariants.{Nothing, Waits, Sealed}
 

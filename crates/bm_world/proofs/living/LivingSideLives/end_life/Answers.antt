@@ -1,8 +1,5 @@
-use Rattle.std.proofs.Common.{◌≡◌, ◌<◌, ◌∙◌, Bool, Option, None, Some, true, false, ap, arith, length, refl, subst, sym}
-use Rattle.std.specs.Prelude.{is_some, ◌&&◌}
-use Rattle.bm_page.specs.UnitState.{UnitState}
-use Rattle.bm_world.specs.LivingState.{LivingState, living_of, may_be_used, may_live, standings_after, with_ended}
-use Rattle.bm_world.specs.Standings.{is_waiting, standing_at}
+use Rattle.std.proofs.Common.{◌<◌, ◌∙◌, None, ap, arith, length, refl, subst}
+use Rattle.bm_world.specs.LivingState.{LivingState, living_of, standings_after, with_ended}
 use Rattle.bm_world.proofs.Alive.{after-due, after-settled, after-undue, ended-mine, living-ended}
 use Rattle.bm_world.proofs.LivingDid.{does-end}
 use Rattle.bm_world.proofs.KnownLiving.{ended-others, known-ended}

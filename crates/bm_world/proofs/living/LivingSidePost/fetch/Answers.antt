@@ -11,9 +11,11 @@ pub invariant_of-self : goal.invariant_of-self
 invariant_of-self c =
     let i = c.self.inside in
     let k = c.self.invariant.0 in
-    let said = c.fetch.ensures in
-    (rw c.fetch.ensures.grace (living-fetched i.side.grace.plain.number i.side.grace.tracing.number i.standings.standings.items c.fetch.result c.args.class c.args.want c.args.out.now.items c.fetch.new.out.items i.side.post c.fetch.new.self.post i.slots.slots.items i.begun.counts.items i.asked said.state said.err_state said.ok said.same
-    (lived-fetched c.fetch.result c.args.class c.args.want i.begun.counts.items i.standings.standings.items i.side.post c.fetch.new.self.post said.state said.err_state k.lived) k), c.self.invariant.1)
+    let said = c.fetch.ensures in (
+      rw c.fetch.ensures.grace (living-fetched i.side.grace.plain.number i.side.grace.tracing.number i.standings.standings.items c.fetch.result c.args.class c.args.want c.args.out.now.items c.fetch.new.out.items i.side.post c.fetch.new.self.post i.slots.slots.items i.begun.counts.items i.asked said.state said.err_state said.ok said.same
+          (lived-fetched c.fetch.result c.args.class c.args.want i.begun.counts.items i.standings.standings.items i.side.post c.fetch.new.self.post said.state said.err_state k.lived) k),
+      c.self.invariant.1,
+    )
 
 pub returns-clause-ok : goal.returns-clause-ok
 returns-clause-ok c =

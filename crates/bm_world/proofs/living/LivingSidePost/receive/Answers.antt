@@ -10,9 +10,11 @@ use Rattle.bm_world.proofs.LivingDid.{keep-one, lifts}
 pub invariant_of-self : goal.invariant_of-self
 invariant_of-self c =
     let i = c.self.inside in
-    let said = c.receive.ensures in
-    (rw c.receive.ensures.grace (living-received i.side.grace.plain.number i.side.grace.tracing.number i.standings.standings.items c.receive.result (λ v. v.items) c.args.class i.side.post c.receive.new.self.post i.slots.slots.items i.begun.counts.items i.asked said.state said.none_state said.some said.none
-    (lived-received c.receive.result c.args.class i.begun.counts.items i.standings.standings.items i.side.post c.receive.new.self.post said.state said.none_state c.self.invariant.0.lived) c.self.invariant.0), c.self.invariant.1)
+    let said = c.receive.ensures in (
+      rw c.receive.ensures.grace (living-received i.side.grace.plain.number i.side.grace.tracing.number i.standings.standings.items c.receive.result (λ v. v.items) c.args.class i.side.post c.receive.new.self.post i.slots.slots.items i.begun.counts.items i.asked said.state said.none_state said.some said.none
+          (lived-received c.receive.result c.args.class i.begun.counts.items i.standings.standings.items i.side.post c.receive.new.self.post said.state said.none_state c.self.invariant.0.lived) c.self.invariant.0),
+      c.self.invariant.1,
+    )
 
 pub returns-clause-some : goal.returns-clause-some
 returns-clause-some c =

@@ -1,12 +1,10 @@
 use Rattle.std.proofs.Common.{◌≡◌, ◌∙◌, ℕ, ap, length, subst, sym, [], ◌∷◌, refl, Ok, Err, Result}
 use Rattle.std.specs.List.{All}
-use Rattle.bm_post.specs.PostState.{PostState}
 use Rattle.bm_post.specs.Rights.{Holds, MayLeave, numbers}
 use Rattle.bm_law_order.specs.Act as act
 use Rattle.bm_law_order.specs.Act.{sealed}
 use Rattle.bm_world.specs.LivingState.{AreLiving, LivingState, rights_living, rights_with_living}
 use Rattle.bm_world.specs.Standings.{copied, left_by, waits_told}
-use Rattle.bm_world.specs.declared.standing.Standing.{Standing}
 use Rattle.bm_world.proofs.Alive.{holds-post, lasting-sent, leave-over, leave-post, living-sent, numbers-fit}
 use Rattle.bm_world.proofs.Left.{Standings, back-same, copied-size, left-size}
 use Rattle.bm_world.proofs.LivingDid.{lifts-so, waits-left}
