@@ -169,6 +169,8 @@ keeps-none (act.Ends u life home false) before now p h w = (refl, put-none u bef
 keeps-none (act.Ends u life home true) before now p h w = absurd (cc)
 keeps-none (act.Sends c to us) before now p h w = (tt, λ u. goes-none (seal_among us u) (before u) (now u) (h u) (w u))
 keeps-none (act.Returns us) before now p h w = (tt, λ u. goes-none (seal_among us u) (before u) (now u) (h u) (w u))
+keeps-none (act.Drains c to us) before now p h w = (tt, subst NoneWaits (sym w.1) h)
+keeps-none (act.Releases c to us stamp seen) before now p h w = (tt, subst NoneWaits (sym w) (all-none stamp seen us before h))
 keeps-none _ before now p h w = (tt, subst NoneWaits (sym w) h)
 
 -- Where nothing waited, and each life ends by a plain free, nothing waits.

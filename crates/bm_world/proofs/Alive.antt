@@ -12,7 +12,7 @@ use Rattle.bm_page.specs.declared.units.Seal.{Seal}
 use Rattle.bm_page.specs.Out.{IsFromStock}
 use Rattle.bm_page.specs.Stock.{fetched, stocked_at}
 use Rattle.bm_post.specs.HasRoom.{has_room, room-of}
-use Rattle.bm_post.specs.Rights.{AreSame, Gains, Holds, Lasting, Loses, MayLeave, numbers}
+use Rattle.bm_post.specs.Rights.{AreSame, Gains, Holds, IsSettled, Lasting, Loses, MayLeave, WaitedBy, numbers}
 use Rattle.bm_post.specs.Calls.{Fetches, Receives, Takes}
 use Rattle.bm_post.specs.PostState.{Parcels, PostState, all_returned, is_mine, rights_in, sent_to, taken_by, times_in, waits}
 use Rattle.bm_post.proofs.Counts.{at-number, here-times, zero-or-more}
@@ -48,6 +48,9 @@ lives-so begun standings n life seal h = (and_parts (may_live begun n life) (has
 
 pub waited : (begun : List ℕ) (standings : Standings) (n life : ℕ) (seal : Option Seal) → may_be_used begun standings n life seal ≡ true → has_waited (standing_at standings n) seal ≡ true
 waited begun standings n life seal h = (and_parts (may_live begun n life) (has_waited (standing_at standings n) seal) h).1
+
+pub settled-waited : (begun : List ℕ) (standings : Standings) (us : List UnitState) → All (λ (u : UnitState). may_be_used begun standings u.number u.life u.seal ≡ true) us → All (λ (u : UnitState). has_waited (standing_at standings u.number) u.seal ≡ true) us
+settled-waited begun standings us h k d lt = let u : UnitState = get_or us k d in waited begun standings u.number u.life u.seal (h k d lt)
 
 -- ---- with these standings, at these numbers of both domains
 
@@ -90,6 +93,22 @@ module _ (plain tracing : ℕ) (standings : Standings) where
   leave-lived post slots begun us size holds h k d lt =
       let u : UnitState = get_or us k d in
       (lives-as begun u.number u.life (leave-lives post slots begun u (h k d lt)), left-there us standings holds.once (numbers-fit post slots begun us size h) k d lt)
+
+  -- units that may be used again, or have waited by one seal
+  pub settled-post : (post : PostState) (slots : Slotted) (begun : List ℕ) (us : List UnitState) → All (IsSettled (rights_with_living post plain tracing slots begun standings)) us → All (IsSettled (rights_in post)) us
+  settled-post post slots begun us h k d lt = let u : UnitState = get_or us k d in has-room begun u.number u.life (lives-so begun standings u.number u.life u.seal (h k d lt))
+
+  pub waited-post : (post : PostState) (slots : Slotted) (begun : List ℕ) (us : List UnitState) (seal : Seal) → All (WaitedBy (rights_with_living post plain tracing slots begun standings) seal) us → All (WaitedBy (rights_in post) seal) us
+  waited-post post slots begun us seal h k d lt =
+      let u : UnitState = get_or us k d in
+      let w = h k d lt in
+      record { sealed = w.sealed; ripe = has-room begun u.number u.life (and_parts (may_live begun u.number u.life) (is_over plain tracing (standing_at standings u.number) (Some seal)) w.ripe).0 }
+
+  pub waited-over : (post : PostState) (slots : Slotted) (begun : List ℕ) (us : List UnitState) (seal : Seal) → All (WaitedBy (rights_with_living post plain tracing slots begun standings) seal) us → All (λ (u : UnitState). (u.seal ≡ Some seal) × (is_over plain tracing (standing_at standings u.number) (Some seal) ≡ true)) us
+  waited-over post slots begun us seal h k d lt =
+      let u : UnitState = get_or us k d in
+      let w = h k d lt in
+      (w.sealed, (and_parts (may_live begun u.number u.life) (is_over plain tracing (standing_at standings u.number) (Some seal)) w.ripe).1)
 
   -- units that came
   free-of : (post : PostState) (slots : Slotted) (begun : List ℕ) (asked n : ℕ) → AreLiving post plain tracing slots begun standings asked → is_mine post n ≡ false → (x : Option UnitState) → unit_at slots n ≡ x → not (is_some x) ≡ true

@@ -1,5 +1,5 @@
 -- Units that go away, each with what it has waited for.
-use Rattle.std.proofs.Common.{◌≡◌, ◌⊎◌, ◌∙◌, ℕ, zero, suc, ◌<◌, ◌≤◌, true, false, List, [], ◌∷◌, length, length-set, get_or, set, replicate, refl, sym, ap, subst, inl, inr, arith, eqb, eq-eqb, ne_eqb, Option, Some, None}
+use Rattle.std.proofs.Common.{◌≡◌, ◌≢◌, ◌⊎◌, ◌∙◌, ℕ, zero, suc, ◌<◌, ◌≤◌, true, false, List, [], ◌∷◌, length, length-set, get_or, set, replicate, refl, sym, ap, subst, inl, inr, arith, eqb, eq-eqb, ne_eqb, Option, Some, None}
 use Rattle.std.specs.Prelude.{◌&&◌, nat_le}
 use Rattle.std.specs.List.{All}
 use Rattle.std.proofs.lemmas.Bool.{cases_eq, and_parts, and_from, eqb-true, false≢true, leb-true}
@@ -9,9 +9,10 @@ use Rattle.bm_law.specs.Stands.{times}
 use Rattle.bm_page.specs.UnitState.{UnitState}
 use Rattle.bm_page.specs.declared.units.Seal.{Seal}
 use Rattle.bm_law_order.specs.Act.{sealed}
-use Rattle.bm_law_order.specs.Seals.{Goes, GoesAway, seal_among}
+use Rattle.bm_law_order.specs.Seals.{Batch, Goes, GoesAway, Over, all_ended, ended, seal_among}
+use Rattle.bm_law_order.specs.Seals.{Wait as Wait'}
 use Rattle.bm_post.specs.Rights.{numbers}
-use Rattle.bm_post.proofs.Counts.{zero-or-more}
+use Rattle.bm_post.proofs.Counts.{here-times, zero-or-more}
 use Rattle.bm_world.specs.Standings.{IsTimed, copied, has_waited, is_over, left_by, same_seal, standing_at, standing_of, told_standing, waits_told}
 use Rattle.bm_world.specs.WaitingState.{passes}
 use Rattle.bm_world.specs.declared.wait.Wait.{Wait}
@@ -195,4 +196,75 @@ goes-left plain tracing us ss timed once there may n =
           let now : standing_at (left_by us ss) n ≡ standing_of u.seal = ap (standing_at (left_by us ss)) (sym x.1.0) ∙ left-there us ss once there some.0 zero-unit x.0 in
           let F : ℕ → Type 0 = λ m. GoesAway u.seal (told_standing (standing_at ss m)) (told_standing (standing_of u.seal)) in
           rw x.1.1 (subst (λ y. GoesAway u.seal (waits_told ss n) (told_standing y)) (sym now) (subst F x.1.0 (goes-so plain tracing (standing_at ss u.number) u.seal (may some.0 zero-unit x.0) (timed u.number))))
+    ]
+
+-- ---- the same, where it is known what the units waited for
+
+-- units that don't wait stand as they did
+pub left-settled : (us : List UnitState) (ss : Standings) → ((n : ℕ) → times n (numbers us) ≤ 1) → All (λ (u : UnitState). u.number < length ss) us → All (λ (u : UnitState). has_waited (standing_at ss u.number) u.seal ≡ true) us → (n : ℕ) → standing_at (left_by us ss) n ≡ standing_at ss n
+left-settled us ss once fit settled n =
+    elim (among us n) [
+      | inl none ↦ left-other us ss n none.1
+      | inr some ↦
+          let zero-unit : UnitState = record { number = 0; class = 0; home = 0; life = 0; seal = None } in
+          let x = some.1 zero-unit in
+          let u : UnitState = get_or us some.0 zero-unit in
+          ap (standing_at (left_by us ss)) (sym x.1.0) ∙ (left-there us ss once fit some.0 zero-unit x.0 ∙ (sym (stands-so (standing_at ss u.number) u.seal (settled some.0 zero-unit x.0)) ∙ ap (standing_at ss) x.1.0))
+    ]
+
+not-batch : (x : Standing) (seal : Option Seal) → has_waited x seal ≡ true → told_standing x ≢ Batch
+not-batch Nothing seal h e = absurd (cc)
+not-batch (Waits w) seal h e = absurd (false≢true h)
+not-batch (Sealed s) seal h e = absurd (cc)
+
+pub none-batch : (us : List UnitState) (ss : Standings) → All (λ (u : UnitState). has_waited (standing_at ss u.number) u.seal ≡ true) us → All (λ n. waits_told ss n ≢ Batch) (numbers us)
+none-batch [] ss h = All-nil _
+none-batch (u ∷ us) ss h =
+    All-cons (λ n. waits_told ss n ≢ Batch) u.number (numbers us) (not-batch (standing_at ss u.number) u.seal (All-head (λ (v : UnitState). has_waited (standing_at ss v.number) v.seal ≡ true) u us h))
+    (none-batch us ss (All-tail (λ (v : UnitState). has_waited (standing_at ss v.number) v.seal ≡ true) u us h))
+
+-- a unit whose wait is over waits
+over-waits : (plain tracing : ℕ) (x : Standing) (seal : Option Seal) → is_over plain tracing x seal ≡ true → told_standing x ≡ Batch
+over-waits plain tracing Nothing seal h = absurd (false≢true h)
+over-waits plain tracing (Waits w) seal h = refl
+over-waits plain tracing (Sealed s) seal h = absurd (false≢true h)
+
+all-ended-other : (x y : ℕ) (ns : List ℕ) (w : ℕ → Wait') (n : ℕ) → times n ns ≡ 0 → all_ended x y ns w n ≡ w n
+all-ended-other x y [] w n h = refl
+all-ended-other x y (m ∷ ns) w n h =
+    elim (cases_eq n m) [
+      | inl same ↦ absurd (let e = eq-eqb n m same in let g = rw e at h in omega (arith, g))
+      | inr other ↦
+          let e : eqb n m ≡ false = ne_eqb n m other in
+          let g = rw e at h in
+          rw e (all-ended-other x y ns w n (omega (arith, g)))
+    ]
+
+all-ended-there : (x y : ℕ) (ns : List ℕ) (w : ℕ → Wait') (n : ℕ) → 0 < times n ns → w n ≡ Batch → all_ended x y ns w n ≡ Over x y
+all-ended-there x y [] w n h b = absurd (omega (arith, h))
+all-ended-there x y (m ∷ ns) w n h b =
+    elim (cases_eq n m) [
+      | inl same ↦ rw (eq-eqb n m same) (subst (λ k. ended x y (all_ended x y ns w k) ≡ Over x y) same (elim (zero-or-more (times n ns)) [
+        | inl none ↦ ap (ended x y) (all-ended-other x y ns w n none ∙ b)
+        | inr some ↦ ap (ended x y) (all-ended-there x y ns w n some b)
+      ]))
+      | inr other ↦
+          let e : eqb n m ≡ false = ne_eqb n m other in
+          let g = rw e at h in
+          rw e (all-ended-there x y ns w n (omega (arith, g)) b)
+    ]
+
+-- units that have waited for one stamp, by one number
+pub left-released : (plain tracing : ℕ) (seal : Seal) (us : List UnitState) (ss : Standings) → ((n : ℕ) → times n (numbers us) ≤ 1) → All (λ (u : UnitState). u.number < length ss) us → All (λ (u : UnitState). (u.seal ≡ Some seal) × (is_over plain tracing (standing_at ss u.number) (Some seal) ≡ true)) us → (n : ℕ) → waits_told (left_by us ss) n ≡ all_ended seal.stamp seal.seen (numbers us) (waits_told ss) n
+left-released plain tracing seal us ss once fit waited n =
+    elim (among us n) [
+      | inl none ↦ ap told_standing (left-other us ss n none.1) ∙ sym (all-ended-other seal.stamp seal.seen (numbers us) (waits_told ss) n none.1)
+      | inr some ↦
+          let zero-unit : UnitState = record { number = 0; class = 0; home = 0; life = 0; seal = None } in
+          let x = some.1 zero-unit in
+          let u : UnitState = get_or us some.0 zero-unit in
+          let k = waited some.0 zero-unit x.0 in
+          let batch : waits_told ss n ≡ Batch = ap (waits_told ss) (sym x.1.0) ∙ over-waits plain tracing (standing_at ss u.number) (Some seal) k.1 in
+          let now : waits_told (left_by us ss) n ≡ Over seal.stamp seal.seen = ap (waits_told (left_by us ss)) (sym x.1.0) ∙ (ap told_standing (left-there us ss once fit some.0 zero-unit x.0) ∙ ap (λ (s : Option Seal). told_standing (standing_of s)) k.0) in
+          now ∙ sym (all-ended-there seal.stamp seal.seen (numbers us) (waits_told ss) n (subst (λ m. 0 < times m (numbers us)) x.1.0 (here-times us some.0 zero-unit x.0)) batch)
     ]

@@ -25,7 +25,7 @@ use Rattle.bm_world.specs.SideState.{SideState}
 use Rattle.bm_world.specs.Slots.{unit_at}
 use Rattle.bm_world.specs.Told.{IsSideOf, SideDoes, told}
 use Rattle.bm_world.specs.ToldLiving.{LivingDoes, life_of, lives_told, told_living}
-use Rattle.bm_world.proofs.Left.{goes-left}
+use Rattle.bm_world.proofs.Left.{goes-left, left-released, left-settled, none-batch}
 use Rattle.bm_world.proofs.SlotLemmas.{at-other, at-same}
 
 -- acts by which each unit waits for what it did
@@ -68,6 +68,16 @@ turned m n = elim (cases_eq m n) [
   | inl same ↦ eq-eqb m n same ∙ sym (eq-eqb n m (sym same))
   | inr other ↦ ne_eqb m n other ∙ sym (ne_eqb n m (λ q. other (sym q)))
 ]
+
+-- .. of which it is known what they waited for
+pub waits-given : (us : List UnitState) (ss : List Standing) → ((n : ℕ) → times n (numbers us) ≤ 1) → All (λ (u : UnitState). u.number < length ss) us → All (λ (u : UnitState). has_waited (standing_at ss u.number) u.seal ≡ true) us → WaitLeads (act.GivesBack (numbers us) ∷ []) (waits_told ss) (waits_told (left_by us ss))
+waits-given us ss once fit settled = (waits_told ss, (refl, fun_ext (λ n. ap told_standing (left-settled us ss once fit settled n))))
+
+pub waits-drained : (c to : ℕ) (us : List UnitState) (ss : List Standing) → ((n : ℕ) → times n (numbers us) ≤ 1) → All (λ (u : UnitState). u.number < length ss) us → All (λ (u : UnitState). has_waited (standing_at ss u.number) u.seal ≡ true) us → WaitLeads (act.Drains c to (numbers us) ∷ []) (waits_told ss) (waits_told (left_by us ss))
+waits-drained c to us ss once fit settled = (waits_told ss, ((none-batch us ss settled, refl), fun_ext (λ n. ap told_standing (left-settled us ss once fit settled n))))
+
+pub waits-released : (c to plain tracing : ℕ) (seal : Seal) (us : List UnitState) (ss : List Standing) → ((n : ℕ) → times n (numbers us) ≤ 1) → All (λ (u : UnitState). u.number < length ss) us → All (λ (u : UnitState). (u.seal ≡ Some seal) × (is_over plain tracing (standing_at ss u.number) (Some seal) ≡ true)) us → WaitLeads (act.Releases c to (numbers us) seal.stamp seal.seen ∷ []) (waits_told ss) (waits_told (left_by us ss))
+waits-released c to plain tracing seal us ss once fit waited = (waits_told (left_by us ss), (fun_ext (λ n. left-released plain tracing seal us ss once fit waited n), refl))
 
 -- what is told of a seal, and of a standing that was set
 told-is : (seal : Option Seal) → told_standing (standing_of seal) ≡ waited_for seal

@@ -17,7 +17,7 @@ ghost use Rattle.bm_grace.specs.PlainState.{domain_in, is_processor, period_begu
 ghost use Rattle.bm_post.specs.PostState.{all_returned, inbox, sent_to, taken_by, told_in};
 ghost use Rattle.bm_post.specs.Calls.{Fetches, GivesBack, IsOf, Mails, Posts, Receives};
 ghost use Rattle.bm_post.specs.Parcels.{oldest, parcel_sent, parcel_taken};
-ghost use Rattle.bm_post.specs.Rights.{AreSame, Gains, Holds, IsSettled, Lasting, Loses, MayLeave, numbers};
+ghost use Rattle.bm_post.specs.Rights.{AreSame, Gains, Holds, IsSettled, Lasting, Loses, MayLeave, WaitedBy, numbers};
 ghost use Rattle.bm_world.specs.Slots.{AllEmpty, unit_at};
 ghost use Rattle.bm_world.specs.ToldLiving.{LivingDoes, living-join, living-same};
 ghost use Rattle.bm_law_order.specs.Act as act;
@@ -373,6 +373,7 @@ impl Post for LivingSide {
         ensures known { Posts false (known_living self.old) (known_living self.new) }
         ensures rest { StaysAtRest LivingAtRest self.old self.new }
         ensures does { LivingDoes (act.Returns (sealed units.items) ∷ []) self.old self.new }
+        ensures gives { All (IsSettled (rights_living self.old)) units.items → LivingDoes (act.GivesBack (numbers units.items) ∷ []) self.old self.new }
     {
         self.standings.leave(&units);
         self.side.put_back(units);
@@ -402,6 +403,10 @@ impl Post for LivingSide {
         ensures known { OnErr result (Posts false (known_living self.old) (known_living self.new)) }
         ensures rest { StaysAtRest LivingAtRest self.old self.new }
         ensures does { OnOk result (LivingDoes (act.Sends class to (sealed units.items) ∷ []) self.old self.new) }
+        ensures drains { OnOk result (All (IsSettled (rights_living self.old)) units.items
+            → LivingDoes (act.Drains class to (numbers units.items) ∷ []) self.old self.new) }
+        ensures releases { OnOk result ((seal : SealValue) → All (WaitedBy (rights_living self.old) seal) units.items
+            → LivingDoes (act.Releases class to (numbers units.items) seal.stamp seal.seen ∷ []) self.old self.new) }
         ensures idle { OnErr result (LivingDoes [] self.old self.new) }
     {
         self.standings.leave(&units);

@@ -1,14 +1,14 @@
 use Rattle.std.proofs.Common.{◌∙◌, ap, length, subst, sym, [], ◌∷◌, refl}
 use Rattle.std.specs.List.{All}
-use Rattle.bm_post.specs.Rights.{Holds, MayLeave, numbers}
+use Rattle.bm_post.specs.Rights.{Holds, IsSettled, MayLeave, numbers}
 use Rattle.bm_world.specs.LivingState.{LivingState, rights_living}
 use Rattle.bm_world.specs.Standings.{left_by}
-use Rattle.bm_world.proofs.Alive.{holds-post, lasting-left, leave-over, leave-post, living-back, loses-living, numbers-fit}
+use Rattle.bm_world.proofs.Alive.{holds-post, lasting-left, leave-over, leave-post, living-back, loses-living, numbers-fit, settled-post, settled-waited}
 use Rattle.bm_world.proofs.Left.{copied-size}
 use Rattle.bm_world.proofs.living.LivingSidePost.put_back.Goals as goal
 use Rattle.bm_law_order.specs.Act as act
 use Rattle.bm_law_order.specs.Act.{sealed}
-use Rattle.bm_world.proofs.LivingDid.{lifts-so, waits-left}
+use Rattle.bm_world.proofs.LivingDid.{lifts-so, waits-given, waits-left}
 
 pub put_back-requires-clause-mine : goal.put_back-requires-clause-mine
 put_back-requires-clause-mine c =
@@ -54,3 +54,17 @@ returns-clause-lasts c =
     let t = i.side.grace.tracing.number in
     let ss = i.standings.standings.items in
     rw (← c.self.view_is, c.leave.ensures.standings, c.put_back.ensures.grace) (lasting-left (numbers us) i.side.post c.put_back.new.self.post p t i.slots.slots.items i.begun.counts.items ss us (loses-living i.side.post c.put_back.new.self.post p t i.slots.slots.items i.begun.counts.items ss (left_by us ss) (numbers us) c.put_back.ensures.back))
+
+pub returns-clause-gives : goal.returns-clause-gives
+returns-clause-gives c settled =
+    let i = c.self.inside in
+    let us = c.args.units.items in
+    let ss = i.standings.standings.items in
+    let p = i.side.grace.plain.number in
+    let t = i.side.grace.tracing.number in
+    let holds = subst (λ (s : LivingState). Holds (rights_living s) us) (sym c.self.view_is) c.requires.mine in
+    let fit = subst (λ (s : LivingState). All (MayLeave (rights_living s)) us) (sym c.self.view_is) c.requires.fit in
+    let all = subst (λ (s : LivingState). All (IsSettled (rights_living s)) us) (sym c.self.view_is) settled in
+    let a : LivingState = record { side = i.side; slots = i.slots.slots.items; begun = i.begun.counts.items; standings = ss; asked = i.asked } in
+    let waits = waits-given us ss holds.once (numbers-fit p t ss i.side.post i.slots.slots.items i.begun.counts.items us c.self.invariant.0.standing.size fit) (settled-waited i.begun.counts.items ss us all) in
+    rw (← c.self.view_is, c.leave.ensures.standings) (lifts-so (act.GivesBack (numbers us) ∷ []) a (record a { side = c.put_back.new.self; standings = left_by us ss }) refl refl waits (c.put_back.ensures.gives (settled-post p t ss i.side.post i.slots.slots.items i.begun.counts.items us all)))
