@@ -120,5 +120,5 @@ returns-clause-goes g c =
     record {
       face = g.met.H.Host.face_back h2 y ∙ g.met.H.Desk.face_apart h1 w alike ∙ g.met.H.Host.face_back h z;
       pending = omega (arith, g.met.H.Host.pending_back h2 y, g.met.H.Desk.pending_apart h1 w, g.met.H.Host.pending_back h z);
-      keeps = join h h2 h3 (join h h1 h2 (g.met.H.Desk.keeps_stays h h1 (g.met.H.Host.keeps_back h z)) (g.met.H.Desk.stays_apart h1 w alike)) (g.met.H.Desk.keeps_stays h2 h3 (g.met.H.Host.keeps_back h2 y))
+      keeps = join h h2 h3 (join h h1 h2 (g.met.H.Desk.keeps_stays h h1 (g.met.H.Host.keeps_back h z)) (g.met.H.Desk.stays_apart h1 w alike)) (g.met.H.Desk.keeps_stays h2 h3 (g.met.H.Host.keeps_back h2 y));
     }
