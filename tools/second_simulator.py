@@ -2,8 +2,8 @@
 
 It was written from the rules alone, which docs/caches.md, docs/deferred-work.md, docs/grace-periods.md, docs/handlers.md
 and docs/journals.md restate, and shares no code with the program. It knows what runs by now: one processor, types without a
-count or a node, plain scripts and handlers of `new`, `drop`, `if` and `repeat`, with deferred work or without. Nothing of it
-is proved.
+node, plain scripts and handlers of `new`, `drop`, `if` and `repeat`, with deferred work or without. It knows counted types as well,
+which the program refuses so far; since nothing acquires a reference, each `drop` is the last one. Nothing of it is proved.
 """
 
 from collections import Counter
@@ -68,10 +68,15 @@ class Stock:
 
 @dataclass
 class Cache:
-    """The lists of a class, each from its top. Delayed frees don't run by now, so their lists are always empty."""
+    """The lists of a class, each from its top."""
 
     free: list[int] = field(default_factory=list)
     extra: list[int] = field(default_factory=list)
+    delayed: list[int] = field(default_factory=list)
+    extra_delayed: list[int] = field(default_factory=list)
+    # the first stage's batch, which is in progress while it has units, and its plain stamp
+    first: list[int] = field(default_factory=list)
+    plain_stamp: int = 0
     ready: list[int] = field(default_factory=list)
     second: list[int] = field(default_factory=list)
     inbox: list[list[int]] = field(default_factory=list)
@@ -89,6 +94,8 @@ class Simulator:
         self.stock = Stock(scenario.pages)
         self.caches = {number: Cache() for number in sorted({class_of(each.size()) for each in scenario.types.values()})}
         self.lives: Counter[int] = Counter()
+        # the stamp and the number seen by which a unit that was freed with delay may be given again
+        self.seals: dict[int, tuple[int, int]] = {}
         self.words = dict.fromkeys(DOMAINS, 0)
         self.numbers = dict.fromkeys(DOMAINS, 0)
         # the words at the begin of each period in progress
@@ -151,19 +158,18 @@ class Simulator:
         self.caches[number].free.insert(0, unit)
         self.step(level, "push", SIZES[number], unit)
 
-    def put_extra(self, level: int, number: int, unit: int) -> None:
+    def put_extra(self, level: int, number: int, unit: int, extra: list[int], ending: str = "") -> None:
         """Looks at the list, then puts if nothing was put since, else looks again."""
-        cache = self.caches[number]
         while True:
             self.point(level)
-            seen = len(cache.extra)
-            self.step(level, "look", SIZES[number], seen)
+            seen = len(extra)
+            self.step(level, f"look{ending}", SIZES[number], seen)
             self.point(level)
-            if len(cache.extra) == seen:
-                cache.extra.insert(0, unit)
-                self.step(level, "put", SIZES[number], unit)
+            if len(extra) == seen:
+                extra.insert(0, unit)
+                self.step(level, f"put{ending}", SIZES[number], unit)
                 return
-            self.step(level, "lost", SIZES[number])
+            self.step(level, f"lost{ending}", SIZES[number])
 
     def raise_flag(self, level: int, number: int) -> None:
         self.point(level)
@@ -196,9 +202,24 @@ class Simulator:
             self.push(level, number, unit)
             seen = self.count(level, number, 1)
         else:
-            self.put_extra(level, number, unit)
+            self.put_extra(level, number, unit, self.caches[number].extra)
         self.lower(level, number)
         if depth == 1 and seen > high:
+            self.raise_flag(level, number)
+
+    def release_later(self, level: int, number: int, unit: int) -> None:
+        cache = self.caches[number]
+        self.note(level, "delay", unit, 0)
+        depth = self.enter(level, number)
+        cache.target = 0
+        if depth == 1:
+            self.point(level)
+            cache.delayed.insert(0, unit)
+            self.step(level, "delayed", SIZES[number], unit)
+        else:
+            self.put_extra(level, number, unit, cache.extra_delayed, "d")
+        self.lower(level, number)
+        if not cache.first:
             self.raise_flag(level, number)
 
     # ---- scripts
@@ -224,21 +245,26 @@ class Simulator:
                 for _ in range(statement.times):
                     self.block(level, statement.blocks[0], names)
 
-    def give_up(self, level: int, number: int, unit: int, life: int) -> None:
+    def give_up(self, level: int, made: ObjectType, unit: int, life: int) -> None:
+        number = class_of(made.size())
         self.note(level, "drop", unit, life)
         self.note(level, "last")
         self.totals["last"] += 1
-        self.release(level, number, unit)
+        if made.counted:
+            self.release_later(level, number, unit)
+        else:
+            self.release(level, number, unit)
 
-    def make(self, level: int, made: ObjectType, values: list[int]) -> tuple[int, int, int] | None:
+    def make(self, level: int, made: ObjectType, values: list[int]) -> tuple[ObjectType, int, int] | None:
         number = class_of(made.size())
         self.note(level, "new", made.name, *values)
         depth, unit = self.allocate(level, number)
         if unit is not None:
             self.lives[unit] += 1
             self.totals["given"] += 1
-            self.note(level, "given", unit, self.lives[unit])
-            return number, unit, self.lives[unit]
+            seal = self.seals.pop(unit, None)
+            self.note(level, "given", unit, self.lives[unit], *(("after", *seal) if seal else ()))
+            return made, unit, self.lives[unit]
         if depth > 1:
             self.totals["busy"] += 1
             self.note(level, "busy", depth)
@@ -300,11 +326,11 @@ class Simulator:
         self.step(0, "pass", SIZES[number], domain, self.numbers[domain])
         return self.numbers[domain]
 
-    def take_stamp(self, number: int) -> int:
+    def take_stamp(self, number: int, domain: str) -> int:
         self.point(0)
-        seen = self.numbers["tracing"]
+        seen = self.numbers[domain]
         stamp = seen + 3 if seen % 2 else seen + 2
-        self.step(0, "stamp", SIZES[number], "tracing", stamp)
+        self.step(0, "stamp", SIZES[number], domain, stamp)
         return stamp
 
     # ---- deferred work
@@ -380,15 +406,33 @@ class Simulator:
         hand += extra
         if hand:
             self.point(0)
-            cache.inbox.append(hand)
-            self.step(0, "send", SIZES[number], cache.target, *hand)
+            self.send(number, hand)
+
+    def send(self, number: int, units: list[int]) -> None:
+        cache = self.caches[number]
+        cache.inbox.append(units)
+        self.step(0, "send", SIZES[number], cache.target, *units)
 
     def first_stage(self, number: int) -> None:
-        """Without delayed frees there is never a batch of the first stage."""
+        cache = self.caches[number]
+        if cache.first and (seen := self.poll(number, "plain", cache.plain_stamp)) >= cache.plain_stamp:
+            self.point(0)
+            units, cache.first = cache.first, []
+            self.seals.update(dict.fromkeys(units, (cache.plain_stamp, seen)))
+            self.send(number, units)
         self.enter(0, number)
         self.point(0)
-        self.step(0, "taked", SIZES[number])
+        self.step(0, "taked", SIZES[number], *cache.extra_delayed)
+        # they are moved one by one, so the last one ends on top
+        cache.delayed, cache.extra_delayed = cache.extra_delayed[::-1] + cache.delayed, []
+        begins = bool(cache.delayed) and not cache.first
+        if begins:
+            self.point(0)
+            cache.first, cache.delayed = cache.delayed, []
+            self.step(0, "batch", SIZES[number], *cache.first)
         self.lower(0, number)
+        if begins:
+            cache.plain_stamp = self.take_stamp(number, "plain")
 
     def second_stage(self, number: int) -> None:
         cache = self.caches[number]
@@ -400,7 +444,7 @@ class Simulator:
             self.point(0)
             cache.second, cache.ready = cache.ready, []
             self.step(0, "begin2", SIZES[number], *cache.second)
-            cache.stamp = self.take_stamp(number)
+            cache.stamp = self.take_stamp(number, "tracing")
 
     def give_back(self, number: int) -> None:
         cache = self.caches[number]
@@ -420,12 +464,15 @@ class Simulator:
 
     def sweep(self, number: int) -> None:
         cache = self.caches[number]
-        units = [*cache.free, *cache.extra, *cache.ready, *cache.second, *(unit for parcel in cache.inbox for unit in parcel)]
+        lists = [cache.free, cache.extra, cache.delayed, cache.extra_delayed, cache.first, cache.ready, cache.second, *cache.inbox]
+        units = [unit for each in lists for unit in each]
         if not units:
             return
-        cache.free, cache.extra, cache.ready, cache.inbox, cache.second = [], [], [], [], units
+        for each in [*lists, cache.inbox]:
+            each.clear()
+        cache.second = units
         self.step(0, "sweep", SIZES[number], *units)
-        self.poll(number, "tracing", self.take_stamp(number))
+        self.poll(number, "tracing", self.take_stamp(number, "tracing"))
         self.give_back(number)
 
     def journal(self) -> str:

@@ -83,12 +83,14 @@ module _ {W : Type 0} (knows : Knows W) where
     pub from : AllFrom (l + 1) added
     pub log_is : log ≡ before ++ added
 
-  -- A chunk of level l is judged so by the log before it, since a time: a pass stands behind a poll that was idle, and a period that
-  -- begins was due.
+  -- A chunk of level l is judged so by the log before it, since a time: a pass stands behind a poll that was idle, a period that
+  -- begins was due, a life ends by a plain free, and no batch of the first stage goes away.
   abbrev pub polled : (since : Log) (start : W) → ℕ → Log → Chunk → Type 0
   polled since start l log (chunk.Passing c d x n) = WasIdle since start l c d x log
   polled since start l log (chunk.Beginning d n ws) = IsDue (home start) d n log
   polled since start l log (chunk.WholePeriod n ws p) = IsDue (home start) p.domain n log
+  polled since start l log (chunk.Ending u life home delayed) = delayed ≡ false
+  polled since start l log (chunk.Releasing c to us stamp seen) = ⊥
   polled since start l log _ = Unit {0}
 
   -- what needs no judge has none
@@ -96,4 +98,6 @@ module _ {W : Type 0} (knows : Knows W) where
   unpolled since start l log (chunk.Passing c d x n) e = absurd (cc)
   unpolled since start l log (chunk.Beginning d n ws) e = absurd (cc)
   unpolled since start l log (chunk.WholePeriod n ws p) e = absurd (cc)
+  unpolled since start l log (chunk.Ending u life home delayed) e = absurd (cc)
+  unpolled since start l log (chunk.Releasing c to us stamp seen) e = absurd (cc)
   unpolled since start l log _ e = tt

@@ -119,11 +119,10 @@ module _ {W : Type 0} (knows : Knows W) where
   tied-freed since start l m c e u f i a t =
       let n = u.number in
       let said = law-said (polled knows since start) (unpolled knows since start) (DoesHere knows) (here-same knows) (here-join knows) since start l (act.Ends n t.0 u.home false ∷ []) (entry.Drop n t.0 ∷ entry.Last ∷ []) e (log_of m) c.recorder.told m.side a t.1 in
-      tied-closed since start l (act.Ends n t.0 u.home false ∷ []) (entry.Drop n t.0 ∷ entry.Last ∷ e ∷ []) (with_caches m c)
-      (elim (free-is n u.home e i) [
-        | inl q ↦ record { chunk = chunk.Ending n t.0 u.home false; free = refl; acts_are = refl; entries_are = ap (λ x. entry.Drop n t.0 ∷ entry.Last ∷ x ∷ []) (sym q) }
+      elim (free-is n u.home e i) [
+        | inl q ↦ by-level since start l 0 c.recorder.told m.side (as-judged since start l (act.Ends n t.0 u.home false ∷ []) (entry.Drop n t.0 ∷ entry.Last ∷ e ∷ []) c.recorder.told m.side (chunk.Ending n t.0 u.home false) refl (ap (λ x. entry.Drop n t.0 ∷ entry.Last ∷ x ∷ []) (sym q)) (λ before r. refl) said)
         | inr q ↦ absurd (waits-not m u t.2 (subst (SuitsFree (tests_of knows m) u) q f))
-      ]) said
+      ]
 
   -- ---- another processor's state
 

@@ -143,6 +143,6 @@ pub(crate) fn give_up<'s, W: Lives, B: Since<W>, L: Rank>(
     own.caches
         .note(level, Entry::Drop(object.unit, object.life));
     own.caches.note(level, Entry::Last);
-    let unit = own.side.end_life(object.unit);
+    let unit = own.side.end_life(object.unit, false);
     release::<W, B, L>(own, program, unit);
 }

@@ -6,3 +6,4 @@ pub mod Ties
 pub mod BarePool
 pub mod TiesLead
 pub mod Unwaited
+pub mod Waited

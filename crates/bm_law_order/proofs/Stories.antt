@@ -372,6 +372,18 @@ comes p l (chunk.Sending c to us) s f h = record {
   leads = record { fit = (record { words = tt; numbers = tt; looks = tt; lives = tt; pages = tt; boxes = f.0 }, tt); now_is = refl };
   steady = steady-like s (acts_over p (acts_of (chunk.Sending c to us)) s) refl refl refl (full-box to c (λ parcels. parcels ++ units_of us ∷ []) s.boxes (full-more (units_of us) f.0.some) h.full) h;
 }
+comes p l (chunk.Draining c to us) s f h = record {
+  leads = record { fit = (record { words = tt; numbers = tt; looks = tt; lives = tt; pages = tt; boxes = f.0 }, tt); now_is = refl };
+  steady = steady-like s (acts_over p (acts_of (chunk.Draining c to us)) s) refl refl refl (full-box to c (λ parcels. parcels ++ us ∷ []) s.boxes (full-more us f.0.some) h.full) h;
+}
+comes p l (chunk.Releasing c to us stamp seen) s f h = record {
+  leads = record { fit = (record { words = tt; numbers = tt; looks = tt; lives = tt; pages = tt; boxes = f.0 }, tt); now_is = refl };
+  steady = steady-like s (acts_over p (acts_of (chunk.Releasing c to us stamp seen)) s) refl refl refl (full-box to c (λ parcels. parcels ++ us ∷ []) s.boxes (full-more us f.0.some) h.full) h;
+}
+comes p l (chunk.GivingBack c us) s f h = record {
+  leads = record { fit = (record { words = tt; numbers = tt; looks = tt; lives = tt; pages = f.0; boxes = tt }, tt); now_is = refl };
+  steady = steady-like s (acts_over p (acts_of (chunk.GivingBack c us)) s) refl refl refl h.full h;
+}
 comes p l (chunk.Receiving c us) s f h = record {
   leads = record { fit = (record { words = tt; numbers = tt; looks = tt; lives = tt; pages = tt; boxes = f.0 }, tt); now_is = refl };
   steady = steady-like s (acts_over p (acts_of (chunk.Receiving c us)) s) refl refl refl (full-box p c (drop 1) s.boxes full-drop h.full) h;

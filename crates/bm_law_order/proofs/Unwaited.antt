@@ -1,17 +1,19 @@
 -- Where no unit waits, each is given without a seal.
 use Rattle.std.specs.Prelude.{Bool, false, if◌then◌else◌, eqb}
-use Rattle.std.proofs.Common.{◌≡◌, ℕ, true, List, [], ◌∷◌, ◌++◌, Option, None, Some, refl}
+use Rattle.std.proofs.Common.{◌≡◌, ℕ, true, List, [], ◌∷◌, ◌++◌, ◌∙◌, Option, None, Some, refl, subst, sym}
+use Rattle.bm_journal.specs.declared.ids.Domain.{Domain}
 use Rattle.bm_journal.specs.declared.entry.Entry.{Entry}
 use Rattle.bm_journal.specs.declared.entry.Entry.TheVariants as entry
 use Rattle.bm_journal.specs.EntryText.{unit_list}
 use Rattle.bm_law.specs.Lists.{Log}
 use Rattle.bm_page.specs.declared.units.Seal.{Seal}
 use Rattle.bm_law_order.specs.Act.{Act}
+use Rattle.bm_law_order.specs.Act as act
 use Rattle.bm_law_order.specs.Chunk.{Chunk, acts_of, entries_of, seal_told}
 use Rattle.bm_law_order.specs.Chunk as chunk
 use Rattle.bm_law_order.specs.Orders.{AllFit, by}
 use Rattle.bm_law_order.specs.Quiet.{is_quiet}
-use Rattle.bm_law_order.specs.Seals.{Batch, IsSealed, Nothing, NothingWaits, Over, SealFits, Wait, Waiting, all_ended, ended, nobody_waits, waited, waiting_after}
+use Rattle.bm_law_order.specs.Seals.{ArePlainEnds, Batch, Goes, GoesAway, IsPlainEnd, IsSealed, Nothing, NothingWaits, Over, SealFits, Wait, WaitLeads, Waiting, WaitsBy, WaitsNot, all_ended, ended, nobody_waits, on_unit, seal_among, waited, waited_for, waiting_after}
 use Rattle.bm_law_order.specs.Story.{Story, at_level, deeds, lines, lines_of}
 
 -- ---- acts
@@ -44,7 +46,7 @@ plain-append : (es fs : Log) → ArePlain es → ArePlain fs → ArePlain (es ++
 plain-append [] fs h k = k
 plain-append (e ∷ es) fs h k = (h.0, plain-append es fs h.1 k)
 
-abbrev NoneWaits : (ℕ → Wait) → Type 0
+abbrev pub NoneWaits : (ℕ → Wait) → Type 0
 NoneWaits waits = (u : ℕ) → waits u ≡ Nothing
 
 unless : (b : Bool) (wait : Wait) → wait ≡ Nothing → (if b then Nothing else wait) ≡ Nothing
@@ -123,3 +125,55 @@ story-plain (t ∷ ts) h =
 -- The entries of a story by whose acts nothing waits are sealed.
 pub story-sealed : (p : ℕ) (ts : Story) → NothingWaits (deeds ts) → IsSealed (by p (lines ts))
 story-sealed p ts h = all-fit p (lines ts) nobody_waits (story-plain ts h) (λ u. refl)
+
+-- ---- what units wait for, act by act
+
+pub go-join : (es fs : List Act) (a b c : ℕ → Wait) → WaitLeads es a b → WaitLeads fs b c → WaitLeads (es ++ fs) a c
+go-join [] fs a b c x y = subst (λ w. WaitLeads fs w c) x y
+go-join (e ∷ es) fs a b c x y = (x.0, (x.1.0, go-join es fs x.0 b c x.1.1 y))
+
+pub go-same : (a : ℕ → Wait) → WaitLeads [] a a
+go-same a = refl
+
+-- the last one read a number alone
+pub go-unread : (es : List Act) (d : Domain) (x n : ℕ) (a b : ℕ → Wait) → WaitLeads (es ++ act.Reads d x n ∷ []) a b → WaitLeads es a b
+go-unread [] d x n a b h = h.1.1 ∙ h.1.0
+go-unread (e ∷ es) d x n a b h = (h.0, (h.1.0, go-unread es d x n h.0 b h.1.1))
+
+-- ---- where each life ends by a plain free
+
+pub ends-append : (as' bs : List Act) → ArePlainEnds as' → ArePlainEnds bs → ArePlainEnds (as' ++ bs)
+ends-append [] bs h k = k
+ends-append (a ∷ as') bs h k = (h.0, ends-append as' bs h.1 k)
+
+unsealed : (seal : Option Seal) → Nothing ≡ waited_for seal → seal ≡ None
+unsealed None e = refl
+unsealed (Some seal) e = absurd (cc)
+
+goes-away-none : (seal : Option Seal) (before now : Wait) → before ≡ Nothing → GoesAway seal before now → now ≡ Nothing
+goes-away-none seal Nothing now e h = h
+goes-away-none seal Batch now e h = absurd (cc)
+goes-away-none seal (Over x n) now e h = absurd (cc)
+
+goes-none : (seal : Option (Option Seal)) (before now : Wait) → before ≡ Nothing → Goes seal before now → now ≡ Nothing
+goes-none None before now e h = h ∙ e
+goes-none (Some seal) before now e h = goes-away-none seal before now e h
+
+put-none : (u : ℕ) (before now : ℕ → Wait) → NoneWaits before → now ≡ on_unit u Nothing before → NoneWaits now
+put-none u before now h e = subst NoneWaits (sym e) (λ v. unless (eqb v u) (before v) (h v))
+
+-- an act behind which nothing waits if nothing did before
+keeps-none : (a : Act) (before now : ℕ → Wait) → IsPlainEnd a → NoneWaits before → WaitsBy a before now → WaitsNot a × NoneWaits now
+keeps-none (act.Makes u life seal) before now p h w = (unsealed seal (sym (h u) ∙ w.0), put-none u before now h w.1.1)
+keeps-none (act.Ends u life home false) before now p h w = (refl, put-none u before now h w)
+keeps-none (act.Ends u life home true) before now p h w = absurd (cc)
+keeps-none (act.Sends c to us) before now p h w = (tt, λ u. goes-none (seal_among us u) (before u) (now u) (h u) (w u))
+keeps-none (act.Returns us) before now p h w = (tt, λ u. goes-none (seal_among us u) (before u) (now u) (h u) (w u))
+keeps-none (act.Drains c to us) before now p h w = (tt, subst NoneWaits (sym w.1) h)
+keeps-none (act.Releases c to us stamp seen) before now p h w = (tt, subst NoneWaits (sym w) (all-none stamp seen us before h))
+keeps-none _ before now p h w = (tt, subst NoneWaits (sym w) h)
+
+-- Where nothing waited, and each life ends by a plain free, nothing waits.
+pub none-waits : (acts : List Act) (before now : ℕ → Wait) → ArePlainEnds acts → NoneWaits before → WaitLeads acts before now → NothingWaits acts
+none-waits [] before now p h w = tt
+none-waits (a ∷ more) before now p h w = let k = keeps-none a before w.0 p.0 h w.1.0 in (k.0, none-waits more w.0 now p.1 k.1 w.1.1)

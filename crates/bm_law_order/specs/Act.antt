@@ -20,7 +20,9 @@ sealed us = map (λ u. let s : Sealed = record { unit = u.number; seal = u.seal 
 -- Units are named by their numbers, and with their seals where they are given away: what was sent or returned, and what began a
 -- life. A receive that found nothing has no units. A read of a number has the stamp that it was compared with; a begin has the odd
 -- number that it left, and one that came too late the even number that was named and the other one that it found; a look has the
--- words that it found. A life ends by a free, plain or with delay.
+-- words that it found. A life ends by a free, plain or with delay. Units that don't wait go to another processor (`Drains`) or back to
+-- the stock (`GivesBack`), and units that have waited for a plain period go as one parcel with its stamp and number (`Releases`): so tells
+-- who knows what the units wait for. Where nobody does, they are sent or returned.
 pub data Act : Type 0 where
   Enters : Domain → (word : ℕ) → Act
   Leaves : Domain → (word : ℕ) → Act
@@ -34,5 +36,8 @@ pub data Act : Type 0 where
   Returns : List Sealed → Act
   Sends : (class to : ℕ) → List Sealed → Act
   Receives : (class : ℕ) → List ℕ → Act
+  Drains : (class to : ℕ) → List ℕ → Act
+  Releases : (class to : ℕ) → List ℕ → (stamp seen : ℕ) → Act
+  GivesBack : List ℕ → Act
   Makes : (unit life : ℕ) → Option Seal → Act
   Ends : (unit life home : ℕ) (delayed : Bool) → Act

@@ -29,6 +29,9 @@ act_after p (act.Fetches c want us) s = record s { pool = less_fetched c want s.
 act_after p (act.Returns us) s = record s { pool = all_back (reverse (units_of us)) s.pool }
 act_after p (act.Sends c to us) s = record s { boxes = on_box to c (λ parcels. parcels ++ units_of us ∷ []) s.boxes }
 act_after p (act.Receives c us) s = record s { boxes = on_box p c (drop 1) s.boxes }
+act_after p (act.Drains c to us) s = record s { boxes = on_box to c (λ parcels. parcels ++ us ∷ []) s.boxes }
+act_after p (act.Releases c to us stamp seen) s = record s { boxes = on_box to c (λ parcels. parcels ++ us ∷ []) s.boxes }
+act_after p (act.GivesBack us) s = record s { pool = all_back (reverse us) s.pool }
 act_after p (act.Makes u life seal) s = record s { lives = given_life p u s.lives }
 act_after p (act.Ends u life home delayed) s = record s { lives = with_life u None s.lives }
 act_after p _ s = s
@@ -65,6 +68,9 @@ ActFits p (act.Fetches c want us) s = us ≡ fetches c want s.pool
 ActFits p (act.Returns us) s = AllOut (reverse (units_of us)) s.pool
 ActFits p (act.Sends c to us) s = IsParcel s.processors to (units_of us)
 ActFits p (act.Receives c us) s = us ≡ oldest (s.boxes p c)
+ActFits p (act.Drains c to us) s = IsParcel s.processors to us
+ActFits p (act.Releases c to us stamp seen) s = IsParcel s.processors to us
+ActFits p (act.GivesBack us) s = AllOut (reverse us) s.pool
 ActFits p (act.Makes u life seal) s = IsGiven u life s.lives
 ActFits p (act.Ends u life home delayed) s = IsOnly u life home s
 

@@ -31,6 +31,9 @@ pub data Chunk : Type 0 where
   Fetching : (class want : ℕ) → List ℕ → Chunk
   Returning : (class : ℕ) → List Sealed → Chunk
   Sending : (class to : ℕ) → List Sealed → Chunk
+  Draining : (class to : ℕ) → List ℕ → Chunk
+  Releasing : (class to : ℕ) → List ℕ → (stamp seen : ℕ) → Chunk
+  GivingBack : (class : ℕ) → List ℕ → Chunk
   Receiving : (class : ℕ) → List ℕ → Chunk
   FindingNone : (class : ℕ) → Chunk
   Sweeping : (class : ℕ) → List ℕ → List (List ℕ) → Chunk
@@ -58,6 +61,9 @@ acts_of (Filling c us) = act.Fetches c (prefill c) us ∷ []
 acts_of (Fetching c want us) = act.Fetches c want us ∷ []
 acts_of (Returning c us) = act.Returns us ∷ []
 acts_of (Sending c to us) = act.Sends c to us ∷ []
+acts_of (Draining c to us) = act.Drains c to us ∷ []
+acts_of (Releasing c to us stamp seen) = act.Releases c to us stamp seen ∷ []
+acts_of (GivingBack c us) = act.GivesBack us ∷ []
 acts_of (Receiving c us) = act.Receives c us ∷ []
 acts_of (FindingNone c) = act.Receives c [] ∷ []
 acts_of (Sweeping c us parcels) = map (act.Receives c) parcels ++ act.Receives c [] ∷ []
@@ -77,18 +83,24 @@ entries_of (Filling c us) = entry.Fill c (Whole us) ∷ []
 entries_of (Fetching c want us) = entry.Fetch c want (Whole us) ∷ []
 entries_of (Returning c us) = entry.Return c (Whole (units_of us)) ∷ []
 entries_of (Sending c to us) = entry.Send c to (Whole (units_of us)) ∷ []
+entries_of (Draining c to us) = entry.Send c to (Whole us) ∷ []
+entries_of (Releasing c to us stamp seen) = entry.Send c to (Whole us) ∷ []
+entries_of (GivingBack c us) = entry.Return c (Whole us) ∷ []
 entries_of (Receiving c us) = entry.Receive c (Whole us) ∷ []
 entries_of (Sweeping c us parcels) = entry.Sweep c (Whole (us ++ concat parcels)) ∷ []
 entries_of (Making u life seal) = given u life (seal_told seal) ∷ []
 entries_of (Ending u life home delayed) = entry.Drop u life ∷ entry.Last ∷ (if delayed then entry.Delay u home else entry.Free u home) ∷ []
 entries_of _ = []
 
--- What a pass, a period that begins and a given unit say is judged by the log before them; what other chunks say, by themselves.
+-- What a pass, a period that begins, a given unit, the end of a life and a batch that goes away say is judged by the log before them; what
+-- other chunks say, by themselves.
 abbrev pub is_judged : Chunk → Bool
 is_judged (Passing c d x n) = true
 is_judged (Beginning d n ws) = true
 is_judged (WholePeriod n ws p) = true
 is_judged (Making u life seal) = true
+is_judged (Ending u life home delayed) = true
+is_judged (Releasing c to us stamp seen) = true
 is_judged _ = false
 
 -- these entries stand for these acts, whatever the log before

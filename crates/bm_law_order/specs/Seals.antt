@@ -1,16 +1,21 @@
 -- What a unit that was freed with delay has to wait for before it is given again. (bpf_mem_free_rcu of kernel/bpf/memalloc.c puts it on
 -- free_by_rcu, from which call_rcu takes it; that a reply names the stamp and the number seen is this project's own.)
-use Rattle.std.specs.Prelude.{◌≡◌, ◌≤◌, ℕ, false, eqb, if◌then◌else◌, Option, Some, None, List, [], ◌∷◌}
+use Rattle.std.specs.Prelude.{◌≡◌, ◌≢◌, ◌≤◌, ℕ, Bool, true, false, eqb, if◌then◌else◌, Option, Some, None, List, [], ◌∷◌}
+use Rattle.std.specs.List.{All}
 use Rattle.bm_journal.specs.declared.ids.Domain.TheVariants.{Plain}
 use Rattle.bm_journal.specs.declared.entry.Entry.{Entry}
 use Rattle.bm_journal.specs.declared.entry.Entry.TheVariants as entry
 use Rattle.bm_journal.specs.EntryText.{unit_list}
 use Rattle.bm_law.specs.Begun.{for_domain}
 use Rattle.bm_law.specs.State.{State, opening}
-use Rattle.bm_law.specs.Lists.{next as lists_after}
-use Rattle.bm_law_order.specs.Act.{Act}
+use Rattle.bm_law.specs.Lists.{Log, next as lists_after}
+use Rattle.bm_page.specs.declared.units.Seal.{Seal}
+use Rattle.bm_law_order.specs.Act.{Act, Sealed}
 use Rattle.bm_law_order.specs.Act as act
-use Rattle.bm_law_order.specs.Orders.{AllFit, Order}
+use Rattle.bm_law_order.specs.Chunk.{Chunk}
+use Rattle.bm_law_order.specs.Chunk as chunk
+use Rattle.bm_law_order.specs.Orders.{AllFit, Order, by, over}
+use Rattle.bm_law_order.specs.Story.{Story, lines_of}
 use Rattle.bm_law_order.specs.Polls.{for_processor}
 
 -- Since its life ended a unit waits for nothing; it was freed with delay, and waits for the plain grace period of its batch; or that
@@ -79,6 +84,69 @@ nobody_waits = record { waits = λ u. Nothing; lists = opening; passed = λ p. N
 abbrev pub IsSealed : Order → Type 0
 IsSealed order = AllFit waiting_after SealFits order nobody_waits
 
+-- ---- as acts tell it
+
+-- what a unit with this seal has waited for
+abbrev pub waited_for : Option Seal → Wait
+waited_for None = Nothing
+waited_for (Some seal) = Over seal.stamp seal.seen
+
+-- a number that was seen isn't below the stamp
+abbrev pub HasPassed : Option Seal → Type 0
+HasPassed None = Unit {0}
+HasPassed (Some seal) = seal.stamp ≤ seal.seen
+
+-- what a unit waits for once its life has ended, by a free with delay or a plain one
+abbrev pub wait_after : (delayed : Bool) → Wait
+wait_after true = Batch
+wait_after false = Nothing
+
+-- the seal with which a unit is among these, if it is
+abbrev pub seal_among : List Sealed → ℕ → Option (Option Seal)
+seal_among [] u = None
+seal_among (s ∷ more) u = if eqb s.unit u then Some s.seal else seal_among more u
+
+-- A unit that waited for its batch goes away with the seal of what it waited for. Where it has none it waited for a tracing period alone,
+-- and nothing is said of it any more. What didn't wait for a batch goes as it was.
+abbrev pub GoesAway : Option Seal → (before now : Wait) → Type 0
+GoesAway None Batch now = Unit {0}
+GoesAway (Some seal) Batch now = (now ≡ Over seal.stamp seal.seen) × (seal.stamp ≤ seal.seen)
+GoesAway seal Nothing now = now ≡ Nothing
+GoesAway seal (Over stamp seen) now = now ≡ Over stamp seen
+
+-- .. if it goes
+abbrev pub Goes : Option (Option Seal) → (before now : Wait) → Type 0
+Goes None before now = now ≡ before
+Goes (Some seal) before now = GoesAway seal before now
+
+-- none of these units waits for its batch
+abbrev pub NoneAmong : (ℕ → Wait) → List ℕ → Type 0
+NoneAmong waits us = All (λ u. waits u ≢ Batch) us
+
+-- What units wait for before an act and after it: a unit begins a life with the seal of what it has waited for.
+abbrev pub WaitsBy : Act → (before now : ℕ → Wait) → Type 0
+WaitsBy (act.Makes u life seal) before now = (before u ≡ waited_for seal) × (HasPassed seal × (now ≡ on_unit u Nothing before))
+WaitsBy (act.Ends u life home delayed) before now = now ≡ on_unit u (wait_after delayed) before
+WaitsBy (act.Sends c to us) before now = (u : ℕ) → Goes (seal_among us u) (before u) (now u)
+WaitsBy (act.Returns us) before now = (u : ℕ) → Goes (seal_among us u) (before u) (now u)
+WaitsBy (act.Drains c to us) before now = NoneAmong before us × (now ≡ before)
+WaitsBy (act.Releases c to us stamp seen) before now = now ≡ all_ended stamp seen us before
+WaitsBy _ before now = now ≡ before
+
+-- .. and of some acts, in order
+abbrev pub WaitLeads : List Act → (before now : ℕ → Wait) → Type 0
+WaitLeads [] before now = now ≡ before
+WaitLeads (a ∷ more) before now = (mid : ℕ → Wait) × (WaitsBy a before mid × WaitLeads more mid now)
+
+-- no life ends by a delayed free
+abbrev pub IsPlainEnd : Act → Type 0
+IsPlainEnd (act.Ends u life home delayed) = delayed ≡ false
+IsPlainEnd _ = Unit {0}
+
+abbrev pub ArePlainEnds : List Act → Type 0
+ArePlainEnds [] = Unit {0}
+ArePlainEnds (a ∷ more) = IsPlainEnd a × ArePlainEnds more
+
 -- ---- where nothing waits
 
 -- No unit begins its life with a seal, and no life ends by a delayed free.
@@ -90,3 +158,33 @@ WaitsNot _ = Unit {0}
 abbrev pub NothingWaits : List Act → Type 0
 NothingWaits [] = Unit {0}
 NothingWaits (a ∷ more) = WaitsNot a × NothingWaits more
+
+-- ---- where units wait
+
+-- A batch goes away at level 0, behind a plain pass of its class, with its stamp and the number that was seen there. Where it isn't told what
+-- units wait for, nothing is sent or returned.
+abbrev pub ReleaseFits : (p l : ℕ) → Chunk → Waiting → Type 0
+ReleaseFits p l (chunk.Releasing c to us stamp seen) m =
+    (l ≡ 0) × ((((m.lists p).rows c).deferred.plain ≡ Some stamp) × (m.passed p ≡ Some (c, seen)))
+ReleaseFits p l (chunk.Sending c to us) m = ⊥
+ReleaseFits p l (chunk.Returning c us) m = ⊥
+ReleaseFits p l _ m = Unit {0}
+
+-- what the entries of a processor leave
+abbrev pub waiting_over : (p : ℕ) → Log → Waiting → Waiting
+waiting_over p log m = over waiting_after (by p log) m
+
+-- so it is of each chunk of a story, behind what the entries before it leave
+abbrev pub ReleasesFit : (p : ℕ) → Story → Waiting → Type 0
+ReleasesFit p [] m = Unit {0}
+ReleasesFit p (t ∷ ts) m = ReleaseFits p t.level t.chunk m × ReleasesFit p ts (waiting_over p (lines_of t) m)
+
+-- an entry that gives no unit; and so it is of each of them
+abbrev pub GivesNo : Entry → Type 0
+GivesNo (entry.Given u life) = ⊥
+GivesNo (entry.GivenAfter u life stamp seen) = ⊥
+GivesNo _ = Unit {0}
+
+abbrev pub GivesNone : Log → Type 0
+GivesNone [] = Unit {0}
+GivesNone (e ∷ es) = GivesNo e.1 × GivesNone es

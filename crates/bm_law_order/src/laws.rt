@@ -4,7 +4,7 @@ ghost use Rattle.std.specs.Prelude.{◌++◌, ℕ, List, []};
 ghost use Rattle.bm_law.specs.Lists.{Log};
 ghost use Rattle.bm_law_order.specs.Acts.{ActsFit, ActsLead, acts_over};
 ghost use Rattle.bm_law_order.specs.Orders.{Leads, by};
-ghost use Rattle.bm_law_order.specs.Seals.{IsSealed, NothingWaits};
+ghost use Rattle.bm_law_order.specs.Seals.{GivesNone, IsSealed, Nothing, NothingWaits, ReleasesFit, Wait, WaitLeads, nobody_waits};
 ghost use Rattle.bm_law_order.specs.Shared.{Shared};
 ghost use Rattle.bm_law_order.specs.Story.{Steady, Story, deeds, lines, plainly};
 ghost use Rattle.bm_law_order.specs.Tie.{HasLed, Tied, whatever};
@@ -29,4 +29,11 @@ pub fn tie_law()
 /// Where by the acts of a story nothing waits, each unit is given with what it has waited for: nothing.
 pub fn seal_law()
     ensures { (p : ℕ) (story : Story) → NothingWaits (deeds story) → IsSealed (by p (lines story)) }
+{}
+
+/// Where the acts of a story tell what each unit waits for, and each batch goes away behind the pass of its class, with its stamp and the
+/// number that was seen there, each unit is given with what it has waited for; also where entries come after it that give none.
+pub fn wait_law()
+    ensures { (p : ℕ) (story : Story) (rest : Log) (now : ℕ → Wait) → WaitLeads (deeds story) (λ u. Nothing) now →
+        ReleasesFit p story nobody_waits → GivesNone rest → IsSealed (by p (lines story ++ rest)) }
 {}

@@ -1,5 +1,5 @@
 -- What calls of a post do to the right to units. (This project's own.)
-use Rattle.std.specs.Prelude.{◌≡◌, ◌⊎◌, ◌<◌, ◌≤◌, ℕ, true, false, List, Option, map}
+use Rattle.std.specs.Prelude.{◌≡◌, ◌⊎◌, ◌<◌, ◌≤◌, ℕ, true, false, List, Option, Some, map}
 use Rattle.std.specs.List.{All}
 use Rattle.bm_law.specs.Stands.{times}
 use Rattle.bm_page.specs.UnitState.{UnitState}
@@ -20,6 +20,11 @@ MayLeave rights unit =
 
 abbrev pub IsSettled : Rights → UnitState → Type 0
 IsSettled rights unit = rights.settled unit.number unit.life unit.seal ≡ true
+
+-- a unit has this seal, and its grace period is seen to have passed by it
+pub record WaitedBy (rights : Rights) (seal : Seal) (unit : UnitState) : Type 0 where
+  pub sealed : unit.seal ≡ Some seal
+  pub ripe : rights.ripe unit.number unit.life (Some seal) ≡ true
 
 -- each unit is mine, and none is there twice
 pub record Holds (rights : Rights) (units : List UnitState) : Type 0 where

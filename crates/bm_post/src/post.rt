@@ -10,7 +10,7 @@ ghost use Rattle.bm_law_order.specs.Act as act;
 ghost use Rattle.bm_law_order.specs.Act.{sealed};
 ghost use Rattle.bm_post.specs.Calls.{Fetches, GivesBack, IsOf, KeepsCalls, Mails, PostCall, Posts, Receives, TellsCall, fetched, received, returned_call, sent};
 ghost use Rattle.bm_post.specs.Parcels.{oldest, parcel_sent, parcel_taken};
-ghost use Rattle.bm_post.specs.Rights.{AreSame, Holds, Lasting, MayLeave, numbers};
+ghost use Rattle.bm_post.specs.Rights.{AreSame, Holds, IsSettled, Lasting, MayLeave, WaitedBy, numbers};
 
 use bm_class::Class;
 use bm_grace::Knows;
@@ -43,7 +43,7 @@ pub trait Post: Knows {
         ensures does { OnOk result (Self.does (act.Fetches class want (numbers (drop (length out.old.items) out.new.items)) ∷ []) self.old self.new) }
         ensures idle { OnErr result (Self.does [] self.old self.new) };
 
-    /// Gives units back to the pool; none is fine. They are mine, and settled or ripe.
+    /// Gives units back to the pool; none is fine. They are mine, and settled or ripe. Where all are settled, that is told.
     fn put_back(&mut self, units: Vec<Unit>)
         requires mine { Holds (Self.rights self.old) units.items }
         requires fit { All (MayLeave (Self.rights self.old)) units.items }
@@ -52,10 +52,12 @@ pub trait Post: Knows {
         ensures known { Posts Self.tells (Self.known self.old) (Self.known self.new) }
         ensures rest { StaysAtRest Self.rest self.old self.new }
         ensures calls { TellsCall (returned_call units.items) (calls self.old) (calls self.new) }
-        ensures does { Self.does (act.Returns (sealed units.items) ∷ []) self.old self.new };
+        ensures does { Self.does (act.Returns (sealed units.items) ∷ []) self.old self.new }
+        ensures gives { All (IsSettled (Self.rights self.old)) units.items → Self.does (act.GivesBack (numbers units.items) ∷ []) self.old self.new };
 
     /// Sends units of a class to a processor's inbox, as one parcel; this one's own inbox too. They are mine, and settled
     /// or ripe. It refuses for want of memory alone, and then hands the units back, which are mine still.
+    /// Where all are settled, or all are ripe by one seal, that is told.
     fn send(&mut self, to: u8, class: Class, units: Vec<Unit>) -> Result<(), Vec<Unit>>
         requires to { to < (Self.known self.old).grace.processors }
         requires some { 0 < length units.items }
@@ -74,6 +76,10 @@ pub trait Post: Knows {
         ensures calls { OnOk result (TellsCall (sent to class units.items) (calls self.old) (calls self.new)) }
         ensures no_call { OnErr result (KeepsCalls (calls self.old) (calls self.new)) }
         ensures does { OnOk result (Self.does (act.Sends class to (sealed units.items) ∷ []) self.old self.new) }
+        ensures drains { OnOk result (All (IsSettled (Self.rights self.old)) units.items
+            → Self.does (act.Drains class to (numbers units.items) ∷ []) self.old self.new) }
+        ensures releases { OnOk result ((seal : Seal) → All (WaitedBy (Self.rights self.old) seal) units.items
+            → Self.does (act.Releases class to (numbers units.items) seal.stamp seal.seen ∷ []) self.old self.new) }
         ensures idle { OnErr result (Self.does [] self.old self.new) };
 
     /// Takes the oldest parcel out of this processor's inbox of a class, as it was sent; `None` where it found the inbox

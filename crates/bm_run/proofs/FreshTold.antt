@@ -18,7 +18,7 @@ use Rattle.bm_law_order.specs.Lives.{Life}
 use Rattle.bm_law_order.specs.Looks.{first_looks}
 use Rattle.bm_law_order.specs.Numbers.{first_numbers}
 use Rattle.bm_law_order.specs.Pages.{fetches}
-use Rattle.bm_law_order.specs.Seals.{NothingWaits}
+use Rattle.bm_law_order.specs.Seals.{Wait, WaitLeads}
 use Rattle.bm_law_order.specs.Shared.{Shared, fresh}
 use Rattle.bm_law_order.specs.Story.{AllJudged, Story, deeds, lines}
 use Rattle.bm_law_order.specs.Tie.{TiedBy}
@@ -28,6 +28,9 @@ use Rattle.bm_post.specs.PostState.{no_parcels}
 use Rattle.bm_post.specs.Rights.{numbers}
 use Rattle.bm_world.specs.LivingState.{LivingState, begun_at}
 use Rattle.bm_world.specs.Slots.{AllEmpty, unit_at}
+use Rattle.bm_world.specs.Standings.{standing_at, told_standing, waits_told}
+use Rattle.bm_world.specs.declared.standing.Standing.{Standing}
+use Rattle.bm_world.specs.declared.standing.Standing.TheVariants.{Nothing}
 use Rattle.bm_world.specs.Told.{told_boxes}
 use Rattle.bm_world.specs.ToldLiving.{LivingDoes, life_of, told_living}
 use Rattle.bm_run.specs.Filling.{filling}
@@ -47,8 +50,8 @@ no-boxes pool p c = none (nat_lt p 8 && nat_lt c 11)
     none false = refl
 
 -- what is told where nobody did anything but take units from the stock
-fresh-told : (pages : ℕ) (pool : Stock) (slots : List (Option UnitState)) (begun : List ℕ) → AllEmpty slots → ((n : ℕ) → begun_at begun n ≡ 0) → told_living (living_side pool slots begun) ≡ record (fresh 1 pages) { pool = bare_pool pool }
-fresh-told pages pool slots begun e z =
+fresh-told : (pages : ℕ) (pool : Stock) (slots : List (Option UnitState)) (begun : List ℕ) (standings : List Standing) → AllEmpty slots → ((n : ℕ) → begun_at begun n ≡ 0) → told_living (living_side pool slots begun standings) ≡ record (fresh 1 pages) { pool = bare_pool pool }
+fresh-told pages pool slots begun standings e z =
     let F : (ℕ → ℕ → List (List ℕ)) → (ℕ → ℕ) → (ℕ → Option Life) → Shared = λ b g h. record { processors = 1; words = first_words; numbers = first_numbers; looks = first_looks; lives = record { begun = g; holds = h; dropping = λ p l. None }; pool = bare_pool pool; boxes = b } in
     let B : ℕ → ℕ → List (List ℕ) = λ p c. [] in
     ap (λ b. F b (begun_at begun) (λ n. life_of (unit_at slots n))) (fun_ext (λ p. fun_ext (λ c. no-boxes pool p c)))
@@ -59,6 +62,10 @@ no-slots : AllEmpty []
 no-slots zero = refl
 no-slots (suc n) = refl
 
+no-standing : (n : ℕ) → standing_at [] n ≡ Nothing
+no-standing zero = refl
+no-standing (suc n) = refl
+
 no-lives : (n : ℕ) → begun_at [] n ≡ 0
 no-lives zero = refl
 no-lives (suc n) = refl
@@ -66,7 +73,7 @@ no-lives (suc n) = refl
 pub outset-told : (pages : ℕ) → told_living (outset pages) ≡ fresh 1 pages
 outset-told pages =
     let F : List Stocked → Shared = λ us. record (fresh 1 pages) { pool = record { classes = replicate pages None; units = us } } in
-    fresh-told pages (fresh_stock pages) [] [] no-slots no-lives ∙ ap F (bare-unborn (256 * pages))
+    fresh-told pages (fresh_stock pages) [] [] [] no-slots no-lives ∙ ap F (bare-unborn (256 * pages))
 
 -- the fills of some classes from a stock
 abbrev fill_story : List ℕ → Stock → Story
@@ -92,34 +99,34 @@ fill-leads p (c ∷ cs) pool s e =
     let rest = fill-leads p cs f.pool now pools in
     record { fit = (same.units ∙ ap (fetches c (prefill c)) (sym e), rest.fit); now_is = rest.now_is }
 
-fill-waits : (cs : List ℕ) (pool : Stock) → NothingWaits (deeds (fill_story cs pool))
-fill-waits [] pool = tt
-fill-waits (c ∷ cs) pool = (tt, fill-waits cs (fetched c (prefill c) pool).pool)
+fill-waits : (cs : List ℕ) (pool : Stock) (w : ℕ → Wait) → WaitLeads (deeds (fill_story cs pool)) w w
+fill-waits [] pool w = refl
+fill-waits (c ∷ cs) pool w = (w, (refl, fill-waits cs (fetched c (prefill c) pool).pool w))
 
-fill-does : (cs : List ℕ) (pages : ℕ) (pool : Stock) (slots : List (Option UnitState)) (begun : List ℕ) → pool ≡ (filling cs (fresh_stock pages)).pool → AllEmpty slots → ((n : ℕ) → begun_at begun n ≡ 0) →
-    LivingDoes (deeds (fill_story cs (fresh_stock pages))) (outset pages) (living_side pool slots begun)
-fill-does cs pages pool slots begun q e z = record {
-  waits = fill-waits cs (fresh_stock pages);
+fill-does : (cs : List ℕ) (pages : ℕ) (pool : Stock) (slots : List (Option UnitState)) (begun : List ℕ) (standings : List Standing) → pool ≡ (filling cs (fresh_stock pages)).pool → AllEmpty slots → ((n : ℕ) → begun_at begun n ≡ 0) → ((n : ℕ) → standing_at standings n ≡ Nothing) →
+    LivingDoes (deeds (fill_story cs (fresh_stock pages))) (outset pages) (living_side pool slots begun standings)
+fill-does cs pages pool slots begun standings q e z n = record {
+  waits = subst (λ w. WaitLeads (deeds (fill_story cs (fresh_stock pages))) (waits_told []) w) (fun_ext (λ m. ap told_standing (no-standing m ∙ sym (n m)))) (fill-waits cs (fresh_stock pages) (waits_told []));
   did = λ p s.
-      let first = fresh-told pages (fresh_stock pages) [] [] no-slots no-lives in
+      let first = fresh-told pages (fresh_stock pages) [] [] [] no-slots no-lives in
       let start : Shared = record (fresh 1 pages) { pool = bare_pool (fresh_stock pages) } in
       let lead = fill-leads p cs (fresh_stock pages) start refl in
-      let now = fresh-told pages pool slots begun e z ∙ ap (λ x. let y : Shared = record (fresh 1 pages) { pool = bare_pool x } in y) q in
+      let now = fresh-told pages pool slots begun standings e z ∙ ap (λ x. let y : Shared = record (fresh 1 pages) { pool = bare_pool x } in y) q in
       record {
-        leads = subst (λ x. ActsLead p (deeds (fill_story cs (fresh_stock pages))) x (told_living (living_side pool slots begun))) (sym first) (subst (ActsLead p (deeds (fill_story cs (fresh_stock pages))) start) (sym now) lead);
+        leads = subst (λ x. ActsLead p (deeds (fill_story cs (fresh_stock pages))) x (told_living (living_side pool slots begun standings))) (sym first) (subst (ActsLead p (deeds (fill_story cs (fresh_stock pages))) start) (sym now) lead);
         stays = record { post_is = s.post_is; grace_is = s.grace_is; agree = s.agree; turn = s.turn; most = s.most; boxes = s.boxes; plain_words = s.plain_words; tracing_words = s.tracing_words };
       };
 }
 
-pub opened-tied : (cs : List ℕ) (pages : ℕ) (pool : Stock) (slots : List (Option UnitState)) (begun : List ℕ) (told : Option Log) → pool ≡ (filling cs (fresh_stock pages)).pool → AllEmpty slots → ((n : ℕ) → begun_at begun n ≡ 0) → IfSome told (λ es. es ≡ fill_log (filling cs (fresh_stock pages)).fills) →
-    TiedBy (polled knows_living [] (outset pages)) (DoesHere knows_living) [] (outset pages) 0 [] [] told (living_side pool slots begun)
-opened-tied cs pages pool slots begun None q e z t = tt
-opened-tied cs pages pool slots begun (Some log) q e z t =
+pub opened-tied : (cs : List ℕ) (pages : ℕ) (pool : Stock) (slots : List (Option UnitState)) (begun : List ℕ) (standings : List Standing) (told : Option Log) → pool ≡ (filling cs (fresh_stock pages)).pool → AllEmpty slots → ((n : ℕ) → begun_at begun n ≡ 0) → ((n : ℕ) → standing_at standings n ≡ Nothing) → IfSome told (λ es. es ≡ fill_log (filling cs (fresh_stock pages)).fills) →
+    TiedBy (polled knows_living [] (outset pages)) (DoesHere knows_living) [] (outset pages) 0 [] [] told (living_side pool slots begun standings)
+opened-tied cs pages pool slots begun standings None q e z n t = tt
+opened-tied cs pages pool slots begun standings (Some log) q e z n t =
     let story = fill_story cs (fresh_stock pages) in
-    let world : LivingState = living_side pool slots begun in
+    let world : LivingState = living_side pool slots begun standings in
     record {
       story = story;
       judged = fill-judged (outset pages) [] cs (fresh_stock pages);
       log_is = t ∙ (sym (fill-lines cs (fresh_stock pages)) ∙ sym (append-nil (lines story)));
-      done_is = (subst (λ as'. LivingDoes as' (outset pages) world) (sym (append-nil (deeds story))) (fill-does cs pages pool slots begun q e z), refl);
+      done_is = (subst (λ as'. LivingDoes as' (outset pages) world) (sym (append-nil (deeds story))) (fill-does cs pages pool slots begun standings q e z n), refl);
     }

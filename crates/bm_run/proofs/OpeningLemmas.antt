@@ -18,6 +18,10 @@ use Rattle.bm_post.specs.HasRoom.{has_room}
 use Rattle.bm_post.specs.Kept.{IsRoomy}
 use Rattle.bm_post.specs.PostState.{Parcels, PostState, is_mine, no_parcels, waits}
 use Rattle.bm_post.proofs.Room.{room-is}
+use Rattle.bm_world.specs.Standings.{has_waited, standing_at, standing_of}
+use Rattle.bm_world.specs.declared.standing.Standing.{Standing}
+use Rattle.bm_world.specs.declared.standing.Standing.TheVariants.{Nothing}
+use Rattle.bm_world.proofs.Left.{waited-so}
 use Rattle.bm_world.specs.LivingState.{HaveLived, LivingState, begun_at, known_living, lives_of, living_of, may_be_used, may_live, rights_living}
 use Rattle.bm_world.specs.Slots.{AllEmpty, unit_at}
 use Rattle.bm_law.specs.Effect.{effect}
@@ -82,56 +86,56 @@ roomy pool h = record {
   lives = λ n. let z = (h.each n).0 in omega (arith, z);
 }
 
-pub unlived : (post : PostState) → IsUnborn post.pool.units → post.inboxes ≡ no_parcels → HaveLived [] post
+pub unlived : (post : PostState) → IsUnborn post.pool.units → post.inboxes ≡ no_parcels → HaveLived [] [] post
 unlived post h e = record {
-  stock = λ n out. h.each n;
+  stock = λ n out. ((h.each n).0, ap standing_of (sym (h.each n).1));
   boxes = λ i. let none : get_or post.inboxes i [] ≡ [] = ap (λ (z : List Parcels). get_or z i []) e ∙ none-at 88 i in rw none (All-nil _);
 }
 
 -- the side with nothing alive
-abbrev pub living_side : Stock → List (Option UnitState) → List ℕ → LivingState
-living_side pool slots begun = record { side = fresh_side pool; slots = slots; begun = begun; asked = 0 }
+abbrev pub living_side : Stock → List (Option UnitState) → List ℕ → List Standing → LivingState
+living_side pool slots begun standings = record { side = fresh_side pool; slots = slots; begun = begun; standings = standings; asked = 0 }
 
-pub side-is : (world : LivingState) (pool : Stock) → world.side ≡ fresh_side pool → world.asked ≡ 0 → world ≡ living_side pool world.slots world.begun
+pub side-is : (world : LivingState) (pool : Stock) → world.side ≡ fresh_side pool → world.asked ≡ 0 → world ≡ living_side pool world.slots world.begun world.standings
 side-is world pool e z =
-    ap (λ s. let w : LivingState = record { side = s; slots = world.slots; begun = world.begun; asked = world.asked } in w) e ∙
-    ap (λ a. let w : LivingState = record { side = fresh_side pool; slots = world.slots; begun = world.begun; asked = a } in w) z
+    ap (λ s. let w : LivingState = record { side = s; slots = world.slots; begun = world.begun; standings = world.standings; asked = world.asked } in w) e ∙
+    ap (λ a. let w : LivingState = record { side = fresh_side pool; slots = world.slots; begun = world.begun; standings = world.standings; asked = a } in w) z
 
 pub none-live : (slots : List (Option UnitState)) → AllEmpty slots → (u : ℕ) → lives_of slots u ≡ None
 none-live slots e u = ap living_of (e u)
 
-pub no-numbers : (pool : Stock) (slots : List (Option UnitState)) (begun : List ℕ) (d : Domain) → (side d (known_living (living_side pool slots begun))).number ≡ 0
-no-numbers pool slots begun Plain = refl
-no-numbers pool slots begun Tracing = refl
+pub no-numbers : (pool : Stock) (slots : List (Option UnitState)) (begun : List ℕ) (standings : List Standing) (d : Domain) → (side d (known_living (living_side pool slots begun standings))).number ≡ 0
+no-numbers pool slots begun standings Plain = refl
+no-numbers pool slots begun standings Tracing = refl
 
-pub no-words : (pool : Stock) (slots : List (Option UnitState)) (begun : List ℕ) (d : Domain) → (side d (known_living (living_side pool slots begun))).word ≡ 0
-no-words pool slots begun Plain = refl
-no-words pool slots begun Tracing = refl
+pub no-words : (pool : Stock) (slots : List (Option UnitState)) (begun : List ℕ) (standings : List Standing) (d : Domain) → (side d (known_living (living_side pool slots begun standings))).word ≡ 0
+no-words pool slots begun standings Plain = refl
+no-words pool slots begun standings Tracing = refl
 
-pub all-begins : (pool : Stock) (slots : List (Option UnitState)) (begun : List ℕ) (d : Domain) → (side d (known_living (living_side pool slots begun))).begins ≡ 134217728
-all-begins pool slots begun Plain = refl
-all-begins pool slots begun Tracing = refl
+pub all-begins : (pool : Stock) (slots : List (Option UnitState)) (begun : List ℕ) (standings : List Standing) (d : Domain) → (side d (known_living (living_side pool slots begun standings))).begins ≡ 134217728
+all-begins pool slots begun standings Plain = refl
+all-begins pool slots begun standings Tracing = refl
 
 -- ---- each unit may be used again
 
-mine-here : (pool : Stock) (slots : List (Option UnitState)) (begun : List ℕ) (n : ℕ) → AllEmpty slots → (stocked_at pool.units n).out ≡ true → (rights_living (living_side pool slots begun)).mine n ≡ true
-mine-here pool slots begun n e o =
+mine-here : (pool : Stock) (slots : List (Option UnitState)) (begun : List ℕ) (standings : List Standing) (n : ℕ) → AllEmpty slots → (stocked_at pool.units n).out ≡ true → (rights_living (living_side pool slots begun standings)).mine n ≡ true
+mine-here pool slots begun standings n e o =
     let none : not (is_some (unit_at slots n)) ≡ true = ap (λ x. not (is_some x)) (e n) in
     let alone : eqb (waits n no_parcels) 0 ≡ true = ap (λ k. eqb k 0) (no-waits 88 n) in
     and_from (is_mine (fresh_side pool).post n) (not (is_some (unit_at slots n))) (and_from (stocked_at pool.units n).out (eqb (waits n no_parcels) 0) o alone) none
 
-settled-here : (begun : List ℕ) (n life : ℕ) (seal : Option Seal) → n < 65536 → NeverLived life seal → begun_at begun n ≡ 0 → may_be_used begun n life seal ≡ true
-settled-here begun n life seal lt new none =
+settled-here : (begun : List ℕ) (standings : List Standing) (n life : ℕ) (seal : Option Seal) → n < 65536 → NeverLived life seal → begun_at begun n ≡ 0 → standing_at standings n ≡ Nothing → may_be_used begun standings n life seal ≡ true
+settled-here begun standings n life seal lt new none stands =
     let z = new.0 in
-    and_from (may_live begun n life) (is_none seal)
+    and_from (may_live begun n life) (has_waited (standing_at standings n) seal)
     (and_from (has_room n life) (eqb life (begun_at begun n)) (room-is n life (omega (arith, lt)) (omega (arith, z))) (eq-eqb life (begun_at begun n) (z ∙ sym none)))
-    (ap is_none new.1)
+    (waited-so (standing_at standings n) seal (stands ∙ ap standing_of (sym new.1)))
 
-reusable : (pool : Stock) (slots : List (Option UnitState)) (begun : List ℕ) (u : Token) → AllEmpty slots → ((n : ℕ) → begun_at begun n ≡ 0) → IsUnborn pool.units → NeverLived u.life u.seal → (stocked_at pool.units u.number).out ≡ true → Reusable (tests_by (rights_living (living_side pool slots begun))) u
-reusable pool slots begun u e none born z o =
+reusable : (pool : Stock) (slots : List (Option UnitState)) (begun : List ℕ) (standings : List Standing) (u : Token) → AllEmpty slots → ((n : ℕ) → begun_at begun n ≡ 0) → ((n : ℕ) → standing_at standings n ≡ Nothing) → IsUnborn pool.units → NeverLived u.life u.seal → (stocked_at pool.units u.number).out ≡ true → Reusable (tests_by (rights_living (living_side pool slots begun standings))) u
+reusable pool slots begun standings u e none stands born z o =
     let inside = out_inside pool.units u.number o in
     let size = born.size in
-    and_from ((rights_living (living_side pool slots begun)).mine u.number) (may_be_used begun u.number u.life u.seal) (mine-here pool slots begun u.number e o) (settled-here begun u.number u.life u.seal (omega (arith, inside, size)) z (none u.number))
+    and_from ((rights_living (living_side pool slots begun standings)).mine u.number) (may_be_used begun standings u.number u.life u.seal) (mine-here pool slots begun standings u.number e o) (settled-here begun standings u.number u.life u.seal (omega (arith, inside, size)) z (none u.number) (stands u.number))
 
 all-front : (P : Token → Type 0) (xs ys : List Token) → All P (xs ++ ys) → All P xs
 all-front P [] ys h i d lt = absurd (omega arith)
@@ -146,9 +150,9 @@ suits : (t : Tests) (fs : Fills) → All (Reusable t) (units_in fs) → FillsSui
 suits t [] h = tt
 suits t (f ∷ fs) h = (all-front (Reusable t) f.1 (units_in fs) h, suits t fs (all-back (Reusable t) f.1 (units_in fs) h))
 
-pub fills-suit : (pool : Stock) (slots : List (Option UnitState)) (begun : List ℕ) (fs : Fills) → AllEmpty slots → ((n : ℕ) → begun_at begun n ≡ 0) → IsUnborn pool.units → All (λ (u : Token). NeverLived u.life u.seal) (units_in fs) → AreOut pool (units_in fs) → FillsSuit (tests_by (rights_living (living_side pool slots begun))) fs
-fills-suit pool slots begun fs e none born z o =
-    suits (tests_by (rights_living (living_side pool slots begun))) fs (λ i d lt. reusable pool slots begun (get_or (units_in fs) i d) e none born (z i d lt) (o.each i d lt).out)
+pub fills-suit : (pool : Stock) (slots : List (Option UnitState)) (begun : List ℕ) (standings : List Standing) (fs : Fills) → AllEmpty slots → ((n : ℕ) → begun_at begun n ≡ 0) → ((n : ℕ) → standing_at standings n ≡ Nothing) → IsUnborn pool.units → All (λ (u : Token). NeverLived u.life u.seal) (units_in fs) → AreOut pool (units_in fs) → FillsSuit (tests_by (rights_living (living_side pool slots begun standings))) fs
+fills-suit pool slots begun standings fs e none stands born z o =
+    suits (tests_by (rights_living (living_side pool slots begun standings))) fs (λ i d lt. reusable pool slots begun standings (get_or (units_in fs) i d) e none stands born (z i d lt) (o.each i d lt).out)
 
 -- ---- no deferred work is in progress
 

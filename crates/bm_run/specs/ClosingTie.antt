@@ -21,7 +21,7 @@ use Rattle.bm_law_order.specs.Quiet.{is_quiet}
 use Rattle.bm_law_order.specs.Story.{at_level, deeds, lines}
 use Rattle.bm_law_order.specs.Tie.{Tied, TiedBy, whatever}
 use Rattle.bm_law_order.proofs.ActsJoin.{acts-append, acts-before}
-use Rattle.bm_law_order.proofs.Unwaited.{waits-front as nothing-front}
+use Rattle.bm_law_order.proofs.Unwaited.{go-unread}
 use Rattle.bm_law_order.proofs.Ties.{law-closed, law-done, law-quiet, law-said, law-stepped, tie-first, tie-unjudged}
 use Rattle.bm_grace.specs.PlainState.{domain_in}
 use Rattle.bm_closing.specs.Told.{at_once, passed_at_once}
@@ -32,6 +32,7 @@ use Rattle.bm_exec_levels.specs.AtPolls as idle
 use Rattle.bm_exec_levels.specs.AtTie.{as-judged}
 use Rattle.bm_exec_levels.specs.declared.processor.Processor.{Processor}
 use Rattle.bm_world.specs.LivingState.{LivingState, known_living}
+use Rattle.bm_world.specs.Standings.{waits_told}
 use Rattle.bm_world.specs.ToldLiving.{LivingDoes, told_living}
 
 -- tied since then, with these acts and entries that aren't told of yet
@@ -117,7 +118,7 @@ unread acts d x m a b here = (did-before here.0, here.1)
   where
     did-before : LivingDoes (acts ++ act.Reads d x m ∷ []) a b → LivingDoes acts a b
     did-before did = record {
-      waits = nothing-front acts (act.Reads d x m ∷ []) did.waits;
+      waits = go-unread acts d x m (waits_told a.standings) (waits_told b.standings) did.waits;
       did = λ p s.
           let h = did.did p s in
           record {

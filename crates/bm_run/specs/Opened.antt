@@ -35,7 +35,7 @@ fresh_side pool = record {
 
 -- the world of one processor before its opening: all units are in stock
 abbrev pub outset : (pages : ℕ) → LivingState
-outset pages = record { side = fresh_side (fresh_stock pages); slots = []; begun = []; asked = 0 }
+outset pages = record { side = fresh_side (fresh_stock pages); slots = []; begun = []; standings = []; asked = 0 }
 
 -- The processor's caches were filled so: the log has a `fill` for each class, no flag is up, no object lives, no life began,
 -- none was asked for, no period is in progress, and no section was entered. No handler that the program plans for it has run, none

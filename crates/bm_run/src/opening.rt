@@ -9,6 +9,8 @@ ghost use Rattle.bm_run.specs.Filling.{IsUnborn, filling};
 ghost use Rattle.bm_run.specs.Opened.{IsOpen, ascends, fresh_side};
 ghost use Rattle.bm_world.specs.LivingState.{begun_at};
 ghost use Rattle.bm_world.specs.Slots.{AllEmpty};
+ghost use Rattle.bm_world.specs.Standings.{standing_at};
+ghost use Rattle.bm_world.specs.declared.standing.Standing.TheVariants.{Nothing as WaitsForNothing};
 
 use crate::filling::{fill, give_up_fills};
 use bm_cache::Caches;
@@ -29,6 +31,7 @@ fn open_side(alloc: Global, pool: Pool) -> Result<LivingSide, NoMemory>
     ensures side { IfOk result (λ world. world.side ≡ fresh_side pool) }
     ensures slots { IfOk result (λ world. AllEmpty world.slots) }
     ensures begun { IfOk result (λ world. (n : ℕ) → begun_at world.begun n ≡ 0) }
+    ensures standings { IfOk result (λ world. (n : ℕ) → standing_at world.standings n ≡ WaitsForNothing) }
     ensures asked { IfOk result (λ world. world.asked ≡ 0) }
 {
     match PlainPost::create(alloc, pool, 1) {

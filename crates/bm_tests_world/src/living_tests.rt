@@ -1,14 +1,16 @@
 //! Two lives of one unit, from the pool back to the pool.
 
 ghost use Rattle.std.specs.Prelude.{◌≡◌, ◌∷◌, [], true};
+ghost use Rattle.bm_grace.specs.PlainState.{idle};
 ghost use Rattle.bm_post.specs.Rights.{IsSettled};
 ghost use Rattle.bm_world.specs.LivingState.{rights_living};
 
 use crate::pools::one_page;
+use crate::waiting_tests::{pass_period, seal_if_passed};
 use bm_class::Class;
-use bm_grace::PlainGrace;
-use bm_journal::ObjId;
-use bm_page::Unit;
+use bm_grace::{Grace, PlainGrace};
+use bm_journal::{Domain, ObjId};
+use bm_page::{Seal, Unit};
 use bm_post::{PlainPost, Post};
 use bm_world::{Lives, LivingSide, OneSide};
 use std::process::Abort;
@@ -16,7 +18,7 @@ use std::process::Abort;
 /// The side of the one processor, where nothing lives and no object was asked for.
 fn living_side(rt: &(impl Abort + AllocGlobal)) -> LivingSide
     ensures asked { result.asked ≡ 0 }
-    ensures processors { result.side.grace.processors ≡ 1 }
+    ensures grace { result.side.grace ≡ record { processors = 1; processor = 0; plain = idle; tracing = idle } }
 {
     match PlainPost::create(rt.alloc(), one_page(rt), 1) {
         Ok(post) => match LivingSide::create(rt.alloc(), OneSide::new(post, PlainGrace::new(1))) {
@@ -29,11 +31,12 @@ fn living_side(rt: &(impl Abort + AllocGlobal)) -> LivingSide
 
 /// A unit of a class, which may be used again, and whose home is processor 0.
 fn fetch_one(rt: &(impl Abort + AllocGlobal), world: &mut LivingSide, class: Class) -> Unit
+    ensures class { result.class ≡ class }
     ensures mine { (rights_living world.new).mine result.number ≡ true }
     ensures settled { IsSettled (rights_living world.new) result }
     ensures home { result.home ≡ 0 }
     ensures asked { world.new.asked ≡ world.old.asked }
-    ensures processors { world.new.side.grace.processors ≡ world.old.side.grace.processors }
+    ensures grace { world.new.side.grace ≡ world.old.side.grace }
 {
     let mut units = Vec::new(rt.alloc());
     let count = world
@@ -67,7 +70,7 @@ fn a_unit_lives_twice(rt: HostRuntime) {
     assert_eq!(rt; unit.life(), 0);
     let object = world.begin_life(unit);
     assert!(rt; object == ObjId { unit: 0, life: 1 });
-    let ended = world.end_life(object.unit);
+    let ended = world.end_life(object.unit, false);
     assert_eq!(rt; ended.life(), 1);
     world.put_back(parcel_of(&rt, ended));
     world.ask();
@@ -76,10 +79,58 @@ fn a_unit_lives_twice(rt: HostRuntime) {
     assert_eq!(rt; again.life(), 1);
     let second = world.begin_life(again);
     assert!(rt; second == ObjId { unit: 0, life: 2 });
-    let last = world.end_life(second.unit);
+    let last = world.end_life(second.unit, false);
     world.put_back(parcel_of(&rt, last));
     let (side, slots, asked) = world.into_parts();
     assert_eq!(rt; asked, 3);
+    slots.give_up();
+    let (post, _grace) = side.into_parts();
+    post.give_up();
+}
+
+/// The one unit of the oldest parcel of a class, which may be used again, and whose home is processor 0 now.
+fn receive_unit(rt: &(impl Abort + AllocGlobal), world: &mut LivingSide, class: Class) -> Unit
+    ensures mine { (rights_living world.new).mine result.number ≡ true }
+    ensures settled { IsSettled (rights_living world.new) result }
+    ensures home { result.home ≡ 0 }
+    ensures asked { world.new.asked ≡ world.old.asked }
+    ensures processors { world.new.side.grace.processors ≡ world.old.side.grace.processors }
+{
+    let mut units = world.receive(class).expect(rt, "a parcel waits");
+    let mut unit = units.pop().expect(rt, "a unit");
+    assert!(rt; units.is_empty());
+    units.destroy_empty();
+    unit.set_home(0);
+    unit
+}
+
+#[test]
+fn a_unit_waits_between_two_lives(rt: HostRuntime) {
+    let class = Class::new(1).expect(&rt, "an index is a class");
+    let mut world = living_side(&rt);
+    let unit = fetch_one(&rt, &mut world, class);
+    let object = world.begin_life(unit);
+    let mut ended = world.end_life(object.unit, true);
+    assert!(rt; ended.seal() == None);
+    let stamp = world.stamp(Domain::Plain);
+    assert_eq!(rt; stamp, 2);
+    pass_period(&rt, &mut world, 0);
+    let class = ended.class();
+    assert!(rt; seal_if_passed(&mut world, &mut ended, stamp));
+    match world.send(0, class, parcel_of(&rt, ended)) {
+        Ok(()) => {}
+        Err(_units) => panic!(&rt; "there is memory for the parcel"),
+    }
+    let again = receive_unit(&rt, &mut world, class);
+    assert_eq!(rt; again.life(), 1);
+    assert!(rt; again.seal() == Some(Seal { stamp: 2, seen: 2 }));
+    let second = world.begin_life(again);
+    assert!(rt; second == ObjId { unit: 0, life: 2 });
+    let last = world.end_life(second.unit, false);
+    assert!(rt; last.seal() == None);
+    world.put_back(parcel_of(&rt, last));
+    let (side, slots, asked) = world.into_parts();
+    assert_eq!(rt; asked, 2);
     slots.give_up();
     let (post, _grace) = side.into_parts();
     post.give_up();

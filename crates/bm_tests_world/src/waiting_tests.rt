@@ -50,12 +50,13 @@ fn fetch_one<W: World>(rt: &(impl Abort + AllocGlobal), world: &mut W, class: Cl
 }
 
 /// A plain period that nobody holds up.
-fn pass_period<W: World>(rt: &impl Abort, world: &mut W, even: u32)
+pub(crate) fn pass_period<W: World>(rt: &impl Abort, world: &mut W, even: u32)
     requires even { even % 2 ≡ 0 }
     requires idle { (side Plain (W.Knows.known world.old)).number ≡ 0 }
     requires room { 0 < (side Plain (W.Knows.known world.old)).begins }
     ensures ages { Ages (W.Knows.rights world.old) (W.Knows.rights world.new) }
     ensures processors { (W.Knows.known world.new).grace.processors ≡ (W.Knows.known world.old).grace.processors }
+    ensures objects { (W.Knows.known world.new).objects ≡ (W.Knows.known world.old).objects }
 {
     assert!(rt; world.begin(Domain::Plain, even) == Began::Won);
     assert!(rt; world.look(Domain::Plain) == Look::All);
@@ -63,7 +64,7 @@ fn pass_period<W: World>(rt: &impl Abort, world: &mut W, even: u32)
 }
 
 /// Seals a unit of mine that waits, if its stamp is passed; whether it is.
-fn seal_if_passed<W: World>(world: &mut W, unit: &mut Unit, stamp: u32) -> bool
+pub(crate) fn seal_if_passed<W: World>(world: &mut W, unit: &mut Unit, stamp: u32) -> bool
     requires mine { (W.Knows.rights world.old).mine unit.old.number ≡ true }
     requires due { (W.Knows.rights world.old).due unit.old.number unit.old.life None ≡ true }
     requires since { (W.Knows.rights world.old).since Plain stamp unit.old.number ≡ true }
@@ -71,6 +72,7 @@ fn seal_if_passed<W: World>(world: &mut W, unit: &mut Unit, stamp: u32) -> bool
     ensures mine { (W.Knows.rights world.new).mine unit.new.number ≡ true }
     ensures class { unit.new.class ≡ unit.old.class }
     ensures processors { (W.Knows.known world.new).grace.processors ≡ (W.Knows.known world.old).grace.processors }
+    ensures objects { (W.Knows.known world.new).objects ≡ (W.Knows.known world.old).objects }
 {
     match world.done(Domain::Plain, stamp) {
         Done::Passed(seen) => {

@@ -23,7 +23,7 @@ use Rattle.bm_law.specs.Stands.{Once, Known, stands, times}
 use Rattle.bm_law.specs.State.{State, Deferred, idle_side, seen}
 use Rattle.bm_law.proofs.Seen.{seen-effect}
 use Rattle.bm_law.proofs.Stands.{stands-effect}
-use Rattle.bm_post.specs.Rights.{Holds, MayLeave, numbers}
+use Rattle.bm_post.specs.Rights.{Holds, IsSettled, MayLeave, numbers}
 use Rattle.bm_cache.specs.Each.{Each}
 use Rattle.bm_cache.specs.Shown.{shown}
 use Rattle.bm_cache.specs.Tokens.{Token, number_of}
@@ -225,6 +225,12 @@ returned-dated a l i ns s h = dated-with-row a i _ s (returned-row-dated a (s.ro
 -- units that may be used again are mine, and may leave
 pub holds-reusable : (r : Rights) (us : List Token) → ((n : ℕ) → times n (numbers us) ≤ 1) → All (Reusable (tests_by r)) us → Holds r us
 holds-reusable r us o h = record { each = λ i u n. (let v = get_or us i u in (split (r.mine v.number) (r.settled v.number v.life v.seal) (h i u n)).0); once = o }
+
+pub settled-reusable : (r : Rights) (us : List Token) → All (Reusable (tests_by r)) us → All (IsSettled r) us
+settled-reusable r us h i u n = let v = get_or us i u in (split (r.mine v.number) (r.settled v.number v.life v.seal) (h i u n)).1
+
+pub settled-fit : (r : Rights) (c : ℕ) (us : List Token) → All (Fit (tests_by r) c) us → All (IsSettled r) us
+settled-fit r c us h = settled-reusable r us (λ i u n. (h i u n).reusable)
 
 pub leave-reusable : (r : Rights) (us : List Token) → All (Reusable (tests_by r)) us → All (MayLeave r) us
 leave-reusable r us h i u n = let v = get_or us i u in inl (split (r.mine v.number) (r.settled v.number v.life v.seal) (h i u n)).1

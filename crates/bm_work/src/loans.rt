@@ -12,7 +12,7 @@ ghost use Rattle.bm_law.specs.Stands.{Known};
 ghost use Rattle.bm_law.specs.State.{State};
 ghost use Rattle.bm_law.specs.Waiting.{is_waiting};
 ghost use Rattle.bm_post.specs.Calls.{IsOf};
-ghost use Rattle.bm_post.specs.Rights.{Holds, MayLeave, numbers};
+ghost use Rattle.bm_post.specs.Rights.{Holds, IsSettled, MayLeave, numbers};
 ghost use Rattle.bm_cache.specs.Lent.{FirstIsLent, HandIsLent, Lends, PutBack, Recorded, SendIsLent, with_first, with_hand};
 ghost use Rattle.bm_cache.specs.Placed.{Placed};
 ghost use Rattle.bm_cache.specs.Shown.{shown};
@@ -90,6 +90,8 @@ pub fn give_parcel<R: Recorder, H: Desk<R>>(
     ensures posted { Posted H.Host.face H.Host.pending H.stays H.Host.held (λ h. H.W.Knows.known (H.shared h)) H.Host.tests (numbers units.items) host.old host.new }
     ensures refused { IfErr result (λ back. back.items ≡ units.items) }
     ensures owes { OnOk result ((done : List Act) → H.asked_owes done host.old → H.asked_owes (done ++ act.Sends class to (sealed units.items) ∷ []) host.new) }
+    ensures drains { OnOk result (All (IsSettled (H.W.Knows.rights (H.shared host.old))) units.items → (done : List Act)
+        → H.asked_owes done host.old → H.asked_owes (done ++ act.Drains class to (numbers units.items) ∷ []) host.new) }
 {
     host.world().send(to, class, units)
 }
@@ -105,6 +107,7 @@ pub fn end_send<R: Recorder, H: Desk<R>>(host: &mut H, class: Class, to: u8, num
     ensures handled { Handled H.Host.face H.Host.pending H.stays H.shared H.Host.tests host.old host.new }
     ensures sound { (us : List Sealed) → units_of us ≡ numbers.items
         → H.asked_owes (act.Sends class to us ∷ []) host.old → H.Host.sound host.new }
+    ensures drained { H.asked_owes (act.Drains class to numbers.items ∷ []) host.old → H.Host.sound host.new }
 {
     let level = host.level();
     host.caches().sent(level, class, to, numbers);

@@ -1,6 +1,6 @@
 //! Units that go back to the pages.
 
-ghost use Rattle.bm_law_order.specs.Act.{Act, Sealed, sealed, units_of};
+ghost use Rattle.bm_law_order.specs.Act.{Act};
 ghost use Rattle.bm_law_order.specs.Act as act;
 ghost use Rattle.bm_work.specs.Owed.{Whatever};
 ghost use Rattle.std.specs.Prelude.{◌≡◌, ◌≢◌, ◌+◌, ◌≤◌, ◌<◌, ℕ, [], None, Some, IsTrue, is_some, length, map, vec_capacity, vec_len, IfOk, OnOk, OnErr, ◌∷◌, ◌++◌, List};
@@ -9,7 +9,7 @@ ghost use Rattle.bm_journal.specs.declared.entry.Entry.TheVariants as entry;
 ghost use Rattle.bm_journal.specs.declared.units.Units.TheVariants.{Whole};
 ghost use Rattle.bm_law.specs.Stands.{Known};
 ghost use Rattle.bm_law.specs.State.{State};
-ghost use Rattle.bm_post.specs.Rights.{Holds, MayLeave, numbers};
+ghost use Rattle.bm_post.specs.Rights.{Holds, IsSettled, MayLeave, numbers};
 ghost use Rattle.bm_cache.specs.Lent.{Ended, Lends, SecondIsLent, with_second};
 ghost use Rattle.bm_cache.specs.Placed.{Placed};
 ghost use Rattle.bm_cache.specs.Shown.{shown};
@@ -42,12 +42,13 @@ fn lend_second<R: Recorder, H: Desk<R>>(host: &mut H, class: Class) -> Result<Ve
     host.caches().second_out(level, class)
 }
 
-/// Gives units back to the stock.
+/// Gives units back to the stock, none of which waits.
 fn give_back<R: Recorder, H: Desk<R>>(host: &mut H, units: Vec<Unit>)
     requires mine { Holds (H.W.Knows.rights (H.shared host.old)) units.items }
     requires fit { All (MayLeave (H.W.Knows.rights (H.shared host.old))) units.items }
+    requires settled { All (IsSettled (H.W.Knows.rights (H.shared host.old))) units.items }
     ensures posted { Posted H.Host.face H.Host.pending H.stays H.Host.held (λ h. H.W.Knows.known (H.shared h)) H.Host.tests (numbers units.items) host.old host.new }
-    ensures owes { (done : List Act) → H.asked_owes done host.old → H.asked_owes (done ++ act.Returns (sealed units.items) ∷ []) host.new }
+    ensures owes { (done : List Act) → H.asked_owes done host.old → H.asked_owes (done ++ act.GivesBack (numbers units.items) ∷ []) host.new }
 {
     host.world().put_back(units);
 }
@@ -59,8 +60,7 @@ fn end_return<R: Recorder, H: Desk<R>>(host: &mut H, class: Class, numbers: Vec<
     ensures step { Ended R.log (H.Host.face host.old).level (entry.Return class (Whole numbers.items)) (H.Host.held host.old) (H.Host.held host.new) }
     ensures placed { Placed R.log R.counts (H.Host.held host.new) }
     ensures handled { Handled H.Host.face H.Host.pending H.stays H.shared H.Host.tests host.old host.new }
-    ensures sound { (us : List Sealed) → units_of us ≡ numbers.items
-        → H.asked_owes (act.Returns us ∷ []) host.old → H.Host.sound host.new }
+    ensures sound { H.asked_owes (act.GivesBack numbers.items ∷ []) host.old → H.Host.sound host.new }
 {
     let level = host.level();
     host.caches().returned(level, class, numbers);

@@ -25,7 +25,8 @@ use Rattle.bm_law.proofs.Seen.{map-reverse}
 use Rattle.bm_law_order.specs.ByDomain.{of}
 use Rattle.bm_law_order.specs.Lives.{Lives}
 use Rattle.bm_law_order.specs.Pages.{AllOut, all_back}
-use Rattle.bm_law_order.specs.Parcels.{on_box}
+use Rattle.bm_law_order.specs.Parcels.{IsParcel, on_box}
+use Rattle.bm_page.specs.declared.units.Seal.{Seal}
 use Rattle.bm_law_order.specs.Shared.{Shared, found}
 use Rattle.bm_law_order.specs.Bare.{bare_pool}
 use Rattle.bm_law_order.specs.Looks.{Passes}
@@ -420,3 +421,39 @@ does-send (Ok n) to class us a b post grace few there some =
     (λ p s lives. record { there = there; some = subst (λ k. 0 < k) (sym (ap length (units-sealed us) ∙ length-map us number_of)) some })
     (λ p s lives. ap (λ z. record (told lives a) { boxes = z }) (sym (told-box to class (inbox to class a.post ++ us ∷ []) (λ ps. ps ++ units_of (sealed us) ∷ []) a.post (let m = s.most in omega (arith, there, m)) (omega (arith, few)) s.boxes (map-append numbers (inbox to class a.post) (us ∷ []) ∙ ap (λ ns. map numbers (inbox to class a.post) ++ ns ∷ []) (sym (units-sealed us))))))
     (λ p s. stays-like p a c refl refl (length-set a.post.inboxes (place to class) (inbox to class a.post ++ us ∷ [])) refl refl refl refl s)
+
+-- ---- the same, told of what units wait for
+
+-- acts that do the same to what processors share
+pub did-as : (a b : Act) (x y : SideState) → ((p : ℕ) (s : Shared) → ActFits p a s → ActFits p b s) → ((p : ℕ) (s : Shared) → act_after p b s ≡ act_after p a s) → SideDoes (a ∷ []) x y → SideDoes (b ∷ []) x y
+did-as a b x y fits same d = record {
+  did = λ p s.
+      let h = d.did p s in
+      record { leads = λ lives. (let k = h.leads lives in record { fit = (fits p (told lives x) k.fit.0, tt); now_is = same p (told lives x) ∙ k.now_is }); stays = h.stays };
+}
+
+pub did-give : (us : List UnitState) (x y : SideState) → SideDoes (act.Returns (sealed us) ∷ []) x y → SideDoes (act.GivesBack (numbers us) ∷ []) x y
+did-give us x y d =
+    did-as (act.Returns (sealed us)) (act.GivesBack (numbers us)) x y
+    (λ p s f. subst (λ (ns : List ℕ). AllOut (reverse ns) s.pool) (units-sealed us) f)
+    (λ p s. ap (λ (ns : List ℕ). record s { pool = all_back (reverse ns) s.pool }) (sym (units-sealed us))) d
+
+pub did-drain : (c to : ℕ) (us : List UnitState) (x y : SideState) → SideDoes (act.Sends c to (sealed us) ∷ []) x y → SideDoes (act.Drains c to (numbers us) ∷ []) x y
+did-drain c to us x y d =
+    did-as (act.Sends c to (sealed us)) (act.Drains c to (numbers us)) x y
+    (λ p s f. subst (λ (ns : List ℕ). IsParcel s.processors to ns) (units-sealed us) f)
+    (λ p s. ap (λ (ns : List ℕ). record s { boxes = on_box to c (λ parcels. parcels ++ ns ∷ []) s.boxes }) (sym (units-sealed us))) d
+
+pub did-release : (c to stamp seen : ℕ) (us : List UnitState) (x y : SideState) → SideDoes (act.Sends c to (sealed us) ∷ []) x y → SideDoes (act.Releases c to (numbers us) stamp seen ∷ []) x y
+did-release c to stamp seen us x y d =
+    did-as (act.Sends c to (sealed us)) (act.Releases c to (numbers us) stamp seen) x y
+    (λ p s f. subst (λ (ns : List ℕ). IsParcel s.processors to ns) (units-sealed us) f)
+    (λ p s. ap (λ (ns : List ℕ). record s { boxes = on_box to c (λ parcels. parcels ++ ns ∷ []) s.boxes }) (sym (units-sealed us))) d
+
+pub drained-ok : {A E : Type 0} (P : Type 0) (r : Result A E) (c to : ℕ) (us : List UnitState) (x y : SideState) → OnOk r (SideDoes (act.Sends c to (sealed us) ∷ []) x y) → OnOk r (P → SideDoes (act.Drains c to (numbers us) ∷ []) x y)
+drained-ok P (Ok n) c to us x y d = λ h. did-drain c to us x y d
+drained-ok P (Err e) c to us x y d = tt
+
+pub released-ok : {A E : Type 0} (P : Seal → Type 0) (r : Result A E) (c to : ℕ) (us : List UnitState) (x y : SideState) → OnOk r (SideDoes (act.Sends c to (sealed us) ∷ []) x y) → OnOk r ((seal : Seal) → P seal → SideDoes (act.Releases c to (numbers us) seal.stamp seal.seen ∷ []) x y)
+released-ok P (Ok n) c to us x y d = λ seal h. did-release c to seal.stamp seal.seen us x y d
+released-ok P (Err e) c to us x y d = tt

@@ -1,6 +1,6 @@
 -- What the world with the units that live in it knows once a life began or ended, and tells of all other units.
 use Rattle.std.proofs.Common.{◌≡◌, ◌≢◌, ◌∙◌, ◌+◌, ℕ, List, Option, None, Some, Bool, refl, sym, ap, subst, inl, inr, set}
-use Rattle.std.specs.Prelude.{◌&&◌, not, is_none, is_some, if◌then◌else◌, eqb}
+use Rattle.std.specs.Prelude.{◌&&◌, not, true, false, is_some, if◌then◌else◌, eqb}
 use Rattle.std.proofs.lemmas.Bool.Decides.{eqb_tells}
 use Rattle.std.proofs.lemmas.List.{get_or-set_other}
 use mathlib.Core.Path.{fun_ext}
@@ -8,7 +8,10 @@ use Rattle.bm_page.specs.UnitState.{UnitState}
 use Rattle.bm_grace.specs.Known.{Known, Lives}
 use Rattle.bm_post.specs.PostState.{PostState, is_mine}
 use Rattle.bm_world.specs.Lives.{OthersAsBefore, life_begun, life_ended, with_life}
-use Rattle.bm_world.specs.LivingState.{LivingState, begun_at, known_living, lives_of, living_of, may_live, next_life, rights_living, rights_with_living, with_begun, with_ended}
+use Rattle.bm_world.specs.LivingState.{LivingState, begun_at, known_living, lives_of, living_of, may_live, next_life, rights_living, rights_with_living, standings_after, wait_now, with_begun, with_ended}
+use Rattle.bm_world.specs.Standings.{counts_for, has_waited, is_over, is_waiting, standing_at}
+use Rattle.bm_world.specs.declared.standing.Standing.{Standing}
+use Rattle.bm_world.specs.declared.standing.Standing.TheVariants.{Nothing, Waits}
 use Rattle.bm_world.specs.SideState.{known_of}
 use Rattle.bm_world.specs.Slots.{unit_at}
 use Rattle.bm_world.proofs.SlotLemmas.{Slotted, at-other}
@@ -35,26 +38,35 @@ known-begun u w s b =
     ∙ ap (K (with_life u.number (Some (record { class = u.class; life = u.life + 1; home = u.home })) (lives_of w.slots))) (counts-set w.begun u.number (u.life + 1) b)
 
 -- a life ends
-pub known-ended : (n : ℕ) (w : LivingState) → unit_at (set w.slots n None) n ≡ None → known_living (with_ended n w) ≡ life_ended n (known_living w)
-known-ended n w s =
+pub known-ended : (delayed : Bool) (n : ℕ) (w : LivingState) → unit_at (set w.slots n None) n ≡ None → known_living (with_ended delayed n w) ≡ life_ended n (known_living w)
+known-ended delayed n w s =
     let K : Lives → Known = λ xs. record (known_of w.side) { objects = record { lives = xs; begun = begun_at w.begun; asked = w.asked } } in
     ap K (lives-set w.slots n None s)
 
 -- ---- all other units
 
--- rights of the same post, by slots and counts that agree on all units but one
-others-as : (post : PostState) (slots slots' : List (Option UnitState)) (begun begun' : List ℕ) (u : ℕ) → ((n : ℕ) → n ≢ u → unit_at slots' n ≡ unit_at slots n) → ((n : ℕ) → n ≢ u → begun_at begun' n ≡ begun_at begun n) → OthersAsBefore u (rights_with_living post slots begun) (rights_with_living post slots' begun')
-others-as post slots slots' begun begun' u e f = record {
+-- rights of the same post, by slots, counts and standings that agree on all units but one
+others-as : (post : PostState) (plain tracing : ℕ) (slots slots' : List (Option UnitState)) (begun begun' : List ℕ) (standings standings' : List Standing) (u : ℕ) → ((n : ℕ) → n ≢ u → unit_at slots' n ≡ unit_at slots n) → ((n : ℕ) → n ≢ u → begun_at begun' n ≡ begun_at begun n) → ((n : ℕ) → n ≢ u → standing_at standings' n ≡ standing_at standings n) → OthersAsBefore u (rights_with_living post plain tracing slots begun standings) (rights_with_living post plain tracing slots' begun' standings')
+others-as post plain tracing slots slots' begun begun' standings standings' u e f g = record {
   mine = λ n h. ap (λ (o : Option UnitState). is_mine post n && not (is_some o)) (e n h);
-  settled = λ n life seal h. (let may : may_live begun' n life ≡ may_live begun n life = rw (f n h) refl in ap (λ (b : Bool). b && is_none seal) may);
-  due = λ n life seal h. refl;
-  ripe = λ n life seal h. refl;
-  since = λ d x n h. refl;
+  settled = λ n life seal h. both n life (λ x. has_waited x seal) h;
+  due = λ n life seal h. both n life is_waiting h;
+  ripe = λ n life seal h. both n life (λ x. is_over plain tracing x seal) h;
+  since = λ d x n h. ap (counts_for d x) (g n h);
 }
+  where
+    both : (n life : ℕ) (test : Standing → Bool) → n ≢ u → (may_live begun' n life && test (standing_at standings' n)) ≡ (may_live begun n life && test (standing_at standings n))
+    both n life test h =
+        let may : may_live begun' n life ≡ may_live begun n life = rw (f n h) refl in
+        ap (λ (b : Bool). b && test (standing_at standings' n)) may ∙ ap (λ x. may_live begun n life && test x) (g n h)
 
 pub begun-others : (u : UnitState) (w : LivingState) → OthersAsBefore u.number (rights_living w) (rights_living (with_begun u w))
-begun-others u w = others-as w.side.post w.slots (set w.slots u.number (Some (next_life u))) w.begun (set w.begun u.number (u.life + 1)) u.number
-    (λ n h. at-other w.slots u.number n (Some (next_life u)) h) (λ n h. get_or-set_other w.begun u.number n (u.life + 1) 0 h)
+begun-others u w = others-as w.side.post w.side.grace.plain.number w.side.grace.tracing.number w.slots (set w.slots u.number (Some (next_life u))) w.begun (set w.begun u.number (u.life + 1)) w.standings (set w.standings u.number Nothing) u.number
+    (λ n h. at-other w.slots u.number n (Some (next_life u)) h) (λ n h. get_or-set_other w.begun u.number n (u.life + 1) 0 h) (λ n h. get_or-set_other w.standings u.number n Nothing Nothing h)
 
-pub ended-others : (n : ℕ) (w : LivingState) → OthersAsBefore n (rights_living w) (rights_living (with_ended n w))
-ended-others n w = others-as w.side.post w.slots (set w.slots n None) w.begun w.begun n (λ m h. at-other w.slots n m None h) (λ m h. refl)
+pub ended-others : (delayed : Bool) (n : ℕ) (w : LivingState) → OthersAsBefore n (rights_living w) (rights_living (with_ended delayed n w))
+ended-others delayed n w = others-as w.side.post w.side.grace.plain.number w.side.grace.tracing.number w.slots (set w.slots n None) w.begun w.begun w.standings (standings_after delayed n w.side.grace w.standings) n (λ m h. at-other w.slots n m None h) (λ m h. refl) (λ m h. as-before delayed m h)
+  where
+    as-before : (delayed : Bool) (m : ℕ) → m ≢ n → standing_at (standings_after delayed n w.side.grace w.standings) m ≡ standing_at w.standings m
+    as-before true m h = get_or-set_other w.standings n m (Waits (wait_now w.side.grace)) Nothing h
+    as-before false m h = refl

@@ -1,6 +1,7 @@
 pub mod Aged
 pub mod Alive
 pub mod Cleared
+pub mod Left
 pub mod Lived
 pub mod SlotLemmas
 pub mod Did

@@ -1,25 +1,40 @@
 -- What each call of the world with the units that live in it does.
-use Rattle.std.proofs.Common.{◌≡◌, ℕ, ◌+◌, ◌<◌, List, [], ◌∷◌, false, set, length, Option, None, Some, Result, Ok, Err, OnOk, OnErr, refl, sym, ◌∙◌, ap, subst, inl, inr, eq-eqb, ne_eqb}
+use Rattle.std.proofs.Common.{◌≡◌, ◌⊎◌, Bool, ℕ, ◌+◌, ◌<◌, ◌≤◌, true, List, [], ◌∷◌, false, set, length, Option, None, Some, Result, Ok, Err, OnOk, refl, sym, ◌∙◌, ap, subst, inl, inr, eq-eqb, ne_eqb}
 use Rattle.std.specs.Prelude.{eqb, if◌then◌else◌}
+use Rattle.std.specs.List.{All}
 use Rattle.std.proofs.lemmas.Bool.{cases_eq}
+use Rattle.std.proofs.lemmas.List.{get_or-set_other, get_or-set_same}
 use mathlib.Core.Path.{fun_ext}
 use Rattle.bm_law_order.specs.Act.{Act}
 use Rattle.bm_law_order.specs.Act as act
 use Rattle.bm_page.specs.UnitState.{UnitState}
 use Rattle.bm_law_order.specs.Acts.{ActsLead}
 use Rattle.bm_law_order.specs.Lives.{Life, Lives}
-use Rattle.bm_law_order.specs.Seals.{NothingWaits}
+use Rattle.bm_law_order.specs.Seals.{Goes, HasPassed, WaitLeads, WaitsBy, on_unit, seal_among, wait_after, waited_for}
+use Rattle.bm_law_order.specs.Seals as seals
 use Rattle.bm_law_order.specs.Shared.{Shared}
-use Rattle.bm_world.specs.LivingState.{LivingState, begun_at, next_life, with_begun, with_ended}
+use Rattle.bm_page.specs.declared.units.Seal.{Seal}
+use Rattle.bm_law.specs.Stands.{times}
+use Rattle.bm_post.specs.Rights.{numbers}
+use Rattle.bm_law_order.specs.Act.{sealed}
+use Rattle.bm_world.specs.LivingState.{LivingState, begun_at, next_life, standings_after, wait_now, with_begun, with_ended}
+use Rattle.bm_world.specs.Standings.{AreStanding, IsTimed, has_waited, is_over, left_by, standing_at, standing_of, told_standing, waits_told}
+use Rattle.bm_world.specs.declared.standing.Standing.{Standing}
+use Rattle.bm_world.specs.declared.standing.Standing.TheVariants.{Nothing, Waits}
 use Rattle.bm_world.specs.SideState.{SideState}
 use Rattle.bm_world.specs.Slots.{unit_at}
 use Rattle.bm_world.specs.Told.{IsSideOf, SideDoes, told}
 use Rattle.bm_world.specs.ToldLiving.{LivingDoes, life_of, lives_told, told_living}
+use Rattle.bm_world.proofs.Left.{goes-left, left-released, left-settled, none-batch}
 use Rattle.bm_world.proofs.SlotLemmas.{at-other, at-same}
 
--- what the side did, where nothing began or ended a life
-pub lifts : (acts : List Act) (a b : LivingState) → b.slots ≡ a.slots → b.begun ≡ a.begun → NothingWaits acts → SideDoes acts a.side b.side → LivingDoes acts a b
-lifts acts a b slots begun w d = record {
+-- acts by which each unit waits for what it did
+abbrev pub KeepWaits : List Act → Type 0
+KeepWaits acts = (w : ℕ → seals.Wait) → WaitLeads acts w w
+
+-- what the side did, where no unit began or ended a life
+pub lifts-so : (acts : List Act) (a b : LivingState) → b.slots ≡ a.slots → b.begun ≡ a.begun → WaitLeads acts (waits_told a.standings) (waits_told b.standings) → SideDoes acts a.side b.side → LivingDoes acts a b
+lifts-so acts a b slots begun w d = record {
   waits = w;
   did = λ p s.
       let u = d.did p s in
@@ -27,13 +42,25 @@ lifts acts a b slots begun w d = record {
       record { leads = subst (λ lives. ActsLead p acts (told_living a) (told lives b.side)) (sym same) (u.leads (lives_told a)); stays = u.stays };
 }
 
-pub lifts-ok : {A E : Type 0} (r : Result A E) (acts : List Act) (a b : LivingState) → b.slots ≡ a.slots → b.begun ≡ a.begun → NothingWaits acts → OnOk r (SideDoes acts a.side b.side) → OnOk r (LivingDoes acts a b)
-lifts-ok (Ok x) acts a b slots begun w d = lifts acts a b slots begun w d
+-- .. and none went away
+pub lifts : (acts : List Act) (a b : LivingState) → b.slots ≡ a.slots → b.begun ≡ a.begun → b.standings ≡ a.standings → KeepWaits acts → SideDoes acts a.side b.side → LivingDoes acts a b
+lifts acts a b slots begun standings k d = lifts-so acts a b slots begun (subst (λ (ss : List Standing). WaitLeads acts (waits_told a.standings) (waits_told ss)) (sym standings) (k (waits_told a.standings))) d
+
+pub lifts-ok : {A E : Type 0} (r : Result A E) (acts : List Act) (a b : LivingState) → b.slots ≡ a.slots → b.begun ≡ a.begun → OnOk r (WaitLeads acts (waits_told a.standings) (waits_told b.standings)) → OnOk r (SideDoes acts a.side b.side) → OnOk r (LivingDoes acts a b)
+lifts-ok (Ok x) acts a b slots begun w d = lifts-so acts a b slots begun w d
 lifts-ok (Err x) acts a b slots begun w d = tt
 
-pub lifts-err : {A E : Type 0} (r : Result A E) (acts : List Act) (a b : LivingState) → b.slots ≡ a.slots → b.begun ≡ a.begun → NothingWaits acts → OnErr r (SideDoes acts a.side b.side) → OnErr r (LivingDoes acts a b)
-lifts-err (Err x) acts a b slots begun w d = lifts acts a b slots begun w d
-lifts-err (Ok x) acts a b slots begun w d = tt
+pub on-ok : {A E P : Type 0} (r : Result A E) → P → OnOk r P
+on-ok (Ok x) p = p
+on-ok (Err x) p = tt
+
+-- what an act that says nothing of units leaves
+pub keep-one : (a : Act) → ((w : ℕ → seals.Wait) → WaitsBy a w w) → KeepWaits (a ∷ [])
+keep-one a h w = (w, (h w, refl))
+
+-- units went away
+pub waits-left : (a : Act) (plain tracing : ℕ) (slots : List (Option UnitState)) (us : List UnitState) (ss : List Standing) → ((before now : ℕ → seals.Wait) → ((n : ℕ) → Goes (seal_among (sealed us) n) (before n) (now n)) → WaitsBy a before now) → AreStanding plain tracing slots ss → ((n : ℕ) → times n (numbers us) ≤ 1) → All (λ (u : UnitState). u.number < length ss) us → All (λ (u : UnitState). (has_waited (standing_at ss u.number) u.seal ≡ true) ⊎ (is_over plain tracing (standing_at ss u.number) u.seal ≡ true)) us → WaitLeads (a ∷ []) (waits_told ss) (waits_told (left_by us ss))
+waits-left a plain tracing slots us ss by k once fit over = (waits_told (left_by us ss), (by (waits_told ss) (waits_told (left_by us ss)) (goes-left plain tracing us ss k.timed once fit over), refl))
 
 -- a test of equality, the other way round
 turned : (m n : ℕ) → eqb m n ≡ eqb n m
@@ -42,10 +69,36 @@ turned m n = elim (cases_eq m n) [
   | inr other ↦ ne_eqb m n other ∙ sym (ne_eqb n m (λ q. other (sym q)))
 ]
 
+-- .. of which it is known what they waited for
+pub waits-given : (us : List UnitState) (ss : List Standing) → ((n : ℕ) → times n (numbers us) ≤ 1) → All (λ (u : UnitState). u.number < length ss) us → All (λ (u : UnitState). has_waited (standing_at ss u.number) u.seal ≡ true) us → WaitLeads (act.GivesBack (numbers us) ∷ []) (waits_told ss) (waits_told (left_by us ss))
+waits-given us ss once fit settled = (waits_told ss, (refl, fun_ext (λ n. ap told_standing (left-settled us ss once fit settled n))))
+
+pub waits-drained : (c to : ℕ) (us : List UnitState) (ss : List Standing) → ((n : ℕ) → times n (numbers us) ≤ 1) → All (λ (u : UnitState). u.number < length ss) us → All (λ (u : UnitState). has_waited (standing_at ss u.number) u.seal ≡ true) us → WaitLeads (act.Drains c to (numbers us) ∷ []) (waits_told ss) (waits_told (left_by us ss))
+waits-drained c to us ss once fit settled = (waits_told ss, ((none-batch us ss settled, refl), fun_ext (λ n. ap told_standing (left-settled us ss once fit settled n))))
+
+pub waits-released : (c to plain tracing : ℕ) (seal : Seal) (us : List UnitState) (ss : List Standing) → ((n : ℕ) → times n (numbers us) ≤ 1) → All (λ (u : UnitState). u.number < length ss) us → All (λ (u : UnitState). (u.seal ≡ Some seal) × (is_over plain tracing (standing_at ss u.number) (Some seal) ≡ true)) us → WaitLeads (act.Releases c to (numbers us) seal.stamp seal.seen ∷ []) (waits_told ss) (waits_told (left_by us ss))
+waits-released c to plain tracing seal us ss once fit waited = (waits_told (left_by us ss), (fun_ext (λ n. left-released plain tracing seal us ss once fit waited n), refl))
+
+-- what is told of a seal, and of a standing that was set
+told-is : (seal : Option Seal) → told_standing (standing_of seal) ≡ waited_for seal
+told-is None = refl
+told-is (Some s) = refl
+
+passed-is : (plain tracing : ℕ) (seal : Option Seal) → IsTimed plain tracing (standing_of seal) → HasPassed seal
+passed-is plain tracing None h = tt
+passed-is plain tracing (Some s) h = h
+
+told-set : (ss : List Standing) (n m : ℕ) (x : Standing) → n < length ss → waits_told (set ss n x) m ≡ on_unit n (told_standing x) (waits_told ss) m
+told-set ss n m x lt =
+    elim (cases_eq m n) [
+      | inl same ↦ rw (eq-eqb m n same) (ap (waits_told (set ss n x)) same ∙ ap told_standing (get_or-set_same ss n x Nothing lt))
+      | inr other ↦ rw (ne_eqb m n other) (ap told_standing (get_or-set_other ss n m x Nothing other))
+    ]
+
 -- a unit of this processor's begins a life
-pub does-make : (u : UnitState) (a b : LivingState) → b ≡ with_begun u a → u.seal ≡ None → unit_at a.slots u.number ≡ None → u.life ≡ begun_at a.begun u.number → ((n : ℕ) → begun_at b.begun n ≡ (if eqb u.number n then begun_at a.begun n + 1 else begun_at a.begun n)) → u.number < length a.slots → u.home ≡ a.side.grace.processor → LivingDoes (act.Makes u.number (u.life + 1) u.seal ∷ []) a b
-does-make u a b e unsealed none next counts there home = record {
-  waits = (unsealed, tt);
+pub does-make : (u : UnitState) (a b : LivingState) → b ≡ with_begun u a → standing_at a.standings u.number ≡ standing_of u.seal → IsTimed a.side.grace.plain.number a.side.grace.tracing.number (standing_at a.standings u.number) → u.number < length a.standings → unit_at a.slots u.number ≡ None → u.life ≡ begun_at a.begun u.number → ((n : ℕ) → begun_at b.begun n ≡ (if eqb u.number n then begun_at a.begun n + 1 else begun_at a.begun n)) → u.number < length a.slots → u.home ≡ a.side.grace.processor → LivingDoes (act.Makes u.number (u.life + 1) u.seal ∷ []) a b
+does-make u a b e stands timed within-standings none next counts there home = record {
+  waits = (waits_told b.standings, ((ap told_standing stands ∙ told-is u.seal, (passed-is a.side.grace.plain.number a.side.grace.tracing.number u.seal (subst (IsTimed a.side.grace.plain.number a.side.grace.tracing.number) stands timed), fun_ext (λ n. ap (λ (ss : List Standing). waits_told ss n) (ap (λ (w : LivingState). w.standings) e) ∙ told-set a.standings u.number n Nothing within-standings))), refl));
   did = λ p s. record {
     leads = record {
       fit = (record { none = ap life_of none; next_is = ap (λ n. n + 1) next }, tt);
@@ -70,9 +123,9 @@ does-make u a b e unsealed none next counts there home = record {
         ]
 
 -- a life ends
-pub does-end : (n : ℕ) (u : UnitState) (a b : LivingState) → b ≡ with_ended n a → unit_at a.slots n ≡ Some u → u.life ≡ begun_at a.begun n → n < length a.slots → LivingDoes (act.Ends n u.life u.home false ∷ []) a b
-does-end n u a b e lives last there = record {
-  waits = (refl, tt);
+pub does-end : (delayed : Bool) (n : ℕ) (u : UnitState) (a b : LivingState) → b ≡ with_ended delayed n a → standing_at a.standings n ≡ Nothing → n < length a.standings → unit_at a.slots n ≡ Some u → u.life ≡ begun_at a.begun n → n < length a.slots → LivingDoes (act.Ends n u.life u.home delayed ∷ []) a b
+does-end delayed n u a b e stands within-standings lives last there = record {
+  waits = (waits_told b.standings, (fun_ext (λ m. ap (λ (ss : List Standing). waits_told ss m) (ap (λ (w : LivingState). w.standings) e) ∙ told-ended delayed m), refl));
   did = λ p s. record {
     leads = record {
       fit = (record { holds = ap life_of lives; now_is = last }, tt);
@@ -84,6 +137,14 @@ does-end n u a b e lives last there = record {
   };
 }
   where
+    told-ended : (delayed : Bool) (m : ℕ) → waits_told (standings_after delayed n a.side.grace a.standings) m ≡ on_unit n (wait_after delayed) (waits_told a.standings) m
+    told-ended true m = told-set a.standings n m (Waits (wait_now a.side.grace)) within-standings
+    told-ended false m =
+        elim (cases_eq m n) [
+          | inl same ↦ rw (eq-eqb m n same) (ap (waits_told a.standings) same ∙ ap told_standing stands)
+          | inr other ↦ rw (ne_eqb m n other) refl
+        ]
+
     gone : (m : ℕ) → (if eqb m n then None else life_of (unit_at a.slots m)) ≡ life_of (unit_at (set a.slots n None) m)
     gone m =
         elim (cases_eq m n) [

@@ -1,6 +1,6 @@
 -- The world on one thread with the units that live in it. (This project's own. The kernel's allocator knows nothing of a unit
 -- while it is in use.)
-use Rattle.std.specs.Prelude.{◌≡◌, ℕ, ◌+◌, ◌%◌, ◌^◌, ◌<◌, ◌≤◌, ◌&&◌, not, eqb, Bool, false, true, Option, None, Some, List, [], is_none, is_some, length, slice_index_or, slice_set}
+use Rattle.std.specs.Prelude.{◌≡◌, ℕ, ◌+◌, ◌%◌, ◌^◌, ◌<◌, ◌≤◌, ◌&&◌, not, eqb, Bool, false, true, Option, None, Some, List, [], is_some, length, slice_index_or, slice_set}
 use Rattle.std.specs.List.{All}
 use Rattle.std.proofs.lemmas.Bool.{and_parts}
 use Rattle.bm_journal.specs.declared.ids.Domain.{Domain}
@@ -11,17 +11,23 @@ use Rattle.bm_page.specs.Stock.{stocked_at}
 use Rattle.bm_grace.specs.Known.{Known, Living, Lives, side}
 use Rattle.bm_grace.specs.Rights.{Rights}
 use Rattle.bm_post.specs.HasRoom.{has_room, room-of}
-use Rattle.bm_grace.specs.PlainState.{idle}
+use Rattle.bm_grace.specs.Answers.{next}
+use Rattle.bm_grace.specs.PlainState.{PlainState, idle}
 use Rattle.bm_post.specs.PostState.{PostState, is_mine, no_parcels}
 use Rattle.bm_world.specs.SideState.{SideAtRest, SideState, idle-of, known_of}
 use Rattle.bm_world.specs.Slots.{unit_at}
+use Rattle.bm_world.specs.Standings.{AreStanding, counts_for, has_waited, is_over, is_waiting, standing_at, standing_of}
+use Rattle.bm_world.specs.declared.wait.Wait.{Wait}
+use Rattle.bm_world.specs.declared.standing.Standing.{Standing}
+use Rattle.bm_world.specs.declared.standing.Standing.TheVariants.{Nothing, Waits}
 
--- The side; by a unit's number the unit that lives, if it does, and how many lives it has begun; and how many objects were
--- asked for.
+-- The side; by a unit's number the unit that lives, if it does, how many lives it has begun, and what it waits for; and how many
+-- objects were asked for.
 pub record LivingState : Type 0 where
   pub side : SideState
   pub slots : List (Option UnitState)
   pub begun : List ℕ
+  pub standings : List Standing
   pub asked : ℕ
 
 -- the object that a unit is, where it lives
@@ -45,23 +51,23 @@ known_living world = record (known_of world.side) { objects = record { lives = l
 abbrev pub may_live : (begun : List ℕ) → (n life : ℕ) → Bool
 may_live begun n life = has_room n life && eqb life (begun_at begun n)
 
--- .. and so may the unit, if it has no seal
-abbrev pub may_be_used : (begun : List ℕ) → (n life : ℕ) → Option Seal → Bool
-may_be_used begun n life seal = may_live begun n life && is_none seal
+-- .. and so may the unit, if it doesn't wait and has the seal of what it has waited for
+abbrev pub may_be_used : (begun : List ℕ) → List Standing → (n life : ℕ) → Option Seal → Bool
+may_be_used begun standings n life seal = may_live begun n life && has_waited (standing_at standings n) seal
 
--- Mine is what is mine of the side and doesn't live. Each unit without a seal, whose lives are those that it has begun, may be used
--- again as soon as it is there. No unit waits here: each life ends by a plain free, and so no unit has a seal either.
-abbrev pub rights_with_living : PostState → List (Option UnitState) → List ℕ → Rights
-rights_with_living post slots begun = record {
+-- Mine is what is mine of the side and doesn't live. A unit whose lives are those that it has begun may be used again as soon as it
+-- is there, if it doesn't wait and has its seal; where it waits it is due, and it is ripe once its wait is over.
+abbrev pub rights_with_living : PostState → (plain tracing : ℕ) → List (Option UnitState) → List ℕ → List Standing → Rights
+rights_with_living post plain tracing slots begun standings = record {
   mine = λ n. is_mine post n && not (is_some (unit_at slots n));
-  settled = may_be_used begun;
-  due = λ n life seal. false;
-  ripe = λ n life seal. false;
-  since = λ d x n. true;
+  settled = may_be_used begun standings;
+  due = λ n life seal. may_live begun n life && is_waiting (standing_at standings n);
+  ripe = λ n life seal. may_live begun n life && is_over plain tracing (standing_at standings n) seal;
+  since = λ d x n. counts_for d x (standing_at standings n);
 }
 
 abbrev pub rights_living : LivingState → Rights
-rights_living world = rights_with_living world.side.post world.slots world.begun
+rights_living world = rights_with_living world.side.post world.side.grace.plain.number world.side.grace.tracing.number world.slots world.begun world.standings
 
 -- All is at rest where it is on the side.
 abbrev pub LivingAtRest : LivingState → Domain → ℕ → Type 0
@@ -75,37 +81,47 @@ next_life unit = record unit { life = unit.life + 1; seal = None }
 abbrev pub with_asked : LivingState → LivingState
 with_asked world = record world { asked = world.asked + 1 }
 
--- .. and a unit begins its next life for it, in its slot
+-- .. and a unit begins its next life for it, in its slot; it waits for nothing
 abbrev pub with_begun : UnitState → LivingState → LivingState
 with_begun unit world =
     record world {
       slots = slice_set world.slots unit.number (Some (next_life unit));
       begun = slice_set world.begun unit.number (unit.life + 1);
+      standings = slice_set world.standings unit.number Nothing;
       asked = world.asked + 1;
     }
 
--- A unit lives no more.
-abbrev pub with_ended : ℕ → LivingState → LivingState
-with_ended n world = record world { slots = slice_set world.slots n None }
+-- What units wait for once the life of unit n has ended: behind a free with delay it waits from now on, behind a plain one for nothing,
+-- as before.
+abbrev pub wait_now : PlainState → Wait
+wait_now grace = record { plain = next grace.plain.number; tracing = next grace.tracing.number }
 
--- The lives of a unit are those that it has begun, and it has no seal.
-abbrev pub HasLived : (begun : List ℕ) (n life : ℕ) → Option Seal → Type 0
-HasLived begun n life seal = (life ≡ begun_at begun n) × (seal ≡ None)
+abbrev pub standings_after : (delayed : Bool) → ℕ → PlainState → List Standing → List Standing
+standings_after true n grace standings = slice_set standings n (Waits (wait_now grace))
+standings_after false n grace standings = standings
 
-abbrev pub LivedAs : List ℕ → UnitState → Type 0
-LivedAs begun unit = HasLived begun unit.number unit.life unit.seal
+-- The life of a unit ends, by a free with delay or a plain one.
+abbrev pub with_ended : (delayed : Bool) → ℕ → LivingState → LivingState
+with_ended delayed n world = record world { slots = slice_set world.slots n None; standings = standings_after delayed n world.side.grace world.standings }
+
+-- The lives of a unit are those that it has begun, and it has the seal of what it has waited for.
+abbrev pub HasLived : (begun : List ℕ) → List Standing → (n life : ℕ) → Option Seal → Type 0
+HasLived begun standings n life seal = (life ≡ begun_at begun n) × (standing_at standings n ≡ standing_of seal)
+
+abbrev pub LivedAs : List ℕ → List Standing → UnitState → Type 0
+LivedAs begun standings unit = HasLived begun standings unit.number unit.life unit.seal
 
 -- So it is of each unit of the pool and of the inboxes.
-pub record HaveLived (begun : List ℕ) (post : PostState) : Type 0 where
+pub record HaveLived (begun : List ℕ) (standings : List Standing) (post : PostState) : Type 0 where
   pub stock : (n : ℕ) → (stocked_at post.pool.units n).out ≡ false
-      → HasLived begun n (stocked_at post.pool.units n).life (stocked_at post.pool.units n).seal
-  pub boxes : (i : ℕ) → All (All (LivedAs begun)) (slice_index_or post.inboxes i [])
+      → HasLived begun standings n (stocked_at post.pool.units n).life (stocked_at post.pool.units n).seal
+  pub boxes : (i : ℕ) → All (All (LivedAs begun standings)) (slice_index_or post.inboxes i [])
 
 -- What the parts keep true: there is a slot for each number, and a count of its lives, which isn't above the number of objects
 -- that were asked for; the unit in a slot has its number, is out of the pool and stands in no inbox, lives the last life that
 -- it has begun, has no seal, and its home is one of the processors; and so it is of the lives and seals of all units of the pool
--- and of the inboxes.
-pub record AreLiving (post : PostState) (slots : List (Option UnitState)) (begun : List ℕ) (asked : ℕ) : Type 0 where
+-- and of the inboxes. And standings keep true what they do.
+pub record AreLiving (post : PostState) (plain tracing : ℕ) (slots : List (Option UnitState)) (begun : List ℕ) (standings : List Standing) (asked : ℕ) : Type 0 where
   pub size : length slots ≡ 2 ^ 16
   pub counts : length begun ≡ 2 ^ 16
   pub number : (n : ℕ) (unit : UnitState) → unit_at slots n ≡ Some unit → unit.number ≡ n
@@ -115,12 +131,13 @@ pub record AreLiving (post : PostState) (slots : List (Option UnitState)) (begun
   pub home : (n : ℕ) (unit : UnitState) → unit_at slots n ≡ Some unit → unit.home < post.processors
   pub few : asked < 2 ^ 31
   pub most : (n : ℕ) → begun_at begun n ≤ asked
-  pub lived : HaveLived begun post
+  pub lived : HaveLived begun standings post
+  pub standing : AreStanding plain tracing slots standings
 
 -- what may be used again has room
 pub room-living : (p : LivingState) (n life : ℕ) (seal : Option Seal) → (rights_living p).settled n life seal ≡ true → (n < 2 ^ 16) × (life + 1 < 2 ^ 32)
 room-living p n life seal h =
-    let may = (and_parts (may_live p.begun n life) (is_none seal) h).0 in
+    let may = (and_parts (may_live p.begun n life) (has_waited (standing_at p.standings n) seal) h).0 in
     room-of n life seal (and_parts (has_room n life) (eqb life (begun_at p.begun n)) may).0
 
 pub idle-living : (world : LivingState) (d : Domain) (n : ℕ) → LivingAtRest world d n → n % 2 ≡ 0 → (side d (known_living world)).number ≡ 0
@@ -136,5 +153,6 @@ no_living_state = record {
   };
   slots = [];
   begun = [];
+  standings = [];
   asked = 0;
 }

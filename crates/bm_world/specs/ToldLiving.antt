@@ -4,13 +4,14 @@ use Rattle.bm_law_order.specs.Act.{Act}
 use Rattle.bm_page.specs.UnitState.{UnitState}
 use Rattle.bm_law_order.specs.Acts.{ActsLead}
 use Rattle.bm_law_order.specs.Lives.{Life, Lives}
-use Rattle.bm_law_order.specs.Seals.{NothingWaits}
+use Rattle.bm_law_order.specs.Seals.{WaitLeads}
 use Rattle.bm_law_order.specs.Shared.{Shared}
 use Rattle.bm_law_order.proofs.ActsJoin.{acts-join, acts-same}
-use Rattle.bm_law_order.proofs.Unwaited.{waits-append}
+use Rattle.bm_law_order.proofs.Unwaited.{go-join, go-same}
 use Rattle.bm_grace.specs.declared.grace.Knows.{Ghosts as Knows}
 use Rattle.bm_world.specs.LivingState.{LivingAtRest, LivingState, begun_at, known_living, rights_living}
 use Rattle.bm_world.specs.Slots.{unit_at}
+use Rattle.bm_world.specs.Standings.{waits_told}
 use Rattle.bm_world.specs.Told.{IsSideOf, told}
 
 -- the life that a unit has: so far no more than one reference is there
@@ -29,17 +30,17 @@ pub record LivingDid (p : ℕ) (acts : List Act) (before now : LivingState) : Ty
   pub leads : ActsLead p acts (told_living before) (told_living now)
   pub stays : IsSideOf p now.side
 
--- by these acts nothing waits, and from the side of each processor they lead there
+-- by these acts units wait for what they do, and from the side of each processor they lead there
 pub record LivingDoes (acts : List Act) (before now : LivingState) : Type 0 where
-  pub waits : NothingWaits acts
+  pub waits : WaitLeads acts (waits_told before.standings) (waits_told now.standings)
   pub did : (p : ℕ) → IsSideOf p before.side → LivingDid p acts before now
 
 pub living-same : (a : LivingState) → LivingDoes [] a a
-living-same a = record { waits = tt; did = λ p s. record { leads = acts-same p (told_living a); stays = s } }
+living-same a = record { waits = go-same (waits_told a.standings); did = λ p s. record { leads = acts-same p (told_living a); stays = s } }
 
 pub living-join : (es fs : List Act) (a b c : LivingState) → LivingDoes es a b → LivingDoes fs b c → LivingDoes (es ++ fs) a c
 living-join es fs a b c x y = record {
-  waits = waits-append es fs x.waits y.waits;
+  waits = go-join es fs (waits_told a.standings) (waits_told b.standings) (waits_told c.standings) x.waits y.waits;
   did = λ p s.
       let u = x.did p s in
       let v = y.did p u.stays in

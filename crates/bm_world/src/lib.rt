@@ -3,7 +3,8 @@
 //! - `World` is a `Post` and a `Grace` in one value, so that a grace period that has passed can make the post's units ripe.
 //! - `OneSide` is the world on one thread for any number of processors, of which one has its turn.
 //! - `Lives` is a `World` in which units live: `begin_life`, `end_life`, `ask`.
-//! - `LivingSide` is such a world on one thread: beside a `OneSide` it owns the units that live, by their numbers.
+//! - `LivingSide` is such a world on one thread: beside a `OneSide` it owns the units that live, by their numbers, and keeps what each
+//!   unit waits for (`Standing`).
 //! - `Since` says since when a processor's log and its side are tied.
 //! - `WaitingSide` tells which units wait and since when; the tests of delayed frees stand on it.
 //! - `Slots` holds the units that live.
@@ -24,6 +25,7 @@ mod living;
 mod one_side;
 mod since;
 mod slots;
+mod standing;
 mod wait;
 mod waiting;
 mod waiting_law;
@@ -35,6 +37,7 @@ pub use living::LivingSide;
 pub use one_side::OneSide;
 pub use since::Since;
 pub use slots::Slots;
+pub use standing::{Standing, Standings};
 pub use wait::Wait;
 pub use waiting::WaitingSide;
 pub use waiting_law::{ripe_only_when_passed, waits_without_a_seal};

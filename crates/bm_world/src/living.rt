@@ -17,18 +17,22 @@ ghost use Rattle.bm_grace.specs.PlainState.{domain_in, is_processor, period_begu
 ghost use Rattle.bm_post.specs.PostState.{all_returned, inbox, sent_to, taken_by, told_in};
 ghost use Rattle.bm_post.specs.Calls.{Fetches, GivesBack, IsOf, Mails, Posts, Receives};
 ghost use Rattle.bm_post.specs.Parcels.{oldest, parcel_sent, parcel_taken};
-ghost use Rattle.bm_post.specs.Rights.{AreSame, Gains, Holds, IsSettled, Lasting, Loses, MayLeave, numbers};
+ghost use Rattle.bm_post.specs.Rights.{AreSame, Gains, Holds, IsSettled, Lasting, Loses, MayLeave, WaitedBy, numbers};
 ghost use Rattle.bm_world.specs.Slots.{AllEmpty, unit_at};
 ghost use Rattle.bm_world.specs.ToldLiving.{LivingDoes, living-join, living-same};
 ghost use Rattle.bm_law_order.specs.Act as act;
 ghost use Rattle.bm_law_order.specs.Act.{sealed};
 ghost use Rattle.bm_grace.specs.Begins.{begin_act};
-ghost use Rattle.bm_world.specs.LivingState.{HaveLived, LivingAtRest, begun_at, idle-living, known_living, lives_of, rights_living, room-living, with_asked, with_begun, with_ended};
+ghost use Rattle.bm_world.specs.LivingState.{HaveLived, LivingAtRest, begun_at, idle-living, known_living, lives_of, rights_living, room-living, with_asked, standings_after, with_begun, with_ended};
+ghost use Rattle.bm_world.specs.Standings.{left_by, standing_at};
+ghost use Rattle.bm_world.specs.declared.standing.Standing.TheVariants.{Nothing as WaitsForNothing};
 ghost use Rattle.bm_world.specs.Lives.{OthersAsBefore, asked_once, life_begun, life_ended, life_of_unit};
 ghost use Rattle.bm_page.specs.declared.units.Seal.{Seal as SealValue};
 
 use crate::begun::Begun;
 use crate::slots::Slots;
+use crate::standing::{Standing, Standings};
+use crate::wait::Wait;
 use crate::{Lives, OneSide, World};
 use bm_class::Class;
 use bm_grace::{Began, Done, Grace, Knows, Look};
@@ -39,11 +43,13 @@ use bm_word::NoMemory;
 use std::alloc::Global;
 use std::marker::Model;
 
-/// The world on one thread with the units that live in it. Beside the side it owns each unit that lives, by its number, and
-/// counts how many lives each unit has begun and how many objects were asked for. It has to be ended, by `give_up` or by ending
-/// its parts. This project's own.
+/// The world on one thread with the units that live in it. Beside the side it owns each unit that lives, by its number, counts how
+/// many lives each unit has begun, and keeps what each unit waits for. It has to be ended, by `give_up` or by ending its parts. This
+/// project's own.
 ///
-/// A unit that lives isn't mine: its number can be named, and nothing can be done with it, until its life ends.
+/// A unit that lives isn't mine: its number can be named, and nothing can be done with it, until its life ends. A unit whose life
+/// ended by a free with delay isn't settled until it has waited: it is ripe once its seal shows a stamp that was taken since then,
+/// and a number that the plain domain had and that is at least the stamp. It has that seal when it begins its next life.
 pub struct LivingSide {
     /// The pool, all inboxes, and the words and numbers of both domains.
     side: OneSide,
@@ -51,11 +57,14 @@ pub struct LivingSide {
     slots: Slots,
     /// By number, how many lives the unit has begun.
     begun: Begun,
+    /// By number, what the unit waits for.
+    standings: Standings,
     /// How many objects were asked for.
     asked: u32,
 }
 
 impl Model for LivingSide {
+    ghost use Rattle.std.specs.Prelude.{◌≡◌, ◌^◌, length};
     ghost use Rattle.bm_world.specs.LivingState.{AreLiving, LivingState};
 
     ghost Value = { LivingState };
@@ -64,20 +73,22 @@ impl Model for LivingSide {
       side = world.side;
       slots = world.slots.slots.items;
       begun = world.begun.counts.items;
+      standings = world.standings.standings.items;
       asked = world.asked;
     } };
 
-    ghost invariant = { λ world. AreLiving world.side.post world.slots.slots.items world.begun.counts.items world.asked };
+    ghost invariant = { λ world. AreLiving world.side.post world.side.grace.plain.number world.side.grace.tracing.number world.slots.slots.items world.begun.counts.items world.standings.standings.items world.asked × (length world.standings.before.items ≡ 2 ^ 16) };
 }
 
 impl LivingSide {
     /// A side in which nothing lives, and for which no object was asked. No unit of its pool or its inboxes has ever lived. Want
     /// of memory is the only refusal, and hands the side back.
     pub fn create(alloc: Global, side: OneSide) -> Result<LivingSide, OneSide>
-        requires { HaveLived [] side.post }
+        requires { HaveLived [] [] side.post }
         ensures side { IfOk result (λ world. world.side ≡ side) }
         ensures slots { IfOk result (λ world. AllEmpty world.slots) }
         ensures begun { IfOk result (λ world. (n : ℕ) → begun_at world.begun n ≡ 0) }
+        ensures standings { IfOk result (λ world. (n : ℕ) → standing_at world.standings n ≡ WaitsForNothing) }
         ensures asked { IfOk result (λ world. world.asked ≡ 0) }
         ensures err { IfErr result (λ back. back ≡ side) }
     {
@@ -85,11 +96,16 @@ impl LivingSide {
             Ok(begun) => begun,
             Err(_) => return Err(side),
         };
+        let standings = match Standings::new(alloc) {
+            Ok(standings) => standings,
+            Err(_) => return Err(side),
+        };
         match Slots::new(alloc) {
             Ok(slots) => Ok(LivingSide {
                 side,
                 slots,
                 begun,
+                standings,
                 asked: 0,
             }),
             Err(_) => Err(side),
@@ -106,6 +122,7 @@ impl LivingSide {
             side,
             slots,
             begun: _,
+            standings: _,
             asked,
         } = self;
         (side, slots, asked)
@@ -117,6 +134,7 @@ impl LivingSide {
             side,
             slots,
             begun: _,
+            standings: _,
             asked: _,
         } = self;
         slots.give_up();
@@ -148,6 +166,20 @@ impl LivingSide {
     }
 }
 
+/// The life of a unit ends: if it is freed with delay, it waits from now on.
+fn end_standing(side: &mut OneSide, standings: &mut Standings, number: u16, delayed: bool)
+    requires size { length standings.old.standings.items ≡ 2 ^ 16 }
+    ensures side { side.new ≡ side.old }
+    ensures before { standings.new.before.items ≡ standings.old.before.items }
+    ensures standings { standings.new.standings.items ≡ standings_after delayed number side.old.grace standings.old.standings.items }
+{
+    if delayed {
+        let plain = side.stamp(Domain::Plain);
+        let tracing = side.stamp(Domain::Tracing);
+        standings.set(number, Standing::Waits(Wait { plain, tracing }));
+    }
+}
+
 impl Knows for LivingSide {
     ghost known = { known_living };
 
@@ -171,6 +203,7 @@ impl Grace for LivingSide {
         ensures post { self.new.side.post ≡ self.old.side.post }
         ensures slots { self.new.slots ≡ self.old.slots }
         ensures begun { self.new.begun ≡ self.old.begun }
+        ensures standings { self.new.standings ≡ self.old.standings }
         ensures asked { self.new.asked ≡ self.old.asked }
         ensures grace { self.new.side.grace
             ≡ with_domain domain (word_moved self.old.side.grace.processor (domain_in domain self.old.side.grace)) self.old.side.grace }
@@ -188,6 +221,7 @@ impl Grace for LivingSide {
         ensures post { self.new.side.post ≡ self.old.side.post }
         ensures slots { self.new.slots ≡ self.old.slots }
         ensures begun { self.new.begun ≡ self.old.begun }
+        ensures standings { self.new.standings ≡ self.old.standings }
         ensures asked { self.new.asked ≡ self.old.asked }
         ensures grace { self.new.side.grace
             ≡ with_domain domain (word_moved self.old.side.grace.processor (domain_in domain self.old.side.grace)) self.old.side.grace }
@@ -236,6 +270,7 @@ impl Grace for LivingSide {
         ensures post { self.new.side.post ≡ self.old.side.post }
         ensures slots { self.new.slots ≡ self.old.slots }
         ensures begun { self.new.begun ≡ self.old.begun }
+        ensures standings { self.new.standings ≡ self.old.standings }
         ensures asked { self.new.asked ≡ self.old.asked }
         ensures grace { self.new.side.grace
             ≡ with_domain domain (period_begun self.old.side.grace.processor result (domain_in domain self.old.side.grace)) self.old.side.grace }
@@ -255,6 +290,7 @@ impl Grace for LivingSide {
         ensures post { self.new.side.post ≡ self.old.side.post }
         ensures slots { self.new.slots ≡ self.old.slots }
         ensures begun { self.new.begun ≡ self.old.begun }
+        ensures standings { self.new.standings ≡ self.old.standings }
         ensures asked { self.new.asked ≡ self.old.asked }
         ensures grace { self.new.side.grace
             ≡ with_domain domain (period_looked (words_in domain self.old.side.grace) (domain_in domain self.old.side.grace)) self.old.side.grace }
@@ -275,6 +311,7 @@ impl Grace for LivingSide {
         ensures post { self.new.side.post ≡ self.old.side.post }
         ensures slots { self.new.slots ≡ self.old.slots }
         ensures begun { self.new.begun ≡ self.old.begun }
+        ensures standings { self.new.standings ≡ self.old.standings }
         ensures asked { self.new.asked ≡ self.old.asked }
         ensures grace { self.new.side.grace ≡ with_domain domain (period_ended (domain_in domain self.old.side.grace)) self.old.side.grace }
         ensures period { result ≡ ended domain (side domain (known_living self.old)) }
@@ -308,6 +345,7 @@ impl Post for LivingSide {
         ensures grace { self.new.side.grace ≡ self.old.side.grace }
         ensures slots { self.new.slots ≡ self.old.slots }
         ensures begun { self.new.begun ≡ self.old.begun }
+        ensures standings { self.new.standings ≡ self.old.standings }
         ensures asked { self.new.asked ≡ self.old.asked }
         ensures ok { IfOk result (λ n. Fetches class want n out.old.items out.new.items (rights_living self.old) (rights_living self.new)) }
         ensures err { OnErr result (out.new.items ≡ out.old.items) }
@@ -328,13 +366,16 @@ impl Post for LivingSide {
         ensures grace { self.new.side.grace ≡ self.old.side.grace }
         ensures slots { self.new.slots ≡ self.old.slots }
         ensures begun { self.new.begun ≡ self.old.begun }
+        ensures standings { self.new.standings ≡ left_by units.items self.old.standings }
         ensures asked { self.new.asked ≡ self.old.asked }
         ensures back { GivesBack (numbers units.items) (rights_living self.old) (rights_living self.new) }
         ensures lasts { Lasting (numbers units.items) (rights_living self.old) (rights_living self.new) }
         ensures known { Posts false (known_living self.old) (known_living self.new) }
         ensures rest { StaysAtRest LivingAtRest self.old self.new }
         ensures does { LivingDoes (act.Returns (sealed units.items) ∷ []) self.old self.new }
+        ensures gives { All (IsSettled (rights_living self.old)) units.items → LivingDoes (act.GivesBack (numbers units.items) ∷ []) self.old self.new }
     {
+        self.standings.leave(&units);
         self.side.put_back(units);
     }
 
@@ -349,6 +390,8 @@ impl Post for LivingSide {
         ensures grace { self.new.side.grace ≡ self.old.side.grace }
         ensures slots { self.new.slots ≡ self.old.slots }
         ensures begun { self.new.begun ≡ self.old.begun }
+        ensures standings { OnOk result (self.new.standings ≡ left_by units.items self.old.standings) }
+        ensures err_standings { OnErr result (self.new.standings ≡ self.old.standings) }
         ensures asked { self.new.asked ≡ self.old.asked }
         ensures sent { OnOk result (GivesBack (numbers units.items) (rights_living self.old) (rights_living self.new)) }
         ensures refused { IfErr result (λ back. back.items ≡ units.items) }
@@ -360,9 +403,20 @@ impl Post for LivingSide {
         ensures known { OnErr result (Posts false (known_living self.old) (known_living self.new)) }
         ensures rest { StaysAtRest LivingAtRest self.old self.new }
         ensures does { OnOk result (LivingDoes (act.Sends class to (sealed units.items) ∷ []) self.old self.new) }
+        ensures drains { OnOk result (All (IsSettled (rights_living self.old)) units.items
+            → LivingDoes (act.Drains class to (numbers units.items) ∷ []) self.old self.new) }
+        ensures releases { OnOk result ((seal : SealValue) → All (WaitedBy (rights_living self.old) seal) units.items
+            → LivingDoes (act.Releases class to (numbers units.items) seal.stamp seal.seen ∷ []) self.old self.new) }
         ensures idle { OnErr result (LivingDoes [] self.old self.new) }
     {
-        self.side.send(to, class, units)
+        self.standings.leave(&units);
+        match self.side.send(to, class, units) {
+            Ok(()) => Ok(()),
+            Err(units) => {
+                self.standings.come_back(&units);
+                Err(units)
+            }
+        }
     }
 
     fn receive(&mut self, class: Class) -> Option<Vec<Unit>>
@@ -374,6 +428,7 @@ impl Post for LivingSide {
         ensures grace { self.new.side.grace ≡ self.old.side.grace }
         ensures slots { self.new.slots ≡ self.old.slots }
         ensures begun { self.new.begun ≡ self.old.begun }
+        ensures standings { self.new.standings ≡ self.old.standings }
         ensures asked { self.new.asked ≡ self.old.asked }
         ensures some { IfSome result (λ units. Receives class units.items (rights_living self.old) (rights_living self.new)) }
         ensures none { IfNone result (AreSame (rights_living self.old) (rights_living self.new)) }
@@ -428,28 +483,32 @@ impl Lives for LivingSide {
             life: unit.life(),
         };
         self.begun.set(object.unit, object.life);
+        self.standings.set(object.unit, Standing::Nothing);
         self.slots.put(unit);
         self.asked += 1;
         object
     }
 
-    fn end_life(&mut self, number: u16) -> Unit
+    fn end_life(&mut self, number: u16, delayed: bool) -> Unit
         requires lives { is_some (lives_of self.old.slots number) ≡ true }
         ensures unit { unit_at self.old.slots number ≡ Some result }
         ensures lived { lives_of self.old.slots number ≡ Some (life_of_unit result) }
         ensures number { result.number ≡ number }
         ensures last { result.life ≡ begun_at self.old.begun number }
-        ensures state { self.new ≡ with_ended number self.old }
+        ensures state { self.new ≡ with_ended delayed number self.old }
         ensures known { known_living self.new ≡ life_ended number (known_living self.old) }
         ensures mine { Gains (number ∷ []) (rights_living self.old) (rights_living self.new) }
         ensures others { OthersAsBefore number (rights_living self.old) (rights_living self.new) }
-        ensures settled { IsSettled (rights_living self.new) result }
-        ensures undue { (life : ℕ) (seal : Option SealValue) → (rights_living self.new).due number life seal ≡ false }
+        ensures unsealed { result.seal ≡ None }
+        ensures settled { delayed ≡ false → IsSettled (rights_living self.new) result }
+        ensures undue { delayed ≡ false → (life : ℕ) (seal : Option SealValue) → (rights_living self.new).due number life seal ≡ false }
+        ensures due { delayed ≡ true → (rights_living self.new).due number result.life None ≡ true }
         ensures home { result.home < self.old.side.grace.processors }
         ensures rest { StaysAtRest LivingAtRest self.old self.new }
-        ensures does { LivingDoes (act.Ends number result.life result.home false ∷ []) self.old self.new }
+        ensures does { LivingDoes (act.Ends number result.life result.home delayed ∷ []) self.old self.new }
     {
         self.side.processors_agree();
+        end_standing(&mut self.side, &mut self.standings, number, delayed);
         self.slots.take(number)
     }
 }

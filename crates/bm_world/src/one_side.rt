@@ -24,7 +24,8 @@ ghost use Rattle.bm_world.specs.Told.{SideDoes, does-join, does-same};
 ghost use Rattle.bm_law_order.specs.Act as act;
 ghost use Rattle.bm_law_order.specs.Act.{sealed};
 ghost use Rattle.bm_grace.specs.Begins.{begin_act};
-ghost use Rattle.bm_post.specs.Rights.{AreSame, Holds, Lasting, MayLeave, numbers};
+ghost use Rattle.bm_page.specs.declared.units.Seal.{Seal as SealValue};
+ghost use Rattle.bm_post.specs.Rights.{AreSame, Holds, IsSettled, Lasting, MayLeave, WaitedBy, numbers};
 
 use crate::World;
 use bm_class::Class;
@@ -268,6 +269,7 @@ impl Post for OneSide {
         ensures known { Posts false (known_of self.old) (known_of self.new) }
         ensures rest { StaysAtRest SideAtRest self.old self.new }
         ensures does { SideDoes (act.Returns (sealed units.items) ∷ []) self.old self.new }
+        ensures gives { All (IsSettled (rights_in self.old.post)) units.items → SideDoes (act.GivesBack (numbers units.items) ∷ []) self.old self.new }
     {
         self.post.put_back(units);
     }
@@ -291,6 +293,10 @@ impl Post for OneSide {
         ensures known { OnErr result (Posts false (known_of self.old) (known_of self.new)) }
         ensures rest { StaysAtRest SideAtRest self.old self.new }
         ensures does { OnOk result (SideDoes (act.Sends class to (sealed units.items) ∷ []) self.old self.new) }
+        ensures drains { OnOk result (All (IsSettled (rights_in self.old.post)) units.items
+            → SideDoes (act.Drains class to (numbers units.items) ∷ []) self.old self.new) }
+        ensures releases { OnOk result ((seal : SealValue) → All (WaitedBy (rights_in self.old.post) seal) units.items
+            → SideDoes (act.Releases class to (numbers units.items) seal.stamp seal.seen ∷ []) self.old self.new) }
         ensures idle { OnErr result (SideDoes [] self.old self.new) }
     {
         let _ = class.index();

@@ -104,3 +104,21 @@ returns-clause-at_end g c =
     (ap (λ (x : Caches g.row.R.Denot). x.processor) there ∙ back.processor)
     (returned-apart 0 i ms s k p.placed.once refl)
     on3 c.requires.at_end
+
+pub returns-clause-goes : goal.returns-clause-goes
+returns-clause-goes g c =
+    let h = c.args.host.now in
+    let z = c.second_out.new.self in
+    let h1 = g.H.Host.with_held h z in
+    let w = c.put_back.new.self in
+    let h2 = g.H.Desk.with_shared h1 w in
+    let y = c.returned.new.self in
+    let h3 = g.H.Host.with_held h2 y in
+    let N = g.H.W.Knows.known in
+    let join = g.met.H.Desk.stays_join in
+    let alike : Alike (N (g.H.Desk.shared h1)) (N w) = subst (λ x. Alike (N x) (N w)) c.world.ensures.held (alike-posts _ (N c.world.result.now) (N w) c.put_back.ensures.known) in
+    record {
+      face = g.met.H.Host.face_back h2 y ∙ g.met.H.Desk.face_apart h1 w alike ∙ g.met.H.Host.face_back h z;
+      pending = omega (arith, g.met.H.Host.pending_back h2 y, g.met.H.Desk.pending_apart h1 w, g.met.H.Host.pending_back h z);
+      keeps = join h h2 h3 (join h h1 h2 (g.met.H.Desk.keeps_stays h h1 (g.met.H.Host.keeps_back h z)) (g.met.H.Desk.stays_apart h1 w alike)) (g.met.H.Desk.keeps_stays h2 h3 (g.met.H.Host.keeps_back h2 y));
+    }

@@ -1,4 +1,4 @@
-use Rattle.std.proofs.Common.{◌≡◌, ◌∙◌, ◌+◌, ℕ, false, Some, [], ◌∷◌, sym, ap, subst, arith}
+use Rattle.std.proofs.Common.{◌≡◌, ◌∙◌, ◌+◌, ℕ, false, Some, [], ◌∷◌, refl, sym, ap, subst, arith}
 use Rattle.bm_journal.specs.declared.entry.Entry.TheVariants as entry
 use Rattle.bm_journal.specs.declared.ids.ObjId.{ObjId}
 use Rattle.bm_page.specs.UnitState.{UnitState}
@@ -113,4 +113,4 @@ release-requires-clause-tied g c =
     let now : u.life ≡ o.life = (living-now (known_of g.W.Knows m).objects.lives o.unit o.life alive.0 u e.lived alive.1).0 in
     let k : Processor g.row.W.Denot = record m { caches = c.note-2.new.self; side = c.end_life-unit.new.self } in
     let F : ℕ → Type 0 = λ x. FreesAt g.W.Knows g.B.Since.since g.B.Since.start l x u.home k in
-    subst F (sym e.number) (tied-freeing g.W.Knows g.B.Since.since g.B.Since.start l o.unit o.life u.home m k c.note.new.self.recorder.told n.records n'.records (subst (λ x. g.W.Knows.does (act.Ends o.unit x u.home false ∷ []) m.side k.side) now e.does, ap (λ (x : Known). x.grace.processor) e.known) e.undue c.requires.tied)
+    subst F (sym e.number) (tied-freeing g.W.Knows g.B.Since.since g.B.Since.start l o.unit o.life u.home m k c.note.new.self.recorder.told n.records n'.records (subst (λ x. g.W.Knows.does (act.Ends o.unit x u.home false ∷ []) m.side k.side) now e.does, ap (λ (x : Known). x.grace.processor) e.known) (e.undue refl) c.requires.tied)

@@ -199,7 +199,7 @@ pub returns-clause-polled : goal.returns-clause-polled
 returns-clause-polled g c = if-ok c.close.result _ _ c.close.ensures.tied (λ final t. tied-polled c.args.scenario.now.pages final t.world (since-outset g c final t.world t.tied))
 
 pub returns-clause-sealed : goal.returns-clause-sealed
-returns-clause-sealed g c = if-ok c.close.result _ _ c.close.ensures.tied (λ final t. tied-sealed (polled knows_living [] (outset c.args.scenario.now.pages)) c.args.scenario.now.pages final t.world (since-outset g c final t.world t.tied))
+returns-clause-sealed g c = if-ok c.close.result _ _ c.close.ensures.tied (λ final t. tied-sealed c.args.scenario.now.pages final t.world (since-outset g c final t.world t.tied))
 
 pub returns-clause-seals : goal.returns-clause-seals
-returns-clause-seals g c = if-ok c.close.result _ _ c.close.ensures.tied (λ final t. tied-seals (polled knows_living [] (outset c.args.scenario.now.pages)) c.args.scenario.now.pages final t.world (since-outset g c final t.world t.tied))
+returns-clause-seals g c = if-ok c.close.result _ _ c.close.ensures.tied (λ final t. tied-seals c.args.scenario.now.pages final t.world (since-outset g c final t.world t.tied))

@@ -44,7 +44,8 @@ returns-in-Ok-create-2 c =
     let pool = c.fill.new.pool in
     let slots = c.in-Ok-open_side.side.slots in
     let begun = c.in-Ok-open_side.side.begun in
-    let world : LivingState = living_side pool slots begun in
+    let standings = c.in-Ok-open_side.side.standings in
+    let world : LivingState = living_side pool slots begun standings in
     let caches = c.in-Ok-create.caches in
     let o = c.in-Ok-create.ensures.opened in
     let fine : HasConditions s = c.requires.fine in
@@ -66,7 +67,7 @@ returns-in-Ok-create-2 c =
       inside = refl;
       home = o.processor;
       first = refl;
-      words = no-words pool slots begun;
+      words = no-words pool slots begun standings;
       asked = refl;
       begun = w.begun;
       lives = none-live slots w.slots;
@@ -74,25 +75,25 @@ returns-in-Ok-create-2 c =
     let done : IsOpen p (filling c.args.classes.now (fresh_stock s.pages)) m = record {
       sound = record {
         at = fresh-at p m fs c.requires.fits (subst HasConditions same fine) (subst Within same limits) (subst (λ x. IsFresh x m) same fresh) o.told;
-        fine = fine-opened (λ (k : Recorded). k.told) (λ k. k.counted) 0 1 (tests_by (rights_living world)) fs caches o (fills-suit pool slots begun fs w.slots w.begun v.unborn v.unlived v.out) (lit< tt) (lit≤ tt);
+        fine = fine-opened (λ (k : Recorded). k.told) (λ k. k.counted) 0 1 (tests_by (rights_living world)) fs caches o (fills-suit pool slots begun standings fs w.slots w.begun w.standings v.unborn v.unlived v.out) (lit< tt) (lit≤ tt);
         dated = dated (tests_by (rights_living world)) fs (shown caches) o.lists;
         stamped = stamped fs (shown caches) o.lists;
-        begins = λ d. let b = begins-enough s m _ limits fresh (all-begins pool slots begun d) in omega (arith, b);
+        begins = λ d. let b = begins-enough s m _ limits fresh (all-begins pool slots begun standings d) in omega (arith, b);
       };
       told = rw (sym named) o.told;
       lowered = lowered fs (shown caches) o.lists;
       none = none-live slots w.slots;
       begun = w.begun;
       asked = refl;
-      numbers = no-numbers pool slots begun;
+      numbers = no-numbers pool slots begun standings;
       one = refl;
       first = refl;
-      words = no-words pool slots begun;
+      words = no-words pool slots begun standings;
       planned = left-is s m fresh ∙ ap (planned_for 0) same;
       running = r.running;
       inside = refl;
       tied = subst (λ (x : Parts). TiedAt knows_living [] (outset x.pages) m) same
-          (opened-tied c.args.classes.now s.pages pool slots begun caches.recorder.told (v.pool ∙ ap (λ (x : Stock). (filling c.args.classes.now x).pool) first) w.slots w.begun (rw (sym named) o.told));
+          (opened-tied c.args.classes.now s.pages pool slots begun standings caches.recorder.told (v.pool ∙ ap (λ (x : Stock). (filling c.args.classes.now x).pool) first) w.slots w.begun w.standings (rw (sym named) o.told));
     } in
     let opened = subst (λ x. IsOpen p (filling c.args.classes.now (fresh_stock s.pages)) (machine x)) (sym (side-is c.in-Ok-open_side.side pool w.side w.asked)) done in
     rw c.open.ensures (subst (λ k. IsOpen p (filling c.args.classes.now (fresh_stock s.pages)) (turn k c.in-Ok-open_side.side)) (sym r.fresh) opened)

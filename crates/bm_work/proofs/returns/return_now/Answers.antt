@@ -1,4 +1,4 @@
-use Rattle.std.proofs.Common.{◌≡◌, ◌≤◌, ◌∙◌, [], ℕ, List, map, refl, sym, subst, ap, arith}
+use Rattle.std.proofs.Common.{◌≡◌, ◌≤◌, ◌∙◌, [], ◌∷◌, ℕ, List, map, refl, sym, subst, ap, arith}
 use Rattle.std.specs.List.{All}
 use Rattle.bm_journal.specs.declared.units.Units.TheVariants.{Whole}
 use Rattle.bm_journal.specs.declared.entry.Entry.TheVariants as entry
@@ -15,13 +15,12 @@ use Rattle.bm_grace.specs.Known.{Known as KnownValue}
 use Rattle.bm_journal.specs.Recording.{Appends}
 use Rattle.bm_law_work.specs.Parts.{Say}
 use Rattle.bm_law_work.specs.WorkPhrases.{IsOne, IsReturn}
-use Rattle.bm_post.specs.Rights.{Holds, MayLeave, numbers}
+use Rattle.bm_post.specs.Rights.{Holds, IsSettled, MayLeave, numbers}
 use Rattle.bm_work.specs.Onward.{Onward}
-use Rattle.bm_work.proofs.Gone.{holds-reusable, leave-reusable, returned-apart, returned-once, stands-returned}
+use Rattle.bm_work.proofs.Gone.{holds-reusable, leave-reusable, returned-apart, returned-once, settled-reusable, stands-returned}
 use Rattle.bm_work.proofs.Sides.{works-map}
 use Rattle.bm_work.proofs.Steps.{returned-active, works-entry}
-use Rattle.bm_law_order.specs.Act.{sealed}
-use Rattle.bm_work.proofs.Owing.{units-sealed}
+use Rattle.bm_law_order.specs.Act as act
 use Rattle.bm_work.proofs.returns.return_now.Goals as goal
 
 pub give_back-requires-clause-mine : goal.give_back-requires-clause-mine
@@ -48,6 +47,16 @@ give_back-requires-clause-fit g c =
     let G : List Token → Type 0 = λ z. All (MayLeave r) z in
     subst (λ w. All (MayLeave (g.H.W.Knows.rights w)) c.in_ok-units.units.items) (sym c.lend_second.ensures.handled.shared_is) (subst G (sym c.in_ok-units.ensures.units) (leave-reusable r us (subst F (g.met.H.Desk.tests_are a) (c.requires.stands.dated i).settled)))
 
+pub give_back-requires-clause-settled : goal.give_back-requires-clause-settled
+give_back-requires-clause-settled g c =
+    let a = c.args.host.now in
+    let i = c.args.class in
+    let us = ((shown (g.H.Host.held a)).rows i).deferred.second in
+    let r = g.H.W.Knows.rights (g.H.Desk.shared a) in
+    let F : Tests → Type 0 = λ t. All (Reusable t) us in
+    let G : List Token → Type 0 = λ z. All (IsSettled r) z in
+    subst (λ w. All (IsSettled (g.H.W.Knows.rights w)) c.in_ok-units.units.items) (sym c.lend_second.ensures.handled.shared_is) (subst G (sym c.in_ok-units.ensures.units) (settled-reusable r us (subst F (g.met.H.Desk.tests_are a) (c.requires.stands.dated i).settled)))
+
 pub returns-clause-back : goal.returns-clause-back
 returns-clause-back g c =
     let a = c.args.host.now in
@@ -72,7 +81,7 @@ returns-clause-back g c =
     let O : List ℕ → Type 0 = λ m. Onward m (T a) (T y) in
     let o1 : Onward (numbers c.in_ok-units.units.items) (T a) (T x) = subst (λ t. Onward (numbers c.in_ok-units.units.items) t (T x)) c.lend_second.ensures.handled.tests_are p.onward in
     let o2 : Onward (numbers c.in_ok-units.units.items) (T a) (T y) = subst (λ t. Onward (numbers c.in_ok-units.units.items) (T a) t) (sym c.end_return.ensures.handled.tests_are) o1 in
-    stands-returned g.R.Recorder.log g.R.Recorder.counts g.H.Host.sound T g.H.Host.face g.H.Host.held a y i ns (c.end_return.ensures.handled.face ∙ fx) (c.end_return.ensures.sound (sealed c.in_ok-units.units.items) (units-sealed c.in_ok-units.units.items ∙ sym c.write_numbers.ensures.items) ((c.give_back.ensures.owes [] (g.met.H.Desk.asked_open b c.lend_second.ensures.asked)))) c.end_return.ensures.placed lists (c.end_return.ensures.step.processor ∙ ap (λ (z : Caches g.row.R.Denot). z.processor) d ∙ c.in_ok-units.ensures.lent.processor) (returned-apart l i ns s k c.requires.stands.fine.placed.once named) (subst O (sym c.write_numbers.ensures.items) o2) c.requires.stands
+    stands-returned g.R.Recorder.log g.R.Recorder.counts g.H.Host.sound T g.H.Host.face g.H.Host.held a y i ns (c.end_return.ensures.handled.face ∙ fx) (c.end_return.ensures.sound (subst (λ (z : List ℕ). g.H.Desk.asked_owes (act.GivesBack z ∷ []) x) (sym c.write_numbers.ensures.items) (c.give_back.ensures.owes [] (g.met.H.Desk.asked_open b c.lend_second.ensures.asked)))) c.end_return.ensures.placed lists (c.end_return.ensures.step.processor ∙ ap (λ (z : Caches g.row.R.Denot). z.processor) d ∙ c.in_ok-units.ensures.lent.processor) (returned-apart l i ns s k c.requires.stands.fine.placed.once named) (subst O (sym c.write_numbers.ensures.items) o2) c.requires.stands
 
 pub returns-clause-ok : goal.returns-clause-ok
 returns-clause-ok g c =

@@ -1,4 +1,4 @@
-use Rattle.std.proofs.Common.{◌≡◌, ◌≤◌, ◌∙◌, [], ℕ, List, map, refl, sym, subst, ap, arith}
+use Rattle.std.proofs.Common.{◌≡◌, ◌≤◌, ◌∙◌, [], ◌∷◌, ℕ, List, map, refl, sym, subst, ap, arith}
 use Rattle.std.specs.List.{All}
 use Rattle.bm_grace.specs.Known.{Sides}
 use Rattle.bm_journal.specs.Recording.{Appends}
@@ -17,16 +17,15 @@ use Rattle.bm_cache.proofs.Moments.{goes-join}
 use Rattle.bm_cache.proofs.Outside.{lent-by-hand}
 use Rattle.bm_law_work.specs.Parts.{Say}
 use Rattle.bm_law_work.specs.WorkPhrases.{IsOne, IsSend}
-use Rattle.bm_post.specs.Rights.{Holds, numbers}
+use Rattle.bm_post.specs.Rights.{Holds, IsSettled, numbers}
 use Rattle.bm_work_lists.specs.Fit.{Fit}
 use Rattle.bm_work.specs.Dated.{DatedRow, Dated}
 use Rattle.bm_work.proofs.sends.send_hand_now.Given.{Over}
 use Rattle.bm_work.specs.Onward.{Onward}
-use Rattle.bm_work.proofs.Gone.{hand-deferred, hand-side, holds-fit, sends-hand, sent-active, sent-apart, sent-once, stands-sent}
+use Rattle.bm_work.proofs.Gone.{hand-deferred, hand-side, holds-fit, sends-hand, sent-active, sent-apart, sent-once, settled-fit, stands-sent}
 use Rattle.bm_work.proofs.Sides.{works-map}
 use Rattle.bm_work.proofs.Steps.{works-entry}
-use Rattle.bm_law_order.specs.Act.{sealed}
-use Rattle.bm_work.proofs.Owing.{units-sealed}
+use Rattle.bm_law_order.specs.Act as act
 use Rattle.bm_work.proofs.sends.send_hand_now.Goals as goal
 
 pub give_parcel-requires-clause-mine : goal.give_parcel-requires-clause-mine
@@ -129,7 +128,12 @@ returns-in-Ok-clause-back g c =
     let n : numbers c.in_ok-units.units.items ≡ ns = sym c.write_numbers.ensures.items in
     let q = hand-deferred l i to ns s c.requires.some in
     let D : Dated (T a) (effect l (entry.Send i to (Whole ns)) [] s) = (λ m. subst (DatedRow (T a)) (sym (q m)) (c.requires.stands.dated m)) in
-    stands-sent g.R.Recorder.log g.R.Recorder.counts g.H.Host.sound T g.H.Host.face g.H.Host.held a y i to ns f (c.end_send.ensures.sound (sealed c.in_ok-units.units.items) (units-sealed c.in_ok-units.units.items ∙ n) ((c.in-Ok.ensures.owes [] (g.met.H.Desk.asked_open c.target_of-to.new.host c.target_of-to.ensures.asked)))) c.end_send.ensures.placed (lists-sent g c) (c.end_send.ensures.step.processor ∙ ap (λ (z : Caches g.row.R.Denot). z.processor) d ∙ c.in_ok-units.ensures.lent.processor) (sent-apart l i to ns s k c.requires.stands.fine.placed.once e) (subst O n o2) D c.requires.stands
+    let r = g.H.W.Knows.rights (g.H.Desk.shared a) in
+    let FF : Tests → Type 0 = λ t. All (Fit t i) (s.sides l).hand in
+    let GG : List Token → Type 0 = λ us. All (IsSettled r) us in
+    let shared = c.target_of-to.ensures.handled.shared_is ∙ c.lend_hand.ensures.handled.shared_is in
+    let settled = subst (λ w. All (IsSettled (g.H.W.Knows.rights w)) c.in_ok-units.units.items) (sym shared) (subst GG (sym c.in_ok-units.ensures.units) (settled-fit r i (s.sides l).hand (subst FF (g.met.H.Desk.tests_are a) c.requires.fit))) in
+    stands-sent g.R.Recorder.log g.R.Recorder.counts g.H.Host.sound T g.H.Host.face g.H.Host.held a y i to ns f (c.end_send.ensures.drained (subst (λ (z : List ℕ). g.H.Desk.asked_owes (act.Drains i to z ∷ []) x) n (c.in-Ok.ensures.drains settled [] (g.met.H.Desk.asked_open c.target_of-to.new.host c.target_of-to.ensures.asked)))) c.end_send.ensures.placed (lists-sent g c) (c.end_send.ensures.step.processor ∙ ap (λ (z : Caches g.row.R.Denot). z.processor) d ∙ c.in_ok-units.ensures.lent.processor) (sent-apart l i to ns s k c.requires.stands.fine.placed.once e) (subst O n o2) D c.requires.stands
 
 pub returns-in-Ok-clause-deferred : goal.returns-in-Ok-clause-deferred
 returns-in-Ok-clause-deferred g c k =

@@ -3,4 +3,4 @@ use Rattle.bm_world.proofs.living.LivingSide.create.Goals as goal
 
 pub invariant_of-result : goal.invariant_of-result
 invariant_of-result c =
-    none-living c.args.side.post c.in-Ok-new.slots.slots.items c.in-Ok.begun.counts.items c.in-Ok-new.ensures.size c.in-Ok.ensures.size c.in-Ok-new.ensures.empty c.in-Ok.ensures.none c.requires
+    (none-living c.args.side.post c.args.side.grace.plain.number c.args.side.grace.tracing.number c.in-Ok-new-2.slots.slots.items c.in-Ok.begun.counts.items c.in-Ok-new.standings.standings.items c.in-Ok-new-2.ensures.size c.in-Ok.ensures.size c.in-Ok-new.ensures.size c.in-Ok-new-2.ensures.empty c.in-Ok.ensures.none c.in-Ok-new.ensures.none c.requires, c.in-Ok-new.ensures.room)

@@ -1,8 +1,6 @@
-use Rattle.std.proofs.Common.{◌≡◌, ◌<◌, Option, None, Some, true, ap, refl, subst}
-use Rattle.std.specs.Prelude.{is_some}
-use Rattle.bm_page.specs.UnitState.{UnitState}
-use Rattle.bm_world.specs.LivingState.{LivingState, living_of, with_ended}
-use Rattle.bm_world.proofs.Alive.{ended-mine, ended-settled, living-ended}
+use Rattle.std.proofs.Common.{◌<◌, ◌∙◌, None, ap, arith, length, refl, subst}
+use Rattle.bm_world.specs.LivingState.{LivingState, living_of, standings_after, with_ended}
+use Rattle.bm_world.proofs.Alive.{after-due, after-settled, after-undue, ended-mine, living-ended}
 use Rattle.bm_world.proofs.LivingDid.{does-end}
 use Rattle.bm_world.proofs.KnownLiving.{ended-others, known-ended}
 use Rattle.bm_world.proofs.SlotLemmas.{at-same, within}
@@ -11,36 +9,51 @@ use Rattle.bm_world.proofs.living.LivingSideLives.end_life.Goals as goal
 pub invariant_of-self : goal.invariant_of-self
 invariant_of-self c =
     let i = c.self.inside in
-    rw c.take.ensures.empty (living-ended i.side.post i.slots.slots.items i.begun.counts.items i.asked c.args.number c.take.result c.take.ensures.unit c.self.invariant)
+    (rw (c.take.ensures.empty, c.end_standing.ensures.standings, c.end_standing.ensures.side) (living-ended c.args.delayed i.side.post i.side.grace i.slots.slots.items i.begun.counts.items i.standings.standings.items i.asked c.args.number c.take.result c.take.ensures.unit c.self.invariant.0), ap length c.end_standing.ensures.before ∙ c.self.invariant.1)
 
 pub returns-clause-mine : goal.returns-clause-mine
 returns-clause-mine c =
     let i = c.self.inside in
-    rw (← c.self.view_is, c.take.ensures.empty) (ended-mine i.side.post i.slots.slots.items i.begun.counts.items i.asked c.args.number c.take.result c.take.ensures.unit c.self.invariant)
+    rw (← c.self.view_is, c.take.ensures.empty, c.end_standing.ensures.standings, c.end_standing.ensures.side) (ended-mine i.side.post i.side.grace.plain.number i.side.grace.tracing.number i.slots.slots.items i.begun.counts.items i.standings.standings.items (standings_after c.args.delayed c.args.number i.side.grace i.standings.standings.items) i.asked c.args.number c.take.result c.take.ensures.unit c.self.invariant.0)
 
 pub returns-clause-home : goal.returns-clause-home
 returns-clause-home c =
     let u = c.take.result in
-    let h = c.self.invariant.home c.args.number u c.take.ensures.unit in
+    let h = c.self.invariant.0.home c.args.number u c.take.ensures.unit in
     rw (← c.self.view_is) (subst (λ k. u.home < k) c.processors_agree.ensures h)
 
+pub returns-clause-unsealed : goal.returns-clause-unsealed
+returns-clause-unsealed c = c.self.invariant.0.unsealed c.args.number c.take.result c.take.ensures.unit
+
 pub returns-clause-settled : goal.returns-clause-settled
-returns-clause-settled c =
+returns-clause-settled c h =
     let i = c.self.inside in
-    (ended-settled i.side.post i.slots.slots.items i.begun.counts.items i.asked c.args.number c.take.result c.take.ensures.unit c.self.invariant)
+    rw (c.end_standing.ensures.standings) (after-settled c.args.delayed i.side.post i.side.grace i.slots.slots.items i.begun.counts.items i.standings.standings.items i.asked c.args.number c.take.result h c.take.ensures.unit c.self.invariant.0)
+
+pub returns-clause-undue : goal.returns-clause-undue
+returns-clause-undue c h life seal =
+    let i = c.self.inside in
+    rw (c.end_standing.ensures.standings) (after-undue c.args.delayed i.side.post i.side.grace i.slots.slots.items i.begun.counts.items i.standings.standings.items i.asked c.args.number c.take.result h c.take.ensures.unit c.self.invariant.0 life)
+
+pub returns-clause-due : goal.returns-clause-due
+returns-clause-due c h =
+    let i = c.self.inside in
+    rw (c.end_standing.ensures.standings) (after-due c.args.delayed i.side.post i.side.grace i.slots.slots.items i.begun.counts.items i.standings.standings.items i.asked c.args.number c.take.result h c.take.ensures.unit c.self.invariant.0)
 
 pub returns-clause-last : goal.returns-clause-last
-returns-clause-last c =
-    let i = c.self.inside in
-    rw (← c.self.view_is) (c.self.invariant.life c.args.number c.take.result c.take.ensures.unit)
+returns-clause-last c = rw (← c.self.view_is) (c.self.invariant.0.life c.args.number c.take.result c.take.ensures.unit)
 
 pub returns-clause-does : goal.returns-clause-does
 returns-clause-does c =
     let i = c.self.inside in
     let n = c.args.number in
     let u = c.take.result in
-    let a : LivingState = record { side = i.side; slots = i.slots.slots.items; begun = i.begun.counts.items; asked = i.asked } in
-    rw (← c.self.view_is, c.take.ensures.empty) (does-end n u a (with_ended n a) refl c.take.ensures.unit (c.self.invariant.life n u c.take.ensures.unit) (within i.slots.slots.items n u c.take.ensures.unit))
+    let a : LivingState = record { side = i.side; slots = i.slots.slots.items; begun = i.begun.counts.items; standings = i.standings.standings.items; asked = i.asked } in
+    let inside = within i.slots.slots.items n u c.take.ensures.unit in
+    let size = c.self.invariant.0.size in
+    let stands = c.self.invariant.0.standing.size in
+    let there : n < length i.standings.standings.items = omega (arith, inside, size, stands) in
+    rw (← c.self.view_is, c.take.ensures.empty, c.end_standing.ensures.standings, c.end_standing.ensures.side) (does-end c.args.delayed n u a (with_ended c.args.delayed n a) refl (c.self.invariant.0.standing.living n u c.take.ensures.unit) there c.take.ensures.unit (c.self.invariant.0.life n u c.take.ensures.unit) inside)
 
 pub returns-clause-lived : goal.returns-clause-lived
 returns-clause-lived c = rw (← c.self.view_is) (ap living_of c.take.ensures.unit)
@@ -49,16 +62,11 @@ pub returns-clause-known : goal.returns-clause-known
 returns-clause-known c =
     let i = c.self.inside in
     let n = c.args.number in
-    let a : LivingState = record { side = i.side; slots = i.slots.slots.items; begun = i.begun.counts.items; asked = i.asked } in
-    rw (← c.self.view_is, c.take.ensures.empty) (known-ended n a (at-same i.slots.slots.items n None (within i.slots.slots.items n c.take.result c.take.ensures.unit)))
+    let a : LivingState = record { side = i.side; slots = i.slots.slots.items; begun = i.begun.counts.items; standings = i.standings.standings.items; asked = i.asked } in
+    rw (← c.self.view_is, c.take.ensures.empty, c.end_standing.ensures.side) (known-ended c.args.delayed n a (at-same i.slots.slots.items n None (within i.slots.slots.items n c.take.result c.take.ensures.unit)))
 
 pub returns-clause-others : goal.returns-clause-others
 returns-clause-others c =
     let i = c.self.inside in
-    let a : LivingState = record { side = i.side; slots = i.slots.slots.items; begun = i.begun.counts.items; asked = i.asked } in
-    rw (← c.self.view_is, c.take.ensures.empty) (ended-others c.args.number a)
-
--- a unit whose object lives is in its slot
-some-there : (o : Option UnitState) → is_some (living_of o) ≡ true → is_some o ≡ true
-some-there None h = h
-some-there (Some u) h = refl
+    let a : LivingState = record { side = i.side; slots = i.slots.slots.items; begun = i.begun.counts.items; standings = i.standings.standings.items; asked = i.asked } in
+    rw (← c.self.view_is, c.take.ensures.empty, c.end_standing.ensures.standings, c.end_standing.ensures.side) (ended-others c.args.delayed c.args.number a)

@@ -4,23 +4,26 @@ use Rattle.bm_world.proofs.living.LivingSidePost.fetch.Goals as goal
 use Rattle.std.proofs.Common.{[], ◌∷◌, drop, length, refl}
 use Rattle.bm_law_order.specs.Act as act
 use Rattle.bm_post.specs.Rights.{numbers}
-use Rattle.bm_world.proofs.LivingDid.{lifts-ok}
+use Rattle.bm_world.specs.Standings.{waits_told}
+use Rattle.bm_world.proofs.LivingDid.{keep-one, lifts-ok, on-ok}
 
 pub invariant_of-self : goal.invariant_of-self
 invariant_of-self c =
     let i = c.self.inside in
-    let k = c.self.invariant in
-    let said = c.fetch.ensures in
-    living-fetched c.fetch.result c.args.class c.args.want c.args.out.now.items c.fetch.new.out.items i.side.post c.fetch.new.self.post i.slots.slots.items i.begun.counts.items i.asked said.state said.err_state said.ok said.same
-    (lived-fetched c.fetch.result c.args.class c.args.want i.begun.counts.items i.side.post c.fetch.new.self.post said.state said.err_state k.lived) k
+    let k = c.self.invariant.0 in
+    let said = c.fetch.ensures in (
+      rw c.fetch.ensures.grace (living-fetched i.side.grace.plain.number i.side.grace.tracing.number i.standings.standings.items c.fetch.result c.args.class c.args.want c.args.out.now.items c.fetch.new.out.items i.side.post c.fetch.new.self.post i.slots.slots.items i.begun.counts.items i.asked said.state said.err_state said.ok said.same
+          (lived-fetched c.fetch.result c.args.class c.args.want i.begun.counts.items i.standings.standings.items i.side.post c.fetch.new.self.post said.state said.err_state k.lived) k),
+      c.self.invariant.1,
+    )
 
 pub returns-clause-ok : goal.returns-clause-ok
 returns-clause-ok c =
     let i = c.self.inside in
     let said = c.fetch.ensures in
-    rw (← c.self.view_is) (fetches-living c.fetch.result c.args.class c.args.want c.args.out.now.items c.fetch.new.out.items i.side.post c.fetch.new.self.post i.slots.slots.items i.begun.counts.items i.asked c.self.invariant said.units said.each said.ok)
+    rw (← c.self.view_is, c.fetch.ensures.grace) (fetches-living i.side.grace.plain.number i.side.grace.tracing.number i.standings.standings.items c.fetch.result c.args.class c.args.want c.args.out.now.items c.fetch.new.out.items i.side.post c.fetch.new.self.post i.slots.slots.items i.begun.counts.items i.asked c.self.invariant.0 said.units said.each said.ok)
 
 pub returns-clause-does : goal.returns-clause-does
 returns-clause-does c =
     let i = c.self.inside in
-    rw (← c.self.view_is) (lifts-ok c.fetch.result (act.Fetches c.args.class c.args.want (numbers (drop (length c.args.out.now.items) c.fetch.new.out.items)) ∷ []) (record { side = i.side; slots = i.slots.slots.items; begun = i.begun.counts.items; asked = i.asked }) (record { side = c.fetch.new.self; slots = i.slots.slots.items; begun = i.begun.counts.items; asked = i.asked }) refl refl (tt, tt) c.fetch.ensures.does)
+    rw (← c.self.view_is) (lifts-ok c.fetch.result (act.Fetches c.args.class c.args.want (numbers (drop (length c.args.out.now.items) c.fetch.new.out.items)) ∷ []) (record { side = i.side; slots = i.slots.slots.items; begun = i.begun.counts.items; standings = i.standings.standings.items; asked = i.asked }) (record { side = c.fetch.new.self; slots = i.slots.slots.items; begun = i.begun.counts.items; standings = i.standings.standings.items; asked = i.asked }) refl refl (on-ok c.fetch.result (keep-one (act.Fetches c.args.class c.args.want (numbers (drop (length c.args.out.now.items) c.fetch.new.out.items))) (λ w. refl) (waits_told i.standings.standings.items))) c.fetch.ensures.does)
