@@ -1,5 +1,5 @@
 -- A block is its list of statements.
-use Rattle.std.proofs.Common.{◌≡◌, ℕ, ◌+◌, Option, List, refl, ap}
+use Rattle.std.proofs.Common.{◌≡◌, ℕ, ◌+◌, Bool, Option, List, refl, ap}
 use mathlib.Core.Path.{fun_ext}
 use mathlib.Core.Former.{Count}
 use Rattle.bm_lang.specs.declared.scenario.Block.{Block, Block', Row_of-Statement, end_of-Statement, more_of-Statement, items-the_row-Statement}
@@ -14,12 +14,12 @@ use Rattle.bm_exec.specs.Lists.{block_list, Behind, RunsStatement, RunsList, Saf
 use Rattle.bm_exec.specs.Stack.{Closes}
 use Rattle.bm_exec.specs.Cost.{list_cost}
 
-row-runs : (types : List TypeDeclaration) (l : ℕ) (w : Option (List ℕ)) (n : Count) (row : Row_of-Statement n) → RunsRow types l (Behind w) row ≡ RunsList types l w (items-the_row-Statement n row)
-row-runs types l w _ end_of-Statement = refl
-row-runs types l w _ (more_of-Statement line action rest) = ap (Followed (RunsStatement types l w action)) (row-runs types l w _ rest)
+row-runs : (types : List TypeDeclaration) (l : ℕ) (i : Bool) (w : Option (List ℕ)) (n : Count) (row : Row_of-Statement n) → RunsRow types l i (Behind w) row ≡ RunsList types l i w (items-the_row-Statement n row)
+row-runs types l i w _ end_of-Statement = refl
+row-runs types l i w _ (more_of-Statement line action rest) = ap (Followed (RunsStatement types l i w action)) (row-runs types l i w _ rest)
 
-pub block-runs : (types : List TypeDeclaration) (l : ℕ) (w : Option (List ℕ)) (b : Block) → RunsBlock types l (Behind w) b ≡ RunsList types l w (block_list b)
-block-runs types l w (Block' shape row end_line) = row-runs types l w _ row
+pub block-runs : (types : List TypeDeclaration) (l : ℕ) (i : Bool) (w : Option (List ℕ)) (b : Block) → RunsBlock types l i (Behind w) b ≡ RunsList types l i w (block_list b)
+block-runs types l i w (Block' shape row end_line) = row-runs types l i w _ row
 
 row-safe : (e : Setting) (s : Store) (Q : Store → Type 0) (n : Count) (row : Row_of-Statement n) → SafeRow e s row Q ≡ SafeList e s (items-the_row-Statement n row) Q
 row-safe e s Q _ end_of-Statement = refl

@@ -1,7 +1,7 @@
 -- Which statements can run on a frame, block by block.
 use Rattle.std.proofs.Common.{◌≡◌, ℕ, zero, suc, ◌-◌, ◌<◌, Bool, true, false, ◌&&◌, List, refl, subst, arith, Option, Some, None}
 use mathlib.Core.Former.{Count}
-use Rattle.bm_lang.specs.declared.scenario.Action.{Action, If, If', Repeat, Held-Action-If-2, None', Some'}
+use Rattle.bm_lang.specs.declared.scenario.Action.{Action, If, If', Repeat, Section, Held-Action-If-2, None', Some'}
 use Rattle.bm_lang.specs.declared.scenario.Block.{Block, Block', Row_of-Statement, end_of-Statement, more_of-Statement, items-the_row-Statement}
 use Rattle.bm_lang.specs.declared.scenario.TypeDeclaration.{TypeDeclaration}
 use Rattle.bm_exec.specs.Bindings.{binds_among, binds_by, binds_else, binds_in}
@@ -80,10 +80,16 @@ module _ (types : List TypeDeclaration) (known : List ℕ → Bool) where
       let r = right (can_run_block types body) (block_fits (16 - d) body && binds_among known body) m in
       (left (can_run_block types body) (block_fits (16 - d) body && binds_among known body) m, left (block_fits (16 - d) body) (binds_among known body) r, right (block_fits (16 - d) body) (binds_among known body) r)
 
+  pub opens-section : (d : ℕ) (body : Block) → may_run types known d (Section body) ≡ true → (can_run_block types body ≡ true) × (block_fits (16 - d) body ≡ true) × (binds_among known body ≡ true)
+  opens-section d body m =
+      let r = right (can_run_block types body) (block_fits (16 - d) body && binds_among known body) m in
+      (left (can_run_block types body) (block_fits (16 - d) body && binds_among known body) m, left (block_fits (16 - d) body) (binds_among known body) r, right (block_fits (16 - d) body) (binds_among known body) r)
+
   pub may-inherits : Inherits (may_run types known)
   may-inherits = record {
     first = λ d x body otherwise m. let o = opens-first d x body otherwise m in block-meets d body o.0 o.1 o.2;
     other = λ d x body other m. let o = opens-other d x body other m in block-meets d other o.0 o.1 o.2;
+    within = λ d body m. let o = opens-section d body m in block-meets d body o.0 o.1 o.2;
     again = λ d n body m. let o = opens-again d n body m in block-meets d body o.0 o.1 o.2;
   }
 

@@ -1,5 +1,5 @@
 -- What ends, begins again and is taken off the open blocks of a frame.
-use Rattle.std.proofs.Common.{◌≡◌, ◌≤◌, ℕ, suc, zero, ◌+◌, ◌*◌, Bool, true, false, ◌&&◌, List, [], ◌∷◌, ◌++◌, length, refl, subst, sym, ap, ◌∙◌, arith, reverse, drop, take, slice_index_or, Option, Some, None, ◌<◌, ◌-◌}
+use Rattle.std.proofs.Common.{◌≡◌, ◌⊎◌, ◌≤◌, inl, inr, ℕ, suc, zero, ◌+◌, ◌*◌, Bool, true, false, ◌&&◌, if◌then◌else◌, List, [], ◌∷◌, ◌++◌, length, refl, subst, sym, ap, ◌∙◌, arith, reverse, drop, take, slice_index_or, Option, Some, None, ◌<◌, ◌-◌}
 use Rattle.std.proofs.lemmas.List.{reverse-append}
 use Rattle.std.proofs.Math.Nat.{suc-mul}
 use Rattle.std.specs.Option.{option_to_list}
@@ -8,24 +8,25 @@ use Rattle.bm_lang.specs.declared.scenario.TypeDeclaration.{TypeDeclaration}
 use Rattle.bm_lang.specs.Limits.{action_cost, block_cost}
 use Rattle.bm_law_scenario.specs.Held.{Names}
 use Rattle.bm_law.specs.State.{State}
-use Rattle.bm_law.specs.Lists.{Log}
-use Rattle.bm_law_scenario.specs.Runs.{Done, Followed, Times, RunsBlock}
+use Rattle.bm_law.specs.Lists.{Log, after}
+use Rattle.bm_law_scenario.specs.Runs.{Run, Done, Followed, Times, RunsBlock}
 use Rattle.bm_check.specs.Statements.{Setting}
 use Rattle.bm_check.specs.Values as safe
+use Rattle.bm_exec.specs.Around.{Around, is_inside, with_begun}
 use Rattle.bm_exec.specs.declared.frame.Open.{Open}
 use Rattle.bm_exec.specs.Stores.{store_of}
 use Rattle.bm_exec.specs.Lists.{block_list, Behind, RunsStatement, RunsList}
 use Rattle.std.specs.Borrow.{Bor}
 use Rattle.bm_lang.specs.declared.scenario.Block.{Block}
 use Rattle.bm_exec.specs.Meets.{Test, body_meets, list_meets, stack_meets}
-use Rattle.bm_exec.specs.Stack.{RunsBody, RunsOpen, RunsAround, RunsStack, SafeBody, SafeStack}
+use Rattle.bm_exec.specs.Stack.{ClosedBy, Leaves, RunsAround, RunsBody, RunsOpen, RunsRest, RunsStack, SafeBody, SafeStack, Sectioned, outer}
 use Rattle.bm_exec.specs.Cost.{open_cost}
-use Rattle.bm_exec.specs.Steps.{weight, Passed, Taken, Ended}
+use Rattle.bm_exec.specs.Steps.{weight, BeginsAgain, Closing, Passed, Taken, Ended}
 use Rattle.bm_exec.proofs.Blocks.{block-runs, block-safe, block-cost}
 use Rattle.bm_exec.proofs.Then.{done-first, front, map-first}
 
 pub passed-none : (os : List Open) → Passed os os
-passed-none os = record { runs = λ types l w names last s part b x. x; safe = λ e names x. x; meets = λ p x. x; cost = omega arith; weight = omega arith }
+passed-none os = record { runs = λ types l z w names last s part b x. x; safe = λ e names x. x; meets = λ p x. x; sections = λ base z x. x; cost = omega arith; weight = omega arith }
 
 and-left : (a b : Bool) → (a && b) ≡ true → a ≡ true
 and-left true b e = refl
@@ -35,33 +36,84 @@ and-right : (a b : Bool) → (a && b) ≡ true → b ≡ true
 and-right true b e = e
 and-right false b e = cc
 
--- an open block whose statements have ended and that doesn't run again
-open-ended : (types : List TypeDeclaration) (l : ℕ) (w : Option (List ℕ)) (o : Open) → o.rest.now ≡ [] → o.repeats ≡ 0 → (names : Names) (s : State ℕ) → RunsOpen types l w o names names s []
-open-ended types l w o e n names s = rw e (rw n (done-first Done names names s [] (refl, refl)))
+-- what a block leaves stays where its section ends after it
+closed-map : (b : Bool) (l : ℕ) (z : Around) (P Q : Run) (names last : Names) (s : State ℕ) (part : Log) → ((m : Names) (p : Log) → P names m s p → Q names m s p) → ClosedBy b l z P names last s part → ClosedBy b l z Q names last s part
+closed-map false l z P Q names last s part f x = f last part x
+closed-map true l z P Q names last s part f x = map-first P Q (Leaves l z) names last s part f x
 
-around : (types : List TypeDeclaration) (l : ℕ) (w : Option (List ℕ)) (os : List Open) (names last : Names) (s : State ℕ) (part : Log) → Behind w s [] → RunsStack types l w os names last s part → RunsAround types l w os names last s part
-around types l w [] names last s part b x = x
-around types l w (o ∷ os) names last s part b x = (names, record { one = []; two = part; part_is = refl; is_first = (refl, b); is_second = x })
+-- what comes first in a block comes first where its section ends after it
+closed-front : (b : Bool) (l : ℕ) (z : Around) (P Q : Run) (names last : Names) (s : State ℕ) (part : Log) → Followed P (ClosedBy b l z Q) names last s part → ClosedBy b l z (Followed P Q) names last s part
+closed-front false l z P Q names last s part x = x
+closed-front true l z P Q names last s part x = front P Q (Leaves l z) names last s part x
 
-ended-runs : (types : List TypeDeclaration) (l : ℕ) (w : Option (List ℕ)) (o : Open) (os : List Open) → o.rest.now ≡ [] → o.repeats ≡ 0 → (names last : Names) (s : State ℕ) (part : Log) → Behind w s [] → RunsStack types l w os names last s part → RunsStack types l w (o ∷ os) names last s part
-ended-runs types l w o os e n names last s part b x =
-    (names, record { one = []; two = part; part_is = refl; is_first = open-ended types l w o e n names s; is_second = around types l w os names last s part b x })
+-- nothing more is left to run in a block whose statements have ended: it runs no more, or has no block
+abbrev pub IsOver : Open → Type 0
+IsOver o = (o.repeats ≡ 0) ⊎ (o.body ≡ None)
 
-ended-safe : (e : Setting) (o : Open) (os : List Open) → o.rest.now ≡ [] → o.repeats ≡ 0 → (names : Names) → SafeStack e (store_of names) (o ∷ os) → SafeStack e (store_of names) os
-ended-safe e o os r n names x = (rw n at (rw r at x)).1
+times-none : (n : ℕ) (names : Names) (s : State ℕ) → Times Done n names names s []
+times-none zero names s = (refl, refl)
+times-none (suc n) names s = done-first (Times Done n) names names s [] (times-none n names s)
+
+over-rest : (types : List TypeDeclaration) (l : ℕ) (i : Bool) (w : Option (List ℕ)) (o : Open) → o.rest.now ≡ [] → IsOver o → (names : Names) (s : State ℕ) → RunsRest types l i w o names names s []
+over-rest types l i w o e (inl n) names s = rw e (rw n (done-first Done names names s [] (refl, refl)))
+over-rest types l i w o e (inr h) names s = rw e (rw h (done-first (Times Done o.repeats) names names s [] (times-none o.repeats names s)))
+
+over-open : (types : List TypeDeclaration) (l : ℕ) (z : Around) (w : Option (List ℕ)) (o : Open) → o.rest.now ≡ [] → IsOver o → o.leaves ≡ false → (names : Names) (s : State ℕ) → RunsOpen types l z w o names names s []
+over-open types l z w o e v f names s = rw f (over-rest types l (is_inside z) w o e v names s)
+
+around : (types : List TypeDeclaration) (l : ℕ) (z : Around) (w : Option (List ℕ)) (os : List Open) (names last : Names) (s : State ℕ) (part : Log) → Behind w s [] → RunsStack types l z w os names last s part → RunsAround types l z w os names last s part
+around types l z w [] names last s part b x = x
+around types l z w (o ∷ os) names last s part b x = (names, record { one = []; two = part; part_is = refl; is_first = (refl, b); is_second = x })
+
+-- around a block that leaves no section it is as in it
+outer-same : (o : Open) (z : Around) → o.leaves ≡ false → outer o z ≡ z
+outer-same o z e = ap (λ b. if b then with_begun None z else z) e
+
+outer-left : (o : Open) (z : Around) → o.leaves ≡ true → outer o z ≡ with_begun None z
+outer-left o z e = ap (λ b. if b then with_begun None z else z) e
+
+ended-runs : (types : List TypeDeclaration) (l : ℕ) (z : Around) (w : Option (List ℕ)) (o : Open) (os : List Open) → o.rest.now ≡ [] → IsOver o → o.leaves ≡ false → (names last : Names) (s : State ℕ) (part : Log) → Behind w s [] → RunsStack types l z w os names last s part → RunsStack types l z w (o ∷ os) names last s part
+ended-runs types l z w o os e v f names last s part b x =
+    let A : Around → Type 0 = λ y. RunsAround types l y w os names last s part in
+    (names, record { one = []; two = part; part_is = refl; is_first = over-open types l z w o e v f names s; is_second = subst A (sym (outer-same o z f)) (around types l z w os names last s part b x) })
+
+-- its section ends next
+closing-runs : (types : List TypeDeclaration) (l : ℕ) (z : Around) (w : Option (List ℕ)) (o : Open) (os : List Open) → o.rest.now ≡ [] → IsOver o → o.leaves ≡ true → (names last : Names) (s : State ℕ) (one two : Log) → Behind w (after s one) [] → Leaves l z names names s one → RunsStack types l (with_begun None z) w os names last (after s one) two → RunsStack types l z w (o ∷ os) names last s (one ++ two)
+closing-runs types l z w o os e v f names last s one two b h x =
+    let R : Run = RunsRest types l (is_inside z) w o in
+    let A : Around → Type 0 = λ y. RunsAround types l y w os names last (after s one) two in
+    let closed : Followed R (Leaves l z) names names s one = (names, record { one = []; two = one; part_is = refl; is_first = over-rest types l (is_inside z) w o e v names s; is_second = h }) in
+    (names, record { one = one; two = two; part_is = refl; is_first = rw f closed; is_second = subst A (sym (outer-left o z f)) (around types l (with_begun None z) w os names last (after s one) two b x) })
+
+safe-none : (e : Setting) (n : ℕ) (s : safe.Store) (Q : safe.Store → Type 0) → safe.Times n (λ r. SafeBody e None r) s Q → Q s
+safe-none e zero s Q x = x
+safe-none e (suc n) s Q x = safe-none e n s Q x
+
+over-safe : (e : Setting) (o : Open) (os : List Open) → o.rest.now ≡ [] → IsOver o → (names : Names) → SafeStack e (store_of names) (o ∷ os) → SafeStack e (store_of names) os
+over-safe e o os r (inl n) names x = (rw n at (rw r at x)).1
+over-safe e o os r (inr h) names x = safe-none e o.repeats (store_of names) (λ t. SafeStack e t os) (rw h at (rw r at x)).1
 
 -- one whose statements have ended and that runs again
-again-open : (types : List TypeDeclaration) (l : ℕ) (w : Option (List ℕ)) (o p : Open) (n : ℕ) (body : Bor Block) → o.rest.now ≡ [] → o.repeats ≡ suc n → o.body ≡ Some body → p.rest.now ≡ block_list body.now → p.repeats ≡ n → p.body ≡ Some body → (names last : Names) (s : State ℕ) (part : Log) → RunsOpen types l w p names last s part → RunsOpen types l w o names last s part
-again-open types l w o p n body e m h r k b names last s part x =
-    let B = RunsBlock types l (Behind w) body.now in
-    let y : Followed (RunsList types l w (block_list body.now)) (Times B n) names last s part = rw b at (rw k at (rw r at x)) in
-    let z : Followed B (Times B n) names last s part = rw (sym (block-runs types l w body.now)) at y in
-    let F : Option (Bor Block) → Type 0 = λ q. Followed (RunsList types l w o.rest.now) (Times (RunsBody types l w q) o.repeats) names last s part in
+again-rest : (types : List TypeDeclaration) (l : ℕ) (i : Bool) (w : Option (List ℕ)) (o p : Open) (n : ℕ) (body : Bor Block) → o.rest.now ≡ [] → o.repeats ≡ suc n → o.body ≡ Some body → p.rest.now ≡ block_list body.now → p.repeats ≡ n → p.body ≡ Some body → (names last : Names) (s : State ℕ) (part : Log) → RunsRest types l i w p names last s part → RunsRest types l i w o names last s part
+again-rest types l i w o p n body e m h r k b names last s part x =
+    let B = RunsBlock types l i (Behind w) body.now in
+    let y : Followed (RunsList types l i w (block_list body.now)) (Times B n) names last s part = rw b at (rw k at (rw r at x)) in
+    let z : Followed B (Times B n) names last s part = rw (sym (block-runs types l i w body.now)) at y in
+    let F : Option (Bor Block) → Type 0 = λ q. Followed (RunsList types l i w o.rest.now) (Times (RunsBody types l i w q) o.repeats) names last s part in
     subst F (sym h) (rw e (rw m (done-first (Followed B (Times B n)) names last s part z)))
 
-again-runs : (types : List TypeDeclaration) (l : ℕ) (w : Option (List ℕ)) (o p : Open) (os : List Open) (n : ℕ) (body : Bor Block) → o.rest.now ≡ [] → o.repeats ≡ suc n → o.body ≡ Some body → p.rest.now ≡ block_list body.now → p.repeats ≡ n → p.body ≡ Some body → (names last : Names) (s : State ℕ) (part : Log) → RunsStack types l w (p ∷ os) names last s part → RunsStack types l w (o ∷ os) names last s part
-again-runs types l w o p os n body e m h r k b names last s part x =
-    map-first (RunsOpen types l w p) (RunsOpen types l w o) (RunsAround types l w os) names last s part (λ q z y. again-open types l w o p n body e m h r k b names q s z y) x
+again-open : (types : List TypeDeclaration) (l : ℕ) (z : Around) (w : Option (List ℕ)) (o p : Open) (n : ℕ) (body : Bor Block) → o.rest.now ≡ [] → o.repeats ≡ suc n → o.body ≡ Some body → p.rest.now ≡ block_list body.now → p.repeats ≡ n → p.body ≡ Some body → p.leaves ≡ o.leaves → (names last : Names) (s : State ℕ) (part : Log) → RunsOpen types l z w p names last s part → RunsOpen types l z w o names last s part
+again-open types l z w o p n body e m h r k b f names last s part x =
+    let i = is_inside z in
+    closed-map o.leaves l z (RunsRest types l i w p) (RunsRest types l i w o) names last s part (λ q y c. again-rest types l i w o p n body e m h r k b names q s y c) (subst (λ c. ClosedBy c l z (RunsRest types l i w p) names last s part) f x)
+
+outer-as : (o p : Open) (z : Around) → p.leaves ≡ o.leaves → outer p z ≡ outer o z
+outer-as o p z e = ap (λ b. if b then with_begun None z else z) e
+
+again-runs : (types : List TypeDeclaration) (l : ℕ) (z : Around) (w : Option (List ℕ)) (o p : Open) (os : List Open) (n : ℕ) (body : Bor Block) → o.rest.now ≡ [] → o.repeats ≡ suc n → o.body ≡ Some body → p.rest.now ≡ block_list body.now → p.repeats ≡ n → p.body ≡ Some body → p.leaves ≡ o.leaves → (names last : Names) (s : State ℕ) (part : Log) → RunsStack types l z w (p ∷ os) names last s part → RunsStack types l z w (o ∷ os) names last s part
+again-runs types l z w o p os n body e m h r k b f names last s part x =
+    let y = subst (λ (c : Around). Followed (RunsOpen types l z w p) (RunsAround types l c w os) names last s part) (outer-as o p z f) x in
+    map-first (RunsOpen types l z w p) (RunsOpen types l z w o) (RunsAround types l (outer o z) w os) names last s part (λ q c v. again-open types l z w o p n body e m h r k b f names q s c v) y
 
 again-safe : (e : Setting) (o p : Open) (os : List Open) (n : ℕ) (body : Bor Block) → o.rest.now ≡ [] → o.repeats ≡ suc n → o.body ≡ Some body → p.rest.now ≡ block_list body.now → p.repeats ≡ n → p.body ≡ Some body → (names : Names) → SafeStack e (store_of names) (o ∷ os) → SafeStack e (store_of names) (p ∷ os)
 again-safe e o p os n body r m h q k b names x =
@@ -75,18 +127,6 @@ again-sum n b = omega (arith, suc-mul n (1 + b))
 again-cost : (o p : Open) (n : ℕ) (body : Bor Block) → o.rest.now ≡ [] → o.repeats ≡ suc n → o.body ≡ Some body → p.rest.now ≡ block_list body.now → p.repeats ≡ n → p.body ≡ Some body → open_cost o ≡ suc (open_cost p)
 again-cost o p n body e m h r k b = rw e (rw m (rw h (rw r (rw k (rw b (rw (sym (block-cost body.now)) (again-sum n (block_cost body.now))))))))
 
--- one that would run again, and has no block
-times-none : (n : ℕ) (names : Names) (s : State ℕ) → Times Done n names names s []
-times-none zero names s = (refl, refl)
-times-none (suc n) names s = done-first (Times Done n) names names s [] (times-none n names s)
-
-bare-open : (types : List TypeDeclaration) (l : ℕ) (w : Option (List ℕ)) (o : Open) → o.rest.now ≡ [] → o.body ≡ None → (names : Names) (s : State ℕ) → RunsOpen types l w o names names s []
-bare-open types l w o e h names s = rw e (rw h (done-first (Times Done o.repeats) names names s [] (times-none o.repeats names s)))
-
-safe-none : (e : Setting) (n : ℕ) (s : safe.Store) (Q : safe.Store → Type 0) → safe.Times n (λ r. SafeBody e None r) s Q → Q s
-safe-none e zero s Q x = x
-safe-none e (suc n) s Q x = safe-none e n s Q x
-
 -- what is at the end of the list of open blocks is on top of the stack
 on-top : (items popped : List Open) (o : Open) → items ≡ popped ++ o ∷ [] → reverse items ≡ o ∷ reverse popped
 on-top items popped o e = ap reverse e ∙ reverse-append popped (o ∷ [])
@@ -96,9 +136,10 @@ top-of items popped found o e f = on-top items popped o (rw f at e)
 
 pub passed-then : (a b c : List Open) → Passed a b → Passed b c → Passed a c
 passed-then a b c x y = record {
-  runs = λ types l w names last s part b z. x.runs types l w names last s part b (y.runs types l w names last s part b z);
+  runs = λ types l z w names last s part b v. x.runs types l z w names last s part b (y.runs types l z w names last s part b v);
   safe = λ e names z. y.safe e names (x.safe e names z);
   meets = λ p z. y.meets p (x.meets p z);
+  sections = λ base z v. y.sections base z (x.sections base z v);
   cost = omega (arith, x.cost, y.cost);
   weight = omega (arith, x.weight, y.weight);
 }
@@ -121,37 +162,50 @@ no-length : {A : Type 0} (xs : List A) → length xs < 1 → xs ≡ []
 no-length [] lt = refl
 no-length (x ∷ xs) lt = absurd (omega arith)
 
+-- the sections around a block
+sections-over : (base z : Around) (o : Open) (os : List Open) → o.leaves ≡ false → Sectioned base z (o ∷ os) → Sectioned base z os
+sections-over base z o os f x = subst (λ (y : Around). Sectioned base y os) (outer-same o z f) x.1
+
+sections-closing : (base z : Around) (o : Open) (os : List Open) → o.leaves ≡ true → Sectioned base z (o ∷ os) → ((w : ℕ) × (z.begun ≡ Some w)) × Sectioned base (with_begun None z) os
+sections-closing base z o os f x = (x.0 f, subst (λ (y : Around). Sectioned base y os) (outer-left o z f) x.1)
+
+sections-as : (base z : Around) (o p : Open) (os : List Open) → p.leaves ≡ o.leaves → Sectioned base z (o ∷ os) → Sectioned base z (p ∷ os)
+sections-as base z o p os f x = (λ h. x.0 (sym f ∙ h), subst (λ (y : Around). Sectioned base y os) (sym (outer-as o p z f)) x.1)
+
 -- a block that ended is closed
-pub ended-passed : (o : Open) (os : List Open) → length o.rest.now < 1 → o.repeats ≡ 0 → Passed (o ∷ os) os
-ended-passed o os lt n = let e = no-length o.rest.now lt in record {
-  runs = λ types l w names last s part b x. ended-runs types l w o os e n names last s part b x;
-  safe = λ s names x. ended-safe s o os e n names x;
+pub ended-passed : (o : Open) (os : List Open) → length o.rest.now < 1 → IsOver o → o.leaves ≡ false → Passed (o ∷ os) os
+ended-passed o os lt v f = let e = no-length o.rest.now lt in record {
+  runs = λ types l z w names last s part b x. ended-runs types l z w o os e v f names last s part b x;
+  safe = λ s names x. over-safe s o os e v names x;
   meets = λ p x. meets-rest p o os x;
+  sections = λ base z x. sections-over base z o os f x;
   cost = omega arith;
   weight = omega arith;
 }
 
--- .. also one that would begin again, and has no block
-pub bare-passed : (o : Open) (os : List Open) → length o.rest.now < 1 → o.body ≡ None → Passed (o ∷ os) os
-bare-passed o os lt h = let e = no-length o.rest.now lt in record {
-  runs = λ types l w names last s part b x. (names, record { one = []; two = part; part_is = refl; is_first = bare-open types l w o e h names s; is_second = around types l w os names last s part b x });
-  safe = λ q names x. safe-none q o.repeats (store_of names) (λ t. SafeStack q t os) (rw h at (rw e at x)).1;
-  meets = λ p x. meets-rest p o os x;
-  cost = omega arith;
-  weight = omega arith;
+-- .. or its section ends next
+pub closing : (before : List Open) (o : Open) (os : List Open) → Passed before (o ∷ os) → length o.rest.now < 1 → IsOver o → o.leaves ≡ true → Closing before os
+closing before o os x lt v f = let e = no-length o.rest.now lt in record {
+  runs = λ types l z w names last s one two b c h y. x.runs types l z w names last s (one ++ two) b (closing-runs types l z w o os e v f names last s one two c h y);
+  safe = λ s names y. over-safe s o os e v names (x.safe s names y);
+  meets = λ p y. meets-rest p o os (x.meets p y);
+  sections = λ base z y. sections-closing base z o os f (x.sections base z y);
+  cost = (let c = x.cost in omega (arith, c));
+  weight = (let c = x.weight in omega (arith, c));
 }
 
 -- .. or begins again
-pub again-passed : (o p : Open) (os : List Open) (n : ℕ) (body : Bor Block) → length o.rest.now < 1 → o.repeats ≡ suc n → o.body ≡ Some body → p.rest.now ≡ block_list body.now → p.repeats ≡ n → p.body ≡ Some body → Passed (o ∷ os) (p ∷ os)
-again-passed o p os n body lt m h r k b =
+again-passed : (o p : Open) (os : List Open) (n : ℕ) (body : Bor Block) → length o.rest.now < 1 → o.repeats ≡ suc n → o.body ≡ Some body → p.rest.now ≡ block_list body.now → p.repeats ≡ n → p.body ≡ Some body → p.leaves ≡ o.leaves → Passed (o ∷ os) (p ∷ os)
+again-passed o p os n body lt m h r k b f =
     let e = no-length o.rest.now lt in
     let c = again-cost o p n body e m h r k b in record {
-      runs = λ types l w names last s part q x. again-runs types l w o p os n body e m h r k b names last s part x;
+      runs = λ types l z w names last s part q x. again-runs types l z w o p os n body e m h r k b f names last s part x;
       safe = λ s names x. again-safe s o p os n body e m h r k b names x;
       meets = λ q x.
           let d = suc (length os) in
           let y : list_meets (q d) (block_list body.now) ≡ true = rw h at (meets-body q o os x) in
           rw r (rw b (both (list_meets (q d) (block_list body.now)) (list_meets (q d) (block_list body.now) && stack_meets q os) y (both (list_meets (q d) (block_list body.now)) (stack_meets q os) y (meets-rest q o os x))));
+      sections = λ base z x. sections-as base z o p os f x;
       cost = omega (arith, c);
       weight = omega (arith, c);
     }
@@ -159,31 +213,39 @@ again-passed o p os n body lt m h r k b =
 pub weight-less : (o : Open) (os : List Open) → weight os < weight (o ∷ os)
 weight-less o os = omega arith
 
-pub weight-again : (o p : Open) (os : List Open) (n : ℕ) (body : Bor Block) → length o.rest.now < 1 → o.repeats ≡ suc n → o.body ≡ Some body → p.rest.now ≡ block_list body.now → p.repeats ≡ n → p.body ≡ Some body → weight (p ∷ os) < weight (o ∷ os)
+weight-again : (o p : Open) (os : List Open) (n : ℕ) (body : Bor Block) → length o.rest.now < 1 → o.repeats ≡ suc n → o.body ≡ Some body → p.rest.now ≡ block_list body.now → p.repeats ≡ n → p.body ≡ Some body → weight (p ∷ os) < weight (o ∷ os)
 weight-again o p os n body lt m h r k b = omega (arith, again-cost o p n body (no-length o.rest.now lt) m h r k b)
 
--- a statement is taken
-taken-open : (types : List TypeDeclaration) (l : ℕ) (w : Option (List ℕ)) (o p : Open) (s : Statement) (ss : List Statement) → o.rest.now ≡ s ∷ ss → p.rest.now ≡ ss → p.repeats ≡ o.repeats → p.body ≡ o.body → (names last : Names) (t : State ℕ) (part : Log) → Followed (RunsStatement types l w s.action) (RunsOpen types l w p) names last t part → RunsOpen types l w o names last t part
-taken-open types l w o p s ss e r k b names last t part x =
-    let A = RunsStatement types l w s.action in
-    let L = RunsList types l w ss in
-    let T = Times (RunsBody types l w o.body) o.repeats in
-    let y : Followed A (Followed L T) names last t part = rw b at (rw k at (rw r at x)) in
-    rw e (front A L T names last t part y)
+pub begins-passed : (o p : Open) (os : List Open) → length o.rest.now < 1 → BeginsAgain o p → Passed (o ∷ os) (p ∷ os)
+begins-passed o p os lt b = again-passed o p os b.less b.block lt b.repeats b.body b.rest_is b.repeats_is b.body_is b.leaves_is
 
-taken-runs : (types : List TypeDeclaration) (l : ℕ) (w : Option (List ℕ)) (o p : Open) (os : List Open) (s : Statement) (ss : List Statement) → o.rest.now ≡ s ∷ ss → p.rest.now ≡ ss → p.repeats ≡ o.repeats → p.body ≡ o.body → (names last : Names) (t : State ℕ) (part : Log) → Followed (RunsStatement types l w s.action) (RunsStack types l w (p ∷ os)) names last t part → RunsStack types l w (o ∷ os) names last t part
-taken-runs types l w o p os s ss e r k b names last t part x =
-    let A = RunsStatement types l w s.action in
-    map-first (Followed A (RunsOpen types l w p)) (RunsOpen types l w o) (RunsAround types l w os) names last t part (λ q z y. taken-open types l w o p s ss e r k b names q t z y)
-    (front A (RunsOpen types l w p) (RunsAround types l w os) names last t part x)
+pub begins-weight : (o p : Open) (os : List Open) → length o.rest.now < 1 → BeginsAgain o p → weight (p ∷ os) < weight (o ∷ os)
+begins-weight o p os lt b = weight-again o p os b.less b.block lt b.repeats b.body b.rest_is b.repeats_is b.body_is
+
+-- a statement is taken
+taken-open : (types : List TypeDeclaration) (l : ℕ) (z : Around) (w : Option (List ℕ)) (o p : Open) (s : Statement) (ss : List Statement) → o.rest.now ≡ s ∷ ss → p.rest.now ≡ ss → p.repeats ≡ o.repeats → p.body ≡ o.body → p.leaves ≡ o.leaves → (names last : Names) (t : State ℕ) (part : Log) → Followed (RunsStatement types l (is_inside z) w s.action) (RunsOpen types l z w p) names last t part → RunsOpen types l z w o names last t part
+taken-open types l z w o p s ss e r k b f names last t part x =
+    let i = is_inside z in
+    let A = RunsStatement types l i w s.action in
+    let L = RunsList types l i w ss in
+    let T = Times (RunsBody types l i w o.body) o.repeats in
+    let y : Followed A (ClosedBy o.leaves l z (Followed L T)) names last t part = rw b at (rw k at (rw r at (rw f at x))) in
+    closed-map o.leaves l z (Followed A (Followed L T)) (RunsRest types l i w o) names last t part (λ q c v. rw e (front A L T names q t c v)) (closed-front o.leaves l z A (Followed L T) names last t part y)
+
+taken-runs : (types : List TypeDeclaration) (l : ℕ) (z : Around) (w : Option (List ℕ)) (o p : Open) (os : List Open) (s : Statement) (ss : List Statement) → o.rest.now ≡ s ∷ ss → p.rest.now ≡ ss → p.repeats ≡ o.repeats → p.body ≡ o.body → p.leaves ≡ o.leaves → (names last : Names) (t : State ℕ) (part : Log) → Followed (RunsStatement types l (is_inside z) w s.action) (RunsStack types l z w (p ∷ os)) names last t part → RunsStack types l z w (o ∷ os) names last t part
+taken-runs types l z w o p os s ss e r k b f names last t part x =
+    let A = RunsStatement types l (is_inside z) w s.action in
+    let y = subst (λ (c : Around). Followed A (Followed (RunsOpen types l z w p) (RunsAround types l c w os)) names last t part) (outer-as o p z f) x in
+    map-first (Followed A (RunsOpen types l z w p)) (RunsOpen types l z w o) (RunsAround types l (outer o z) w os) names last t part (λ q c v. taken-open types l z w o p s ss e r k b f names q t c v)
+    (front A (RunsOpen types l z w p) (RunsAround types l (outer o z) w os) names last t part y)
 
 taken-safe : (e : Setting) (o p : Open) (os : List Open) (s : Statement) (ss : List Statement) → o.rest.now ≡ s ∷ ss → p.rest.now ≡ ss → p.repeats ≡ o.repeats → p.body ≡ o.body → (names : Names) → SafeStack e (store_of names) (o ∷ os) → safe.SafeAction e (store_of names) s.action (λ r. SafeStack e r (p ∷ os))
 taken-safe e o p os s ss q r k b names x = rw r (rw k (rw b (rw q at x)))
 
-pub taken : (before : List Open) (o p : Open) (os : List Open) (s : Statement) (ss : List Statement) → Passed before (o ∷ os) → o.rest.now ≡ s ∷ ss → p.rest.now ≡ ss → p.repeats ≡ o.repeats → p.body ≡ o.body → Taken before (p ∷ os) s
-taken before o p os s ss x e r k b =
+pub taken : (before : List Open) (o p : Open) (os : List Open) (s : Statement) (ss : List Statement) → Passed before (o ∷ os) → o.rest.now ≡ s ∷ ss → p.rest.now ≡ ss → p.repeats ≡ o.repeats → p.body ≡ o.body → p.leaves ≡ o.leaves → Taken before (p ∷ os) s
+taken before o p os s ss x e r k b f =
     let cost : open_cost o ≡ action_cost s.action + open_cost p = rw e (rw r (rw k (rw b (omega arith)))) in record {
-      runs = λ types l w names last t part q y. x.runs types l w names last t part q (taken-runs types l w o p os s ss e r k b names last t part y);
+      runs = λ types l z w names last t part q y. x.runs types l z w names last t part q (taken-runs types l z w o p os s ss e r k b f names last t part y);
       safe = λ q names y. taken-safe q o p os s ss e r k b names (x.safe q names y);
       meets_action = λ q y.
           let d = suc (length os) in
@@ -194,6 +256,7 @@ taken before o p os s ss x e r k b =
           let c = rw e at (x.meets q y) in
           let all = and-left (list_meets (q d) (s ∷ ss)) (body_meets (q d) o.body && stack_meets q os) c in
           rw r (rw b (both (list_meets (q d) ss) (body_meets (q d) o.body && stack_meets q os) (and-right (q d s.action) (list_meets (q d) ss) all) (and-right (list_meets (q d) (s ∷ ss)) (body_meets (q d) o.body && stack_meets q os) c)));
+      sections = λ base z y. sections-as base z o p os f (x.sections base z y);
       cost = omega (arith, x.cost, cost);
       weight = omega (arith, x.weight, cost);
       some = omega arith;
@@ -202,8 +265,9 @@ taken before o p os s ss x e r k b =
 -- nothing is left
 pub ended : (before : List Open) → Passed before [] → Ended before
 ended before x = record {
-  runs = λ types l w names s b. x.runs types l w names names s [] b (refl, refl);
+  runs = λ types l z w names s b. x.runs types l z w names names s [] b (refl, refl);
   safe = λ e names y. x.safe e names y;
+  sections = λ base z y. x.sections base z y;
 }
 
 -- what is first in a slice that isn't empty

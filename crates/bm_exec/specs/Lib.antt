@@ -1,6 +1,7 @@
 pub mod Seen
 pub mod Bindings
 pub mod Stores
+pub mod Around
 pub mod Lists
 pub mod Stack
 pub mod Cost

@@ -1,5 +1,5 @@
 -- What is said of the statements of a block, said of a list of statements.
-use Rattle.std.specs.Prelude.{ℕ, Option, Some, None, List, [], ◌∷◌}
+use Rattle.std.specs.Prelude.{ℕ, Bool, Option, Some, None, List, [], ◌∷◌}
 use Rattle.std.specs.Borrow.{Bor}
 use Rattle.bm_lang.specs.declared.scenario.Action.{Action}
 use Rattle.bm_lang.specs.declared.scenario.Block.{Block, Block', items-the_row-Statement}
@@ -25,13 +25,13 @@ abbrev pub Behind : Option (List ℕ) → Part
 Behind None = Nothing
 Behind (Some classes) = UntilDown classes
 
--- a statement, and what stands behind it
-abbrev pub RunsStatement : List TypeDeclaration → ℕ → Option (List ℕ) → Action → Run
-RunsStatement types l w a = Followed (RunsAction types l (Behind w) a) (Leaving (Behind w))
+-- a statement, in a plain section or in none, and what stands after it
+abbrev pub RunsStatement : List TypeDeclaration → ℕ → (inside : Bool) → Option (List ℕ) → Action → Run
+RunsStatement types l i w a = Followed (RunsAction types l i (Behind w) a) (Leaving (Behind w))
 
-abbrev pub RunsList : List TypeDeclaration → ℕ → Option (List ℕ) → List Statement → Run
-RunsList types l w [] = Done
-RunsList types l w (s ∷ ss) = Followed (RunsStatement types l w s.action) (RunsList types l w ss)
+abbrev pub RunsList : List TypeDeclaration → ℕ → (inside : Bool) → Option (List ℕ) → List Statement → Run
+RunsList types l i w [] = Done
+RunsList types l i w (s ∷ ss) = Followed (RunsStatement types l i w s.action) (RunsList types l i w ss)
 
 abbrev pub SafeList : Setting → Store → List Statement → (Store → Type 0) → Type 0
 SafeList e s [] Q = Q s

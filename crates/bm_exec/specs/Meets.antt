@@ -1,7 +1,7 @@
 -- Tests that each statement of a frame's open blocks meets.
 use Rattle.std.specs.Prelude.{◌≡◌, ℕ, suc, ◌-◌, Bool, true, ◌&&◌, List, [], ◌∷◌, length, Option, Some, None}
 use Rattle.std.specs.Borrow.{Bor}
-use Rattle.bm_lang.specs.declared.scenario.Action.{Action, If', Repeat, Held-Action-If-2, Some'}
+use Rattle.bm_lang.specs.declared.scenario.Action.{Action, If', Repeat, Section, Held-Action-If-2, Some'}
 use Rattle.bm_lang.specs.declared.scenario.Block.{Block}
 use Rattle.bm_lang.specs.declared.scenario.Statement.{Statement}
 use Rattle.bm_lang.specs.declared.scenario.TypeDeclaration.{TypeDeclaration}
@@ -32,6 +32,7 @@ stack_meets p (o ∷ os) = list_meets (p (suc (length os))) o.rest.now && (body_
 pub record Inherits (p : Test) : Type 0 where
   pub first : (d : ℕ) (x : List ℕ) (body : Block) (otherwise : Held-Action-If-2) → p d (If' x body otherwise) ≡ true → list_meets (p (suc d)) (block_list body) ≡ true
   pub other : (d : ℕ) (x : List ℕ) (body other : Block) → p d (If' x body (Some' other)) ≡ true → list_meets (p (suc d)) (block_list other) ≡ true
+  pub within : (d : ℕ) (body : Block) → p d (Section body) ≡ true → list_meets (p (suc d)) (block_list body) ≡ true
   pub again : (d n : ℕ) (body : Block) → p d (Repeat n body) ≡ true → list_meets (p (suc d)) (block_list body) ≡ true
 
 -- A statement with so many blocks around it can run on a frame: it is one of those that run so far, it opens no more blocks than there

@@ -1,4 +1,4 @@
--- Which scripts run so far: those of `new`, `drop`, `if` and `repeat`.
+-- Which scripts run so far: those of `new`, `drop`, `if`, `repeat`, `section` and `yield`.
 use Rattle.std.specs.Prelude.{◌≡◌, ℕ, Bool, true, false, ◌&&◌, not, List, length, nat_le, is_some, slice_get, map, Some}
 use Rattle.std.specs.List.{list_all}
 use Rattle.bm_class.specs.Sizes.{class_of_size}
@@ -13,13 +13,13 @@ abbrev mutual
   can_run_action types (Drop x) = true
   can_run_action types (If' x body otherwise) = can_run_block types body && can_run_else types otherwise
   can_run_action types (Repeat n body) = can_run_block types body
-  can_run_action types (Section body) = false
+  can_run_action types (Section body) = can_run_block types body
   can_run_action types (Acquire y x) = false
   can_run_action types (Get x field) = false
   can_run_action types (Exchange y slot x) = false
   can_run_action types (Lock graph) = false
   can_run_action types Unlock = false
-  can_run_action types Yield = false
+  can_run_action types Yield = true
   can_run_action types (PushFront list x) = false
   can_run_action types (PushBack list x) = false
   can_run_action types (PopFront x list) = false

@@ -1,20 +1,23 @@
 -- One statement is taken off the open blocks of a frame.
-use Rattle.std.specs.Prelude.{◌≡◌, ◌<◌, ◌≤◌, ℕ, ◌+◌, ◌*◌, true, List, [], ◌∷◌, length, Option, Some, None}
+use Rattle.std.specs.Prelude.{◌≡◌, ◌<◌, ◌≤◌, ℕ, suc, ◌+◌, ◌*◌, Bool, true, List, [], ◌∷◌, ◌++◌, length, Option, Some, None}
 use Rattle.std.specs.Borrow.{Bor}
 use Rattle.bm_lang.specs.declared.scenario.Block.{Block}
 use Rattle.bm_lang.specs.declared.scenario.Statement.{Statement}
 use Rattle.bm_lang.specs.declared.scenario.TypeDeclaration.{TypeDeclaration}
 use Rattle.bm_lang.specs.Limits.{action_cost}
 use Rattle.bm_law.specs.State.{State}
-use Rattle.bm_law.specs.Lists.{Log}
+use Rattle.bm_law.specs.Lists.{Log, after as lists_after}
 use Rattle.bm_law_scenario.specs.Held.{Names}
 use Rattle.bm_law_scenario.specs.Runs.{Followed}
 use Rattle.bm_check.specs.Statements.{Setting}
 use Rattle.bm_check.specs.Values.{SafeAction, OwnsNothing}
+use Rattle.bm_exec.specs.Around.{Around, is_inside, with_begun}
+use Rattle.bm_exec.specs.declared.frame.Next.{Next}
+use Rattle.bm_exec.specs.declared.frame.Next.TheVariants as next
 use Rattle.bm_exec.specs.declared.frame.Open.{Open}
 use Rattle.bm_exec.specs.Stores.{store_of}
-use Rattle.bm_exec.specs.Lists.{Behind, RunsStatement}
-use Rattle.bm_exec.specs.Stack.{RunsStack, SafeStack}
+use Rattle.bm_exec.specs.Lists.{Behind, RunsStatement, block_list}
+use Rattle.bm_exec.specs.Stack.{Leaves, RunsStack, SafeStack, Sectioned}
 use Rattle.bm_exec.specs.Cost.{stack_cost}
 use Rattle.bm_exec.specs.Meets.{Test, stack_meets}
 
@@ -22,40 +25,66 @@ use Rattle.bm_exec.specs.Meets.{Test, stack_meets}
 abbrev pub weight : List Open → ℕ
 weight os = 2 * stack_cost os + length os
 
--- Blocks ended or began again: what is run from now on is what was to be run. Where a block ends nothing stands behind its
+-- A block begins again: all its statements, once less, with the same section's end.
+pub record BeginsAgain (o p : Open) : Type 0 where
+  pub less : ℕ
+  pub block : Bor Block
+  pub repeats : o.repeats ≡ suc less
+  pub body : o.body ≡ Some block
+  pub rest_is : p.rest.now ≡ block_list block.now
+  pub repeats_is : p.repeats ≡ less
+  pub body_is : p.body ≡ Some block
+  pub leaves_is : p.leaves ≡ o.leaves
+
+-- Blocks ended or began again: what is run from now on is what was to be run. Where a block ends nothing stands after its
 -- statement, for the last one in it left that so.
 pub record Passed (before now : List Open) : Type 0 where
-  pub runs : (types : List TypeDeclaration) (l : ℕ) (w : Option (List ℕ)) (names after : Names) (s : State ℕ) (part : Log) → Behind w s [] → RunsStack types l w now names after s part → RunsStack types l w before names after s part
+  pub runs : (types : List TypeDeclaration) (l : ℕ) (z : Around) (w : Option (List ℕ)) (names after : Names) (s : State ℕ) (part : Log) → Behind w s [] → RunsStack types l z w now names after s part → RunsStack types l z w before names after s part
   pub safe : (e : Setting) (names : Names) → SafeStack e (store_of names) before → SafeStack e (store_of names) now
   pub meets : (p : Test) → stack_meets p before ≡ true → stack_meets p now ≡ true
+  pub sections : (base z : Around) → Sectioned base z before → Sectioned base z now
   pub cost : stack_cost now ≤ stack_cost before
   pub weight : weight now ≤ weight before
 
 -- A statement was taken: it runs first, and the rest runs after it. Its own block is still open.
 pub record Taken (before now : List Open) (s : Statement) : Type 0 where
-  pub runs : (types : List TypeDeclaration) (l : ℕ) (w : Option (List ℕ)) (names after : Names) (t : State ℕ) (part : Log) → Behind w t [] → Followed (RunsStatement types l w s.action) (RunsStack types l w now) names after t part → RunsStack types l w before names after t part
+  pub runs : (types : List TypeDeclaration) (l : ℕ) (z : Around) (w : Option (List ℕ)) (names after : Names) (t : State ℕ) (part : Log) → Behind w t [] → Followed (RunsStatement types l (is_inside z) w s.action) (RunsStack types l z w now) names after t part → RunsStack types l z w before names after t part
   pub safe : (e : Setting) (names : Names) → SafeStack e (store_of names) before → SafeAction e (store_of names) s.action (λ r. SafeStack e r now)
   pub meets_action : (p : Test) → stack_meets p before ≡ true → p (length now) s.action ≡ true
   pub meets : (p : Test) → stack_meets p before ≡ true → stack_meets p now ≡ true
+  pub sections : (base z : Around) → Sectioned base z before → Sectioned base z now
   pub cost : action_cost s.action + stack_cost now ≤ stack_cost before
   pub weight : 2 * action_cost s.action + weight now ≤ weight before
   pub some : 0 < length now
 
+-- A block has ended that has a section of its own: this section ends next, and then the rest runs.
+pub record Closing (before now : List Open) : Type 0 where
+  pub runs : (types : List TypeDeclaration) (l : ℕ) (z : Around) (w : Option (List ℕ)) (names after : Names) (s : State ℕ) (one two : Log) → Behind w s [] → Behind w (lists_after s one) [] → Leaves l z names names s one → RunsStack types l (with_begun None z) w now names after (lists_after s one) two → RunsStack types l z w before names after s (one ++ two)
+  pub safe : (e : Setting) (names : Names) → SafeStack e (store_of names) before → SafeStack e (store_of names) now
+  pub meets : (p : Test) → stack_meets p before ≡ true → stack_meets p now ≡ true
+  pub sections : (base z : Around) → Sectioned base z before → ((w : ℕ) × (z.begun ≡ Some w)) × Sectioned base (with_begun None z) now
+  pub cost : stack_cost now ≤ stack_cost before
+  pub weight : weight now < weight before
+
 -- All ended: nothing is left to run.
 pub record Ended (before : List Open) : Type 0 where
-  pub runs : (types : List TypeDeclaration) (l : ℕ) (w : Option (List ℕ)) (names : Names) (s : State ℕ) → Behind w s [] → RunsStack types l w before names names s []
+  pub runs : (types : List TypeDeclaration) (l : ℕ) (z : Around) (w : Option (List ℕ)) (names : Names) (s : State ℕ) → Behind w s [] → RunsStack types l z w before names names s []
   pub safe : (e : Setting) (names : Names) → SafeStack e (store_of names) before → OwnsNothing (store_of names)
+  pub sections : (base z : Around) → Sectioned base z before → z ≡ base
 
-abbrev pub Stepped : List Open → List Open → Option (Bor Statement) → Type 0
-Stepped before now (Some s) = Taken before now s.now
-Stepped before now None = Ended before
+abbrev pub Stepped : List Open → List Open → Next → Type 0
+Stepped before now (next.Statement s) = Taken before now s.now
+Stepped before now next.Leave = Closing before now
+Stepped before now next.End = Ended before
 
--- One more block was opened: it has these statements still to run, and then the whole of it so many times.
-pub record Pushed (before now : List Open) (rest : List Statement) (n : ℕ) (body : Block) : Type 0 where
+-- One more block was opened: it has these statements still to run, and then the whole of it so many times; and with it a section ends,
+-- or none.
+pub record Pushed (before now : List Open) (rest : List Statement) (n : ℕ) (leaves : Bool) (body : Block) : Type 0 where
   pub top : Open
   pub now_is : now ≡ top ∷ before
   pub rest_is : top.rest.now ≡ rest
   pub repeats_is : top.repeats ≡ n
+  pub leaves_is : top.leaves ≡ leaves
   pub block : Bor Block
   pub body_is : top.body ≡ Some block
   pub block_is : block.now ≡ body

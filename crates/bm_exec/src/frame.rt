@@ -1,19 +1,29 @@
 //! Where a running script stands.
 
-ghost use Rattle.std.specs.Prelude.{◌≡◌, ◌<◌, [], Some, reverse};
+ghost use Rattle.std.specs.Prelude.{◌≡◌, ◌⊎◌, ◌∷◌, ◌<◌, [], ℕ, IfSome, None, Some, false, length, reverse, suc, true};
 ghost use Rattle.arrayvec.specs.ArrayVec.{array_vec_len};
 ghost use Rattle.bm_exec.specs.Lists.{block_list};
-ghost use Rattle.bm_exec.specs.Steps.{Pushed, Stepped};
+ghost use Rattle.bm_exec.specs.Steps.{BeginsAgain, Pushed, Stepped};
 
 use arrayvec::ArrayVec;
 use bm_lang::{Block, Script, Statement};
 
-/// A block that is open: what it has still to run this time, and how many more times it runs whole.
+/// A block that is open: what it has still to run this time, how many more times it runs whole, and whether a plain section that a
+/// statement began ends with it.
 #[derive(Clone, Copy, Default)]
 pub struct Open<'s> {
     pub rest: &'s [Statement],
     pub repeats: u32,
     pub body: Option<&'s Block>,
+    pub leaves: bool,
+}
+
+/// What comes next in a script: a statement, the end of the section that one began, or nothing more.
+#[derive(Clone, Copy)]
+pub enum Next<'s> {
+    Statement(&'s Statement),
+    Leave,
+    End,
 }
 
 /// Where a running script stands: its open blocks, the innermost last, of which there are at most sixteen. It keeps no copy of
@@ -26,10 +36,10 @@ pub struct Frame<'s> {
 impl<'s> Frame<'s> {
     /// A frame that stands before the first statement of a script.
     pub fn start(script: &'s Script) -> Frame<'s>
-        ensures pushed { Pushed [] (reverse result.blocks.items) (block_list script.now.body) 0 script.now.body }
+        ensures pushed { Pushed [] (reverse result.blocks.items) (block_list script.now.body) 0 false script.now.body }
     {
         let mut blocks = ArrayVec::new();
-        open_block(&mut blocks, &script.body);
+        open_block(&mut blocks, &script.body, false);
         Frame { blocks }
     }
 }
@@ -41,8 +51,26 @@ fn statements_of<'s>(block: &'s Block) -> &'s [Statement]
     block.statements.as_slice()
 }
 
-/// Takes the statement that comes next off the open blocks. None where all have ended.
-pub fn next_statement<'s>(blocks: &mut ArrayVec<Open<'s>, 16>) -> Option<&'s Statement>
+// A block whose statements have ended, as it begins again. None where it runs no more.
+fn again<'s>(ended: &Open<'s>) -> Option<Open<'s>>
+    ensures again { IfSome result (BeginsAgain ended.now) }
+    ensures over { result ≡ None → (ended.now.repeats ≡ 0) ⊎ (ended.now.body ≡ None) }
+{
+    if ended.repeats == 0 {
+        return None;
+    }
+    let body = ended.body?;
+    Some(Open {
+        rest: statements_of(body),
+        repeats: ended.repeats - 1,
+        body: ended.body,
+        leaves: ended.leaves,
+    })
+}
+
+/// Takes what comes next off the open blocks: a statement, or the end of a block with which a section ends. All have ended where
+/// nothing more comes.
+pub fn next_statement<'s>(blocks: &mut ArrayVec<Open<'s>, 16>) -> Next<'s>
     ensures stepped { Stepped (reverse blocks.old.items) (reverse blocks.new.items) result }
 {
     // No more than sixteen are open: the length says so.
@@ -53,43 +81,45 @@ pub fn next_statement<'s>(blocks: &mut ArrayVec<Open<'s>, 16>) -> Option<&'s Sta
                 rest,
                 repeats: top.repeats,
                 body: top.body,
+                leaves: top.leaves,
             });
-            return Some(first);
+            return Next::Statement(first);
         }
-        if top.repeats > 0 {
-            if let Some(body) = top.body {
-                blocks.push(Open {
-                    rest: statements_of(body),
-                    repeats: top.repeats - 1,
-                    body: top.body,
-                });
+        match again(&top) {
+            Some(block) => blocks.push(block),
+            None => {
+                if top.leaves {
+                    return Next::Leave;
+                }
             }
         }
     }
-    None
+    Next::End
 }
 
-/// Opens a block, which runs once.
-pub fn open_block<'s>(blocks: &mut ArrayVec<Open<'s>, 16>, block: &'s Block)
+/// Opens a block, which runs once; a section ends with it, or none.
+pub fn open_block<'s>(blocks: &mut ArrayVec<Open<'s>, 16>, block: &'s Block, leaves: bool)
     requires room { array_vec_len blocks.old < 16 }
-    ensures pushed { Pushed (reverse blocks.old.items) (reverse blocks.new.items) (block_list block.now) 0 block.now }
+    ensures pushed { Pushed (reverse blocks.old.items) (reverse blocks.new.items) (block_list block.now) 0 leaves block.now }
 {
     let rest = statements_of(block);
     blocks.push(Open {
         rest,
         repeats: 0,
         body: Some(block),
+        leaves,
     });
 }
 
 /// Opens a block, which runs so many times.
 pub fn repeat_block<'s>(blocks: &mut ArrayVec<Open<'s>, 16>, repeats: u32, block: &'s Block)
     requires room { array_vec_len blocks.old < 16 }
-    ensures pushed { Pushed (reverse blocks.old.items) (reverse blocks.new.items) [] repeats block.now }
+    ensures pushed { Pushed (reverse blocks.old.items) (reverse blocks.new.items) [] repeats false block.now }
 {
     blocks.push(Open {
         rest: &[],
         repeats,
         body: Some(block),
+        leaves: false,
     });
 }

@@ -1,7 +1,8 @@
 //! The runner of scripts, over any machine.
 //!
-//! - `Machine` is the trait: what a statement needs of a processor. `create` asks for an object, `dispose` ends one, `settle` is
-//!   the work after a statement; `keeps` is what a call leaves as it was.
+//! - `Machine` is the trait: what a statement needs of a processor. `create` asks for an object, `dispose` ends one, `enter` and
+//!   `leave` are a plain section's begin and end, `pause` is a yield, `settle` is the work after a statement; `keeps` is what a call
+//!   leaves as it was.
 //! - `Frame` is where a running script stands: a position over the scenario's own blocks, with those that are open (`Open`), in
 //!   place. Beside it stands the table of its names (`NameTable`). `Holding` is what a name holds.
 //! - `resume` runs the script of a frame to its end; `run_script` makes the names and the frame first; `run_handler` runs a
@@ -13,8 +14,8 @@
 //! A script that the checker accepted finds what it needs: no statement meets a name that holds nothing, and at its end the names
 //! own nothing. What it leaves in the log is a run of its block (`RunsBlock` of `bm_law_scenario`).
 //!
-//! The language is this project's own; the statements stand for bpf_obj_new and bpf_obj_drop of kernel/bpf/helpers.c. Yielding,
-//! references, slots and graphs aren't here so far.
+//! The language is this project's own; the statements stand for bpf_obj_new and bpf_obj_drop of kernel/bpf/helpers.c. References,
+//! slots and graphs aren't here so far.
 #![tactic(auto)]
 
 mod binding;
@@ -24,7 +25,7 @@ mod machine;
 mod names;
 mod running;
 
-pub use frame::{Frame, Open};
+pub use frame::{Frame, Next, Open};
 pub use holding::Holding;
 pub use machine::Machine;
 pub use names::NameTable;

@@ -1,9 +1,12 @@
 //! Machines: what statements run on.
 
-ghost use Rattle.std.specs.Prelude.{◌≡◌, ◌+◌, ◌<◌, ◌≤◌, ◌^◌, [], ℕ, IfSome, IsOk, List, None, OnOk, Option};
+ghost use Rattle.std.specs.Prelude.{◌≡◌, ◌+◌, ◌<◌, ◌≤◌, ◌^◌, ◌∷◌, [], ℕ, IfSome, IsOk, List, None, OnOk, Option, Some, false};
+ghost use Rattle.bm_journal.specs.declared.entry.Entry.TheVariants as entry;
 ghost use Rattle.bm_law.specs.State.{State};
 ghost use Rattle.bm_law.specs.Lists.{Log, Leaves};
+ghost use Rattle.bm_law.specs.Spans.{Records};
 ghost use Rattle.bm_law_work.specs.Grown.{GrewBy};
+ghost use Rattle.bm_exec.specs.Around.{Around, Entered, HasLeft, is_inside};
 ghost use Rattle.bm_exec.specs.Lists.{Behind};
 ghost use Rattle.bm_exec.specs.Living.{Lives, Created, Disposed, LivesAs};
 
@@ -29,8 +32,11 @@ pub trait Machine {
     /// The objects that live.
     ghost lives: { Self → Lives };
 
-    /// How many times it was asked for an object, or for the work behind a statement. It may count beforehand what handlers that
-    /// are planned may still ask for, so a call may lower it.
+    /// The plain section around the code.
+    ghost around: { Self → Around };
+
+    /// How many times it was asked for an object, for the work after a statement, or for the begin or the end of a section. It may count
+    /// beforehand what handlers that are planned may still ask for, so a call may lower it.
     ghost asked: { Self → ℕ };
 
     /// The classes for which deferred work runs behind each statement, until no flag is up; none where none runs.
@@ -57,6 +63,7 @@ pub trait Machine {
         ensures processor { processor self.new ≡ processor self.old }
         ensures behind { behind self.new ≡ behind self.old }
         ensures through { through self.new ≡ through self.old }
+        ensures around { around self.new ≡ around self.old }
         ensures keeps { keeps self.old self.new };
 
     /// Gives up the one reference to an object that lives.
@@ -70,9 +77,63 @@ pub trait Machine {
         ensures processor { processor self.new ≡ processor self.old }
         ensures behind { behind self.new ≡ behind self.old }
         ensures through { through self.new ≡ through self.old }
+        ensures around { around self.new ≡ around self.old }
         ensures keeps { keeps self.old self.new };
 
-    /// Runs the deferred work that stands behind a statement, if any runs: the work of the first of its classes whose flag is up,
+    /// Whether the code is in a plain section.
+    fn is_inside(&self) -> bool
+        ensures { result ≡ is_inside (around self.now) };
+
+    /// Begins a plain section, where the code is in none. It takes no memory but the recorder's. It stands for rcu_read_lock of
+    /// include/linux/rcupdate.h.
+    fn enter(&mut self)
+        requires sound { sound self.old }
+        requires outside { is_inside (around self.old) ≡ false }
+        requires room { asked self.old + 2 < 2 ^ 22 }
+        ensures entered { Entered (level self.old) (around self.old) (around self.new) (log self.old) (log self.new) }
+        ensures lists { lists self.new ≡ lists self.old }
+        ensures lives { lives self.new ≡ lives self.old }
+        ensures sound { sound self.new }
+        ensures level { level self.new ≡ level self.old }
+        ensures asked { asked self.new ≤ asked self.old + 2 }
+        ensures processor { processor self.new ≡ processor self.old }
+        ensures behind { behind self.new ≡ behind self.old }
+        ensures through { through self.new ≡ through self.old }
+        ensures keeps { keeps self.old self.new };
+
+    /// Ends the plain section that `enter` began. It takes no memory but the recorder's. It stands for rcu_read_unlock of
+    /// include/linux/rcupdate.h.
+    fn leave(&mut self)
+        requires sound { sound self.old }
+        requires begun { (w : ℕ) × ((around self.old).begun ≡ Some w) }
+        requires room { asked self.old < 2 ^ 22 }
+        ensures left { HasLeft (level self.old) (around self.old) (around self.new) (log self.old) (log self.new) }
+        ensures lists { lists self.new ≡ lists self.old }
+        ensures lives { lives self.new ≡ lives self.old }
+        ensures sound { sound self.new }
+        ensures level { level self.new ≡ level self.old }
+        ensures asked { asked self.new ≤ asked self.old }
+        ensures processor { processor self.new ≡ processor self.old }
+        ensures behind { behind self.new ≡ behind self.old }
+        ensures through { through self.new ≡ through self.old }
+        ensures keeps { keeps self.old self.new };
+
+    /// Records that the code yields. It takes no memory but the recorder's.
+    fn pause(&mut self)
+        requires sound { sound self.old }
+        ensures paused { Records (level self.old) (entry.Yield ∷ []) (log self.old) (log self.new) }
+        ensures lists { lists self.new ≡ lists self.old }
+        ensures lives { lives self.new ≡ lives self.old }
+        ensures sound { sound self.new }
+        ensures level { level self.new ≡ level self.old }
+        ensures asked { asked self.new ≤ asked self.old }
+        ensures processor { processor self.new ≡ processor self.old }
+        ensures behind { behind self.new ≡ behind self.old }
+        ensures through { through self.new ≡ through self.old }
+        ensures around { around self.new ≡ around self.old }
+        ensures keeps { keeps self.old self.new };
+
+    /// Runs the deferred work that stands after a statement, if any runs: the work of the first of its classes whose flag is up,
     /// and again, until no flag is up. Want of memory is the only refusal, and where no work runs there is none. In
     /// kernel/bpf/memalloc.c the work runs behind the code that asked for it, by irq_work_raise.
     fn settle(&mut self) -> Result<(), NoMemory>
@@ -87,6 +148,7 @@ pub trait Machine {
         ensures processor { OnOk result (processor self.new ≡ processor self.old) }
         ensures behind { OnOk result (behind self.new ≡ behind self.old) }
         ensures through { through self.new ≡ through self.old }
+        ensures around { OnOk result (around self.new ≡ around self.old) }
         ensures keeps { OnOk result (keeps self.old self.new) }
         ensures none { behind self.old ≡ None → IsOk result };
 

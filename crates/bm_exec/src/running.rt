@@ -9,7 +9,10 @@ ghost use Rattle.bm_check.specs.Statements.{Setting};
 ghost use Rattle.bm_check.specs.Values.{SafeAction, is_owning};
 ghost use Rattle.bm_exec.specs.Seen.{names_of, has_name};
 ghost use Rattle.bm_exec.specs.Stores.{store_of, value_of};
-ghost use Rattle.bm_exec.specs.Stack.{SafeStack};
+ghost use Rattle.arrayvec.specs.ArrayVec.{array_vec_len};
+ghost use Rattle.bm_law_scenario.specs.Held.{Names};
+ghost use Rattle.bm_exec.specs.Around.{Around, is_inside};
+ghost use Rattle.bm_exec.specs.Stack.{SafeStack, Sectioned};
 ghost use Rattle.bm_exec.specs.Cost.{stack_cost};
 ghost use Rattle.bm_exec.specs.Bindings.{binds_among};
 ghost use Rattle.bm_exec.specs.Depth.{block_fits};
@@ -21,14 +24,14 @@ ghost use Rattle.bm_exec.specs.declared.frame.Open.{Open};
 ghost use Rattle.bm_exec.specs.Running.{Performed, Ran, RanScript};
 ghost use Rattle.bm_exec.specs.declared.running.Stopped.TheVariants as stopped;
 
-use crate::frame::{Frame, next_statement, open_block, repeat_block};
+use crate::frame::{Frame, Next, next_statement, open_block, repeat_block};
 use crate::holding::{Holding, holding_of};
 use crate::machine::Machine;
 use crate::names::NameTable;
 use bm_check::accepted_scripts_are_safe;
 use bm_class::Class;
 use bm_journal::Values;
-use bm_lang::{Action, Items, Parts, Script, Statement, TypeDeclaration, TypeId};
+use bm_lang::{Action, Block, Items, Parts, Script, Statement, TypeDeclaration, TypeId};
 use bm_word::{Name, NoMemory};
 use std::alloc::Global;
 
@@ -64,13 +67,14 @@ fn perform_new<'s, M: Machine>(
     requires can { can_run_action types.now.declared.now (action.New name.now type_id values.now) ≡ true }
     requires free { is_owning (value_of (names_of names.old name.now)) ≡ false }
     requires there { has_name names.old name.now ≡ true }
-    ensures performed { OnOk result ((os : List Open) → Performed types.now.declared.now (M.level machine.old) (M.behind machine.old) (M.lists machine.old) (M.lists machine.new) (action.New name.now type_id values.now) (names_of names.old) (names_of names.new) os os (M.lives machine.old) (M.lives machine.new) (M.asked machine.old) (M.asked machine.new) (M.log machine.old) (M.log machine.new)) }
+    ensures performed { OnOk result ((os : List Open) → Performed types.now.declared.now (M.level machine.old) (M.around machine.old) (M.around machine.old) (M.behind machine.old) (M.lists machine.old) (M.lists machine.new) (action.New name.now type_id values.now) (names_of names.old) (names_of names.new) os os (M.lives machine.old) (M.lives machine.new) (M.asked machine.old) (M.asked machine.new) (M.log machine.old) (M.log machine.new)) }
     ensures sound { OnOk result (M.sound machine.new) }
     ensures level { OnOk result (M.level machine.new ≡ M.level machine.old) }
     ensures processor { OnOk result (M.processor machine.new ≡ M.processor machine.old) }
     ensures behind { OnOk result (M.behind machine.new ≡ M.behind machine.old) }
     ensures through { M.through machine.new ≡ M.through machine.old }
     ensures asked { OnOk result (M.asked machine.new ≤ M.asked machine.old + 2) }
+    ensures around { OnOk result (M.around machine.new ≡ M.around machine.old) }
     ensures keeps { OnOk result (M.keeps machine.old machine.new) }
     ensures known { names.new.names.keys ≡ names.old.names.keys }
     ensures bare { M.behind machine.old ≡ None → IsOk result }
@@ -103,13 +107,14 @@ fn perform_drop<'s, M: Machine>(
     requires room { M.asked machine.old + 2 < 2 ^ 22 }
     requires holds { (base : Lives) × Holds types.now.declared.now base (M.lives machine.old) (names_of names.old) }
     requires owned { is_owning (value_of (names_of names.old name.now)) ≡ true }
-    ensures performed { OnOk result ((os : List Open) → Performed types.now.declared.now (M.level machine.old) (M.behind machine.old) (M.lists machine.old) (M.lists machine.new) (action.Drop name.now) (names_of names.old) (names_of names.new) os os (M.lives machine.old) (M.lives machine.new) (M.asked machine.old) (M.asked machine.new) (M.log machine.old) (M.log machine.new)) }
+    ensures performed { OnOk result ((os : List Open) → Performed types.now.declared.now (M.level machine.old) (M.around machine.old) (M.around machine.old) (M.behind machine.old) (M.lists machine.old) (M.lists machine.new) (action.Drop name.now) (names_of names.old) (names_of names.new) os os (M.lives machine.old) (M.lives machine.new) (M.asked machine.old) (M.asked machine.new) (M.log machine.old) (M.log machine.new)) }
     ensures sound { OnOk result (M.sound machine.new) }
     ensures level { OnOk result (M.level machine.new ≡ M.level machine.old) }
     ensures processor { OnOk result (M.processor machine.new ≡ M.processor machine.old) }
     ensures behind { OnOk result (M.behind machine.new ≡ M.behind machine.old) }
     ensures through { M.through machine.new ≡ M.through machine.old }
     ensures asked { OnOk result (M.asked machine.new ≤ M.asked machine.old + 2) }
+    ensures around { OnOk result (M.around machine.new ≡ M.around machine.old) }
     ensures keeps { OnOk result (M.keeps machine.old machine.new) }
     ensures known { names.new.names.keys ≡ names.old.names.keys }
     ensures bare { M.behind machine.old ≡ None → IsOk result }
@@ -122,6 +127,30 @@ fn perform_drop<'s, M: Machine>(
         unreachable!();
     };
     machine.settle()
+}
+
+// `section`: its block is opened, in a plain section that begins where the code is in none.
+fn perform_section<'s, M: Machine>(frame: &mut Frame<'s>, machine: &mut M, body: &'s Block)
+    requires sound { M.sound machine.old }
+    requires room { M.asked machine.old + 2 < 2 ^ 22 }
+    requires fits { array_vec_len frame.old.blocks < 16 }
+    requires down { Behind (M.behind machine.old) (M.lists machine.old) [] }
+    requires open { 0 < length (reverse frame.old.blocks.items) }
+    ensures performed { (types : List TypeDeclaration) (names : Names) → Performed types (M.level machine.old) (M.around machine.old) (M.around machine.new) (M.behind machine.old) (M.lists machine.old) (M.lists machine.new) (action.Section body.now) names names (reverse frame.old.blocks.items) (reverse frame.new.blocks.items) (M.lives machine.old) (M.lives machine.new) (M.asked machine.old) (M.asked machine.new) (M.log machine.old) (M.log machine.new) }
+    ensures sound { M.sound machine.new }
+    ensures level { M.level machine.new ≡ M.level machine.old }
+    ensures processor { M.processor machine.new ≡ M.processor machine.old }
+    ensures behind { M.behind machine.new ≡ M.behind machine.old }
+    ensures through { M.through machine.new ≡ M.through machine.old }
+    ensures asked { M.asked machine.new ≤ M.asked machine.old + 2 }
+    ensures keeps { M.keeps machine.old machine.new }
+{
+    if machine.is_inside() {
+        open_block(&mut frame.blocks, body, false);
+    } else {
+        machine.enter();
+        open_block(&mut frame.blocks, body, true);
+    }
 }
 
 // Performs a statement that was taken off the open blocks, where no work is left to run. Deferred work runs behind a call, and is
@@ -141,7 +170,7 @@ fn perform<'s, M: Machine>(
     requires down { Behind (M.behind machine.old) (M.lists machine.old) [] }
     requires open { 0 < length (reverse frame.old.blocks.items) }
     requires needed { (e : Setting) × SafeAction e (store_of (names_of names.old)) statement.now.action (λ r. SafeStack e r (reverse frame.old.blocks.items)) }
-    ensures performed { OnOk result (Performed types.now.declared.now (M.level machine.old) (M.behind machine.old) (M.lists machine.old) (M.lists machine.new) statement.now.action (names_of names.old) (names_of names.new) (reverse frame.old.blocks.items) (reverse frame.new.blocks.items) (M.lives machine.old) (M.lives machine.new) (M.asked machine.old) (M.asked machine.new) (M.log machine.old) (M.log machine.new)) }
+    ensures performed { OnOk result (Performed types.now.declared.now (M.level machine.old) (M.around machine.old) (M.around machine.new) (M.behind machine.old) (M.lists machine.old) (M.lists machine.new) statement.now.action (names_of names.old) (names_of names.new) (reverse frame.old.blocks.items) (reverse frame.new.blocks.items) (M.lives machine.old) (M.lives machine.new) (M.asked machine.old) (M.asked machine.new) (M.log machine.old) (M.log machine.new)) }
     ensures sound { OnOk result (M.sound machine.new) }
     ensures level { OnOk result (M.level machine.new ≡ M.level machine.old) }
     ensures processor { OnOk result (M.processor machine.new ≡ M.processor machine.old) }
@@ -165,12 +194,12 @@ fn perform<'s, M: Machine>(
             otherwise,
         } => match names.holding(name.as_bytes()) {
             Holding::Object(_, _) => {
-                open_block(&mut frame.blocks, body);
+                open_block(&mut frame.blocks, body, false);
                 Ok(())
             }
             Holding::Null => match otherwise {
                 Some(block) => {
-                    open_block(&mut frame.blocks, block);
+                    open_block(&mut frame.blocks, block, false);
                     Ok(())
                 }
                 None => Ok(()),
@@ -179,6 +208,14 @@ fn perform<'s, M: Machine>(
         },
         Action::Repeat { count, body } => {
             repeat_block(&mut frame.blocks, *count, body);
+            Ok(())
+        }
+        Action::Section { body } => {
+            perform_section(frame, machine, body);
+            Ok(())
+        }
+        Action::Yield => {
+            machine.pause();
             Ok(())
         }
         _ => unreachable!(),
@@ -203,7 +240,8 @@ pub fn resume<'s, M: Machine>(
     requires may { stack_meets (may_run types.now.declared.now (has_name names.old)) (reverse frame.old.blocks.items) ≡ true }
     requires down { Behind (M.behind machine.old) (M.lists machine.old) [] }
     requires accepted { (e : Setting) × SafeStack e (store_of (names_of names.old)) (reverse frame.old.blocks.items) }
-    ensures ended { result ≡ stopped.Ended → Ran types.now.declared.now (M.level machine.old) (M.behind machine.old) (M.lists machine.old) (names_of names.old) (names_of names.new) (reverse frame.old.blocks.items) (M.log machine.old) (M.log machine.new) }
+    requires sections { (base : Around) × Sectioned base (M.around machine.old) (reverse frame.old.blocks.items) }
+    ensures ended { result ≡ stopped.Ended → Ran types.now.declared.now (M.level machine.old) (M.around machine.old) (M.behind machine.old) (M.lists machine.old) (names_of names.old) (names_of names.new) (reverse frame.old.blocks.items) (M.log machine.old) (M.log machine.new) }
     ensures lives { result ≡ stopped.Ended → (base : Lives) → Holds types.now.declared.now base (M.lives machine.old) (names_of names.old) → M.lives machine.new ≡ base }
     ensures asked { result ≡ stopped.Ended → M.asked machine.new ≤ M.asked machine.old + 2 * stack_cost (reverse frame.old.blocks.items) }
     ensures down { result ≡ stopped.Ended → Behind (M.behind machine.old) (M.lists machine.new) [] }
@@ -212,16 +250,22 @@ pub fn resume<'s, M: Machine>(
     ensures processor { result ≡ stopped.Ended → M.processor machine.new ≡ M.processor machine.old }
     ensures behind { result ≡ stopped.Ended → M.behind machine.new ≡ M.behind machine.old }
     ensures through { M.through machine.new ≡ M.through machine.old }
+    ensures around { result ≡ stopped.Ended → (base : Around) → Sectioned base (M.around machine.old) (reverse frame.old.blocks.items) → M.around machine.new ≡ base }
     ensures keeps { result ≡ stopped.Ended → M.keeps machine.old machine.new }
     ensures known { names.new.names.keys ≡ names.old.names.keys }
     ensures bare { M.behind machine.old ≡ None → result ≡ stopped.Ended }
 {
-    while let Some(statement) = next_statement(&mut frame.blocks) {
-        if perform(frame, names, machine, types, statement).is_err() {
-            return Stopped::NoMemory;
+    loop {
+        match next_statement(&mut frame.blocks) {
+            Next::Statement(statement) => {
+                if perform(frame, names, machine, types, statement).is_err() {
+                    return Stopped::NoMemory;
+                }
+            }
+            Next::Leave => machine.leave(),
+            Next::End => return Stopped::Ended,
         }
     }
-    Stopped::Ended
 }
 
 /// Runs a script that the checker accepted, from its beginning to its end. It is never stuck, whatever the machine
@@ -242,7 +286,7 @@ pub fn run_script<'s, M: Machine>(
     requires fits { block_fits 16 script.now.body ≡ true }
     requires down { Behind (M.behind machine.old) (M.lists machine.old) [] }
     requires accepted { Accepted scenario.now script.now }
-    ensures ended { result ≡ stopped.Ended → RanScript types.now.declared.now (M.level machine.old) (M.behind machine.old) (M.lists machine.old) script.now (M.log machine.old) (M.log machine.new) }
+    ensures ended { result ≡ stopped.Ended → RanScript types.now.declared.now (M.level machine.old) (is_inside (M.around machine.old)) (M.behind machine.old) (M.lists machine.old) script.now (M.log machine.old) (M.log machine.new) }
     ensures lives { result ≡ stopped.Ended → M.lives machine.new ≡ M.lives machine.old }
     ensures asked { result ≡ stopped.Ended → M.asked machine.new ≤ M.asked machine.old + 2 * block_cost script.now.body }
     ensures down { result ≡ stopped.Ended → Behind (M.behind machine.old) (M.lists machine.new) [] }
@@ -251,6 +295,7 @@ pub fn run_script<'s, M: Machine>(
     ensures processor { result ≡ stopped.Ended → M.processor machine.new ≡ M.processor machine.old }
     ensures behind { result ≡ stopped.Ended → M.behind machine.new ≡ M.behind machine.old }
     ensures through { M.through machine.new ≡ M.through machine.old }
+    ensures around { result ≡ stopped.Ended → M.around machine.new ≡ M.around machine.old }
     ensures keeps { result ≡ stopped.Ended → M.keeps machine.old machine.new }
 {
     accepted_scripts_are_safe();
@@ -280,7 +325,7 @@ pub fn run_handler<'s, M: Machine>(
     requires fits { block_fits 16 script.now.body ≡ true }
     requires accepted { Accepted scenario.now script.now }
     requires bound { binds_among (has_name names.old) script.now.body ≡ true }
-    ensures ran { RanScript types.now.declared.now (M.level machine.old) None (M.lists machine.old) script.now (M.log machine.old) (M.log machine.new) }
+    ensures ran { RanScript types.now.declared.now (M.level machine.old) (is_inside (M.around machine.old)) None (M.lists machine.old) script.now (M.log machine.old) (M.log machine.new) }
     ensures lives { M.lives machine.new ≡ M.lives machine.old }
     ensures asked { M.asked machine.new ≤ M.asked machine.old + 2 * block_cost script.now.body }
     ensures names { names.new.names.keys ≡ names.old.names.keys }
@@ -289,6 +334,7 @@ pub fn run_handler<'s, M: Machine>(
     ensures processor { M.processor machine.new ≡ M.processor machine.old }
     ensures behind { M.behind machine.new ≡ M.behind machine.old }
     ensures through { M.through machine.new ≡ M.through machine.old }
+    ensures around { M.around machine.new ≡ M.around machine.old }
     ensures keeps { M.keeps machine.old machine.new }
 {
     accepted_scripts_are_safe();

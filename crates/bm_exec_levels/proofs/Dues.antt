@@ -170,6 +170,7 @@ module _ {W : Type 0} (knows : Knows W) where
       words_most = omega (arith, n);
       parity = λ d. refl;
       inner = λ h. refl;
+      tracing = refl;
       processors = refl;
       processor = refl;
     };

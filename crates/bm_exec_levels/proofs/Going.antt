@@ -39,6 +39,7 @@ module _ {W : Type 0} (knows : Knows W) where
     words_most = (let m = x.words_most in let n = g.words in let o = z.words_most in omega (arith, m, n, o));
     parity = λ w. z.parity w ∙ y.parity w ∙ x.parity w;
     inner = λ h. (let o : word_of knows Plain c % 2 ≡ 1 = y.parity Plain ∙ x.parity Plain ∙ h in z.inner o ∙ y.inner (x.parity Plain ∙ h) ∙ x.inner h);
+    tracing = z.tracing ∙ y.tracing ∙ x.tracing;
     processors = z.processors ∙ y.processors ∙ x.processors;
     processor = z.processor ∙ y.processor ∙ x.processor;
   }

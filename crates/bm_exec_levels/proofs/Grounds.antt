@@ -47,6 +47,7 @@ module _ {W : Type 0} (knows : Knows W) where
     inside = x.stays.inside;
     parity = x.stays.parity;
     inner = x.stays.inner;
+    tracing = x.stays.tracing;
     words = (let w = x.stays.words_most in omega (arith, w));
   }
 
@@ -74,6 +75,7 @@ module _ {W : Type 0} (knows : Knows W) where
     inside = s.inside;
     parity = s.parity;
     inner = s.inner;
+    tracing = s.tracing;
     words = (let w = s.words_most in omega (arith, w));
   }
 

@@ -15,3 +15,5 @@ pub mod Phrases
 pub mod PhraseSections
 pub mod Begun
 pub mod Grounds
+pub mod Moved
+pub mod Scripts

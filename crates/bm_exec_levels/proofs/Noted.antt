@@ -140,6 +140,7 @@ module _ {W : Type 0} (knows : Knows W) where
       asks_most = omega (arith, a);
       words_most = (let e = ap (λ (x : Sides). x.plain.word) g in omega (arith, e));
       inner = λ h. ap (λ (x : Sides). x.plain.word) g;
+      tracing = ap (λ (x : Sides). x.tracing.word) g;
       parity = λ d. (goes-graced (known_of knows m) (knows.known w) g).words d;
       processors = ap (λ (x : Sides). x.processors) g;
       processor = ap (λ (x : Sides). x.processor) g;

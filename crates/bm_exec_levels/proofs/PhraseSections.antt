@@ -79,6 +79,7 @@ module _ {W : Type 0} (knows : Knows W) where
           words_most = omega (arith, words, word-b, word-c, word-d, left-b, left-d);
           parity = parity-section;
           inner = λ h. absurd (omega (arith, h, even));
+          tracing = ap (λ (y : Known). y.grace.tracing.word) n ∙ x.stays.tracing ∙ ap (λ (y : Known). y.grace.tracing.word) k;
           processors = ap (λ (y : Known). y.grace.processors) n ∙ x.stays.processors ∙ ap (λ (y : Known). y.grace.processors) k;
           processor = ap (λ (y : Known). y.grace.processor) n ∙ x.stays.processor ∙ ap (λ (y : Known). y.grace.processor) k;
         }

@@ -40,10 +40,10 @@ record RanOwn (types : List TypeDeclaration) (l : ℕ) (x : Script) (a b : Optio
   runs : RunsAlone types x.body no_names run last
   owns_nothing : (name : List ℕ) → OwnsNothing (last name)
 
-ran-own : (types : List TypeDeclaration) (l : ℕ) (s : State ℕ) (x : Script) (a : Option Log) (now : Log) → RanScript types l None s x a (Some now) → RanOwn types l x a (Some now)
+ran-own : (types : List TypeDeclaration) (l : ℕ) (s : State ℕ) (x : Script) (a : Option Log) (now : Log) → RanScript types l true None s x a (Some now) → RanOwn types l x a (Some now)
 ran-own types l s x a now r =
     let g = r.grew in
-    let h = (block-same l types x.body).owned no_names r.after s g.added g.is_part in
+    let h = (block-same l types true x.body).owned no_names r.after s g.added g.is_part in
     record {
       run = own_entries l g.added;
       records = record { log = g.log; told = g.told; added = g.added; now_is = g.now_is; from = h.0; owned = refl };
@@ -78,17 +78,17 @@ module _ (s : Parts) (types : List TypeDeclaration) (same : types ≡ s.types) (
   }
 
   -- It ran inside a section.
-  pub phrase-inside : (s1 s2 : State ℕ) (a b : Option Log) → w % 2 ≡ 1 → RanScript types l None s1 x a b → GrewBy (Say l (HandlerPhrase s x.name w)) s2 a b
+  pub phrase-inside : (s1 s2 : State ℕ) (a b : Option Log) → w % 2 ≡ 1 → RanScript types l true None s1 x a b → GrewBy (Say l (HandlerPhrase s x.name w)) s2 a b
   phrase-inside s1 s2 a None odd r = tt
   phrase-inside s1 s2 a (Some now) odd r =
       let q = ran-own types l s1 x a now r in
       grew-say l (HandlerPhrase s x.name w) q.run s2 a (Some now) q.records (handled a (Some now) q q.run (sym (enclosed-inside w q.run odd)))
 
   -- It ran in a section of its own.
-  pub phrase-outside : (s1 s2 : State ℕ) (v : ℕ) (a b c d : Option Log) → w % 2 ≡ 0 → v ≡ w + 1 → Appends a l (entry.In Plain (w + 1)) b → RanScript types l None s1 x b c → Appends c l (entry.Out Plain (v + 1)) d → GrewBy (Say l (HandlerPhrase s x.name w)) s2 a d
+  pub phrase-outside : (s1 s2 : State ℕ) (v : ℕ) (a b c d : Option Log) → w % 2 ≡ 0 → v ≡ w + 1 → Appends a l (entry.In Plain (w + 1)) b → RanScript types l true None s1 x b c → Appends c l (entry.Out Plain (v + 1)) d → GrewBy (Say l (HandlerPhrase s x.name w)) s2 a d
   phrase-outside s1 s2 v a b c None even e f r g = tt
   phrase-outside s1 s2 v a b c (Some now) even e f r g =
-      let R : Option Log → Type 0 = λ o. RanScript types l None s1 x b o in
+      let R : Option Log → Type 0 = λ o. RanScript types l true None s1 x b o in
       let q = ran-own types l s1 x b g.log (subst R g.told r) in
       let F : Option Log → Type 0 = λ o. Records l q.run b o in
       let W : ℕ → Type 0 = λ n. Records l (entry.Out Plain n ∷ []) c (Some now) in

@@ -1,7 +1,7 @@
 -- A handler runs from its begin to its end.
 use Rattle.std.specs.Prelude.{IfSome, slice_get}
 use Rattle.std.proofs.Common.{◌≡◌, ℕ, ◌+◌, ◌*◌, ◌%◌, List, [], ◌∷◌, ◌++◌, length, Option, Some, None, sym, ap, ◌∙◌, subst, arith, append_assoc}
-use Rattle.bm_journal.specs.declared.ids.Domain.TheVariants.{Plain}
+use Rattle.bm_journal.specs.declared.ids.Domain.TheVariants.{Plain, Tracing}
 use Rattle.bm_journal.specs.declared.entry.Entry.{Entry}
 use Rattle.bm_journal.specs.declared.entry.Entry.TheVariants as entry
 use Rattle.bm_journal.specs.Recording.{Appends, Gains}
@@ -73,6 +73,7 @@ module _ {W : Type 0} (knows : Knows W) where
           words_most = omega (arith, words, words-b, words-d);
           parity = λ w. ap (λ (y : Processor W). word_of knows w y % 2) f ∙ x.stays.parity w ∙ ap (λ (y : Processor W). word_of knows w y % 2) e;
           inner = λ h. (let word-b = ap (λ (y : Processor W). word_of knows Plain y) e in ap (λ (y : Processor W). word_of knows Plain y) f ∙ x.stays.inner (ap (λ n. n % 2) word-b ∙ h) ∙ word-b);
+          tracing = ap (λ (y : Processor W). word_of knows Tracing y) f ∙ x.stays.tracing ∙ ap (λ (y : Processor W). word_of knows Tracing y) e;
           processors = ap (λ (y : Processor W). (known_of knows y).grace.processors) f ∙ x.stays.processors ∙ ap (λ (y : Processor W). (known_of knows y).grace.processors) e;
           processor = ap (λ (y : Processor W). (known_of knows y).grace.processor) f ∙ x.stays.processor ∙ ap (λ (y : Processor W). (known_of knows y).grace.processor) e;
         }

@@ -1,5 +1,5 @@
--- A processor whose plain section begins or ends.
-use Rattle.std.proofs.Common.{◌≡◌, ◌<◌, ◌+◌, ◌∙◌, ℕ, Bool, List, [], ◌∷◌, ◌++◌, refl, sym, ap, subst, arith}
+-- A processor whose section of a domain begins or ends.
+use Rattle.std.proofs.Common.{◌≡◌, ◌≤◌, ◌<◌, ◌+◌, ◌∙◌, ℕ, Bool, List, [], ◌∷◌, ◌++◌, refl, sym, ap, subst, arith}
 use Rattle.std.specs.Prelude.{◌*◌, ◌%◌, ◌^◌, if◌then◌else◌, length}
 use Rattle.bm_journal.specs.declared.ids.Domain.{Domain}
 use Rattle.bm_journal.specs.declared.ids.Domain.TheVariants.{Plain, Tracing}
@@ -10,13 +10,14 @@ use Rattle.bm_lang.specs.declared.scenario.Parts.{Parts}
 use Rattle.bm_grace.specs.Calls.{moved}
 use Rattle.bm_grace.specs.Known.{Known, Objects, side}
 use Rattle.bm_grace.specs.declared.step.StepKind.{StepKind}
+use Rattle.bm_law.specs.Begun.{for_domain}
 use Rattle.bm_law.specs.Lists.{Log}
 use Rattle.bm_cache.specs.Shown.{shown}
 use Rattle.bm_cache.specs.Span.{Came}
 use Rattle.bm_cache.specs.Tests.{Tests}
 use Rattle.bm_due.specs.Standing as standing
 use Rattle.bm_due.specs.Standing.{kind_of}
-use Rattle.bm_law_scenario.specs.SectionWords.{word_after, word_next}
+use Rattle.bm_law_scenario.specs.SectionWords.{word_next}
 use Rattle.bm_law_scenario.proofs.GoneBack.{done-grow}
 use Rattle.bm_law_scenario.proofs.Words.{word-append}
 use Rattle.bm_plan.specs.Position.{StandsAt}
@@ -32,61 +33,89 @@ use Rattle.bm_exec_levels.proofs.Lifetimes.{tests-before}
 use Rattle.bm_exec_levels.proofs.Noted.{came-noted}
 use Rattle.bm_grace.specs.declared.grace.Knows.{Ghosts as Knows}
 
--- It names the next word of the plain domain.
-pub record NamesWord (w : ℕ) (e : Entry) : Type 0 where
+-- It names the next word of a domain.
+pub record NamesWord (d : Domain) (w : ℕ) (e : Entry) : Type 0 where
   pub kind : kind_of e ≡ standing.Stays
   pub no_back : (name : List ℕ) → e ≡ entry.Back name → ⊥
-  pub next : word_next Plain w e ≡ w + 1
-  pub next_other : (v : ℕ) → word_next Tracing v e ≡ v
+  pub next : word_next d w e ≡ w + 1
+  pub next_other : (o : Domain) (v : ℕ) → (o ≡ d → ⊥) → word_next o v e ≡ v
 
-pub names-in : (w : ℕ) → NamesWord w (entry.In Plain (w + 1))
-names-in w = record {
+for-same : (d : Domain) (n v : ℕ) → for_domain d d n v ≡ n
+for-same Plain n v = refl
+for-same Tracing n v = refl
+
+for-other : (o d : Domain) (n v : ℕ) → (o ≡ d → ⊥) → for_domain o d n v ≡ v
+for-other Plain Plain n v ne = absurd (ne refl)
+for-other Plain Tracing n v ne = refl
+for-other Tracing Plain n v ne = refl
+for-other Tracing Tracing n v ne = absurd (ne refl)
+
+pub names-in : (d : Domain) (w : ℕ) → NamesWord d w (entry.In d (w + 1))
+names-in d w = record {
   kind = refl;
   no_back = λ name e. cc;
-  next = refl;
-  next_other = λ v. refl;
+  next = for-same d (w + 1) w;
+  next_other = λ o v ne. for-other o d (w + 1) v ne;
 }
 
-pub names-out : (w : ℕ) → NamesWord w (entry.Out Plain (w + 1))
-names-out w = record {
+pub names-out : (d : Domain) (w : ℕ) → NamesWord d w (entry.Out d (w + 1))
+names-out d w = record {
   kind = refl;
   no_back = λ name e. cc;
-  next = refl;
-  next_other = λ v. refl;
+  next = for-same d (w + 1) w;
+  next_other = λ o v ne. for-other o d (w + 1) v ne;
 }
 
--- what the log tells, where the side's plain word moved and the entry names it
-pub tells-moved : (kind : StepKind) (tells : Bool) (s : Parts) (k n : Known) (log : Log) (l : ℕ) (e : Entry) → n ≡ moved kind tells Plain k → NamesWord (side Plain k).word e → Tells s k log → Tells s n (log ++ (l, e) ∷ [])
-tells-moved kind tells s k n log l e q names t =
+-- the words of both domains where that of one moved, and an entry names it
+moved-named : (kind : StepKind) (tells : Bool) (d o : Domain) (k : Known) (e : Entry) → NamesWord d (side d k).word e → word_next o (side o k).word e ≡ (side o (moved kind tells d k)).word
+moved-named kind tells Plain Plain k e names = names.next
+moved-named kind tells Plain Tracing k e names = names.next_other Tracing (side Tracing k).word (λ q. cc)
+moved-named kind tells Tracing Plain k e names = names.next_other Plain (side Plain k).word (λ q. cc)
+moved-named kind tells Tracing Tracing k e names = names.next
+
+-- what the log tells, where the side's word of a domain moved and the entry names it
+pub tells-moved : (kind : StepKind) (tells : Bool) (d : Domain) (s : Parts) (k n : Known) (log : Log) (l : ℕ) (e : Entry) → n ≡ moved kind tells d k → NamesWord d (side d k).word e → Tells s k log → Tells s n (log ++ (l, e) ∷ [])
+tells-moved kind tells d s k n log l e q names t =
     let F : Known → Type 0 = λ x. Tells s x (log ++ (l, e) ∷ []) in
     subst F (sym q) (record {
       done = done-grow s log l e names.no_back t.done;
-      last = last;
+      last = λ o. word-append o 0 log ((l, e) ∷ []) ∙ ap (λ w. word_next o w e) (t.last o) ∙ moved-named kind tells d o k e names;
     })
-  where
-    last : (d : Domain) → word_after d (log ++ (l, e) ∷ []) ≡ (side d (moved kind tells Plain k)).word
-    last Plain = word-append Plain 0 log ((l, e) ∷ []) ∙ ap (λ w. word_next Plain w e) (t.last Plain) ∙ names.next
-    last Tracing = word-append Tracing 0 log ((l, e) ∷ []) ∙ names.next_other (word_after Tracing log) ∙ t.last Tracing
+
+-- the plain word moved at most once
+plain-most : (kind : StepKind) (tells : Bool) (d : Domain) (k : Known) → (side Plain (moved kind tells d k)).word ≤ (side Plain k).word + 1
+plain-most kind tells Plain k = omega arith
+plain-most kind tells Tracing k = omega arith
+
+-- whether the processor is in a plain section
+inside-moved : (kind : StepKind) (tells : Bool) (d : Domain) (k n : Known) (a b c : Bool) → n ≡ moved kind tells d k → (side d n).word % 2 ≡ (if b then 1 else 0) → c ≡ for_domain Plain d b a → (side Plain k).word % 2 ≡ (if a then 1 else 0) → (side Plain n).word % 2 ≡ (if c then 1 else 0)
+inside-moved kind tells Plain k n a b c q h e r = h ∙ ap (λ (x : Bool). if x then 1 else 0) (sym e)
+inside-moved kind tells Tracing k n a b c q h e r = ap (λ (x : Known). (side Plain x).word % 2) q ∙ (r ∙ ap (λ (x : Bool). if x then 1 else 0) (sym e))
+
+pub moved-grace : (kind : StepKind) (tells : Bool) (d : Domain) (k : Known) → ((moved kind tells d k).grace.processor ≡ k.grace.processor) × ((moved kind tells d k).grace.processors ≡ k.grace.processors)
+moved-grace kind tells Plain k = (refl, refl)
+moved-grace kind tells Tracing k = (refl, refl)
+
+pub moved-here : (kind : StepKind) (tells : Bool) (d : Domain) (k : Known) → (side d (moved kind tells d k)).word ≡ (side d k).word + 1
+moved-here kind tells Plain k = refl
+moved-here kind tells Tracing k = refl
+
+pub moved-processor : (kind : StepKind) (tells : Bool) (d : Domain) (k : Known) → (moved kind tells d k).grace.processor ≡ k.grace.processor
+moved-processor kind tells d k = (moved-grace kind tells d k).0
 
 module _ {W : Type 0} (knows : Knows W) where
-  -- ---- an entry that begins or ends a section
-
-  -- ---- the side's plain word moved
-
-  -- ---- the processor
-
-  pub at-moved : (kind : StepKind) (l : ℕ) (p : Program) (m k : Processor W) (e : Entry) → known_of knows k ≡ moved kind knows.tells Plain (known_of knows m) → k ≡ record m { caches = k.caches; side = k.side; inside = k.inside } → word_of knows Plain k % 2 ≡ (if k.inside then 1 else 0) → NamesWord (word_of knows Plain m) e → k.caches.processor ≡ m.caches.processor → Appends (log_of m) l e (log_of k) → word_of knows Plain m + 2 * length (left_of m) + 1 < 2 ^ 28 → IsAt knows StandsAt l p m → IsAt knows StandsAt l p k
-  at-moved kind l p m k e q same inside names pr a room s =
+  pub at-moved : (kind : StepKind) (d : Domain) (b : Bool) (l : ℕ) (p : Program) (m k : Processor W) (e : Entry) → known_of knows k ≡ moved kind knows.tells d (known_of knows m) → k ≡ record m { caches = k.caches; side = k.side; inside = k.inside } → word_of knows d k % 2 ≡ (if b then 1 else 0) → k.inside ≡ for_domain Plain d b m.inside →
+      NamesWord d (word_of knows d m) e → k.caches.processor ≡ m.caches.processor → Appends (log_of m) l e (log_of k) → word_of knows Plain m + 2 * length (left_of m) + 1 < 2 ^ 28 → IsAt knows StandsAt l p m → IsAt knows StandsAt l p k
+  at-moved kind d b l p m k e q same parity is names pr a room s =
       let n : Known = known_of knows m in
       let F : Processor W → Type 0 = λ x. IsAt knows StandsAt l p x in
-      let proc : (known_of knows k).grace.processor ≡ n.grace.processor = ap (λ (x : Known). x.grace.processor) q in
-      let many : (known_of knows k).grace.processors ≡ n.grace.processors = ap (λ (x : Known). x.grace.processors) q in
+      let proc : (known_of knows k).grace.processor ≡ n.grace.processor = ap (λ (x : Known). x.grace.processor) q ∙ (moved-grace kind knows.tells d n).0 in
       let objects : (known_of knows k).objects ≡ n.objects = ap (λ (x : Known). x.objects) q in
-      let word : word_of knows Plain k ≡ word_of knows Plain m + 1 = ap (λ (x : Known). (side Plain x).word) q in
+      let word : word_of knows Plain k ≤ word_of knows Plain m + 1 = subst (λ (x : Known). (side Plain x).word ≤ (side Plain n).word + 1) (sym q) (plain-most kind knows.tells d n) in
       let R : ℕ → Type 0 = λ x. Running StandsAt l x p.scenario.now m.handlers.planned m.running.items (log_of k) in
       subst F (sym same) (record {
         at = subst R (sym proc) (stands-say l n.grace.processor p.scenario.now m.handlers.planned m.running.items (log_of m) (log_of k) e names.kind a s.at);
-        tells = told-more (Tells p.scenario.now n) (Tells p.scenario.now (known_of knows k)) (log_of m) (log_of k) l e (λ es t. tells-moved kind knows.tells p.scenario.now n (known_of knows k) es l e q names t) a s.tells;
+        tells = told-more (Tells p.scenario.now n) (Tells p.scenario.now (known_of knows k)) (log_of m) (log_of k) l e (λ es t. tells-moved kind knows.tells d p.scenario.now n (known_of knows k) es l e q names t) a s.tells;
         ready = record {
           fits = s.ready.fits;
           here = pr ∙ (s.ready.here ∙ sym proc);
@@ -98,7 +127,7 @@ module _ {W : Type 0} (knows : Knows W) where
           room_tables = s.ready.room_tables;
           asks = (let h = s.ready.asks in let o = ap (λ (x : Objects). x.asked) objects in omega (arith, h, o));
           words = omega (arith, room, word);
-          inside = inside;
+          inside = inside-moved kind knows.tells d n (known_of knows k) m.inside b k.inside q parity is s.ready.inside;
         };
       })
 

@@ -1,7 +1,7 @@
 -- Where the code of a processor is, and what handlers leave as it was. (This project's own.)
 use Rattle.std.specs.Prelude.{◌≡◌, ◌≤◌, ◌<◌, ◌+◌, ◌*◌, ◌%◌, ◌^◌, ◌∷◌, ◌++◌, [], ℕ, List, Option, Some, IfSome, length, reverse, slice_get}
 use Rattle.bm_journal.specs.declared.ids.Domain.{Domain}
-use Rattle.bm_journal.specs.declared.ids.Domain.TheVariants.{Plain}
+use Rattle.bm_journal.specs.declared.ids.Domain.TheVariants.{Plain, Tracing}
 use Rattle.bm_journal.specs.declared.entry.Entry.TheVariants as entry
 use Rattle.bm_journal.specs.Recording.{Kept as Recorded}
 use Rattle.bm_lang.specs.declared.scenario.Script.{Script}
@@ -92,6 +92,7 @@ module _ {W : Type 0} (knows : Knows W) where
     pub words_most : word_of knows Plain b + 2 * length (left_of b) ≤ word_of knows Plain a + 2 * length (left_of a) + words
     pub parity : (d : Domain) → word_of knows d b % 2 ≡ word_of knows d a % 2
     pub inner : word_of knows Plain a % 2 ≡ 1 → word_of knows Plain b ≡ word_of knows Plain a
+    pub tracing : word_of knows Tracing b ≡ word_of knows Tracing a
     pub processors : (known_of knows b).grace.processors ≡ (known_of knows a).grace.processors
     pub processor : (known_of knows b).grace.processor ≡ (known_of knows a).grace.processor
 

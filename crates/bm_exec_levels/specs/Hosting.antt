@@ -2,7 +2,7 @@
 use Rattle.std.specs.Prelude.{◌≡◌, ◌<◌, ◌%◌, ◌^◌, ℕ, ◌+◌, ◌*◌, true, length, Option, Some, None, IfSome}
 use Rattle.std.proofs.Common.{refl, sym, ap, ◌∙◌, subst, arith}
 use Rattle.bm_journal.specs.declared.ids.Domain.{Domain}
-use Rattle.bm_journal.specs.declared.ids.Domain.TheVariants.{Plain}
+use Rattle.bm_journal.specs.declared.ids.Domain.TheVariants.{Plain, Tracing}
 use Rattle.bm_journal.specs.declared.entry.Entry.{Entry}
 use Rattle.bm_journal.specs.Recording.{Appends, Kept as Recorded}
 use Rattle.bm_due.specs.Standing as standing
@@ -115,6 +115,7 @@ module _ {W : Type 0} (knows : Knows W) where
     words_most = omega arith;
     parity = λ d. refl;
     inner = λ h. refl;
+    tracing = refl;
     processors = refl;
     processor = refl;
   }
@@ -171,6 +172,7 @@ module _ {W : Type 0} (knows : Knows W) where
         words_most = omega (arith, n);
         parity = λ d. ap (λ k. k % 2) (same-word d m w a);
         inner = λ h. n;
+        tracing = same-word Tracing m w a;
         processors = a.processors;
         processor = a.processor;
       }
@@ -188,6 +190,7 @@ module _ {W : Type 0} (knows : Knows W) where
     words_most = (let v = x.words_most in let w = y.words_most in omega (arith, v, w));
     parity = λ d. y.parity d ∙ x.parity d;
     inner = λ h. y.inner (x.parity Plain ∙ h) ∙ x.inner h;
+    tracing = y.tracing ∙ x.tracing;
     processors = y.processors ∙ x.processors;
     processor = y.processor ∙ x.processor;
   }

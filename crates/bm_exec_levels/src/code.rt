@@ -5,12 +5,12 @@ use crate::host::At;
 use crate::ranks::Rank;
 use bm_class::Class;
 use bm_exec::Machine;
-use bm_journal::{ObjId, Values};
+use bm_journal::{Entry, ObjId, Values};
 use bm_word::{Name, NoMemory};
 use bm_world::{Lives, Since};
 
 impl<'a, 's, W: Lives, B: Since<W>, L: Rank> Machine for At<'a, 's, W, B, L> {
-    ghost use Rattle.std.specs.Prelude.{◌≡◌, None, refl};
+    ghost use Rattle.std.specs.Prelude.{◌≡◌, None, refl, true};
     ghost use Rattle.std.proofs.Common.{◌∙◌};
     ghost use Rattle.bm_plan.specs.Position.{StandsAt};
     ghost use Rattle.bm_exec_levels.specs.AtProcessor.{FineAt, IsAt, lists_of, log_of};
@@ -28,6 +28,9 @@ impl<'a, 's, W: Lives, B: Since<W>, L: Rank> Machine for At<'a, 's, W, B, L> {
 
     ghost lives = { λ m. (known_of W.Knows m.own.now).objects.lives };
 
+    // A handler runs in a plain section from its begin to its end.
+    ghost around = { λ m. record { whole = true; begun = None } };
+
     ghost asked = { λ m. asked_of W.Knows m.program.now.scenario.now m.own.now };
 
     ghost behind = { λ m. None };
@@ -44,6 +47,22 @@ impl<'a, 's, W: Lives, B: Since<W>, L: Rank> Machine for At<'a, 's, W, B, L> {
 
     fn dispose(&mut self, object: ObjId) {
         give_up::<W, B, L>(self.own, self.program, object);
+    }
+
+    fn is_inside(&self) -> bool {
+        true
+    }
+
+    fn enter(&mut self) {
+        unreachable!();
+    }
+
+    fn leave(&mut self) {
+        unreachable!();
+    }
+
+    fn pause(&mut self) {
+        self.own.caches.note(L::level(), Entry::Yield);
     }
 
     fn settle(&mut self) -> Result<(), NoMemory> {

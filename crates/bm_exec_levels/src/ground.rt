@@ -16,9 +16,10 @@ use crate::host::At;
 use crate::processor::Processor;
 use crate::program::Program;
 use crate::ranks::Ordinary;
+use crate::sections::{enter_section, leave_section};
 use bm_class::Class;
 use bm_exec::Machine;
-use bm_journal::{ObjId, Values};
+use bm_journal::{Domain, Entry, Level, ObjId, Values};
 use bm_word::{Name, NoMemory};
 use bm_world::{Lives, Since};
 use std::marker::PhantomData;
@@ -35,6 +36,8 @@ pub struct Ground<'a, 's, W, B> {
     pub program: &'s Program<'s>,
     /// The work behind its statements.
     pub deferred: &'s Deferred<'s>,
+    /// Whether its script is in a plain section from its begin to its end.
+    pub within: bool,
     pub since: PhantomData<B>,
 }
 
@@ -112,13 +115,13 @@ pub fn settle_script<'s, W: Lives, B: Since<W>>(
 }
 
 impl<'a, 's, W: Lives, B: Since<W>> Machine for Ground<'a, 's, W, B> {
-    ghost use Rattle.std.specs.Prelude.{◌≡◌, ◌≤◌, IfSome, length, refl};
+    ghost use Rattle.std.specs.Prelude.{◌≡◌, ◌≤◌, ◌+◌, IfSome, length, refl, true};
     ghost use Rattle.std.proofs.Common.{◌∙◌};
     ghost use Rattle.bm_exec.specs.Lists.{behind_of};
     ghost use Rattle.bm_exec_levels.specs.AtProcessor.{lists_of, log_of};
     ghost use Rattle.bm_exec_levels.specs.AtTie.{TiedAt};
-    ghost use Rattle.bm_exec_levels.specs.Ordinary.{Statements};
-    ghost use Rattle.bm_exec_levels.specs.Stated.{statements-joined, statements-same};
+    ghost use Rattle.bm_exec_levels.specs.Ordinary.{Scripted, around_of, words_of};
+    ghost use Rattle.bm_exec_levels.specs.Stated.{scripted-joined, scripted-same};
     ghost use Rattle.bm_exec_levels.specs.Ready.{asked_of, known_of};
     ghost use Rattle.bm_exec_levels.specs.Sound.{Sound};
 
@@ -132,15 +135,17 @@ impl<'a, 's, W: Lives, B: Since<W>> Machine for Ground<'a, 's, W, B> {
 
     ghost lives = { λ m. (known_of W.Knows m.own.now).objects.lives };
 
-    ghost asked = { λ m. asked_of W.Knows m.program.now.scenario.now m.own.now };
+    ghost around = { λ m. around_of W.Knows m.within m.own.now };
+
+    ghost asked = { λ m. asked_of W.Knows m.program.now.scenario.now m.own.now + words_of W.Knows m.own.now };
 
     ghost behind = { λ m. behind_of m.deferred.now.behind };
 
     ghost through = { λ m. m.own.ghost_name };
 
-    ghost sound = { λ m. Sound W.Knows m.program.now m.own.now × IfSome m.deferred.now.behind (λ classes. length classes.now ≤ 11) × TiedAt W.Knows B.since B.start m.own.now };
+    ghost sound = { λ m. Sound W.Knows m.program.now m.own.now × IfSome m.deferred.now.behind (λ classes. length classes.now ≤ 11) × TiedAt W.Knows B.since B.start m.own.now × (m.within ≡ true → m.own.now.inside ≡ true) };
 
-    ghost keeps = { λ a b. Statements W.Knows a.own.now b.own.now × (b.program.now ≡ a.program.now) };
+    ghost keeps = { λ a b. Scripted W.Knows a.within a.own.now b.own.now × (b.program.now ≡ a.program.now) × (b.within ≡ a.within) };
 
     fn create(&mut self, class: Class, name: Name, values: Values) -> Option<ObjId> {
         make::<W, B, Ordinary>(self.own, self.program, class, name, values)
@@ -148,6 +153,22 @@ impl<'a, 's, W: Lives, B: Since<W>> Machine for Ground<'a, 's, W, B> {
 
     fn dispose(&mut self, object: ObjId) {
         give_up::<W, B, Ordinary>(self.own, self.program, object);
+    }
+
+    fn is_inside(&self) -> bool {
+        self.within || self.own.inside
+    }
+
+    fn enter(&mut self) {
+        enter_section(self.own, Level::ordinary(), Domain::Plain);
+    }
+
+    fn leave(&mut self) {
+        leave_section(self.own, Level::ordinary(), Domain::Plain);
+    }
+
+    fn pause(&mut self) {
+        self.own.caches.note(Level::ordinary(), Entry::Yield);
     }
 
     fn settle(&mut self) -> Result<(), NoMemory> {
@@ -159,7 +180,7 @@ impl<'a, 's, W: Lives, B: Since<W>> Machine for Ground<'a, 's, W, B> {
 
     ghost told = { λ m s. s.0.fine.placed.told };
 
-    ghost keeps_same = { λ m. (statements-same W.Knows m.own.now, refl) };
+    ghost keeps_same = { λ m. (scripted-same W.Knows m.within m.own.now, refl, refl) };
 
-    ghost keeps_join = { λ a b c x y. (statements-joined W.Knows a.own.now b.own.now c.own.now x.0 y.0, y.1 ∙ x.1) };
+    ghost keeps_join = { λ a b c x y. (scripted-joined W.Knows a.within b.within a.own.now b.own.now c.own.now x.2 x.0 y.0, y.1 ∙ x.1, y.2 ∙ x.2) };
 }

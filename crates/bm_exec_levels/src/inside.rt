@@ -1,6 +1,6 @@
 //! What a handler does between its begin and its end.
 
-ghost use Rattle.std.specs.Prelude.{◌≡◌, ◌+◌, ◌*◌, ◌^◌, ◌<◌, ℕ, None, Some, length, slice_get};
+ghost use Rattle.std.specs.Prelude.{◌≡◌, ◌+◌, ◌*◌, ◌^◌, ◌<◌, ℕ, None, Some, length, slice_get, true};
 ghost use Rattle.bm_law_work.specs.Grown.{GrewBy};
 ghost use Rattle.bm_law_work.specs.Parts.{Say};
 ghost use Rattle.bm_journal.specs.declared.ids.Domain.TheVariants.{Plain};
@@ -19,6 +19,7 @@ use crate::program::Program;
 use crate::ranks::Rank;
 use crate::sections::{enter_section, leave_section};
 use bm_exec::{NameTable, run_handler};
+use bm_journal::Domain;
 use bm_lang::Script;
 use bm_world::{Lives, Since};
 use std::marker::PhantomData;
@@ -36,7 +37,7 @@ fn run_code<'s, W: Lives, B: Since<W>, L: Rank>(
     requires found { (i : ℕ) × (slice_get program.now.scenario.now.scripts i ≡ Some script.now) }
     requires asks { asked_of W.Knows program.now.scenario.now own.old + 2 * script_cost (Some script.now) < 2 ^ 22 }
     requires bound { BindsAll program.now.scenario.now.scripts table.old }
-    ensures ran { RanScript program.now.types.declared.now L.number None (lists_of own.old) script.now (log_of own.old) (log_of own.new) }
+    ensures ran { RanScript program.now.types.declared.now L.number true None (lists_of own.old) script.now (log_of own.old) (log_of own.new) }
     ensures at { IsAt W.Knows StandsAt L.number program.now own.new }
     ensures tied { TiedAt W.Knows B.since B.start own.new }
     ensures between { Between W.Knows (2 * script_cost (Some script.now)) 0 L.number program.now own.old own.new }
@@ -85,8 +86,8 @@ pub(crate) fn run_inside<'s, W: Lives, B: Since<W>, L: Rank>(
         run_code::<W, B, L>(own, program, script, table);
     } else {
         let level = L::level();
-        enter_section(own, level);
+        enter_section(own, level, Domain::Plain);
         run_code::<W, B, L>(own, program, script, table);
-        leave_section(own, level);
+        leave_section(own, level, Domain::Plain);
     }
 }

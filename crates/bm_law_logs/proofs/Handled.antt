@@ -39,8 +39,6 @@ frame-spared s c e = record {
   closed = (spared s c e).closed;
   begins = λ name. (λ l us t. refl, tt);
   ends = λ name. (λ l us t. refl, tt);
-  enters = λ w. (λ l us t. refl, tt);
-  leaves = λ w. (λ l us t. refl, tt);
 }
 
 each-spares : (c : ℕ) (es : List Entry) → AllSpare c es → AllOf (Spares c) es
@@ -70,8 +68,6 @@ frame-replied s = record {
   closed = (replied s).closed;
   begins = λ name. record { replies = (tt, tt); owed = refl };
   ends = λ name. record { replies = (tt, tt); owed = refl };
-  enters = λ w. record { replies = (tt, tt); owed = refl };
-  leaves = λ w. record { replies = (tt, tt); owed = refl };
 }
 
 pub replies-handled : (s : Parts) (p : ℕ) (log : Log) → HandlersStand s p log → HandlersDone s log → (l : ℕ) → 0 < l → AllReplied (own_entries l log)

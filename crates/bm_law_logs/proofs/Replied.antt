@@ -1,5 +1,6 @@
 -- The replies of a front.
 use Rattle.std.proofs.Common.{◌≡◌, ℕ, Bool, true, false, ◌&&◌, List, [], ◌∷◌, ◌++◌, refl, sym, ap, subst, ◌∙◌, Option, Some, None, inl, inr}
+use Rattle.bm_journal.specs.declared.ids.Domain.TheVariants.{Plain}
 use Rattle.bm_journal.specs.declared.entry.Entry.{Entry}
 use Rattle.bm_journal.specs.declared.entry.Entry.TheVariants as entry
 use Rattle.bm_lang.specs.declared.scenario.Parts.{Parts}
@@ -39,6 +40,9 @@ closed types = record {
   join = join;
   new = λ x t values names part after r. subst AllReplied (sym r.part_is) (new r.declared.name values r.class r.own r.reply r.allocates);
   dropped = λ x names part after r. subst AllReplied (sym r.part_is) (apart (entry.Drop r.unit r.life ∷ entry.Last ∷ r.own) (apart-free r.class r.unit r.home r.own r.frees));
+  enters = λ w. apart (entry.In Plain w ∷ []) refl;
+  leaves = λ w. apart (entry.Out Plain w ∷ []) refl;
+  yields = apart (entry.Yield ∷ []) refl;
 }
 
 -- what a work writes neither asks nor answers
@@ -62,7 +66,7 @@ pub replied : (s : Parts) → Written s AllReplied
 replied s = record {
   closed = closed s.types;
   fill = λ c us m. apart (entry.Fill c _ ∷ []) refl;
-  begins = λ name w. apart (entry.Script name ∷ entry.In _ w ∷ []) refl;
-  ends = λ name w. apart (entry.Out _ w ∷ entry.Done name ∷ []) refl;
+  begins = λ d name w. apart (entry.Script name ∷ entry.In d w ∷ []) refl;
+  ends = λ d name w. apart (entry.Out d w ∷ entry.Done name ∷ []) refl;
   work = λ c m t part h. apart (own_entries 0 part) (all-work-apart c (own_entries 0 part) (work-writes 0 c t part h));
 }

@@ -11,7 +11,7 @@ use Rattle.bm_law.specs.Lists.{Leaves, Log}
 use Rattle.bm_law.specs.State.{State, opening, seven_lists}
 use Rattle.bm_law_work.specs.Parts.{Part, Nothing, Say, Stand, Then}
 use Rattle.bm_law_work.proofs.Each.{AllOf, of-map, part-say, part-stand}
-use Rattle.bm_law_scenario.specs.CallEntries.{IsOfCall, IsOfHandler}
+use Rattle.bm_law_scenario.specs.CallEntries.{IsOfStatement, IsOfHandler}
 use Rattle.bm_law_scenario.specs.Calls.{RunsDrop, RunsNew}
 use Rattle.bm_law_scenario.specs.Closing.{AreSweeps, Closing, EndsOne, EndsPeriods, IsEnd, SweepWhere, close_of, in_progress}
 use Rattle.bm_law_scenario.specs.Fills.{AreFills, fresh_stock, prefill}
@@ -30,7 +30,7 @@ use Rattle.bm_law_logs.proofs.Returned.{where-by, work-by}
 abbrev Keep : List Entry → Type 0
 Keep es = AllOf KeepsBatch es
 
-call-keeps : (e : Entry) → IsOfCall e → KeepsBatch e
+call-keeps : (e : Entry) → IsOfStatement e → KeepsBatch e
 call-keeps (entry.Stamp c d x) h = absurd h
 call-keeps (entry.BeginSecond c us) h = absurd h
 call-keeps (entry.Return c us) h = absurd h
@@ -59,12 +59,15 @@ front-by s =
     let calls = of-calls s.types in
     record {
       calls = record {
-        new = λ x t values names after. says (λ own. RunsNew s.types x t values names own after) (λ own h. of-map IsOfCall KeepsBatch call-keeps own (calls.new x t values names own after h));
-        dropped = λ x names after. says (λ own. RunsDrop s.types x names own after) (λ own h. of-map IsOfCall KeepsBatch call-keeps own (calls.dropped x names own after h));
+        new = λ x t values names after. says (λ own. RunsNew s.types x t values names own after) (λ own h. of-map IsOfStatement KeepsBatch call-keeps own (calls.new x t values names own after h));
+        dropped = λ x names after. says (λ own. RunsDrop s.types x names own after) (λ own h. of-map IsOfStatement KeepsBatch call-keeps own (calls.dropped x names own after h));
+        enters = λ w. stands (entry.In Plain w ∷ []) (tt, tt);
+        leaves = λ w. stands (entry.Out Plain w ∷ []) (tt, tt);
+        yields = stands (entry.Yield ∷ []) (tt, tt);
       };
       fills = says (AreFills (opened_classes s.types) (fresh_stock s.pages)) (λ own h. fills-keep (opened_classes s.types) (fresh_stock s.pages) own h);
-      begins = λ name w. stands (entry.Script name ∷ entry.In Plain w ∷ []) (tt, (tt, tt));
-      ends = λ name w. stands (entry.Out Plain w ∷ entry.Done name ∷ []) (tt, (tt, tt));
+      begins = λ d name w. stands (entry.Script name ∷ entry.In d w ∷ []) (tt, (tt, tt));
+      ends = λ d name w. stands (entry.Out d w ∷ entry.Done name ∷ []) (tt, (tt, tt));
       work = λ c m. work-by c;
     }
 

@@ -5,7 +5,7 @@ use Rattle.bm_journal.specs.declared.entry.Entry.TheVariants as entry
 use Rattle.bm_lang.specs.declared.scenario.Parts.{Parts}
 use Rattle.bm_law.specs.Spans.{own_entries}
 use Rattle.bm_law_work.proofs.Each.{AllOf, of-append, of-map}
-use Rattle.bm_law_scenario.specs.CallEntries.{IsOfCall}
+use Rattle.bm_law_scenario.specs.CallEntries.{IsOfStatement}
 use Rattle.bm_law_scenario.specs.Opened.{opened_classes}
 use Rattle.bm_law_scenario.specs.WorkEntries.{IsOfWork}
 use Rattle.bm_law_scenario.proofs.FrontLaws.{Written}
@@ -28,7 +28,7 @@ quiet-sends cs (entry.Send c to us) q = absurd q
 quiet-sends cs (entry.Sweep c us) q = absurd q
 quiet-sends cs _ q = tt
 
-call-sends : (cs : List ℕ) (e : Entry) → IsOfCall e → SendsOf cs e
+call-sends : (cs : List ℕ) (e : Entry) → IsOfStatement e → SendsOf cs e
 call-sends cs (entry.Send c to us) q = absurd q
 call-sends cs (entry.Sweep c us) q = absurd q
 call-sends cs _ q = tt
@@ -46,11 +46,14 @@ front-sends s =
       closed = record {
         none = tt;
         join = of-append (SendsOf cs);
-        new = λ x t values names part after r. of-map IsOfCall (SendsOf cs) (call-sends cs) part (calls.new x t values names part after r);
-        dropped = λ x names part after r. of-map IsOfCall (SendsOf cs) (call-sends cs) part (calls.dropped x names part after r);
+        new = λ x t values names part after r. of-map IsOfStatement (SendsOf cs) (call-sends cs) part (calls.new x t values names part after r);
+        dropped = λ x names part after r. of-map IsOfStatement (SendsOf cs) (call-sends cs) part (calls.dropped x names part after r);
+        enters = λ w. (tt, tt);
+        leaves = λ w. (tt, tt);
+        yields = (tt, tt);
       };
       fill = λ c us m. (tt, tt);
-      begins = λ name w. (tt, (tt, tt));
-      ends = λ name w. (tt, (tt, tt));
+      begins = λ d name w. (tt, (tt, tt));
+      ends = λ d name w. (tt, (tt, tt));
       work = λ c m t part h. of-map (IsOfWork c) (SendsOf cs) (work-sends cs c m) (own_entries 0 part) (work-writes 0 c t part h);
     }

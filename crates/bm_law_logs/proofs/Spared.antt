@@ -3,7 +3,7 @@ use Rattle.std.proofs.Common.{◌≡◌, ◌≢◌, ℕ, suc, zero, Bool, true, 
 use Rattle.std.specs.List.{filter, list_any}
 use Rattle.std.proofs.lemmas.Bool.Decides.{Decides-eqb, nat_tests}
 use Rattle.bm_class.specs.Sizes.{class_of_size}
-use Rattle.bm_journal.specs.declared.ids.Domain.TheVariants.{Plain}
+use Rattle.bm_journal.specs.declared.ids.Domain.{Domain}
 use Rattle.bm_journal.specs.declared.units.Units.TheVariants.{Whole}
 use Rattle.bm_journal.specs.declared.entry.Entry.{Entry}
 use Rattle.bm_journal.specs.declared.entry.Entry.TheVariants as entry
@@ -113,6 +113,9 @@ closed types c e = record {
   join = spare-join c;
   new = λ x t values names part after r. subst (AllSpare c) (sym r.part_is) (λ l us s. refl, spare-alloc c r.class r.own r.reply (other-class types c r.class e (used types t.0 r.class r.declared r.of_class)) r.allocates);
   dropped = λ x names part after r. subst (AllSpare c) (sym r.part_is) (λ l us s. refl, (λ l us s. refl, spare-free c r.class r.unit r.home r.own (other-class types c r.class e (used types r.type.0 r.class r.declared r.of_class)) r.frees));
+  enters = λ w. (λ l us s. refl, tt);
+  leaves = λ w. (λ l us s. refl, tt);
+  yields = (λ l us s. refl, tt);
 }
 
 fill-spares : (types : List TypeDeclaration) (c d : ℕ) (us : List ℕ) → list_any (uses_class c) types ≡ false → among d (opened_classes types) ≡ true → AllSpare c (entry.Fill d (Whole us) ∷ [])
@@ -121,17 +124,17 @@ fill-spares types c d us e m = (λ l vs t. other-row c d _ t (other-class types 
 work-part-spares : (types : List TypeDeclaration) (c d : ℕ) → list_any (uses_class c) types ≡ false → among d (opened_classes types) ≡ true → Has (AllSpare c) (Work 0 d)
 work-part-spares types c d e m t part h = all-work-spare c d (own_entries 0 part) (other-class types c d e (opened-used types d m)) (work-writes 0 d t part h)
 
-begins-spare : (c w : ℕ) (name : List ℕ) → AllSpare c (entry.Script name ∷ entry.In Plain w ∷ [])
-begins-spare c w name = (λ l us t. refl, (λ l us t. refl, tt))
+begins-spare : (c w : ℕ) (d : Domain) (name : List ℕ) → AllSpare c (entry.Script name ∷ entry.In d w ∷ [])
+begins-spare c w d name = (λ l us t. refl, (λ l us t. refl, tt))
 
-ends-spare : (c w : ℕ) (name : List ℕ) → AllSpare c (entry.Out Plain w ∷ entry.Done name ∷ [])
-ends-spare c w name = (λ l us t. refl, (λ l us t. refl, tt))
+ends-spare : (c w : ℕ) (d : Domain) (name : List ℕ) → AllSpare c (entry.Out d w ∷ entry.Done name ∷ [])
+ends-spare c w d name = (λ l us t. refl, (λ l us t. refl, tt))
 
 pub spared : (s : Parts) (c : ℕ) → list_any (uses_class c) s.types ≡ false → Written s (AllSpare c)
 spared s c e = record {
   closed = closed s.types c e;
   fill = λ d us m. fill-spares s.types c d us e m;
-  begins = λ name w. begins-spare c w name;
-  ends = λ name w. ends-spare c w name;
+  begins = λ d name w. begins-spare c w d name;
+  ends = λ d name w. ends-spare c w d name;
   work = λ d m. work-part-spares s.types c d e m;
 }

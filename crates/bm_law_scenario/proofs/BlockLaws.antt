@@ -1,21 +1,26 @@
 -- A block has what its calls and the deferred work behind its statements have.
-use Rattle.std.proofs.Common.{ℕ, zero, suc, List}
+use Rattle.std.proofs.Common.{ℕ, zero, suc, ◌+◌, Bool, true, false, List, [], ◌∷◌}
+use Rattle.bm_journal.specs.declared.ids.Domain.TheVariants.{Plain}
+use Rattle.bm_journal.specs.declared.entry.Entry.TheVariants as entry
 use Rattle.bm_lang.specs.declared.scenario.Action.{Action, New, Drop, Acquire, Get, Exchange, If', Repeat, Section, Lock, Unlock, Yield, PushFront, PushBack, PopFront, PopBack, Add, First, Remove, Held-Action-If-2, None', Some'}
 use Rattle.bm_lang.specs.declared.scenario.Block.{Block, Block', Row_of-Statement, end_of-Statement, more_of-Statement}
 use Rattle.bm_lang.specs.declared.scenario.TypeDeclaration.{TypeDeclaration}
 use Rattle.bm_lang.specs.declared.scenario.TypeId.{TypeId}
 use Rattle.bm_law.specs.Lists.{Log}
 use Rattle.bm_law.specs.State.{State}
-use Rattle.bm_law_work.specs.Parts.{Part, Nothing, Say, Then}
+use Rattle.bm_law_work.specs.Parts.{Part, Nothing, Say, Stand, Then}
 use Rattle.bm_law_scenario.specs.Held.{Held, Nothing as Nothing_held, Null, Object, Names}
 use Rattle.bm_law_scenario.specs.Calls.{RunsNew, RunsDrop}
-use Rattle.bm_law_scenario.specs.Runs.{Run, Leaving, Done, Followed, Times, Chosen, RunsAction, RunsElse, RunsBlock, RunsRow}
+use Rattle.bm_law_scenario.specs.Runs.{Run, Leaving, Done, Followed, Times, Chosen, Enclosed, Within, RunsAction, RunsElse, RunsBlock, RunsRow}
 use Rattle.bm_law_scenario.proofs.PartLaws.{Laws, law-as, law-never}
 
--- what the calls of a script have
+-- what the calls of a script, its plain sections and its yields have
 pub record Called (types : List TypeDeclaration) (L : Part → Type 0) : Type 0 where
   pub new : (x : List ℕ) (t : TypeId) (values : List ℕ) (names after : Names) → L (Say 0 (λ own. RunsNew types x t values names own after))
   pub dropped : (x : List ℕ) (names after : Names) → L (Say 0 (λ own. RunsDrop types x names own after))
+  pub enters : (w : ℕ) → L (Stand 0 (entry.In Plain w ∷ []))
+  pub leaves : (w : ℕ) → L (Stand 0 (entry.Out Plain w ∷ []))
+  pub yields : L (Stand 0 (entry.Yield ∷ []))
 
 -- a run whose parts have it
 abbrev LawRun : (Part → Type 0) → Run → Type 0
@@ -40,40 +45,46 @@ module _ (types : List TypeDeclaration) (L : Part → Type 0) (k : Laws L) (c : 
   law-chosen Null R Q f g = g
   law-chosen (Object t u life) R Q f g = f
 
-  -- a statement that no journal has by now
-  never : (a : Action) → ((names after : Names) (s : State ℕ) (part : Log) → RunsAction types 0 behind a names after s part → ⊥) → LawRun L (RunsAction types 0 behind a)
-  never a f names after = law-never L k (RunsAction types 0 behind a names after) (f names after)
+  law-within : (i : Bool) (R : Run) → LawRun L R → LawRun L (Within i 0 R)
+  law-within true R f = f
+  law-within false R f = λ names after.
+      k.cases ℕ (λ w. Enclosed 0 R w names after) (Within false 0 R names after)
+      (λ w. k.both (Stand 0 (entry.In Plain w ∷ [])) (Then (R names after) (Stand 0 (entry.Out Plain (w + 1) ∷ []))) (c.enters w) (k.both (R names after) (Stand 0 (entry.Out Plain (w + 1) ∷ [])) (f names after) (c.leaves (w + 1)))) (λ s part h. h)
+
+  -- a statement that no journal has so far
+  never : (i : Bool) (a : Action) → ((names after : Names) (s : State ℕ) (part : Log) → RunsAction types 0 i behind a names after s part → ⊥) → LawRun L (RunsAction types 0 i behind a)
+  never i a f names after = law-never L k (RunsAction types 0 i behind a names after) (f names after)
 
   mutual
-    law-action : (a : Action) → LawRun L (RunsAction types 0 behind a)
-    law-action (New x t values) = λ names after. c.new x t values names after
-    law-action (Drop x) = λ names after. c.dropped x names after
-    law-action (If' x body otherwise) = λ names after. law-chosen (names x) (RunsBlock types 0 behind body) (RunsElse types 0 behind otherwise) (law-block body) (law-else otherwise) names after
-    law-action (Repeat n body) = law-times (RunsBlock types 0 behind body) n (law-block body)
-    law-action (Section body) = never (Section body) (λ names after s part h. h)
-    law-action (Acquire y x) = never (Acquire y x) (λ names after s part h. h)
-    law-action (Get x field) = never (Get x field) (λ names after s part h. h)
-    law-action (Exchange y slot x) = never (Exchange y slot x) (λ names after s part h. h)
-    law-action (Lock graph) = never (Lock graph) (λ names after s part h. h)
-    law-action Unlock = never Unlock (λ names after s part h. h)
-    law-action Yield = never Yield (λ names after s part h. h)
-    law-action (PushFront list x) = never (PushFront list x) (λ names after s part h. h)
-    law-action (PushBack list x) = never (PushBack list x) (λ names after s part h. h)
-    law-action (PopFront x list) = never (PopFront x list) (λ names after s part h. h)
-    law-action (PopBack x list) = never (PopBack x list) (λ names after s part h. h)
-    law-action (Add tree x) = never (Add tree x) (λ names after s part h. h)
-    law-action (First x tree) = never (First x tree) (λ names after s part h. h)
-    law-action (Remove y tree x) = never (Remove y tree x) (λ names after s part h. h)
+    law-action : (i : Bool) (a : Action) → LawRun L (RunsAction types 0 i behind a)
+    law-action i (New x t values) = λ names after. c.new x t values names after
+    law-action i (Drop x) = λ names after. c.dropped x names after
+    law-action i (If' x body otherwise) = λ names after. law-chosen (names x) (RunsBlock types 0 i behind body) (RunsElse types 0 i behind otherwise) (law-block i body) (law-else i otherwise) names after
+    law-action i (Repeat n body) = law-times (RunsBlock types 0 i behind body) n (law-block i body)
+    law-action i (Section body) = law-within i (RunsBlock types 0 true behind body) (law-block true body)
+    law-action i Yield = law-leaving (Stand 0 (entry.Yield ∷ [])) c.yields
+    law-action i (Acquire y x) = never i (Acquire y x) (λ names after s part h. h)
+    law-action i (Get x field) = never i (Get x field) (λ names after s part h. h)
+    law-action i (Exchange y slot x) = never i (Exchange y slot x) (λ names after s part h. h)
+    law-action i (Lock graph) = never i (Lock graph) (λ names after s part h. h)
+    law-action i Unlock = never i Unlock (λ names after s part h. h)
+    law-action i (PushFront list x) = never i (PushFront list x) (λ names after s part h. h)
+    law-action i (PushBack list x) = never i (PushBack list x) (λ names after s part h. h)
+    law-action i (PopFront x list) = never i (PopFront x list) (λ names after s part h. h)
+    law-action i (PopBack x list) = never i (PopBack x list) (λ names after s part h. h)
+    law-action i (Add tree x) = never i (Add tree x) (λ names after s part h. h)
+    law-action i (First x tree) = never i (First x tree) (λ names after s part h. h)
+    law-action i (Remove y tree x) = never i (Remove y tree x) (λ names after s part h. h)
 
-    law-else : (o : Held-Action-If-2) → LawRun L (RunsElse types 0 behind o)
-    law-else None' = law-done
-    law-else (Some' body) = law-block body
+    law-else : (i : Bool) (o : Held-Action-If-2) → LawRun L (RunsElse types 0 i behind o)
+    law-else i None' = law-done
+    law-else i (Some' body) = law-block i body
 
-    pub law-block : (b : Block) → LawRun L (RunsBlock types 0 behind b)
-    law-block (Block' shape row end_line) = law-row row
+    pub law-block : (i : Bool) (b : Block) → LawRun L (RunsBlock types 0 i behind b)
+    law-block i (Block' shape row end_line) = law-row i row
 
-    law-row : {m : _} (row : Row_of-Statement m) → LawRun L (RunsRow types 0 behind row)
-    law-row end_of-Statement = law-done
-    law-row (more_of-Statement line action rest) =
-        law-followed (Followed (RunsAction types 0 behind action) (Leaving behind)) (RunsRow types 0 behind rest)
-        (law-followed (RunsAction types 0 behind action) (Leaving behind) (law-action action) (law-leaving behind q)) (law-row rest)
+    law-row : (i : Bool) {m : _} (row : Row_of-Statement m) → LawRun L (RunsRow types 0 i behind row)
+    law-row i end_of-Statement = law-done
+    law-row i (more_of-Statement line action rest) =
+        law-followed (Followed (RunsAction types 0 i behind action) (Leaving behind)) (RunsRow types 0 i behind rest)
+        (law-followed (RunsAction types 0 i behind action) (Leaving behind) (law-action i action) (law-leaving behind q)) (law-row i rest)

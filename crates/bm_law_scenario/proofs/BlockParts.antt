@@ -1,5 +1,5 @@
 -- A run of a block by parts is a run of its list of statements.
-use Rattle.std.proofs.Common.{◌≡◌, ℕ, List, [], ◌∷◌, refl, ap, ◌∙◌}
+use Rattle.std.proofs.Common.{true, ◌≡◌, ℕ, List, [], ◌∷◌, refl, ap, ◌∙◌}
 use Rattle.std.specs.Global.{Vec}
 use mathlib.Core.Former.{Count}
 use Rattle.bm_lang.specs.declared.scenario.Action.{Action}
@@ -14,13 +14,13 @@ use Rattle.bm_law_scenario.specs.Runs.{Run, Leaving, Done, Followed, RunsAction,
 -- statements, one after the other
 abbrev pub RunsList : List TypeDeclaration → ℕ → Part → List Statement → Run
 RunsList types l behind [] = Done
-RunsList types l behind (s ∷ ss) = Followed (Followed (RunsAction types l behind s.action) (Leaving behind)) (RunsList types l behind ss)
+RunsList types l behind (s ∷ ss) = Followed (Followed (RunsAction types l true behind s.action) (Leaving behind)) (RunsList types l behind ss)
 
-row-runs : (types : List TypeDeclaration) (l : ℕ) (behind : Part) (n : Count) (row : Row_of-Statement n) → RunsRow types l behind row ≡ RunsList types l behind (items-the_row-Statement n row)
+row-runs : (types : List TypeDeclaration) (l : ℕ) (behind : Part) (n : Count) (row : Row_of-Statement n) → RunsRow types l true behind row ≡ RunsList types l behind (items-the_row-Statement n row)
 row-runs types l behind _ end_of-Statement = refl
-row-runs types l behind _ (more_of-Statement line action rest) = ap (Followed (Followed (RunsAction types l behind action) (Leaving behind))) (row-runs types l behind _ rest)
+row-runs types l behind _ (more_of-Statement line action rest) = ap (Followed (Followed (RunsAction types l true behind action) (Leaving behind))) (row-runs types l behind _ rest)
 
-pub block-parts : (types : List TypeDeclaration) (l : ℕ) (behind : Part) (v : Vec Statement) (end : ℕ) → RunsBlock types l behind (roll-Block (record { statements = v; end_line = end })) ≡ RunsList types l behind v.items
+pub block-parts : (types : List TypeDeclaration) (l : ℕ) (behind : Part) (v : Vec Statement) (end : ℕ) → RunsBlock types l true behind (roll-Block (record { statements = v; end_line = end })) ≡ RunsList types l behind v.items
 block-parts types l behind v end =
     let b : Block-F Action Block Statement = record { statements = v; end_line = end } in
-    ap (RunsBlock types l behind) (rolls-Block' b) ∙ (row-runs types l behind _ (hidden-the_row-Statement-0 v) ∙ ap (RunsList types l behind) (items_hidden-the_row-Statement-0 v))
+    ap (RunsBlock types l true behind) (rolls-Block' b) ∙ (row-runs types l behind _ (hidden-the_row-Statement-0 v) ∙ ap (RunsList types l behind) (items_hidden-the_row-Statement-0 v))

@@ -23,6 +23,7 @@ use Rattle.bm_law_scenario.specs.Closing.{close_of, begun_after, in_progress}
 use Rattle.bm_law.specs.Inboxes.{Inboxes, inboxes_after}
 use Rattle.bm_law_scenario.specs.Parcels.{ParcelFits, ParcelsFit}
 use Rattle.bm_law.specs.Ordinary.{ordinary}
+use Rattle.bm_law_scenario.specs.Grammar.{section_of, starts_inside}
 use Rattle.bm_law_scenario.proofs.OwnGrammar.{IsScript, AreScripts}
 use Rattle.bm_law_scenario.proofs.RunsAll.{Closed, block-all}
 use Rattle.bm_law_scenario.proofs.Spares.{Polled, poll-all}
@@ -111,6 +112,9 @@ calm-closed types = record {
   join = calm-join;
   new = λ x t values names part after r. subst AllCalm (sym r.part_is) (calm (entry.New r.declared.name values) (λ p s b. tt) (λ p b. refl) (λ d. refl), calm-alloc r.class r.own r.reply r.allocates);
   dropped = λ x names part after r. subst AllCalm (sym r.part_is) (calm (entry.Drop r.unit r.life) (λ p s b. tt) (λ p b. refl) (λ d. refl), (calm entry.Last (λ p s b. tt) (λ p b. refl) (λ d. refl), calm-free r.class r.unit r.home r.own r.frees));
+  enters = λ w. (calm (entry.In Plain w) (λ p s b. tt) (λ p b. refl) (λ d. refl), tt);
+  leaves = λ w. (calm (entry.Out Plain w) (λ p s b. tt) (λ p b. refl) (λ d. refl), tt);
+  yields = (calm entry.Yield (λ p s b. tt) (λ p b. refl) (λ d. refl), tt);
 }
 
 -- ---- fills and scripts
@@ -122,7 +126,7 @@ calm-fills (c ∷ cs) pool own f =
     subst AllCalm (sym f.1) (calm (entry.Fill c (Whole (numbers_of got.units))) (λ p s b. tt) (λ p b. refl) (λ d. refl), calm-fills cs got.pool f.0 f.2)
 
 calm-script : (s : Parts) (x : Script) (w : ℕ) (own : List Entry) → IsScript s x w own → AllCalm own
-calm-script s x w own i = subst AllCalm (sym i.own_is) (calm (entry.Script x.name) (λ p s b. tt) (λ p b. refl) (λ d. refl), (calm (entry.In Plain w) (λ p s b. tt) (λ p b. refl) (λ d. refl), calm-join i.part (entry.Out Plain (w + 1) ∷ entry.Done x.name ∷ []) (block-all s.types AllCalm (calm-closed s.types) x.body no_names i.part i.after i.runs) (calm (entry.Out Plain (w + 1)) (λ p s b. tt) (λ p b. refl) (λ d. refl), (calm (entry.Done x.name) (λ p s b. tt) (λ p b. refl) (λ d. refl), tt))))
+calm-script s x w own i = subst AllCalm (sym i.own_is) (calm (entry.Script x.name) (λ p s b. tt) (λ p b. refl) (λ d. refl), (calm (entry.In (section_of x.kind) w) (λ p s b. tt) (λ p b. refl) (λ d. refl), calm-join i.part (entry.Out (section_of x.kind) (w + 1) ∷ entry.Done x.name ∷ []) (block-all s.types AllCalm (calm-closed s.types) (starts_inside x) x.body no_names i.part i.after i.runs) (calm (entry.Out (section_of x.kind) (w + 1)) (λ p s b. tt) (λ p b. refl) (λ d. refl), (calm (entry.Done x.name) (λ p s b. tt) (λ p b. refl) (λ d. refl), tt))))
 
 pub calm-scripts : (s : Parts) (rs : List RunLine) (own : List Entry) → AreScripts s rs own → AllCalm own
 calm-scripts s [] own e = subst AllCalm (sym e) tt

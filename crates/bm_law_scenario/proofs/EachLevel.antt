@@ -8,7 +8,7 @@ use Rattle.bm_law.specs.Lists.{Log}
 use Rattle.bm_law.specs.Spans.{own_entries}
 use Rattle.bm_due.specs.Standing.{HandlersStand}
 use Rattle.bm_law_work.proofs.Each.{AllOf, of-append, of-map}
-use Rattle.bm_law_scenario.specs.CallEntries.{IsOfCall, IsOfHandler}
+use Rattle.bm_law_scenario.specs.CallEntries.{IsOfStatement, IsOfHandler}
 use Rattle.bm_law_scenario.specs.Handlers.{AreHandlers, HandlerPhrase, HandlersDone, enclosed, more, none}
 use Rattle.bm_law_scenario.specs.Held.{no_names}
 use Rattle.bm_law_scenario.specs.SectionWords.{is_outside}
@@ -24,17 +24,15 @@ pub record Framed (s : Parts) (P : List Entry → Type 0) : Type 0 where
   pub closed : Closed s.types P
   pub begins : (name : List ℕ) → P (entry.Handler name ∷ [])
   pub ends : (name : List ℕ) → P (entry.Back name ∷ [])
-  pub enters : (w : ℕ) → P (entry.In Plain w ∷ [])
-  pub leaves : (w : ℕ) → P (entry.Out Plain w ∷ [])
 
 enclosed-has : (s : Parts) (P : List Entry → Type 0) (k : Framed s P) (w : ℕ) (part : List Entry) → P part → P (enclosed w part)
 enclosed-has s P k w part h = elim (is_outside w) as (λ b. P (if b then entry.In Plain (w + 1) ∷ part ++ entry.Out Plain (w + 2) ∷ [] else part)) [
-  | true ↦ k.closed.join (entry.In Plain (w + 1) ∷ []) (part ++ entry.Out Plain (w + 2) ∷ []) (k.enters (w + 1)) (k.closed.join part (entry.Out Plain (w + 2) ∷ []) h (k.leaves (w + 2)))
+  | true ↦ k.closed.join (entry.In Plain (w + 1) ∷ []) (part ++ entry.Out Plain (w + 2) ∷ []) (k.closed.enters (w + 1)) (k.closed.join part (entry.Out Plain (w + 2) ∷ []) h (k.closed.leaves (w + 2)))
   | false ↦ h
 ]
 
 phrase-has : (s : Parts) (P : List Entry → Type 0) (k : Framed s P) (name : List ℕ) (w : ℕ) (own : List Entry) → HandlerPhrase s name w own → P own
-phrase-has s P k name w own h = subst P (sym h.own_is) (enclosed-has s P k w h.part (block-all s.types P k.closed h.script.body no_names h.part h.after (alone-owned s.types h.script.body no_names h.after h.part h.runs)))
+phrase-has s P k name w own h = subst P (sym h.own_is) (enclosed-has s P k w h.part (block-all s.types P k.closed true h.script.body no_names h.part h.after (alone-owned s.types h.script.body no_names h.after h.part h.runs)))
 
 -- they have it together
 pub handlers-have : (s : Parts) (P : List Entry → Type 0) → Framed s P → (es : List Entry) → AreHandlers s es → P es
@@ -44,7 +42,7 @@ handlers-have s P k _ (more {own = own} {rest = rest} name w p h) =
 
 -- ---- their entries
 
-call-handler : (e : Entry) → IsOfCall e → IsOfHandler e
+call-handler : (e : Entry) → IsOfStatement e → IsOfHandler e
 call-handler (entry.Handler name) h = tt
 call-handler (entry.Back name) h = tt
 call-handler (entry.In d w) h = tt
@@ -58,13 +56,14 @@ of-handlers s =
       closed = record {
         none = tt;
         join = of-append IsOfHandler;
-        new = λ x t values names part after r. of-map IsOfCall IsOfHandler call-handler part (k.new x t values names part after r);
-        dropped = λ x names part after r. of-map IsOfCall IsOfHandler call-handler part (k.dropped x names part after r);
+        new = λ x t values names part after r. of-map IsOfStatement IsOfHandler call-handler part (k.new x t values names part after r);
+        dropped = λ x names part after r. of-map IsOfStatement IsOfHandler call-handler part (k.dropped x names part after r);
+        enters = λ w. (tt, tt);
+        leaves = λ w. (tt, tt);
+        yields = (tt, tt);
       };
       begins = λ name. (tt, tt);
       ends = λ name. (tt, tt);
-      enters = λ w. (tt, tt);
-      leaves = λ w. (tt, tt);
     }
 
 pub handler-entries : (s : Parts) (p : ℕ) (log : Log) → HandlersStand s p log → HandlersDone s log → (l : ℕ) → 0 < l → AllOf IsOfHandler (own_entries l log)

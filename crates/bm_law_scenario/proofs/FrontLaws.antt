@@ -1,5 +1,6 @@
 -- A front has what its fills, its calls, the begins and ends of its scripts and the works in it have.
 use Rattle.std.proofs.Common.{◌≡◌, ℕ, ◌+◌, true, List, [], ◌∷◌, refl, sym, subst}
+use Rattle.bm_journal.specs.declared.ids.Domain.{Domain}
 use Rattle.bm_journal.specs.declared.ids.Domain.TheVariants.{Plain}
 use Rattle.bm_journal.specs.declared.units.Units.TheVariants.{Whole}
 use Rattle.bm_journal.specs.declared.entry.Entry.{Entry}
@@ -16,7 +17,7 @@ use Rattle.bm_law_scenario.specs.Held.{Names, no_names}
 use Rattle.bm_law_scenario.specs.Runs.{RunsBlock}
 use Rattle.bm_law_scenario.specs.Opened.{opened_classes}
 use Rattle.bm_law_scenario.specs.Works.{UntilDown, WorkBehind}
-use Rattle.bm_law_scenario.specs.Grammar.{AreScripts, Front, IsBody, IsScript, behind_script, behind_statement, lines_of}
+use Rattle.bm_law_scenario.specs.Grammar.{AreScripts, Front, IsBody, IsScript, behind_script, behind_statement, lines_of, section_of, starts_inside}
 use Rattle.bm_law_scenario.proofs.RunsAll.{Closed}
 use Rattle.bm_law_scenario.proofs.PartLaws.{among, first-among, later-among}
 use Rattle.bm_law_scenario.proofs.PartLaws.{Has, Laws, has-laws, has-say, has-stand, law-as, law-behind, law-if, law-until}
@@ -26,8 +27,8 @@ use Rattle.bm_law_scenario.proofs.BlockLaws.{Called, law-block}
 pub record Fronted (s : Parts) (L : Part → Type 0) : Type 0 where
   pub calls : Called s.types L
   pub fills : L (Say 0 (AreFills (opened_classes s.types) (fresh_stock s.pages)))
-  pub begins : (name : List ℕ) (w : ℕ) → L (Stand 0 (entry.Script name ∷ entry.In Plain w ∷ []))
-  pub ends : (name : List ℕ) (w : ℕ) → L (Stand 0 (entry.Out Plain w ∷ entry.Done name ∷ []))
+  pub begins : (d : Domain) (name : List ℕ) (w : ℕ) → L (Stand 0 (entry.Script name ∷ entry.In d w ∷ []))
+  pub ends : (d : Domain) (name : List ℕ) (w : ℕ) → L (Stand 0 (entry.Out d w ∷ entry.Done name ∷ []))
   pub work : (c : ℕ) → among c (opened_classes s.types) ≡ true → L (Work 0 c)
 
 module _ (s : Parts) (L : Part → Type 0) (k : Laws L) (f : Fronted s L) where
@@ -35,17 +36,18 @@ module _ (s : Parts) (L : Part → Type 0) (k : Laws L) (f : Fronted s L) where
   body x =
       let classes : List ℕ = opened_classes s.types in
       let works : L (behind_statement s) = law-if L k s.deferred (UntilDown classes) Nothing (law-until L k classes f.work) k.nothing in
-      k.cases Names (λ names. RunsBlock s.types 0 (behind_statement s) x.body no_names names) (IsBody s x)
-      (λ names. law-block s.types L k f.calls (behind_statement s) works x.body no_names names) (λ t part h. (h.0, h.1))
+      k.cases Names (λ names. RunsBlock s.types 0 (starts_inside x) (behind_statement s) x.body no_names names) (IsBody s x)
+      (λ names. law-block s.types L k f.calls (behind_statement s) works (starts_inside x) x.body no_names names) (λ t part h. (h.0, h.1))
 
   script : (x : Script) (w : ℕ) → L (IsScript s x w)
   script x w =
       let classes : List ℕ = opened_classes s.types in
-      let first : List Entry = entry.Script x.name ∷ entry.In Plain w ∷ [] in
-      let last : List Entry = entry.Out Plain (w + 1) ∷ entry.Done x.name ∷ [] in
+      let d : Domain = section_of x.kind in
+      let first : List Entry = entry.Script x.name ∷ entry.In d w ∷ [] in
+      let last : List Entry = entry.Out d (w + 1) ∷ entry.Done x.name ∷ [] in
       let stop : Part = Then (Stand 0 last) (behind_script s) in
       let works : L (behind_script s) = law-if L k s.deferred (WorkBehind classes) Nothing (law-behind L k classes f.work) k.nothing in
-      k.both (Stand 0 first) (Then (IsBody s x) stop) (f.begins x.name w) (k.both (IsBody s x) stop (body x) (k.both (Stand 0 last) (behind_script s) (f.ends x.name (w + 1)) works))
+      k.both (Stand 0 first) (Then (IsBody s x) stop) (f.begins d x.name w) (k.both (IsBody s x) stop (body x) (k.both (Stand 0 last) (behind_script s) (f.ends d x.name (w + 1)) works))
 
   scripts : (rs : List RunLine) → L (AreScripts s rs)
   scripts [] = law-as L k Nothing (AreScripts s []) k.nothing (λ t part h. h)
@@ -63,8 +65,8 @@ module _ (s : Parts) (L : Part → Type 0) (k : Laws L) (f : Fronted s L) where
 pub record Written (s : Parts) (P : List Entry → Type 0) : Type 0 where
   pub closed : Closed s.types P
   pub fill : (c : ℕ) (us : List ℕ) → among c (opened_classes s.types) ≡ true → P (entry.Fill c (Whole us) ∷ [])
-  pub begins : (name : List ℕ) (w : ℕ) → P (entry.Script name ∷ entry.In Plain w ∷ [])
-  pub ends : (name : List ℕ) (w : ℕ) → P (entry.Out Plain w ∷ entry.Done name ∷ [])
+  pub begins : (d : Domain) (name : List ℕ) (w : ℕ) → P (entry.Script name ∷ entry.In d w ∷ [])
+  pub ends : (d : Domain) (name : List ℕ) (w : ℕ) → P (entry.Out d w ∷ entry.Done name ∷ [])
   pub work : (c : ℕ) → among c (opened_classes s.types) ≡ true → Has P (Work 0 c)
 
 module _ (s : Parts) (P : List Entry → Type 0) (k : Written s P) where
@@ -81,10 +83,13 @@ module _ (s : Parts) (P : List Entry → Type 0) (k : Written s P) where
         calls = record {
           new = λ x t values names after. has-say P (λ own. RunsNew s.types x t values names own after) (λ own h. k.closed.new x t values names own after h);
           dropped = λ x names after. has-say P (λ own. RunsDrop s.types x names own after) (λ own h. k.closed.dropped x names own after h);
+          enters = λ w. has-stand P (entry.In Plain w ∷ []) (k.closed.enters w);
+          leaves = λ w. has-stand P (entry.Out Plain w ∷ []) (k.closed.leaves w);
+          yields = has-stand P (entry.Yield ∷ []) k.closed.yields;
         };
         fills = has-say P (AreFills classes (fresh_stock s.pages)) (λ own h. fills-have classes (fresh_stock s.pages) own (λ c e. e) h);
-        begins = λ name w. has-stand P (entry.Script name ∷ entry.In Plain w ∷ []) (k.begins name w);
-        ends = λ name w. has-stand P (entry.Out Plain w ∷ entry.Done name ∷ []) (k.ends name w);
+        begins = λ d name w. has-stand P (entry.Script name ∷ entry.In d w ∷ []) (k.begins d name w);
+        ends = λ d name w. has-stand P (entry.Out d w ∷ entry.Done name ∷ []) (k.ends d name w);
         work = k.work;
       }
 

@@ -8,7 +8,7 @@ use Rattle.bm_lang.specs.declared.scenario.Parts.{Parts}
 use Rattle.bm_law.specs.Lists.{Log}
 use Rattle.bm_law.specs.Spans.{own_entries}
 use Rattle.bm_law.proofs.Spans.{own-append}
-use Rattle.bm_law_scenario.specs.CallEntries.{IsOfCall}
+use Rattle.bm_law_scenario.specs.CallEntries.{IsOfStatement}
 use Rattle.bm_law_scenario.specs.Held.{no_names}
 use Rattle.bm_law_scenario.specs.SectionWords.{is_outside, word_after}
 use Rattle.bm_law_scenario.specs.Handlers.{Handled, HandlerPhrase, HandlersDone, all_within, enclosed, is_within}
@@ -29,7 +29,7 @@ within-back : (v w : List Entry) → all_within (v ++ w) ≡ true → all_within
 within-back [] w f = f
 within-back (e ∷ es) w f = within-back es w (and_parts (is_within e) (all_within (es ++ w)) f).1
 
-call-within : (e : Entry) → IsOfCall e → is_within e ≡ true
+call-within : (e : Entry) → IsOfStatement e → is_within e ≡ true
 call-within (entry.New name values) h = refl
 call-within (entry.Given u life) h = refl
 call-within (entry.GivenAfter u life stamp seen) h = refl
@@ -48,6 +48,9 @@ call-within (entry.Put c u) h = refl
 call-within (entry.Lost c) h = refl
 call-within (entry.Leave c a) h = refl
 call-within (entry.Raise c) h = refl
+call-within (entry.In d w) h = refl
+call-within (entry.Out d w) h = refl
+call-within entry.Yield h = refl
 call-within _ h = absurd h
 
 calls-within : (es : List Entry) → OfCalls es → all_within es ≡ true
@@ -61,7 +64,7 @@ enclosed-within w part h = elim (is_outside w) as (λ b. all_within (if b then e
 ]
 
 pub phrase-calls : (s : Parts) (name : List ℕ) (w : ℕ) (own : List Entry) (h : HandlerPhrase s name w own) → OfCalls h.part
-phrase-calls s name w own h = block-all s.types OfCalls (of-calls s.types) h.script.body no_names h.part h.after (alone-owned s.types h.script.body no_names h.after h.part h.runs)
+phrase-calls s name w own h = block-all s.types OfCalls (of-calls s.types) true h.script.body no_names h.part h.after (alone-owned s.types h.script.body no_names h.after h.part h.runs)
 
 pub phrase-within : (s : Parts) (name : List ℕ) (w : ℕ) (own : List Entry) → HandlerPhrase s name w own → all_within own ≡ true
 phrase-within s name w own h = subst (λ es. all_within es ≡ true) (sym h.own_is) (enclosed-within w h.part (calls-within h.part (phrase-calls s name w own h)))

@@ -40,3 +40,6 @@ pub mod OfWork
 pub mod PartLaws
 pub mod BlockLaws
 pub mod FrontLaws
+pub mod Slept
+pub mod WorkedSlept
+pub mod WrongSlept

@@ -1,5 +1,5 @@
 -- The journal of a script that makes nothing, with deferred work behind it, is lawful.
-use Rattle.std.proofs.Common.{ℕ, inl, inr, List, [], ◌∷◌, ◌++◌, refl, sym, ap, subst, arith, codes, lit≤}
+use Rattle.std.proofs.Common.{true, ℕ, inl, inr, List, [], ◌∷◌, ◌++◌, refl, sym, ap, subst, arith, codes, lit≤}
 use Rattle.std.proofs.lemmas.Bool.Decides.{eqb_tells}
 use Rattle.bm_class.specs.Sizes.{class_of_size, size_of_class}
 use Rattle.bm_class.specs.Watermarks.{low_of_size, high_of_size, batch_of_size}
@@ -111,7 +111,7 @@ until = UntilDown (10 ∷ [])
 abbrev s0 : State ℕ
 s0 = after (opening 0) (ordinary begins)
 
-body-runs : RunsBlock (block ∷ []) 0 until (block_of (makes_never ∷ []) (lit≤ tt) 9) no_names no_names s0 []
+body-runs : RunsBlock (block ∷ []) 0 true until (block_of (makes_never ∷ []) (lit≤ tt) 9) no_names no_names s0 []
 body-runs =
     let list : RunsList (block ∷ []) 0 until (makes_never ∷ []) no_names no_names s0 [] =
     (no_names, then-of _ _ s0 [] [] (no_names, then-of _ _ s0 [] [] (refl, refl) (refl, (0, (refl, refl)))) (refl, refl)) in

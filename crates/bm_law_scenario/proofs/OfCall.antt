@@ -7,18 +7,18 @@ use Rattle.bm_journal.specs.declared.entry.Entry.TheVariants as entry
 use Rattle.bm_lang.specs.declared.scenario.TypeDeclaration.{TypeDeclaration}
 use Rattle.bm_law.specs.Phrases.{given, raise_below, overtaken, FreePhrase}
 use Rattle.bm_law_work.proofs.Each.{AllOf, of-append}
-use Rattle.bm_law_scenario.specs.CallEntries.{IsOfCall}
+use Rattle.bm_law_scenario.specs.CallEntries.{IsOfStatement}
 use Rattle.bm_law_scenario.specs.Calls.{Allocates}
 use Rattle.bm_law_scenario.proofs.RunsAll.{Closed}
 
 abbrev pub OfCalls : List Entry → Type 0
-OfCalls es = AllOf IsOfCall es
+OfCalls es = AllOf IsOfStatement es
 
 of-raise : (c : ℕ) (b : Bool) → OfCalls (if b then entry.Raise c ∷ [] else [])
 of-raise c true = (tt, tt)
 of-raise c false = tt
 
-of-given : (u life : ℕ) (seal : Option (ℕ × ℕ)) → IsOfCall (given u life seal)
+of-given : (u life : ℕ) (seal : Option (ℕ × ℕ)) → IsOfStatement (given u life seal)
 of-given u life None = tt
 of-given u life (Some seal) = tt
 
@@ -27,18 +27,21 @@ of-overtaken c [] = tt
 of-overtaken c (k ∷ ks) = (tt, (tt, of-overtaken c ks))
 
 of-alloc : (c : ℕ) (own : List Entry) (reply : Option (ℕ × ℕ)) → Allocates c own reply → OfCalls own
-of-alloc c own (Some o) x = subst OfCalls (sym x.3) (tt, (tt, (tt, (tt, of-append IsOfCall (raise_below c x.1) (given o.0 o.1 x.0 ∷ []) (of-raise c (nat_lt x.1 (low_of_size (size_of_class c)))) (of-given o.0 o.1 x.0, tt)))))
-of-alloc c own None (inl x) = subst OfCalls (sym x.1) (tt, (tt, (tt, of-append IsOfCall (raise_below c 0) (entry.Empty ∷ []) (of-raise c (nat_lt 0 (low_of_size (size_of_class c)))) (tt, tt))))
-of-alloc c own None (inr x) = subst OfCalls (sym x.3) (tt, (tt, of-append IsOfCall (raise_below c 0) (entry.Busy x.0 ∷ []) (of-raise c (nat_lt 0 (low_of_size (size_of_class c)))) (tt, tt)))
+of-alloc c own (Some o) x = subst OfCalls (sym x.3) (tt, (tt, (tt, (tt, of-append IsOfStatement (raise_below c x.1) (given o.0 o.1 x.0 ∷ []) (of-raise c (nat_lt x.1 (low_of_size (size_of_class c)))) (of-given o.0 o.1 x.0, tt)))))
+of-alloc c own None (inl x) = subst OfCalls (sym x.1) (tt, (tt, (tt, of-append IsOfStatement (raise_below c 0) (entry.Empty ∷ []) (of-raise c (nat_lt 0 (low_of_size (size_of_class c)))) (tt, tt))))
+of-alloc c own None (inr x) = subst OfCalls (sym x.3) (tt, (tt, of-append IsOfStatement (raise_below c 0) (entry.Busy x.0 ∷ []) (of-raise c (nat_lt 0 (low_of_size (size_of_class c)))) (tt, tt)))
 
 of-free : (c u home : ℕ) (own : List Entry) → FreePhrase c u home own → OfCalls own
 of-free c u home own (inl x) = subst OfCalls (sym x.2) (tt, (tt, (tt, (tt, (tt, of-raise c (nat_lt (high_of_size (size_of_class c)) x.0))))))
-of-free c u home own (inr x) = subst OfCalls (sym x.5) (tt, (tt, of-append IsOfCall (overtaken c x.1) (entry.Look c x.2 ∷ entry.Put c u ∷ entry.Leave c x.3 ∷ []) (of-overtaken c x.1) (tt, (tt, (tt, tt)))))
+of-free c u home own (inr x) = subst OfCalls (sym x.5) (tt, (tt, of-append IsOfStatement (overtaken c x.1) (entry.Look c x.2 ∷ entry.Put c u ∷ entry.Leave c x.3 ∷ []) (of-overtaken c x.1) (tt, (tt, (tt, tt)))))
 
 pub of-calls : (types : List TypeDeclaration) → Closed types OfCalls
 of-calls types = record {
   none = tt;
-  join = of-append IsOfCall;
+  join = of-append IsOfStatement;
   new = λ x t values names part after r. subst OfCalls (sym r.part_is) (tt, of-alloc r.class r.own r.reply r.allocates);
   dropped = λ x names part after r. subst OfCalls (sym r.part_is) (tt, (tt, of-free r.class r.unit r.home r.own r.frees));
+  enters = λ w. (tt, tt);
+  leaves = λ w. (tt, tt);
+  yields = (tt, tt);
 }

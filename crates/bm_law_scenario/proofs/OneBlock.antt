@@ -179,13 +179,13 @@ s0 = after (opening 0) (ordinary begins)
 abbrev s3 : State ℕ
 s3 = after (opening 0) (ordinary (begins ++ takes ++ work1))
 
-inner-runs : RunsBlock (block ∷ []) 0 until (block_of (drops_x 8 ∷ []) (lit≤ tt) 8) holding dropped s3 (ordinary (drops 2))
+inner-runs : RunsBlock (block ∷ []) 0 true until (block_of (drops_x 8 ∷ []) (lit≤ tt) 8) holding dropped s3 (ordinary (drops 2))
 inner-runs =
     let list : RunsList (block ∷ []) 0 until (drops_x 8 ∷ []) holding dropped s3 (ordinary (drops 2)) =
     (dropped, then-of _ _ _ (drops 2) [] (dropped, then-of _ _ _ (drops 2) [] (says _ _ _ drop-runs) (refl, (0, (refl, refl)))) (refl, refl)) in
     subst (λ (run : Run). run holding dropped s3 (ordinary (drops 2))) (sym (block-parts (block ∷ []) 0 until (vector_of (drops_x 8 ∷ []) (lit≤ tt)) 8)) list
 
-body-runs : RunsBlock (block ∷ []) 0 until makes_and_drops_block no_names dropped s0 (ordinary (takes ++ work1 ++ drops 2))
+body-runs : RunsBlock (block ∷ []) 0 true until makes_and_drops_block no_names dropped s0 (ordinary (takes ++ work1 ++ drops 2))
 body-runs =
     let list : RunsList (block ∷ []) 0 until (makes_block ∷ drops_x_unless_null 8 ∷ []) no_names dropped s0 (ordinary (takes ++ work1 ++ drops 2)) = (
       holding,

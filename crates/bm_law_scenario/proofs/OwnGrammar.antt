@@ -1,7 +1,6 @@
--- What a processor's log is made of, while no handler runs and no deferred work does: entries of one level. A log of ordinary
--- code alone is made so, without deferred work, exactly where it is by Grammar and the law of parcels. (This project's own.)
+-- What a processor's log is made of, while no handler runs and no deferred work does: entries of one level. A lawful log of
+-- ordinary code alone, without deferred work, is made so. (This project's own.)
 use Rattle.std.specs.Prelude.{◌≡◌, ℕ, ◌+◌, List, [], ◌∷◌, ◌++◌, Some, slice_get}
-use Rattle.bm_journal.specs.declared.ids.Domain.TheVariants.{Plain}
 use Rattle.bm_journal.specs.declared.entry.Entry.{Entry}
 use Rattle.bm_journal.specs.declared.entry.Entry.TheVariants as entry
 use Rattle.bm_lang.specs.declared.scenario.RunLine.{RunLine}
@@ -18,19 +17,19 @@ use Rattle.bm_law_scenario.specs.Opened.{opened_classes}
 use Rattle.bm_law_scenario.specs.SectionWords.{SectionWords}
 use Rattle.bm_law_scenario.proofs.OwnRuns.{RunsBlock}
 use Rattle.bm_law_scenario.specs.Closing.{close_of, SweepOf}
-use Rattle.bm_law_scenario.specs.Grammar.{lines_of}
+use Rattle.bm_law_scenario.specs.Grammar.{lines_of, section_of, starts_inside}
 
 -- entries of ordinary code, which is level 0
 abbrev pub ordinary : List Entry → Log
 ordinary own = at_level 0 own
 
--- A script in its plain section, whose word is w inside: its block runs from names that hold nothing to names that
+-- A script in its section, whose word is w inside: its block runs from names that hold nothing to names that
 -- own nothing.
 pub record IsScript (s : Parts) (script : Script) (w : ℕ) (own : List Entry) : Type 0 where
   pub part : List Entry
   pub after : Names
-  pub own_is : own ≡ entry.Script script.name ∷ entry.In Plain w ∷ part ++ entry.Out Plain (w + 1) ∷ entry.Done script.name ∷ []
-  pub runs : RunsBlock s.types script.body no_names part after
+  pub own_is : own ≡ entry.Script script.name ∷ entry.In (section_of script.kind) w ∷ part ++ entry.Out (section_of script.kind) (w + 1) ∷ entry.Done script.name ∷ []
+  pub runs : RunsBlock s.types (starts_inside script) script.body no_names part after
   pub owns_nothing : (x : List ℕ) → OwnsNothing (after x)
 
 -- the scripts that these lines run, in order

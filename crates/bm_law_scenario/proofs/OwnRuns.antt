@@ -1,7 +1,9 @@
 -- What the statements of a script leave at its level, and in the script's names, while no deferred work runs between them.
 -- A log of ordinary code alone holds a run by this definition exactly where it holds one by Runs. (This project's own.)
-use Rattle.std.specs.Prelude.{◌≡◌, ℕ, zero, suc, List, [], ◌++◌}
+use Rattle.std.specs.Prelude.{◌≡◌, ℕ, zero, suc, ◌+◌, Bool, true, false, List, [], ◌∷◌, ◌++◌}
+use Rattle.bm_journal.specs.declared.ids.Domain.TheVariants.{Plain}
 use Rattle.bm_journal.specs.declared.entry.Entry.{Entry}
+use Rattle.bm_journal.specs.declared.entry.Entry.TheVariants as entry
 use Rattle.bm_lang.specs.declared.scenario.Action.{Action, New, Drop, Acquire, Get, Exchange, If', Repeat, Section, Lock, Unlock, Yield, PushFront, PushBack, PopFront, PopBack, Add, First, Remove, Held-Action-If-2, None', Some'}
 use Rattle.bm_lang.specs.declared.scenario.Block.{Block, Block', Row_of-Statement, end_of-Statement, more_of-Statement}
 use Rattle.bm_lang.specs.declared.scenario.TypeDeclaration.{TypeDeclaration}
@@ -36,37 +38,46 @@ Chosen Nothing first other = λ names part after. ⊥
 Chosen Null first other = other
 Chosen (Object t u life) first other = first
 
--- The statements that run by now. No journal has any of the others.
+-- these entries, and the names hold what they held
+abbrev pub Leaving : List Entry → Run
+Leaving own names part after = (part ≡ own) × (after ≡ names)
+
+-- `section`: its block, in a plain section where there is none around it
+abbrev pub Within : Bool → Run → Run
+Within true block = block
+Within false block = λ names part after. (w : ℕ) × Then (Leaving (entry.In Plain w ∷ [])) (Then block (Leaving (entry.Out Plain (w + 1) ∷ []))) names part after
+
+-- The statements that run so far, in a plain section or in none. No journal has any of the others.
 abbrev mutual
-  pub RunsAction : List TypeDeclaration → Action → Run
-  RunsAction types (New x t values) = RunsNew types x t values
-  RunsAction types (Drop x) = RunsDrop types x
-  RunsAction types (If' x body otherwise) = λ names. Chosen (names x) (RunsBlock types body) (RunsElse types otherwise) names
-  RunsAction types (Repeat n body) = Times (RunsBlock types body) n
-  RunsAction types (Section body) = λ names part after. ⊥
-  RunsAction types (Acquire y x) = λ names part after. ⊥
-  RunsAction types (Get x field) = λ names part after. ⊥
-  RunsAction types (Exchange y slot x) = λ names part after. ⊥
-  RunsAction types (Lock graph) = λ names part after. ⊥
-  RunsAction types Unlock = λ names part after. ⊥
-  RunsAction types Yield = λ names part after. ⊥
-  RunsAction types (PushFront list x) = λ names part after. ⊥
-  RunsAction types (PushBack list x) = λ names part after. ⊥
-  RunsAction types (PopFront x list) = λ names part after. ⊥
-  RunsAction types (PopBack x list) = λ names part after. ⊥
-  RunsAction types (Add tree x) = λ names part after. ⊥
-  RunsAction types (First x tree) = λ names part after. ⊥
-  RunsAction types (Remove y tree x) = λ names part after. ⊥
+  pub RunsAction : List TypeDeclaration → (inside : Bool) → Action → Run
+  RunsAction types i (New x t values) = RunsNew types x t values
+  RunsAction types i (Drop x) = RunsDrop types x
+  RunsAction types i (If' x body otherwise) = λ names. Chosen (names x) (RunsBlock types i body) (RunsElse types i otherwise) names
+  RunsAction types i (Repeat n body) = Times (RunsBlock types i body) n
+  RunsAction types i (Section body) = Within i (RunsBlock types true body)
+  RunsAction types i Yield = Leaving (entry.Yield ∷ [])
+  RunsAction types i (Acquire y x) = λ names part after. ⊥
+  RunsAction types i (Get x field) = λ names part after. ⊥
+  RunsAction types i (Exchange y slot x) = λ names part after. ⊥
+  RunsAction types i (Lock graph) = λ names part after. ⊥
+  RunsAction types i Unlock = λ names part after. ⊥
+  RunsAction types i (PushFront list x) = λ names part after. ⊥
+  RunsAction types i (PushBack list x) = λ names part after. ⊥
+  RunsAction types i (PopFront x list) = λ names part after. ⊥
+  RunsAction types i (PopBack x list) = λ names part after. ⊥
+  RunsAction types i (Add tree x) = λ names part after. ⊥
+  RunsAction types i (First x tree) = λ names part after. ⊥
+  RunsAction types i (Remove y tree x) = λ names part after. ⊥
 
   -- an absent `else` is an empty block
-  pub RunsElse : List TypeDeclaration → Held-Action-If-2 → Run
-  RunsElse types None' = Done
-  RunsElse types (Some' body) = RunsBlock types body
+  pub RunsElse : List TypeDeclaration → (inside : Bool) → Held-Action-If-2 → Run
+  RunsElse types i None' = Done
+  RunsElse types i (Some' body) = RunsBlock types i body
 
-  pub RunsBlock : List TypeDeclaration → Block → Run
-  RunsBlock types (Block' shape row end_line) = RunsRow types row
+  pub RunsBlock : List TypeDeclaration → (inside : Bool) → Block → Run
+  RunsBlock types i (Block' shape row end_line) = RunsRow types i row
 
   -- statements, one after the other
-  pub RunsRow : List TypeDeclaration → {m : _} → Row_of-Statement m → Run
-  RunsRow types end_of-Statement = Done
-  RunsRow types (more_of-Statement line action rest) = Then (RunsAction types action) (RunsRow types rest)
+  pub RunsRow : List TypeDeclaration → (inside : Bool) → {m : _} → Row_of-Statement m → Run
+  RunsRow types i end_of-Statement = Done
+  RunsRow types i (more_of-Statement line action rest) = Then (RunsAction types i action) (RunsRow types i rest)

@@ -66,12 +66,12 @@ drop-runs = record {
   after_is = refl;
 }
 
-inner-runs : (line : ℕ) → RunsBlock types (block_of (drops_x line ∷ []) (lit≤ tt) line) holding (gave 3 4) dropped
+inner-runs : (line : ℕ) → RunsBlock types true (block_of (drops_x line ∷ []) (lit≤ tt) line) holding (gave 3 4) dropped
 inner-runs line =
     let list : RunsList types (drops_x line ∷ []) holding (gave 3 4) dropped = record { middle = dropped; one = gave 3 4; two = []; part_is = refl; first_runs = drop-runs; second_runs = (refl, refl) } in
     subst (λ (run : Run). run holding (gave 3 4) dropped) (sym (block-runs types (vector_of (drops_x line ∷ []) (lit≤ tt)) line)) list
 
-pub object-runs : (first second end : ℕ) → RunsBlock types (makes_and_drops first second end) no_names (asks ∷ took 3 ++ gave 3 4) dropped
+pub object-runs : (first second end : ℕ) → RunsBlock types true (makes_and_drops first second end) no_names (asks ∷ took 3 ++ gave 3 4) dropped
 object-runs first second end =
     let list : RunsList types (makes_x first ∷ drops_x_unless_null second ∷ []) no_names (asks ∷ took 3 ++ gave 3 4) dropped = record {
       middle = holding;
@@ -108,7 +108,7 @@ null-new_runs names = record {
   after_is = refl;
 }
 
-pub null-runs : (first second end : ℕ) (names : Names) → RunsBlock types (makes_and_drops first second end) names (asks ∷ took_none) (with_null names)
+pub null-runs : (first second end : ℕ) (names : Names) → RunsBlock types true (makes_and_drops first second end) names (asks ∷ took_none) (with_null names)
 null-runs first second end names =
     let list : RunsList types (makes_x first ∷ drops_x_unless_null second ∷ []) names (asks ∷ took_none) (with_null names) = record {
       middle = with_null names;
@@ -124,7 +124,7 @@ null-runs first second end names =
 abbrev pub two_nulls : List Entry
 two_nulls = asks ∷ took_none ++ asks ∷ took_none
 
-pub twice-runs : (line end : ℕ) → RunsBlock types (makes_and_drops_twice line end) no_names two_nulls (with_null (with_null no_names))
+pub twice-runs : (line end : ℕ) → RunsBlock types true (makes_and_drops_twice line end) no_names two_nulls (with_null (with_null no_names))
 twice-runs line end =
     let list : RunsList types (record { line = line; action = Repeat 2 (makes_and_drops line line line) } ∷ []) no_names two_nulls (with_null (with_null no_names)) = record {
       middle = with_null (with_null no_names);

@@ -1,20 +1,25 @@
 -- What holds of all that a block leaves in a log.
-use Rattle.std.proofs.Common.{ℕ, suc, zero, List, [], ◌++◌, sym, subst}
+use Rattle.std.proofs.Common.{ℕ, suc, zero, ◌+◌, Bool, true, false, List, [], ◌∷◌, ◌++◌, sym, subst}
+use Rattle.bm_journal.specs.declared.ids.Domain.TheVariants.{Plain}
 use Rattle.bm_journal.specs.declared.entry.Entry.{Entry}
+use Rattle.bm_journal.specs.declared.entry.Entry.TheVariants as entry
 use Rattle.bm_lang.specs.declared.scenario.Action.{Action, New, Drop, Acquire, Get, Exchange, If', Repeat, Section, Lock, Unlock, Yield, PushFront, PushBack, PopFront, PopBack, Add, First, Remove, Held-Action-If-2, None', Some'}
 use Rattle.bm_lang.specs.declared.scenario.Block.{Block, Block', Row_of-Statement, end_of-Statement, more_of-Statement}
 use Rattle.bm_lang.specs.declared.scenario.TypeDeclaration.{TypeDeclaration}
 use Rattle.bm_lang.specs.declared.scenario.TypeId.{TypeId}
 use Rattle.bm_law_scenario.specs.Held.{Held, Nothing, Null, Object, Names}
 use Rattle.bm_law_scenario.specs.Calls.{RunsNew, RunsDrop}
-use Rattle.bm_law_scenario.proofs.OwnRuns.{Times, Chosen, RunsAction, RunsElse, RunsBlock, RunsRow}
+use Rattle.bm_law_scenario.proofs.OwnRuns.{Times, Chosen, Within, RunsAction, RunsElse, RunsBlock, RunsRow}
 
--- a property of stretches that joins, and that each `new` and each `drop` has
+-- a property of stretches that joins, and that each `new` and each `drop` has, each begin and end of a plain section and each `yield`
 pub record Closed (types : List TypeDeclaration) (P : List Entry → Type 0) : Type 0 where
   pub none : P []
   pub join : (v w : List Entry) → P v → P w → P (v ++ w)
   pub new : (x : List ℕ) (t : TypeId) (values : List ℕ) (names : Names) (part : List Entry) (after : Names) → RunsNew types x t values names part after → P part
   pub dropped : (x : List ℕ) (names : Names) (part : List Entry) (after : Names) → RunsDrop types x names part after → P part
+  pub enters : (w : ℕ) → P (entry.In Plain w ∷ [])
+  pub leaves : (w : ℕ) → P (entry.Out Plain w ∷ [])
+  pub yields : P (entry.Yield ∷ [])
 
 chosen-all : (P : List Entry → Type 0) (v : Held) (first second : Names → List Entry → Names → Type 0) (names : Names) (part : List Entry) (after : Names) → (first names part after → P part) → (second names part after → P part) → Chosen v first second names part after → P part
 chosen-all P Nothing first second names part after f g r = absurd r
@@ -25,34 +30,42 @@ times-all : (types : List TypeDeclaration) (P : List Entry → Type 0) (k : Clos
 times-all types P k run zero names part after f r = subst P (sym r.0) k.none
 times-all types P k run (suc n) names part after f r = subst P (sym r.part_is) (k.join r.one r.two (f names r.one r.middle r.first_runs) (times-all types P k run n r.middle r.two after f r.second_runs))
 
+within-all : (types : List TypeDeclaration) (P : List Entry → Type 0) (k : Closed types P) (i : Bool) (run : Names → List Entry → Names → Type 0) (names : Names) (part : List Entry) (after : Names) → ((a : Names) (p : List Entry) (b : Names) → run a p b → P p) → Within i run names part after → P part
+within-all types P k true run names part after f r = f names part after r
+within-all types P k false run names part after f r =
+    let t = r.1.second_runs in
+    let first = subst P (sym r.1.first_runs.0) (k.enters r.0) in
+    let last = subst P (sym t.second_runs.0) (k.leaves (r.0 + 1)) in
+    subst P (sym r.1.part_is) (k.join r.1.one r.1.two first (subst P (sym t.part_is) (k.join t.one t.two (f r.1.middle t.one t.middle t.first_runs) last)))
+
 mutual
-  action-all : (types : List TypeDeclaration) (P : List Entry → Type 0) (k : Closed types P) (a : Action) (names : Names) (part : List Entry) (after : Names) → RunsAction types a names part after → P part
-  action-all types P k (New x t values) names part after r = k.new x t values names part after r
-  action-all types P k (Drop x) names part after r = k.dropped x names part after r
-  action-all types P k (If' x body otherwise) names part after r = chosen-all P (names x) (RunsBlock types body) (RunsElse types otherwise) names part after (λ y. block-all types P k body names part after y) (λ y. else-all types P k otherwise names part after y) r
-  action-all types P k (Repeat n body) names part after r = times-all types P k (RunsBlock types body) n names part after (λ a p b y. block-all types P k body a p b y) r
-  action-all types P k (Section body) names part after r = absurd r
-  action-all types P k (Acquire y x) names part after r = absurd r
-  action-all types P k (Get x field) names part after r = absurd r
-  action-all types P k (Exchange y slot x) names part after r = absurd r
-  action-all types P k (Lock graph) names part after r = absurd r
-  action-all types P k Unlock names part after r = absurd r
-  action-all types P k Yield names part after r = absurd r
-  action-all types P k (PushFront list x) names part after r = absurd r
-  action-all types P k (PushBack list x) names part after r = absurd r
-  action-all types P k (PopFront x list) names part after r = absurd r
-  action-all types P k (PopBack x list) names part after r = absurd r
-  action-all types P k (Add tree x) names part after r = absurd r
-  action-all types P k (First x tree) names part after r = absurd r
-  action-all types P k (Remove y tree x) names part after r = absurd r
+  action-all : (types : List TypeDeclaration) (P : List Entry → Type 0) (k : Closed types P) (i : Bool) (a : Action) (names : Names) (part : List Entry) (after : Names) → RunsAction types i a names part after → P part
+  action-all types P k i (New x t values) names part after r = k.new x t values names part after r
+  action-all types P k i (Drop x) names part after r = k.dropped x names part after r
+  action-all types P k i (If' x body otherwise) names part after r = chosen-all P (names x) (RunsBlock types i body) (RunsElse types i otherwise) names part after (λ y. block-all types P k i body names part after y) (λ y. else-all types P k i otherwise names part after y) r
+  action-all types P k i (Repeat n body) names part after r = times-all types P k (RunsBlock types i body) n names part after (λ a p b y. block-all types P k i body a p b y) r
+  action-all types P k i (Section body) names part after r = within-all types P k i (RunsBlock types true body) names part after (λ a p b y. block-all types P k true body a p b y) r
+  action-all types P k i (Acquire y x) names part after r = absurd r
+  action-all types P k i (Get x field) names part after r = absurd r
+  action-all types P k i (Exchange y slot x) names part after r = absurd r
+  action-all types P k i (Lock graph) names part after r = absurd r
+  action-all types P k i Unlock names part after r = absurd r
+  action-all types P k i Yield names part after r = subst P (sym r.0) k.yields
+  action-all types P k i (PushFront list x) names part after r = absurd r
+  action-all types P k i (PushBack list x) names part after r = absurd r
+  action-all types P k i (PopFront x list) names part after r = absurd r
+  action-all types P k i (PopBack x list) names part after r = absurd r
+  action-all types P k i (Add tree x) names part after r = absurd r
+  action-all types P k i (First x tree) names part after r = absurd r
+  action-all types P k i (Remove y tree x) names part after r = absurd r
 
-  else-all : (types : List TypeDeclaration) (P : List Entry → Type 0) (k : Closed types P) (o : Held-Action-If-2) (names : Names) (part : List Entry) (after : Names) → RunsElse types o names part after → P part
-  else-all types P k None' names part after r = subst P (sym r.0) k.none
-  else-all types P k (Some' body) names part after r = block-all types P k body names part after r
+  else-all : (types : List TypeDeclaration) (P : List Entry → Type 0) (k : Closed types P) (i : Bool) (o : Held-Action-If-2) (names : Names) (part : List Entry) (after : Names) → RunsElse types i o names part after → P part
+  else-all types P k i None' names part after r = subst P (sym r.0) k.none
+  else-all types P k i (Some' body) names part after r = block-all types P k i body names part after r
 
-  pub block-all : (types : List TypeDeclaration) (P : List Entry → Type 0) (k : Closed types P) (b : Block) (names : Names) (part : List Entry) (after : Names) → RunsBlock types b names part after → P part
-  block-all types P k (Block' shape row end_line) names part after r = row-all types P k row names part after r
+  pub block-all : (types : List TypeDeclaration) (P : List Entry → Type 0) (k : Closed types P) (i : Bool) (b : Block) (names : Names) (part : List Entry) (after : Names) → RunsBlock types i b names part after → P part
+  block-all types P k i (Block' shape row end_line) names part after r = row-all types P k i row names part after r
 
-  row-all : (types : List TypeDeclaration) (P : List Entry → Type 0) (k : Closed types P) {m : _} (row : Row_of-Statement m) (names : Names) (part : List Entry) (after : Names) → RunsRow types row names part after → P part
-  row-all types P k end_of-Statement names part after r = subst P (sym r.0) k.none
-  row-all types P k (more_of-Statement line action rest) names part after r = subst P (sym r.part_is) (k.join r.one r.two (action-all types P k action names r.one r.middle r.first_runs) (row-all types P k rest r.middle r.two after r.second_runs))
+  row-all : (types : List TypeDeclaration) (P : List Entry → Type 0) (k : Closed types P) (i : Bool) {m : _} (row : Row_of-Statement m) (names : Names) (part : List Entry) (after : Names) → RunsRow types i row names part after → P part
+  row-all types P k i end_of-Statement names part after r = subst P (sym r.0) k.none
+  row-all types P k i (more_of-Statement line action rest) names part after r = subst P (sym r.part_is) (k.join r.one r.two (action-all types P k i action names r.one r.middle r.first_runs) (row-all types P k i rest r.middle r.two after r.second_runs))

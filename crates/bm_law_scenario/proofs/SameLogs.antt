@@ -28,7 +28,7 @@ use Rattle.bm_law.specs.Inboxes.{Inboxes, inboxes_after}
 use Rattle.bm_law_scenario.specs.Parcels.{no_parcels, ParcelsFit, sends_alone}
 use Rattle.bm_due.specs.Due.{planned_for}
 use Rattle.bm_law_scenario.proofs.Unplanned.{unplanned-at}
-use Rattle.bm_law_scenario.specs.Grammar.{behind_statement, behind_script, IsBody, IsScript, AreScripts, lines_of, Front}
+use Rattle.bm_law_scenario.specs.Grammar.{behind_statement, behind_script, section_of, starts_inside, IsBody, IsScript, AreScripts, lines_of, Front}
 use Rattle.bm_law.specs.Ordinary.{ordinary}
 use Rattle.bm_law_scenario.proofs.OwnGrammar as own
 use Rattle.bm_law_scenario.specs.Lawful.{LawfulLog}
@@ -47,21 +47,21 @@ none-script s e = ap (λ b. If b (WorkBehind (opened_classes s.types)) part.Noth
 
 script-told : (s : Parts) → s.deferred ≡ false → (x : Script) (w : ℕ) (l : State ℕ) (es : List Entry) → own.IsScript s x w es → IsScript s x w l (ordinary es)
 script-told s e x w l es k =
-    let head : List Entry = entry.Script x.name ∷ entry.In Plain w ∷ [] in
-    let last : List Entry = entry.Out Plain (w + 1) ∷ entry.Done x.name ∷ [] in
+    let head : List Entry = entry.Script x.name ∷ entry.In (section_of x.kind) w ∷ [] in
+    let last : List Entry = entry.Out (section_of x.kind) (w + 1) ∷ entry.Done x.name ∷ [] in
     let l1 = after l (ordinary head) in
     let l2 = after l1 (ordinary k.part) in
     let bare : behind_script s (after l2 (ordinary last)) [] = subst (λ (P : Part). P (after l2 (ordinary last)) []) (sym (none-script s e)) refl in
     let body : IsBody s x l1 (ordinary k.part) =
-    (k.after, subst (λ (P : Part). RunsBlock s.types 0 P x.body no_names k.after l1 (ordinary k.part)) (sym (none-statement s e)) ((block-same 0 s.types x.body).told no_names k.after l1 k.part k.runs), k.owns_nothing) in
+    (k.after, subst (λ (P : Part). RunsBlock s.types 0 (starts_inside x) P x.body no_names k.after l1 (ordinary k.part)) (sym (none-statement s e)) ((block-same 0 s.types (starts_inside x) x.body).told no_names k.after l1 k.part k.runs), k.owns_nothing) in
     let stop : Then (Stand 0 last) (behind_script s) l2 (ordinary last) = record { one = ordinary last; two = []; part_is = refl; is_first = stands last l2; is_second = bare } in
     subst (λ v. IsScript s x w l (ordinary v)) (sym k.own_is)
     (then-of (Stand 0 head) (Then (IsBody s x) (Then (Stand 0 last) (behind_script s))) l head (k.part ++ last) (stands head l) (then-of (IsBody s x) (Then (Stand 0 last) (behind_script s)) l1 k.part last body stop))
 
 script-owned : (s : Parts) → s.deferred ≡ false → (x : Script) (w : ℕ) (l : State ℕ) (es : List Entry) → IsScript s x w l (ordinary es) → own.IsScript s x w es
 script-owned s e x w l es h =
-    let head : List Entry = entry.Script x.name ∷ entry.In Plain w ∷ [] in
-    let last : List Entry = entry.Out Plain (w + 1) ∷ entry.Done x.name ∷ [] in
+    let head : List Entry = entry.Script x.name ∷ entry.In (section_of x.kind) w ∷ [] in
+    let last : List Entry = entry.Out (section_of x.kind) (w + 1) ∷ entry.Done x.name ∷ [] in
     let t = parted (Stand 0 head) (Then (IsBody s x) (Then (Stand 0 last) (behind_script s))) l es h in
     let l1 = after l (ordinary t.left) in
     let u = parted (IsBody s x) (Then (Stand 0 last) (behind_script s)) l1 t.right t.is_second in
@@ -70,7 +70,7 @@ script-owned s e x w l es h =
     let bare : ordinary v.right ≡ [] = subst (λ (P : Part). P (after l2 (ordinary v.left)) (ordinary v.right)) (none-script s e) v.is_second in
     let none : v.right ≡ [] = sym (level-own 0 v.right) ∙ ap (own_entries 0) bare in
     let names : Names = u.is_first.0 in
-    let runs = ((block-same 0 s.types x.body).owned no_names names l1 (ordinary u.left) (subst (λ (P : Part). RunsBlock s.types 0 P x.body no_names names l1 (ordinary u.left)) (none-statement s e) u.is_first.1)).1 in
+    let runs = ((block-same 0 s.types (starts_inside x) x.body).owned no_names names l1 (ordinary u.left) (subst (λ (P : Part). RunsBlock s.types 0 (starts_inside x) P x.body no_names names l1 (ordinary u.left)) (none-statement s e) u.is_first.1)).1 in
     record {
       part = own_entries 0 (ordinary u.left);
       after = names;

@@ -1,7 +1,8 @@
 -- Where no deferred work runs, the entries of its level that a run leaves are a run by entries, and entries of a run by entries
 -- are a run.
-use Rattle.std.proofs.Common.{◌≡◌, ℕ, zero, suc, List, [], ◌++◌, refl, sym, ap, subst, ◌∙◌, append-nil}
+use Rattle.std.proofs.Common.{◌≡◌, ℕ, zero, suc, Bool, true, false, List, [], ◌∷◌, ◌++◌, refl, sym, ap, subst, ◌∙◌, append-nil}
 use Rattle.bm_journal.specs.declared.entry.Entry.{Entry}
+use Rattle.bm_journal.specs.declared.entry.Entry.TheVariants as entry
 use Rattle.bm_lang.specs.declared.scenario.Action.{Action, New, Drop, Acquire, Get, Exchange, If', Repeat, Section, Lock, Unlock, Yield, PushFront, PushBack, PopFront, PopBack, Add, First, Remove, Held-Action-If-2, None', Some'}
 use Rattle.bm_lang.specs.declared.scenario.Block.{Block, Block', Row_of-Statement, end_of-Statement, more_of-Statement}
 use Rattle.bm_lang.specs.declared.scenario.TypeDeclaration.{TypeDeclaration}
@@ -11,11 +12,11 @@ use Rattle.bm_law.specs.Alone.{at_level}
 use Rattle.bm_law.specs.Spans.{AllFrom, own_entries}
 use Rattle.bm_law.proofs.Spans.{from-append, own-append}
 use Rattle.bm_law.proofs.Alone.{level-append, level-from, level-own}
-use Rattle.bm_law_work.specs.Parts.{Part, Then}
+use Rattle.bm_law_work.specs.Parts.{Part, Stand, Then}
 use Rattle.bm_law_work.specs.Parts as part
 use Rattle.bm_law_scenario.specs.Held.{Held, Nothing, Null, Object, Names}
 use Rattle.bm_law_scenario.specs.Calls.{RunsNew, RunsDrop}
-use Rattle.bm_law_scenario.specs.Runs.{Run, Leaving, Done, Followed, Times, Calls, Chosen, RunsAction, RunsAlone, RunsElse, RunsBlock, RunsRow}
+use Rattle.bm_law_scenario.specs.Runs.{Run, Leaving, Done, Followed, Times, Calls, Chosen, Within, RunsAction, RunsAlone, RunsElse, RunsBlock, RunsRow}
 use Rattle.bm_law_scenario.proofs.OwnRuns as own
 use Rattle.bm_law.specs.Ordinary.{ordinary}
 
@@ -104,43 +105,101 @@ if-same l F O G P x a b = record {
   told = λ names. (chosen-same l F O G P a b (names x)).told names;
 }
 
+-- these entries stand there, and the names hold what they held
+stand-same : (l : ℕ) (stands : List Entry) → Same l (Leaving (Stand l stands)) (own.Leaving stands)
+stand-same l stands = record {
+  owned = λ names after s log h. (h.1.from, (h.1.own_is, h.0));
+  told = λ names after s es h. (h.1, record { from = level-from l es; own_is = level-own l es ∙ h.0 });
+}
+
+within-same : (l : ℕ) (R : Run) (Q : own.Run) (i : Bool) → Same l R Q → Same l (Within i l R) (own.Within i Q)
+within-same l R Q true a = a
+within-same l R Q false a = record {
+  owned = λ names last s log h.
+      let t = h.1 in
+      let u = t.is_second in
+      let m = after s t.one in
+      let x = a.owned names last m u.one u.is_first in
+      let F : Log → Type 0 = AllFrom l in
+      let two = from-append l u.one u.two x.0 u.is_second.from in (
+        subst F (sym t.part_is) (from-append l t.one t.two t.is_first.from (subst F (sym u.part_is) two)),
+        (
+          h.0,
+          record {
+            middle = names;
+            one = own_entries l t.one;
+            two = own_entries l t.two;
+            part_is = ap (own_entries l) t.part_is ∙ own-append l t.one t.two;
+            first_runs = (t.is_first.own_is, refl);
+            second_runs = record {
+              middle = last;
+              one = own_entries l u.one;
+              two = own_entries l u.two;
+              part_is = ap (own_entries l) u.part_is ∙ own-append l u.one u.two;
+              first_runs = x.1;
+              second_runs = (u.is_second.own_is, refl);
+            };
+          },
+        ),
+      );
+  told = λ names last s es h.
+      let t = h.1 in
+      let u = t.second_runs in
+      let m = after s (at_level l t.one) in (
+        h.0,
+        record {
+          one = at_level l t.one;
+          two = at_level l t.two;
+          part_is = ap (at_level l) t.part_is ∙ level-append l t.one t.two;
+          is_first = record { from = level-from l t.one; own_is = level-own l t.one ∙ t.first_runs.0 };
+          is_second = record {
+            one = at_level l u.one;
+            two = at_level l u.two;
+            part_is = ap (at_level l) u.part_is ∙ level-append l u.one u.two;
+            is_first = subst (λ n. R names n m (at_level l u.one)) (sym u.second_runs.1) (subst (λ n. R n u.middle m (at_level l u.one)) t.first_runs.1 (a.told t.middle u.middle m u.one u.first_runs));
+            is_second = record { from = level-from l u.two; own_is = level-own l u.two ∙ u.second_runs.0 };
+          };
+        },
+      );
+}
+
 mutual
-  action-same : (l : ℕ) (types : List TypeDeclaration) (a : Action) → Same l (RunsAction types l part.Nothing a) (own.RunsAction types a)
-  action-same l types (New x t values) = calls-same l (RunsNew types x t values)
-  action-same l types (Drop x) = calls-same l (RunsDrop types x)
-  action-same l types (If' x body otherwise) = if-same l (RunsBlock types l part.Nothing body) (RunsElse types l part.Nothing otherwise) (own.RunsBlock types body) (own.RunsElse types otherwise) x (block-same l types body) (else-same l types otherwise)
-  action-same l types (Repeat n body) = times-same l (RunsBlock types l part.Nothing body) (own.RunsBlock types body) n (block-same l types body)
-  action-same l types (Section body) = none-same l
-  action-same l types (Acquire y x) = none-same l
-  action-same l types (Get x field) = none-same l
-  action-same l types (Exchange y slot x) = none-same l
-  action-same l types (Lock graph) = none-same l
-  action-same l types Unlock = none-same l
-  action-same l types Yield = none-same l
-  action-same l types (PushFront list x) = none-same l
-  action-same l types (PushBack list x) = none-same l
-  action-same l types (PopFront x list) = none-same l
-  action-same l types (PopBack x list) = none-same l
-  action-same l types (Add tree x) = none-same l
-  action-same l types (First x tree) = none-same l
-  action-same l types (Remove y tree x) = none-same l
+  action-same : (l : ℕ) (types : List TypeDeclaration) (i : Bool) (a : Action) → Same l (RunsAction types l i part.Nothing a) (own.RunsAction types i a)
+  action-same l types i (New x t values) = calls-same l (RunsNew types x t values)
+  action-same l types i (Drop x) = calls-same l (RunsDrop types x)
+  action-same l types i (If' x body otherwise) = if-same l (RunsBlock types l i part.Nothing body) (RunsElse types l i part.Nothing otherwise) (own.RunsBlock types i body) (own.RunsElse types i otherwise) x (block-same l types i body) (else-same l types i otherwise)
+  action-same l types i (Repeat n body) = times-same l (RunsBlock types l i part.Nothing body) (own.RunsBlock types i body) n (block-same l types i body)
+  action-same l types i (Section body) = within-same l (RunsBlock types l true part.Nothing body) (own.RunsBlock types true body) i (block-same l types true body)
+  action-same l types i (Acquire y x) = none-same l
+  action-same l types i (Get x field) = none-same l
+  action-same l types i (Exchange y slot x) = none-same l
+  action-same l types i (Lock graph) = none-same l
+  action-same l types i Unlock = none-same l
+  action-same l types i Yield = stand-same l (entry.Yield ∷ [])
+  action-same l types i (PushFront list x) = none-same l
+  action-same l types i (PushBack list x) = none-same l
+  action-same l types i (PopFront x list) = none-same l
+  action-same l types i (PopBack x list) = none-same l
+  action-same l types i (Add tree x) = none-same l
+  action-same l types i (First x tree) = none-same l
+  action-same l types i (Remove y tree x) = none-same l
 
-  else-same : (l : ℕ) (types : List TypeDeclaration) (o : Held-Action-If-2) → Same l (RunsElse types l part.Nothing o) (own.RunsElse types o)
-  else-same l types None' = done-same l
-  else-same l types (Some' body) = block-same l types body
+  else-same : (l : ℕ) (types : List TypeDeclaration) (i : Bool) (o : Held-Action-If-2) → Same l (RunsElse types l i part.Nothing o) (own.RunsElse types i o)
+  else-same l types i None' = done-same l
+  else-same l types i (Some' body) = block-same l types i body
 
-  pub block-same : (l : ℕ) (types : List TypeDeclaration) (b : Block) → Same l (RunsBlock types l part.Nothing b) (own.RunsBlock types b)
-  block-same l types (Block' shape row end_line) = row-same l types row
+  pub block-same : (l : ℕ) (types : List TypeDeclaration) (i : Bool) (b : Block) → Same l (RunsBlock types l i part.Nothing b) (own.RunsBlock types i b)
+  block-same l types i (Block' shape row end_line) = row-same l types i row
 
-  row-same : (l : ℕ) (types : List TypeDeclaration) {m : _} (row : Row_of-Statement m) → Same l (RunsRow types l part.Nothing row) (own.RunsRow types row)
-  row-same l types end_of-Statement = done-same l
-  row-same l types (more_of-Statement line action rest) =
-      followed-same l (Followed (RunsAction types l part.Nothing action) (Leaving part.Nothing)) (RunsRow types l part.Nothing rest) (own.RunsAction types action) (own.RunsRow types rest)
-      (bare-same l (RunsAction types l part.Nothing action) (own.RunsAction types action) (action-same l types action)) (row-same l types rest)
+  row-same : (l : ℕ) (types : List TypeDeclaration) (i : Bool) {m : _} (row : Row_of-Statement m) → Same l (RunsRow types l i part.Nothing row) (own.RunsRow types i row)
+  row-same l types i end_of-Statement = done-same l
+  row-same l types i (more_of-Statement line action rest) =
+      followed-same l (Followed (RunsAction types l i part.Nothing action) (Leaving part.Nothing)) (RunsRow types l i part.Nothing rest) (own.RunsAction types i action) (own.RunsRow types i rest)
+      (bare-same l (RunsAction types l i part.Nothing action) (own.RunsAction types i action) (action-same l types i action)) (row-same l types i rest)
 
 -- the same of a block that stands alone
-pub alone-owned : (types : List TypeDeclaration) (b : Block) (names last : Names) (es : List Entry) → RunsAlone types b names es last → own.RunsBlock types b names es last
-alone-owned types b names last es h = subst (λ v. own.RunsBlock types b names v last) (level-own 0 es) ((block-same 0 types b).owned names last (opening 0) (ordinary es) h).1
+pub alone-owned : (types : List TypeDeclaration) (b : Block) (names last : Names) (es : List Entry) → RunsAlone types b names es last → own.RunsBlock types true b names es last
+alone-owned types b names last es h = subst (λ v. own.RunsBlock types true b names v last) (level-own 0 es) ((block-same 0 types true b).owned names last (opening 0) (ordinary es) h).1
 
-pub alone-told : (types : List TypeDeclaration) (b : Block) (names last : Names) (es : List Entry) → own.RunsBlock types b names es last → RunsAlone types b names es last
-alone-told types b names last es h = (block-same 0 types b).told names last (opening 0) es h
+pub alone-told : (types : List TypeDeclaration) (b : Block) (names last : Names) (es : List Entry) → own.RunsBlock types true b names es last → RunsAlone types b names es last
+alone-told types b names last es h = (block-same 0 types true b).told names last (opening 0) es h

@@ -44,7 +44,7 @@ pub record IsMade (body : Block) (own : List Entry) : Type 0 where
   pub after : Names
   pub sweeps : List Entry
   pub own_is : own ≡ entry.Fill 0 (Whole units) ∷ entry.Script (codes "main") ∷ entry.In Plain 1 ∷ part ++ entry.Out Plain 2 ∷ entry.Done (codes "main") ∷ entry.Ended ∷ entry.Close ∷ sweeps
-  pub runs : RunsBlock types body no_names part after
+  pub runs : RunsBlock types true body no_names part after
   pub owns_nothing : (x : List ℕ) → OwnsNothing (after x)
   pub before : State ℕ
   pub before_is : Leaves 0 (ordinary (entry.Fill 0 (Whole units) ∷ entry.Script (codes "main") ∷ entry.In Plain 1 ∷ part ++ entry.Out Plain 2 ∷ entry.Done (codes "main") ∷ [])) before

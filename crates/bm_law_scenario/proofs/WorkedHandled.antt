@@ -30,7 +30,7 @@ use Rattle.bm_law_scenario.proofs.Unplanned.{done-stretch, log_within}
 
 -- ---- the worked ones
 
-idle-runs : RunsBlock types idle no_names [] no_names
+idle-runs : RunsBlock types true idle no_names [] no_names
 idle-runs =
     let list : RunsList types [] no_names [] no_names = (refl, refl) in
     subst (λ (run : Run). run no_names [] no_names) (sym (block-runs types (vector_of [] (lit≤ tt)) 11)) list
@@ -39,7 +39,7 @@ busy-allocates : Allocates 0 (entry.Enter 0 2 ∷ entry.Leave 0 1 ∷ entry.Rais
 unfolding size_of_class low_of_size
 busy-allocates = inr (2, 1, omega arith, refl)
 
-busy-runs : RunsBlock types (makes_and_drops 7 8 9) no_names finds_busy (with_null no_names)
+busy-runs : RunsBlock types true (makes_and_drops 7 8 9) no_names finds_busy (with_null no_names)
 busy-runs =
     let new : RunsNew types x_name item_id (7 ∷ []) no_names finds_busy (with_null no_names) = record {
       class = 0;
@@ -99,7 +99,7 @@ record Ran (body : Block) (w : ℕ) (own : List Entry) : Type 0 where
   part : List Entry
   after : Names
   own_is : own ≡ enclosed w part
-  runs : RunsBlock types body no_names part after
+  runs : RunsBlock types true body no_names part after
   owns_nothing : (x : List ℕ) → OwnsNothing (after x)
 
 abbrev h_script : Block → Script
@@ -120,7 +120,7 @@ only body (suc (suc i)) x e k = absurd (none-some e)
 ran-of : (body : Block) (name : List ℕ) (w : ℕ) (own : List Entry) → HandlerPhrase (handled body) name w own → Ran body w own
 ran-of body name w own h =
     let same = only body h.index h.script h.found h.handles in
-    record { part = h.part; after = h.after; own_is = h.own_is; runs = subst (λ (x : Script). RunsBlock types x.body no_names h.part h.after) (sym same) (alone-owned types h.script.body no_names h.after h.part h.runs); owns_nothing = h.owns_nothing }
+    record { part = h.part; after = h.after; own_is = h.own_is; runs = subst (λ (x : Script). RunsBlock types true x.body no_names h.part h.after) (sym same) (alone-owned types h.script.body no_names h.after h.part h.runs); owns_nothing = h.owns_nothing }
 
 -- the body that does nothing leaves nothing
 idle-none : (w : ℕ) (own : List Entry) → Ran idle w own → own ≡ enclosed w []

@@ -1,7 +1,6 @@
 -- The wrong journals of two scripts are not lawful.
-use Rattle.std.proofs.Common.{◌≡◌, ◌≤◌, ◌+◌, ℕ, List, [], ◌∷◌, ◌++◌, refl, sym, ap, subst, ◌∙◌, codes, arith, slice_index, append-nil, lit≤}
+use Rattle.std.proofs.Common.{true, ◌≡◌, ◌≤◌, ◌+◌, ℕ, List, [], ◌∷◌, ◌++◌, refl, sym, ap, subst, ◌∙◌, codes, arith, slice_index, append-nil, lit≤}
 use Rattle.bm_class.specs.Sizes.{class_of_size}
-use Rattle.bm_journal.specs.declared.ids.Domain.TheVariants.{Plain}
 use Rattle.bm_journal.specs.declared.units.Units.TheVariants.{Whole}
 use Rattle.bm_journal.specs.declared.entry.Entry.{Entry}
 use Rattle.bm_journal.specs.declared.entry.Entry.TheVariants as entry
@@ -12,6 +11,7 @@ use Rattle.bm_law_scenario.specs.Fills.{fresh_stock, numbers_of, prefill}
 use Rattle.bm_law_scenario.specs.Held.{Names, no_names}
 use Rattle.bm_law_scenario.proofs.OwnRuns.{Run, Done, Then, RunsBlock}
 use Rattle.bm_law_scenario.proofs.OwnGrammar.{IsLog, IsScript}
+use Rattle.bm_law_scenario.specs.Grammar.{section_of}
 use Rattle.bm_law_scenario.specs.Lawful.{LawfulLogs}
 use Rattle.bm_law_scenario.specs.WorkedJournal.{vector_of, types, makes_x, drops_x_unless_null, makes_and_drops, makes_and_drops_twice, script_of, three_calls}
 use Rattle.bm_law_scenario.specs.WrongJournals.{main_first_log, main_first, repeated_once_log, repeated_once}
@@ -90,7 +90,7 @@ then-calls one two m n f g names part after h =
     omega (arith, ap calls h.part_is, calls-append h.one h.two)
 
 -- a block that makes and drops calls once at least
-block-calls : (first second end : ℕ) (names : Names) (part : List Entry) (after : Names) → RunsBlock types (makes_and_drops first second end) names part after → 1 ≤ calls part
+block-calls : (first second end : ℕ) (names : Names) (part : List Entry) (after : Names) → RunsBlock types true (makes_and_drops first second end) names part after → 1 ≤ calls part
 unfolding calls asks-one
 block-calls first second end names part after h =
     let list = subst (λ (run : Run). run names part after) (block-runs types (vector_of (makes_x first ∷ drops_x_unless_null second ∷ []) (lit≤ tt)) end) h in
@@ -99,15 +99,15 @@ block-calls first second end names part after h =
 anything : (run : Run) (names : Names) (part : List Entry) (after : Names) → run names part after → 0 ≤ calls part
 anything run names part after h = omega arith
 
-twice-calls : (line end : ℕ) (names : Names) (part : List Entry) (after : Names) → RunsBlock types (makes_and_drops_twice line end) names part after → 2 ≤ calls part
+twice-calls : (line end : ℕ) (names : Names) (part : List Entry) (after : Names) → RunsBlock types true (makes_and_drops_twice line end) names part after → 2 ≤ calls part
 twice-calls line end names part after h =
-    let block : Run = RunsBlock types (makes_and_drops line line line) in
+    let block : Run = RunsBlock types true (makes_and_drops line line line) in
     let list = subst (λ (run : Run). run names part after) (block-runs types (vector_of (record { line = line; action = Repeat 2 (makes_and_drops line line line) } ∷ []) (lit≤ tt)) end) h in
     then-calls (Then block (Then block Done)) Done 2 0 (then-calls block (Then block Done) 1 1 (block-calls line line line) (then-calls block Done 1 0 (block-calls line line line) (anything Done))) (anything Done) names part after list
 
 script-calls : (s : Script) (w : ℕ) (own : List Entry) (k : IsScript three_calls s w own) → calls k.part ≤ calls own
 unfolding calls asks-one
-script-calls s w own k = omega (arith, ap calls k.own_is, calls-append k.part (entry.Out Plain (w + 1) ∷ entry.Done s.name ∷ []))
+script-calls s w own k = omega (arith, ap calls k.own_is, calls-append k.part (entry.Out (section_of s.kind) (w + 1) ∷ entry.Done s.name ∷ []))
 
 pub repeated_once-wrong : LawfulLogs three_calls repeated_once → ⊥
 unfolding calls asks-one

@@ -1,5 +1,5 @@
 -- A journal that sweeps an empty class is not lawful.
-use Rattle.std.proofs.Common.{◌≡◌, ℕ, inl, inr, List, [], ◌∷◌, ◌++◌, Option, Some, None, refl, sym, ap, subst, ◌∙◌, append_assoc, append-nil, codes, lit≤}
+use Rattle.std.proofs.Common.{true, ◌≡◌, ℕ, inl, inr, List, [], ◌∷◌, ◌++◌, Option, Some, None, refl, sym, ap, subst, ◌∙◌, append_assoc, append-nil, codes, lit≤}
 use Rattle.bm_class.specs.Sizes.{size_of_class}
 use Rattle.bm_class.specs.Watermarks.{low_of_size}
 use Rattle.bm_journal.specs.declared.ids.Domain.TheVariants.{Plain}
@@ -67,7 +67,7 @@ block-taken part after tail more h e =
     let whole : entry.New n.declared.name (7 ∷ []) ∷ ((n.own ++ h.two) ++ tail) ≡ asks ∷ took_none ++ more = sym (ap (λ p. p ++ tail) (h.part_is ∙ ap (λ o. o ++ h.two) n.part_is)) ∙ e in
     let g = none-taken n.class n.own n.reply (h.two ++ tail) more n.allocates (sym (append_assoc n.own h.two tail) ∙ behind whole) in
     let held : h.middle ≡ with_name x_name Null no_names = n.after_is ∙ ap (λ r. with_name x_name (answered item_id r) no_names) g.0 in
-    let chosen : Then (RunsAction types (drops_x_unless_null 8).action) Done (with_name x_name Null no_names) h.two after = subst (λ m. Then (RunsAction types (drops_x_unless_null 8).action) Done m h.two after) held h.second_runs in
+    let chosen : Then (RunsAction types true (drops_x_unless_null 8).action) Done (with_name x_name Null no_names) h.two after = subst (λ m. Then (RunsAction types true (drops_x_unless_null 8).action) Done m h.two after) held h.second_runs in
     let none : h.two ≡ [] = chosen.part_is ∙ ap (λ v. v ++ chosen.two) chosen.first_runs.0 ∙ chosen.second_runs.0 in (
       h.part_is ∙ ap (λ v. h.one ++ v) none ∙ append-nil h.one ∙ n.part_is ∙ ap (λ o. entry.New n.declared.name (7 ∷ []) ∷ o) g.1 ∙ ap (λ c. c ∷ took_none) (first-is whole),
       ap (λ v. v ++ tail) (sym none) ∙ g.2,

@@ -1,5 +1,5 @@
 -- The wrong journals with deferred work are not lawful.
-use Rattle.std.proofs.Common.{◌≡◌, ℕ, zero, suc, ◌+◌, inl, inr, List, [], ◌∷◌, ◌++◌, Option, Some, None, refl, sym, ap, subst, ◌∙◌, append_assoc, codes, lit≤}
+use Rattle.std.proofs.Common.{true, ◌≡◌, ℕ, zero, suc, ◌+◌, inl, inr, List, [], ◌∷◌, ◌++◌, Option, Some, None, refl, sym, ap, subst, ◌∙◌, append_assoc, codes, lit≤}
 use Rattle.bm_class.specs.Sizes.{class_of_size, size_of_class}
 use Rattle.bm_class.specs.Watermarks.{low_of_size}
 use Rattle.bm_journal.specs.declared.ids.Domain.TheVariants.{Plain}
@@ -49,7 +49,7 @@ record IsWorked (body : Block) (es : List Entry) : Type 0 where
   rest : List Entry
   lists : State ℕ
   own_is : es ≡ begins ++ (main ++ (stops ++ (work ++ (entry.Ended ∷ entry.Close ∷ rest))))
-  runs : RunsBlock (block ∷ []) 0 until body no_names names begun (ordinary main)
+  runs : RunsBlock (block ∷ []) 0 true until body no_names names begun (ordinary main)
   behind : WorkBehind (10 ∷ []) lists (ordinary work)
 
 -- what a script left in its section with word n
@@ -59,7 +59,7 @@ record IsRun (body : Block) (n : ℕ) (s : State ℕ) (es : List Entry) : Type 0
   work : List Entry
   lists : State ℕ
   own_is : es ≡ entry.Script (codes "main") ∷ entry.In Plain n ∷ main ++ ((entry.Out Plain (n + 1) ∷ entry.Done (codes "main") ∷ []) ++ work)
-  runs : RunsBlock (block ∷ []) 0 until body no_names names (after s (ordinary (entry.Script (codes "main") ∷ entry.In Plain n ∷ []))) (ordinary main)
+  runs : RunsBlock (block ∷ []) 0 true until body no_names names (after s (ordinary (entry.Script (codes "main") ∷ entry.In Plain n ∷ []))) (ordinary main)
   behind : WorkBehind (10 ∷ []) lists (ordinary work)
 
 run-of : (body : Block) (n : ℕ) (s : State ℕ) (es : List Entry) → IsScript (with_work body) (script_of 6 (codes "main") body) n s (ordinary es) → IsRun body n s es
@@ -76,14 +76,14 @@ run-of body n s es h =
     let v = parted (Stand 0 last) (behind_script w) s2 u.right u.is_second in
     let first : t.left ≡ head = stood head s t.left t.is_first in
     let names : Names = u.is_first.0 in
-    let runs : RunsBlock (block ∷ []) 0 until body no_names names s1 (ordinary u.left) = u.is_first.1 in
+    let runs : RunsBlock (block ∷ []) 0 true until body no_names names s1 (ordinary u.left) = u.is_first.1 in
     record {
       main = u.left;
       names = names;
       work = v.right;
       lists = after s2 (ordinary v.left);
       own_is = t.whole ∙ ap (λ z. z ++ t.right) first ∙ ap (λ z. head ++ z) (u.whole ∙ ap (λ z. u.left ++ z) (v.whole ∙ ap (λ z. z ++ v.right) (stood last s2 v.left v.is_first)));
-      runs = subst (λ z. RunsBlock (block ∷ []) 0 until body no_names names (after s (ordinary z)) (ordinary u.left)) first runs;
+      runs = subst (λ z. RunsBlock (block ∷ []) 0 true until body no_names names (after s (ordinary z)) (ordinary u.left)) first runs;
       behind = v.is_second;
     }
 
@@ -126,7 +126,7 @@ worked-of body es h =
       own_is = x.whole ∙ ap (λ z. z ++ x.right) (t.whole ∙ ap (λ z. z ++ t.right) fill ∙ ap (λ z. (entry.Fill 10 (Whole (0 ∷ [])) ∷ []) ++ z) (q.whole ∙ ap (λ z. q.left ++ z) none ∙ ap (λ z. z ++ []) k.own_is))
           ∙ ap (λ z. ((entry.Fill 10 (Whole (0 ∷ [])) ∷ []) ++ ((entry.Script (codes "main") ∷ entry.In Plain 1 ∷ k.main ++ (stops ++ k.work)) ++ [])) ++ z) (c.whole ∙ ap (λ z. z ++ c.right) (stood _ last c.left c.is_first))
           ∙ joined (entry.Fill 10 (Whole (0 ∷ []))) k.main k.work [] (entry.Ended ∷ entry.Close ∷ c.right);
-      runs = subst (λ z. RunsBlock (block ∷ []) 0 until body no_names k.names (after (after start (ordinary z)) (ordinary (entry.Script (codes "main") ∷ entry.In Plain 1 ∷ []))) (ordinary k.main)) fill k.runs;
+      runs = subst (λ z. RunsBlock (block ∷ []) 0 true until body no_names k.names (after (after start (ordinary z)) (ordinary (entry.Script (codes "main") ∷ entry.In Plain 1 ∷ []))) (ordinary k.main)) fill k.runs;
       behind = k.behind;
     }
 
@@ -142,7 +142,7 @@ work-begins s es h =
 -- ---- no object
 
 -- where nothing is made and no flag is up, the block leaves nothing
-leaves-nothing : (names : Names) (main : List Entry) → RunsBlock (block ∷ []) 0 until (block_of (makes_never ∷ []) (lit≤ tt) 9) no_names names begun (ordinary main) → main ≡ []
+leaves-nothing : (names : Names) (main : List Entry) → RunsBlock (block ∷ []) 0 true until (block_of (makes_never ∷ []) (lit≤ tt) 9) no_names names begun (ordinary main) → main ≡ []
 leaves-nothing names main h =
     let list : RunsList (block ∷ []) 0 until (makes_never ∷ []) no_names names begun (ordinary main) =
     subst (λ (run : Run). run no_names names begun (ordinary main)) (block-parts (block ∷ []) 0 until (vector_of (makes_never ∷ []) (lit≤ tt)) 9) h in
@@ -244,7 +244,7 @@ record Called (s : State ℕ) (main tail later : List Entry) : Type 0 where
   until_down : until (after s (ordinary takes)) (ordinary works)
   more_is : works ++ rest ≡ later
 
-called-of : (names : Names) (s : State ℕ) (main tail later : List Entry) → RunsBlock (block ∷ []) 0 until makes_and_drops_block no_names names s (ordinary main) → takes ++ later ≡ main ++ tail → Called s main tail later
+called-of : (names : Names) (s : State ℕ) (main tail later : List Entry) → RunsBlock (block ∷ []) 0 true until makes_and_drops_block no_names names s (ordinary main) → takes ++ later ≡ main ++ tail → Called s main tail later
 called-of names s main tail later h e =
     let rest : Run = RunsList (block ∷ []) 0 until (drops_x_unless_null 8 ∷ []) in
     let new : Run = Calls 0 (RunsNew (block ∷ []) x_name item_id []) in
@@ -262,7 +262,7 @@ called-of names s main tail later h e =
     let U : List Entry → Type 0 = λ z. until (after s (ordinary z)) (ordinary u.right) in
     record { works = u.right; rest = t.right ++ tail; until_down = subst U left u.is_second.1; more_is = g.1 }
 
-works-behind : (names : Names) (main tail more : List Entry) → RunsBlock (block ∷ []) 0 until makes_and_drops_block no_names names begun (ordinary main) → takes ++ entry.Drop 0 1 ∷ more ≡ main ++ tail → ⊥
+works-behind : (names : Names) (main tail more : List Entry) → RunsBlock (block ∷ []) 0 true until makes_and_drops_block no_names names begun (ordinary main) → takes ++ entry.Drop 0 1 ∷ more ≡ main ++ tail → ⊥
 works-behind names main tail more h e =
     let c = called-of names begun main tail (entry.Drop 0 1 ∷ more) h e in
     works-first c.until_down.0 c.works c.rest more c.until_down.1 c.more_is

@@ -1,4 +1,4 @@
--- What the calls of a script write. (unit_alloc and unit_free in kernel/bpf/memalloc.c touch one cache, and none of them sends
+-- What the calls of a script and its other statements write. (unit_alloc and unit_free in kernel/bpf/memalloc.c touch one cache, and none of them sends
 -- units to another processor or waits for a grace period.)
 use Rattle.bm_journal.specs.declared.entry.Entry.{Entry}
 use Rattle.bm_journal.specs.declared.entry.Entry.TheVariants as entry
@@ -26,10 +26,15 @@ IsOfCall (entry.Leave c a) = Unit {0}
 IsOfCall (entry.Raise c) = Unit {0}
 IsOfCall _ = ⊥
 
--- An entry that a handler may write: of a call, or its begin and its end and those of its section.
+-- An entry that a statement may write: of a call, the begin or the end of a section, or a yield.
+abbrev pub IsOfStatement : Entry → Type 0
+IsOfStatement (entry.In d w) = Unit {0}
+IsOfStatement (entry.Out d w) = Unit {0}
+IsOfStatement entry.Yield = Unit {0}
+IsOfStatement e = IsOfCall e
+
+-- An entry that a handler may write: of a statement, or its begin and its end.
 abbrev pub IsOfHandler : Entry → Type 0
 IsOfHandler (entry.Handler name) = Unit {0}
 IsOfHandler (entry.Back name) = Unit {0}
-IsOfHandler (entry.In d w) = Unit {0}
-IsOfHandler (entry.Out d w) = Unit {0}
-IsOfHandler e = IsOfCall e
+IsOfHandler e = IsOfStatement e

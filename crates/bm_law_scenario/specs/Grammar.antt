@@ -1,11 +1,14 @@
 -- What a processor's log is made of. (This project's own.)
-use Rattle.std.specs.Prelude.{◌≡◌, ℕ, ◌+◌, List, [], ◌∷◌, ◌++◌, Some, nat_eq, slice_get}
+use Rattle.std.specs.Prelude.{◌≡◌, ℕ, ◌+◌, Bool, true, false, List, [], ◌∷◌, ◌++◌, Some, nat_eq, slice_get}
 use Rattle.std.specs.List.{filter}
-use Rattle.bm_journal.specs.declared.ids.Domain.TheVariants.{Plain}
+use Rattle.bm_journal.specs.declared.ids.Domain.{Domain}
+use Rattle.bm_journal.specs.declared.ids.Domain.TheVariants.{Plain, Tracing}
 use Rattle.bm_journal.specs.declared.entry.Entry.TheVariants as entry
 use Rattle.bm_lang.specs.declared.scenario.RunLine.{RunLine}
 use Rattle.bm_lang.specs.declared.scenario.Parts.{Parts}
 use Rattle.bm_lang.specs.declared.scenario.Script.{Script}
+use Rattle.bm_lang.specs.declared.scenario.ScriptKind.{ScriptKind}
+use Rattle.bm_lang.specs.declared.scenario.ScriptKind.TheVariants as kind
 use Rattle.bm_law.specs.State.{opening}
 use Rattle.bm_law.specs.Lists.{Log, after}
 use Rattle.bm_law_work.specs.Parts.{Part, Nothing, Stand, Say, Then, If}
@@ -23,16 +26,30 @@ behind_statement s = If s.deferred (UntilDown (opened_classes s.types)) Nothing
 abbrev pub behind_script : Parts → Part
 behind_script s = If s.deferred (WorkBehind (opened_classes s.types)) Nothing
 
+-- The section that a script runs in from its beginning to its end: a plain one, or, where it may sleep, a tracing one. (In the kernel
+-- __bpf_prog_enter_recur takes rcu_read_lock, and __bpf_prog_enter_sleepable_recur rcu_read_lock_trace: kernel/bpf/trampoline.c.)
+abbrev pub section_of : ScriptKind → Domain
+section_of kind.Sleepable = Tracing
+section_of _ = Plain
+
+-- whether that is a plain one, so that a `section` in it is an inner one
+abbrev pub is_plain : Domain → Bool
+is_plain Plain = true
+is_plain Tracing = false
+
+abbrev pub starts_inside : Script → Bool
+starts_inside script = is_plain (section_of script.kind)
+
 -- A script's block runs from names that hold nothing to names that own nothing.
 abbrev pub IsBody : Parts → Script → Part
-IsBody s script l part = (names : Names) × RunsBlock s.types 0 (behind_statement s) script.body no_names names l part × ((x : List ℕ) → OwnsNothing (names x))
+IsBody s script l part = (names : Names) × RunsBlock s.types 0 (starts_inside script) (behind_statement s) script.body no_names names l part × ((x : List ℕ) → OwnsNothing (names x))
 
--- A script in its plain section, whose word is w inside, and the deferred work behind it.
+-- A script in its section, whose word is w inside, and the deferred work after it.
 abbrev pub IsScript : Parts → Script → ℕ → Part
 IsScript s script w =
-    Then (Stand 0 (entry.Script script.name ∷ entry.In Plain w ∷ []))
+    Then (Stand 0 (entry.Script script.name ∷ entry.In (section_of script.kind) w ∷ []))
     (Then (IsBody s script)
-    (Then (Stand 0 (entry.Out Plain (w + 1) ∷ entry.Done script.name ∷ [])) (behind_script s)))
+    (Then (Stand 0 (entry.Out (section_of script.kind) (w + 1) ∷ entry.Done script.name ∷ [])) (behind_script s)))
 
 -- The scripts that these lines run, in order. Which word each section has, the words of the whole log tell: handlers in the
 -- deferred work behind a script have sections of their own.

@@ -21,3 +21,4 @@ pub mod WrongDeferred
 pub mod Short
 pub mod WrongShort
 pub mod WorkedHandlers
+pub mod WorkedSections

@@ -1,12 +1,14 @@
 -- What the statements of a script leave in the log, and in the script's names. Between the entries of a call those of
 -- handlers may stand, which are of higher levels. (This project's own language.)
-use Rattle.std.specs.Prelude.{◌≡◌, ℕ, zero, suc, List}
+use Rattle.std.specs.Prelude.{◌≡◌, ℕ, zero, suc, ◌+◌, Bool, true, false, List, [], ◌∷◌}
+use Rattle.bm_journal.specs.declared.ids.Domain.TheVariants.{Plain}
 use Rattle.bm_journal.specs.declared.entry.Entry.{Entry}
+use Rattle.bm_journal.specs.declared.entry.Entry.TheVariants as entry
 use Rattle.bm_lang.specs.declared.scenario.Action.{Action, New, Drop, Acquire, Get, Exchange, If', Repeat, Section, Lock, Unlock, Yield, PushFront, PushBack, PopFront, PopBack, Add, First, Remove, Held-Action-If-2, None', Some'}
 use Rattle.bm_lang.specs.declared.scenario.Block.{Block, Block', Row_of-Statement, end_of-Statement, more_of-Statement}
 use Rattle.bm_lang.specs.declared.scenario.TypeDeclaration.{TypeDeclaration}
 use Rattle.bm_law.specs.State.{opening}
-use Rattle.bm_law_work.specs.Parts.{Part, Say, Then}
+use Rattle.bm_law_work.specs.Parts.{Part, Say, Stand, Then}
 use Rattle.bm_law_work.specs.Parts as part
 use Rattle.bm_law_scenario.specs.Held.{Held, Nothing, Null, Object, Names}
 use Rattle.bm_law_scenario.specs.Calls.{RunsNew, RunsDrop}
@@ -43,42 +45,52 @@ Chosen Nothing first other = λ names after s part. ⊥
 Chosen Null first other = other
 Chosen (Object t u life) first other = first
 
--- The statements that run by now, each at level l. No journal has any of the others. After each statement, also one that
--- holds others, stands what `behind` says: deferred work, or nothing.
+-- What a block leaves in a plain section of its own, whose word is w inside.
+abbrev pub Enclosed : ℕ → Run → ℕ → Run
+Enclosed l block w names after = Then (Stand l (entry.In Plain w ∷ [])) (Then (block names after) (Stand l (entry.Out Plain (w + 1) ∷ [])))
+
+-- `section`: its block, in a plain section where there is none around it; a section inside another one leaves nothing of its own
+abbrev pub Within : Bool → ℕ → Run → Run
+Within true l block = block
+Within false l block = λ names after s part. (w : ℕ) × Enclosed l block w names after s part
+
+-- The statements that run so far, each at level l, in a plain section or in none. No journal has any of the others. After each
+-- statement, also one that holds others, stands what `behind` says: deferred work, or nothing.
 abbrev mutual
-  pub RunsAction : List TypeDeclaration → ℕ → Part → Action → Run
-  RunsAction types l behind (New x t values) = Calls l (RunsNew types x t values)
-  RunsAction types l behind (Drop x) = Calls l (RunsDrop types x)
-  RunsAction types l behind (If' x body otherwise) = λ names. Chosen (names x) (RunsBlock types l behind body) (RunsElse types l behind otherwise) names
-  RunsAction types l behind (Repeat n body) = Times (RunsBlock types l behind body) n
-  RunsAction types l behind (Section body) = λ names after s part. ⊥
-  RunsAction types l behind (Acquire y x) = λ names after s part. ⊥
-  RunsAction types l behind (Get x field) = λ names after s part. ⊥
-  RunsAction types l behind (Exchange y slot x) = λ names after s part. ⊥
-  RunsAction types l behind (Lock graph) = λ names after s part. ⊥
-  RunsAction types l behind Unlock = λ names after s part. ⊥
-  RunsAction types l behind Yield = λ names after s part. ⊥
-  RunsAction types l behind (PushFront list x) = λ names after s part. ⊥
-  RunsAction types l behind (PushBack list x) = λ names after s part. ⊥
-  RunsAction types l behind (PopFront x list) = λ names after s part. ⊥
-  RunsAction types l behind (PopBack x list) = λ names after s part. ⊥
-  RunsAction types l behind (Add tree x) = λ names after s part. ⊥
-  RunsAction types l behind (First x tree) = λ names after s part. ⊥
-  RunsAction types l behind (Remove y tree x) = λ names after s part. ⊥
+  pub RunsAction : List TypeDeclaration → ℕ → (inside : Bool) → Part → Action → Run
+  RunsAction types l i behind (New x t values) = Calls l (RunsNew types x t values)
+  RunsAction types l i behind (Drop x) = Calls l (RunsDrop types x)
+  RunsAction types l i behind (If' x body otherwise) = λ names. Chosen (names x) (RunsBlock types l i behind body) (RunsElse types l i behind otherwise) names
+  RunsAction types l i behind (Repeat n body) = Times (RunsBlock types l i behind body) n
+  RunsAction types l i behind (Section body) = Within i l (RunsBlock types l true behind body)
+  RunsAction types l i behind Yield = Leaving (Stand l (entry.Yield ∷ []))
+  RunsAction types l i behind (Acquire y x) = λ names after s part. ⊥
+  RunsAction types l i behind (Get x field) = λ names after s part. ⊥
+  RunsAction types l i behind (Exchange y slot x) = λ names after s part. ⊥
+  RunsAction types l i behind (Lock graph) = λ names after s part. ⊥
+  RunsAction types l i behind Unlock = λ names after s part. ⊥
+  RunsAction types l i behind (PushFront list x) = λ names after s part. ⊥
+  RunsAction types l i behind (PushBack list x) = λ names after s part. ⊥
+  RunsAction types l i behind (PopFront x list) = λ names after s part. ⊥
+  RunsAction types l i behind (PopBack x list) = λ names after s part. ⊥
+  RunsAction types l i behind (Add tree x) = λ names after s part. ⊥
+  RunsAction types l i behind (First x tree) = λ names after s part. ⊥
+  RunsAction types l i behind (Remove y tree x) = λ names after s part. ⊥
 
   -- an absent `else` is an empty block
-  pub RunsElse : List TypeDeclaration → ℕ → Part → Held-Action-If-2 → Run
-  RunsElse types l behind None' = Done
-  RunsElse types l behind (Some' body) = RunsBlock types l behind body
+  pub RunsElse : List TypeDeclaration → ℕ → (inside : Bool) → Part → Held-Action-If-2 → Run
+  RunsElse types l i behind None' = Done
+  RunsElse types l i behind (Some' body) = RunsBlock types l i behind body
 
-  pub RunsBlock : List TypeDeclaration → ℕ → Part → Block → Run
-  RunsBlock types l behind (Block' shape row end_line) = RunsRow types l behind row
+  pub RunsBlock : List TypeDeclaration → ℕ → (inside : Bool) → Part → Block → Run
+  RunsBlock types l i behind (Block' shape row end_line) = RunsRow types l i behind row
 
   -- statements, one after the other
-  pub RunsRow : List TypeDeclaration → ℕ → Part → {m : _} → Row_of-Statement m → Run
-  RunsRow types l behind end_of-Statement = Done
-  RunsRow types l behind (more_of-Statement line action rest) = Followed (Followed (RunsAction types l behind action) (Leaving behind)) (RunsRow types l behind rest)
+  pub RunsRow : List TypeDeclaration → ℕ → (inside : Bool) → Part → {m : _} → Row_of-Statement m → Run
+  RunsRow types l i behind end_of-Statement = Done
+  RunsRow types l i behind (more_of-Statement line action rest) = Followed (Followed (RunsAction types l i behind action) (Leaving behind)) (RunsRow types l i behind rest)
 
--- A block leaves these entries of one level, where nothing stands behind a statement: from which lists doesn't matter then.
+-- A block in a plain section leaves these entries of one level, where nothing stands after a statement: from which lists doesn't
+-- matter then.
 abbrev pub RunsAlone : List TypeDeclaration → Block → Names → List Entry → Names → Type 0
-RunsAlone types body names own after = RunsBlock types 0 part.Nothing body names after (opening 0) (ordinary own)
+RunsAlone types body names own after = RunsBlock types 0 true part.Nothing body names after (opening 0) (ordinary own)

@@ -5,7 +5,6 @@ use Rattle.bm_world.specs.ToldLiving.{knows_living}
 use Rattle.std.specs.Borrow.{Bor}
 use Rattle.std.proofs.lemmas.List.Sums.{sum_by-cons}
 use Rattle.std.proofs.lemmas.List.{drop_more}
-use Rattle.bm_journal.specs.declared.ids.Domain.TheVariants.{Plain}
 use Rattle.bm_journal.specs.declared.entry.Entry.TheVariants as entry
 use Rattle.bm_lang.specs.declared.scenario.RunLine.{RunLine}
 use Rattle.bm_lang.specs.declared.scenario.Parts.{Parts}
@@ -17,7 +16,7 @@ use Rattle.bm_law.specs.State.{State}
 use Rattle.bm_law_work.specs.Parts.{Part, Nothing, Stand, Then, If}
 use Rattle.bm_law_work.specs.Grown.{GrewBy}
 use Rattle.bm_law_work.proofs.Grown.{grew-join, grew-none}
-use Rattle.bm_law_scenario.specs.Grammar.{behind_script, behind_statement, AreScripts, IsBody, IsScript, lines_of}
+use Rattle.bm_law_scenario.specs.Grammar.{behind_script, behind_statement, AreScripts, IsBody, IsScript, lines_of, section_of, starts_inside}
 use Rattle.bm_law_scenario.specs.Held.{no_names}
 use Rattle.bm_law_scenario.specs.Opened.{opened_classes}
 use Rattle.bm_law_scenario.specs.Runs.{RunsBlock}
@@ -70,21 +69,21 @@ few-when (Some x) false classes e few = cc
 -- ---- one script
 
 -- what a script's block left is its body
-pub body-wrote : (s : Parts) (script : Script) (types : List TypeDeclaration) (w : Option (List ℕ)) (a b : Processor LivingState) → types ≡ s.types → w ≡ works_for s → RanScript types 0 w (lists_of a) script (log_of a) (log_of b) → Ordinary knows_living a b → Wrote (IsBody s script) a b
-body-wrote s script types w a b e f r u =
-    let Block : List TypeDeclaration → Part → Part = λ ts P. RunsBlock ts 0 P script.body no_names r.after in
+pub body-wrote : (s : Parts) (script : Script) (types : List TypeDeclaration) (w : Option (List ℕ)) (a b : Processor LivingState) → types ≡ s.types → w ≡ works_for s → a.inside ≡ starts_inside script → RanScript types 0 a.inside w (lists_of a) script (log_of a) (log_of b) → Ordinary knows_living a b → Wrote (IsBody s script) a b
+body-wrote s script types w a b e f i r u =
+    let Block : List TypeDeclaration → Bool → Part → Part = λ ts z P. RunsBlock ts 0 z P script.body no_names r.after in
     let behind : Behind w ≡ behind_statement s = ap Behind f ∙ behind-statements s in
-    wrote-map (Block types (Behind w)) (IsBody s script) a b (λ part y. (r.after, subst (λ (P : Part). Block s.types P (lists_of a) part) behind (subst (λ ts. Block ts (Behind w) (lists_of a) part) e y), r.owns_nothing)) record {
+    wrote-map (Block types a.inside (Behind w)) (IsBody s script) a b (λ part y. (r.after, subst (λ (P : Part). Block s.types (starts_inside script) P (lists_of a) part) behind (subst (λ z. Block s.types z (Behind w) (lists_of a) part) i (subst (λ ts. Block ts a.inside (Behind w) (lists_of a) part) e y)), r.owns_nothing)) record {
       grew = r.grew;
       ordinary = u;
     }
 
 -- what stands in a script's section, the section itself, and the work behind it
 pub script-wrote : (s : Parts) (script : Script) (word : ℕ) (w : Option (List ℕ)) (p : Program) (a b c d e : Processor LivingState) → w ≡ works_for s → Sound knows_living p a → Sound knows_living p b → Sound knows_living p c → Sound knows_living p d →
-    Wrote (Stand 0 (entry.Script script.name ∷ entry.In Plain word ∷ [])) a b → Wrote (IsBody s script) b c → Wrote (Stand 0 (entry.Out Plain (word + 1) ∷ entry.Done script.name ∷ [])) c d → Wrote (BehindScript w) d e → Wrote (IsScript s script word) a e
+    Wrote (Stand 0 (entry.Script script.name ∷ entry.In (section_of script.kind) word ∷ [])) a b → Wrote (IsBody s script) b c → Wrote (Stand 0 (entry.Out (section_of script.kind) (word + 1) ∷ entry.Done script.name ∷ [])) c d → Wrote (BehindScript w) d e → Wrote (IsScript s script word) a e
 script-wrote s script word w p a b c d e f sa sb sc sd u v x y =
-    let head : Part = Stand 0 (entry.Script script.name ∷ entry.In Plain word ∷ []) in
-    let stop : Part = Stand 0 (entry.Out Plain (word + 1) ∷ entry.Done script.name ∷ []) in
+    let head : Part = Stand 0 (entry.Script script.name ∷ entry.In (section_of script.kind) word ∷ []) in
+    let stop : Part = Stand 0 (entry.Out (section_of script.kind) (word + 1) ∷ entry.Done script.name ∷ []) in
     let rest : Part = Then stop (behind_script s) in
     let z : Wrote (behind_script s) d e = subst (λ (P : Part). Wrote P d e) (ap BehindScript f ∙ behind-scripts s) y in
     wrote-then head (Then (IsBody s script) rest) p a b e sa sb u (wrote-then (IsBody s script) rest p b c e sb sc v (wrote-then stop (behind_script s) p c d e sc sd x z))
@@ -144,20 +143,19 @@ cost-line scripts r rest script here e =
 cost-other : (scripts : List Script) (r : RunLine) (rest : List RunLine) → lines_cost scripts rest ≤ lines_cost scripts (r ∷ rest)
 cost-other scripts r rest = let c = sum_by-cons (λ (x : RunLine). cost_on 0 x.processor (script_cost (slice_get scripts x.script.0))) r rest in omega (arith, c)
 
--- How much was asked, and the plain section's word with those that handlers may still name, leave room for the line that comes
--- next.
-pub line-room : (scripts : List Script) (runs : List RunLine) (i : ℕ) (d : RunLine) (script : Script) (asked words : ℕ) → i < length runs → (get_or runs i d).processor ≡ 0 → slice_get scripts (get_or runs i d).script.0 ≡ Some script →
-    asked + 2 * lines_cost scripts (drop i runs) ≤ 40000 → asked + (9 * words + 2 * lines_cost scripts (drop i runs)) ≤ 60000 →
-    ((asked + (2 * block_cost script.body + 1)) + 2 * lines_cost scripts (drop (i + 1) runs) ≤ 40000) × ((asked + (2 * block_cost script.body + 1)) + (9 * (words + 2) + 2 * lines_cost scripts (drop (i + 1) runs)) ≤ 60000)
-line-room scripts runs i d script asked words lt here e le most =
+-- How much was asked for leaves room for the line that comes next, and so do the words of tracing sections.
+pub line-room : (scripts : List Script) (runs : List RunLine) (i : ℕ) (d : RunLine) (script : Script) (asks words : ℕ) → i < length runs → (get_or runs i d).processor ≡ 0 → slice_get scripts (get_or runs i d).script.0 ≡ Some script →
+    asks + 2 * lines_cost scripts (drop i runs) ≤ 42000 → words + 2 * lines_cost scripts (drop i runs) ≤ 40000 →
+    ((asks + (2 * block_cost script.body + 3)) + 2 * lines_cost scripts (drop (i + 1) runs) ≤ 42000) × ((words + 2) + 2 * lines_cost scripts (drop (i + 1) runs) ≤ 40000)
+line-room scripts runs i d script asks words lt here e le most =
     let more = ap (lines_cost scripts) (drop_more runs i d lt) in
     let cost = cost-line scripts (get_or runs i d) (drop (i + 1) runs) script here e in
     (omega (arith, le, more, cost), omega (arith, most, more, cost))
 
-pub other-room : (scripts : List Script) (runs : List RunLine) (i : ℕ) (d : RunLine) (asked words : ℕ) → i < length runs →
-    asked + 2 * lines_cost scripts (drop i runs) ≤ 40000 → asked + (9 * words + 2 * lines_cost scripts (drop i runs)) ≤ 60000 →
-    (asked + 2 * lines_cost scripts (drop (i + 1) runs) ≤ 40000) × (asked + (9 * words + 2 * lines_cost scripts (drop (i + 1) runs)) ≤ 60000)
-other-room scripts runs i d asked words lt le most =
+pub other-room : (scripts : List Script) (runs : List RunLine) (i : ℕ) (d : RunLine) (asks words : ℕ) → i < length runs →
+    asks + 2 * lines_cost scripts (drop i runs) ≤ 42000 → words + 2 * lines_cost scripts (drop i runs) ≤ 40000 →
+    (asks + 2 * lines_cost scripts (drop (i + 1) runs) ≤ 42000) × (words + 2 * lines_cost scripts (drop (i + 1) runs) ≤ 40000)
+other-room scripts runs i d asks words lt le most =
     let more = ap (lines_cost scripts) (drop_more runs i d lt) in
     let cost = cost-other scripts (get_or runs i d) (drop (i + 1) runs) in
     (omega (arith, le, more, cost), omega (arith, most, more, cost))

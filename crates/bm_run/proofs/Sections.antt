@@ -1,95 +1,42 @@
--- A sound processor begins and ends sections, records what moves nothing, and ends.
-use Rattle.std.proofs.Common.{◌≡◌, ◌+◌, ℕ, zero, suc, inl, inr, List, [], ◌∷◌, Option, false, true, refl, sym, ap, subst, ◌∙◌, arith, reverse, length}
+-- A processor runs a script in its section, and ends.
+use Rattle.std.proofs.Common.{◌≡◌, ◌+◌, ℕ, Bool, zero, suc, inl, inr, List, [], ◌∷◌, Option, false, true, refl, sym, ap, subst, ◌∙◌, arith, reverse, length}
 use Rattle.bm_world.specs.LivingState.{LivingState}
 use Rattle.bm_world.specs.ToldLiving.{knows_living}
-use Rattle.std.specs.Prelude.{◌≤◌, ◌%◌}
+use Rattle.std.specs.Prelude.{◌≤◌, ◌<◌, ◌*◌, ◌^◌, ◌%◌, if◌then◌else◌}
 use Rattle.bm_journal.specs.declared.ids.Domain.{Domain}
 use Rattle.bm_journal.specs.declared.ids.Domain.TheVariants.{Plain, Tracing}
-use Rattle.bm_journal.specs.declared.entry.Entry.{Entry}
 use Rattle.bm_journal.specs.declared.entry.Entry.TheVariants as entry
 use Rattle.bm_journal.specs.Recording.{Appends, Kept as Recorded}
 use Rattle.bm_closing.specs.AtEnd.{ended_at}
 use Rattle.bm_grace.specs.AtRest.{IsSole}
 use Rattle.bm_grace.specs.Calls.{moved}
 use Rattle.bm_grace.specs.Known.{Known, side}
-use Rattle.bm_grace.specs.Rights.{AsBefore, Rights}
 use Rattle.bm_grace.specs.declared.step.StepKind.{StepKind}
 use Rattle.bm_grace.specs.declared.step.StepKind.TheVariants.{Enter, Leave}
-use Rattle.bm_law.specs.Lists.{Log, is_unstamped}
+use Rattle.bm_law.specs.Lists.{Log}
 use Rattle.bm_cache.specs.Shown.{shown}
-use Rattle.bm_cache.specs.Tokens.{Token}
-use Rattle.bm_law.specs.State.{State}
 use Rattle.bm_cache.specs.declared.caches.Caches.{Caches}
-use Rattle.bm_work.specs.Dated.{Dated}
-use Rattle.bm_cache.specs.Tests.{Tests}
-use Rattle.bm_exec_levels.proofs.Lifetimes.{tests-before}
+use Rattle.bm_exec_levels.proofs.Moved.{before-same, dated-same, stamped-same}
 use Rattle.bm_due.specs.Plan.{Plan}
-use Rattle.bm_due.specs.Standing as standing
-use Rattle.bm_due.specs.Standing.{kind_of}
 use Rattle.bm_due.specs.declared.planned.Due.{Due}
 use Rattle.bm_lang.specs.declared.scenario.Parts.{Parts}
 use Rattle.bm_plan.specs.Position.{StandsAt}
 use Rattle.bm_plan.specs.declared.handlers.Handlers.{Handlers}
 use Rattle.bm_plan.proofs.Positions.{ends-here}
-use Rattle.bm_world.specs.LivingState.{rights_living}
-use Rattle.bm_exec_levels.specs.AtProcessor.{FineAt, IsAt, log_of, tests_of}
-use Rattle.bm_exec_levels.specs.Growing.{IsInner, tells-inner}
+use Rattle.bm_exec_levels.specs.AtProcessor.{FineAt, log_of}
+use Rattle.bm_exec_levels.specs.Growing.{tells-inner}
 use Rattle.bm_exec_levels.specs.Here.{Running, position_of}
-use Rattle.bm_exec_levels.specs.Hosting.{at-say}
 use Rattle.bm_exec_levels.specs.Logged.{Tells}
-use Rattle.bm_exec_levels.specs.Ready.{IsReady, known_of, left_of, word_of}
+use Rattle.bm_exec_levels.specs.Ready.{IsReady, asked_of, known_of, left_cost, left_of, word_of}
 use Rattle.bm_exec_levels.specs.Sound.{Sound}
 use Rattle.bm_exec_levels.specs.Turns.{told-more}
 use Rattle.bm_exec_levels.specs.declared.processor.Processor.{Processor}
 use Rattle.bm_exec_levels.specs.declared.program.Program.{Program}
-use Rattle.bm_exec_levels.specs.Ordinary.{Ordinary}
-
--- ---- a section word that moved
-
--- leaves what is known of periods
-pub begins-moved : (kind : StepKind) (k : Known) (d : Domain) → (side d (moved kind false Plain k)).begins ≡ (side d k).begins
-begins-moved kind k Plain = refl
-begins-moved kind k Tracing = refl
-
-pub ordinary-moved : (kind : StepKind) (a b : Processor LivingState) → known_of knows_living b ≡ moved kind false Plain (known_of knows_living a) → Ordinary knows_living a b
-ordinary-moved kind a b k = record {
-  processors = ap (λ (x : Known). x.grace.processors) k;
-  processor = ap (λ (x : Known). x.grace.processor) k;
-}
-
--- what stands in the lists is as it was, and so is what the side may do
-stamped-same : (a b : State Token) → b ≡ a → ((c : ℕ) → is_unstamped (a.rows c).deferred.plain ≡ false) → (c : ℕ) → is_unstamped (b.rows c).deferred.plain ≡ false
-stamped-same a b e h c = ap (λ (x : State Token). is_unstamped (x.rows c).deferred.plain) e ∙ h c
-
--- nothing happened
-before-same : (r : Rights) → AsBefore r r
-before-same r = record { mine = λ n. refl; settled = λ n life seal. refl; due = λ n life seal. refl; ripe = λ n life seal. refl; since = λ d x n. refl }
-
-dated-same : (a b : Processor LivingState) → AsBefore (rights_living a.side) (rights_living b.side) → shown b.caches ≡ shown a.caches → Dated (tests_of knows_living a) (shown a.caches) → Dated (tests_of knows_living b) (shown b.caches)
-dated-same a b r e h =
-    let F : Tests → State Token → Type 0 = λ x t. Dated x t in
-    subst (λ x. F x (shown b.caches)) (sym (tests-before (rights_living a.side) (rights_living b.side) r)) (subst (λ t. F (tests_of knows_living a) t) (sym e) h)
-
--- the plain section word moved
-pub sound-moved : (kind : StepKind) (p : Program) (a b : Processor LivingState) → AsBefore (rights_living a.side) (rights_living b.side) → shown b.caches ≡ shown a.caches → known_of knows_living b ≡ moved kind false Plain (known_of knows_living a) → left_of b ≡ left_of a → b.settled ≡ a.settled → IsAt knows_living StandsAt 0 p b → FineAt knows_living 0 b → Sound knows_living p a → Sound knows_living p b
-sound-moved kind p a b r e k l n at fine s = record {
-  at = at;
-  fine = fine;
-  dated = dated-same a b r e s.dated;
-  stamped = stamped-same (shown a.caches) (shown b.caches) e s.stamped;
-  begins = λ d. (let h = s.begins d in let q : (side d (known_of knows_living b)).begins ≡ (side d (known_of knows_living a)).begins = ap (λ (x : Known). (side d x).begins) k ∙ begins-moved kind (known_of knows_living a) d in let z = ap (λ (x : List _). length x) l in omega (arith, h, n, q, z));
-}
-
--- ---- an entry that moves nothing
-
-pub sound-noted : (p : Program) (m : Processor LivingState) (c : Caches Recorded) (e : Entry) → kind_of e ≡ standing.Stays → IsInner e → shown c ≡ shown m.caches → c.processor ≡ m.caches.processor → Appends (log_of m) 0 e c.recorder.told → FineAt knows_living 0 (record m { caches = c }) → Sound knows_living p m → Sound knows_living p (record m { caches = c })
-sound-noted p m c e k i same pr a fine s = record {
-  at = at-say knows_living 0 p m c e k i pr a s.at;
-  fine = fine;
-  dated = dated-same m (record m { caches = c }) (before-same (rights_living m.side)) same s.dated;
-  stamped = stamped-same (shown m.caches) (shown c) same s.stamped;
-  begins = s.begins;
-}
+use Rattle.bm_exec_levels.specs.Ordinary.{Scripted, Statements}
+use Rattle.bm_exec_levels.proofs.Scripts.{words-most}
+use Rattle.bm_run.specs.Lines.{asks_in}
+use Rattle.bm_law.specs.Begun.{for_domain}
+use Rattle.bm_law_scenario.specs.Grammar.{is_plain}
 
 -- ---- the end of the processor
 
@@ -144,7 +91,7 @@ ended-with p m c h e n same pr a fine s =
         ready = ready-ended p m c h e n pr s.at.ready;
       };
       fine = fine;
-      dated = dated-same m (record m { caches = c; handlers = h }) (before-same (rights_living m.side)) same s.dated;
+      dated = dated-same knows_living m (record m { caches = c; handlers = h }) (before-same (knows_living.rights m.side)) same s.dated;
       stamped = stamped-same (shown m.caches) (shown c) same s.stamped;
       begins = λ d. (let b = s.begins d in let z = ap (λ (x : List _). length x) left in omega (arith, b, z));
     }
@@ -159,18 +106,99 @@ sound-ended p m n h e k is same pr a fine s =
 
 -- ---- one script in its section
 
+-- the word says whether it is in one
+by-inside : (a b : Bool) (v w : ℕ) → w % 2 ≡ (if b then 1 else 0) → v % 2 ≡ (if a then 1 else 0) → b ≡ a → w % 2 ≡ v % 2
+by-inside a b v w h k e = h ∙ ap (λ (x : Bool). let n : ℕ = if x then 1 else 0 in n) e ∙ sym k
+
 -- each section begins and ends as often
-pub parity-script : (m m1 m2 m3 m4 : Processor LivingState) → known_of knows_living m1 ≡ moved Enter false Plain (known_of knows_living m) → ((d : Domain) → word_of knows_living d m2 % 2 ≡ word_of knows_living d m1 % 2) → known_of knows_living m3 ≡ moved Leave false Plain (known_of knows_living m2) → ((d : Domain) → word_of knows_living d m4 % 2 ≡ word_of knows_living d m3 % 2) → (d : Domain) → word_of knows_living d m4 % 2 ≡ word_of knows_living d m % 2
-parity-script m m1 m2 m3 m4 k p l q Plain =
-    let one : word_of knows_living Plain m1 ≡ word_of knows_living Plain m + 1 = ap (λ (x : Known). (side Plain x).word) k in
-    let two : word_of knows_living Plain m3 ≡ word_of knows_living Plain m2 + 1 = ap (λ (x : Known). (side Plain x).word) l in
-    let x = p Plain in
-    let y = q Plain in
-    omega (arith, one, two, x, y)
-parity-script m m1 m2 m3 m4 k p l q Tracing =
-    let one : word_of knows_living Tracing m1 ≡ word_of knows_living Tracing m = ap (λ (x : Known). (side Tracing x).word) k in
-    let two : word_of knows_living Tracing m3 ≡ word_of knows_living Tracing m2 = ap (λ (x : Known). (side Tracing x).word) l in
-    q Tracing ∙ ap (λ n. n % 2) two ∙ p Tracing ∙ ap (λ n. n % 2) one
+pub parity-script : (e : Domain) (m m1 m2 m3 m4 : Processor LivingState) → known_of knows_living m1 ≡ moved Enter false e (known_of knows_living m) → word_of knows_living Plain m2 % 2 ≡ word_of knows_living Plain m1 % 2 → word_of knows_living Tracing m2 ≡ word_of knows_living Tracing m1 → known_of knows_living m3 ≡ moved Leave false e (known_of knows_living m2) →
+    ((d : Domain) → word_of knows_living d m4 % 2 ≡ word_of knows_living d m3 % 2) → (d : Domain) → word_of knows_living d m4 % 2 ≡ word_of knows_living d m % 2
+parity-script e m m1 m2 m3 m4 k p t l q d = q d ∙ over e d k l
+  where
+    steps : (a b : ℕ) → b ≡ a + 1 → (c : ℕ) → c % 2 ≡ b % 2 → (f : ℕ) → f ≡ c + 1 → f % 2 ≡ a % 2
+    steps a b g c h f i = omega (arith, g, h, i)
+
+    over : (e d : Domain) → known_of knows_living m1 ≡ moved Enter false e (known_of knows_living m) → known_of knows_living m3 ≡ moved Leave false e (known_of knows_living m2) → word_of knows_living d m3 % 2 ≡ word_of knows_living d m % 2
+    over Plain Plain k l = steps (word_of knows_living Plain m) (word_of knows_living Plain m1) (ap (λ (x : Known). (side Plain x).word) k) (word_of knows_living Plain m2) p (word_of knows_living Plain m3) (ap (λ (x : Known). (side Plain x).word) l)
+    over Plain Tracing k l = ap (λ (x : Known). (side Tracing x).word % 2) l ∙ (ap (λ n. n % 2) t ∙ ap (λ (x : Known). (side Tracing x).word % 2) k)
+    over Tracing Plain k l = ap (λ (x : Known). (side Plain x).word % 2) l ∙ (p ∙ ap (λ (x : Known). (side Plain x).word % 2) k)
+    over Tracing Tracing k l = steps (word_of knows_living Tracing m) (word_of knows_living Tracing m1) (ap (λ (x : Known). (side Tracing x).word) k) (word_of knows_living Tracing m2) (ap (λ n. n % 2) t) (word_of knows_living Tracing m3) (ap (λ (x : Known). (side Tracing x).word) l)
+
+-- the plain word is odd or even as it was, where it is in a plain section as it was
+pub parity-plain : (p : Program) (a b : Processor LivingState) → Sound knows_living p a → Sound knows_living p b → b.inside ≡ a.inside → word_of knows_living Plain b % 2 ≡ word_of knows_living Plain a % 2
+parity-plain p a b s t e = by-inside a.inside b.inside (word_of knows_living Plain a) (word_of knows_living Plain b) t.at.ready.inside s.at.ready.inside e
+
+-- what its section begins with is what it is in
+pub starts-is : (d : Domain) (inside now : Bool) → inside ≡ false → now ≡ for_domain Plain d true inside → now ≡ is_plain d
+starts-is Plain inside now e h = h
+starts-is Tracing inside now e h = h ∙ e
+
+pub even-out : (b : Bool) (w : ℕ) → w % 2 ≡ (if b then 1 else 0) → w % 2 ≡ 0 → b ≡ false
+even-out true w h e = absurd (let z = h in omega (arith, z, e))
+even-out false w h e = refl
+
+-- outside a section no word waits to be named
+pub outside-words : (b : Bool) (w n : ℕ) → w % 2 ≡ (if b then 1 else 0) → n ≡ (if b then 1 else 0) → w ≡ 0 → n ≡ 0
+outside-words true w n h k e = absurd (let z = h in omega (arith, z, e))
+outside-words false w n h k e = k
+
+-- what is asked for with a section's begin, and with its end
+same-asked : (s : Parts) (m k : Processor LivingState) (e : Domain) (kind : StepKind) → known_of knows_living k ≡ moved kind false e (known_of knows_living m) → k ≡ record m { caches = k.caches; side = k.side; inside = k.inside } → asked_of knows_living s k ≡ asked_of knows_living s m
+same-asked s m k e kind q r =
+    let objects : (known_of knows_living k).objects.asked ≡ (known_of knows_living m).objects.asked = ap (λ (x : Known). x.objects.asked) q in
+    let rest : k.settled + left_cost s (left_of k) ≡ m.settled + left_cost s (left_of m) = ap (λ (x : Processor LivingState). x.settled + left_cost s (left_of x)) r in
+    omega (arith, objects, rest)
+
+pub asks-entered : (e : Domain) (s : Parts) (m k : Processor LivingState) → known_of knows_living k ≡ moved Enter false e (known_of knows_living m) → k ≡ record m { caches = k.caches; side = k.side; inside = k.inside } → k.inside ≡ for_domain Plain e true m.inside → asks_in s k ≤ asks_in s m + 2
+asks-entered Plain s m k q r i =
+    let asked = same-asked s m k Plain Enter q r in
+    let word : word_of knows_living Plain k ≡ word_of knows_living Plain m + 1 = ap (λ (x : Known). (side Plain x).word) q in
+    let left : length (left_of k) ≡ length (left_of m) = ap (λ (x : Processor LivingState). length (left_of x)) r in
+    let now : (let n : ℕ = if k.inside then 1 else 0 in n) ≡ 1 = ap (λ (x : Bool). let n : ℕ = if x then 1 else 0 in n) i in
+    omega (arith, asked, word, left, now)
+asks-entered Tracing s m k q r i =
+    let asked = same-asked s m k Tracing Enter q r in
+    let word : word_of knows_living Plain k ≡ word_of knows_living Plain m = ap (λ (x : Known). (side Plain x).word) q in
+    let left : length (left_of k) ≡ length (left_of m) = ap (λ (x : Processor LivingState). length (left_of x)) r in
+    let now : (let n : ℕ = if k.inside then 1 else 0 in n) ≡ (let n : ℕ = if m.inside then 1 else 0 in n) = ap (λ (x : Bool). let n : ℕ = if x then 1 else 0 in n) i in
+    omega (arith, asked, word, left, now)
+
+pub asks-left : (e : Domain) (s : Parts) (m k : Processor LivingState) → known_of knows_living k ≡ moved Leave false e (known_of knows_living m) → k ≡ record m { caches = k.caches; side = k.side; inside = k.inside } → k.inside ≡ for_domain Plain e false m.inside → m.inside ≡ is_plain e → asks_in s k ≤ asks_in s m
+asks-left Plain s m k q r i f =
+    let asked = same-asked s m k Plain Leave q r in
+    let word : word_of knows_living Plain k ≡ word_of knows_living Plain m + 1 = ap (λ (x : Known). (side Plain x).word) q in
+    let left : length (left_of k) ≡ length (left_of m) = ap (λ (x : Processor LivingState). length (left_of x)) r in
+    let now : (let n : ℕ = if k.inside then 1 else 0 in n) ≡ 0 = ap (λ (x : Bool). let n : ℕ = if x then 1 else 0 in n) i in
+    let was : (let n : ℕ = if m.inside then 1 else 0 in n) ≡ 1 = ap (λ (x : Bool). let n : ℕ = if x then 1 else 0 in n) f in
+    omega (arith, asked, word, left, now, was)
+asks-left Tracing s m k q r i f =
+    let asked = same-asked s m k Tracing Leave q r in
+    let word : word_of knows_living Plain k ≡ word_of knows_living Plain m = ap (λ (x : Known). (side Plain x).word) q in
+    let left : length (left_of k) ≡ length (left_of m) = ap (λ (x : Processor LivingState). length (left_of x)) r in
+    let now : (let n : ℕ = if k.inside then 1 else 0 in n) ≡ (let n : ℕ = if m.inside then 1 else 0 in n) = ap (λ (x : Bool). let n : ℕ = if x then 1 else 0 in n) i in
+    omega (arith, asked, word, left, now)
+
+-- there is room for one word more
+pub few-words : (s : Parts) (m : Processor LivingState) → asks_in s m < 2 ^ 22 → word_of knows_living Plain m + 2 * length (left_of m) + 1 < 2 ^ 28
+few-words s m h = omega (arith, h)
+
+-- works were asked for once more
+pub asks-worked : (s : Parts) (a b : Processor LivingState) → asked_of knows_living s b ≤ asked_of knows_living s a + 1 → Statements knows_living a b → asks_in s b ≤ asks_in s a + 1
+asks-worked s a b h t = (let words = words-most knows_living a b t in omega (arith, h, words))
+
+-- the tracing word moves at most once with a section's begin or end
+pub tracing-moved : (kind : StepKind) (e : Domain) (m k : Processor LivingState) → known_of knows_living k ≡ moved kind false e (known_of knows_living m) → word_of knows_living Tracing k ≤ word_of knows_living Tracing m + 1
+tracing-moved kind Plain m k q = (let w : word_of knows_living Tracing k ≡ word_of knows_living Tracing m = ap (λ (x : Known). (side Tracing x).word) q in omega (arith, w))
+tracing-moved kind Tracing m k q = (let w : word_of knows_living Tracing k ≡ word_of knows_living Tracing m + 1 = ap (λ (x : Known). (side Tracing x).word) q in omega (arith, w))
+
+-- the word of a section that was begun is odd
+pub odd-begun : (e : Domain) (v w : ℕ) → v % 2 ≡ 0 → w ≡ v + 1 → w % 2 ≡ 1
+odd-begun e v w h k = omega (arith, h, k)
+
+-- the word of a script's section stays
+pub section-stays : (d : Domain) (a b : Processor LivingState) → a.inside ≡ is_plain d → Scripted knows_living a.inside a b → word_of knows_living d b ≡ word_of knows_living d a
+section-stays Plain a b e s = s.plain e
+section-stays Tracing a b e s = s.tracing
 
 -- ---- the periods at the end
 

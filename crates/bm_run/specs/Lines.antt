@@ -1,5 +1,5 @@
 -- Stretches of the run of the one processor.
-use Rattle.std.specs.Prelude.{ℕ, Bool, true, false, List, Option, Some, None, IsSome, sum_by, slice_get}
+use Rattle.std.specs.Prelude.{ℕ, ◌+◌, Bool, true, false, List, Option, Some, None, IsSome, sum_by, slice_get}
 use Rattle.bm_world.specs.LivingState.{LivingState}
 use Rattle.bm_world.specs.ToldLiving.{knows_living}
 use Rattle.std.specs.List.{All}
@@ -12,12 +12,17 @@ use Rattle.bm_law_work.specs.Grown.{GrewBy}
 use Rattle.bm_law_scenario.specs.Opened.{opened_classes}
 use Rattle.bm_law_scenario.specs.Works.{WorkBehind}
 use Rattle.bm_exec_levels.specs.AtProcessor.{lists_of, log_of}
-use Rattle.bm_exec_levels.specs.Ordinary.{Ordinary}
+use Rattle.bm_exec_levels.specs.Ordinary.{Ordinary, words_of}
+use Rattle.bm_exec_levels.specs.Ready.{asked_of}
 use Rattle.bm_exec_levels.specs.declared.processor.Processor.{Processor}
 
 -- how many statements some lines run on processor 0 at most
 abbrev pub lines_cost : List Script → List RunLine → ℕ
 lines_cost scripts runs = sum_by (λ (r : RunLine). cost_on 0 r.processor (script_cost (slice_get scripts r.script.0))) runs
+
+-- how many objects, works and words of plain sections were asked for, and how many more handlers that haven't run may ask for
+abbrev pub asks_in : Parts → Processor LivingState → ℕ
+asks_in s m = asked_of knows_living s m + words_of knows_living m
 
 -- each line names a declared script
 abbrev pub AllDeclared : Parts → Type 0

@@ -146,7 +146,7 @@ fn close<B: Since<LivingSide>>(
     requires tied { TiedAt knows_living B.since B.start own }
     requires one { (known_of knows_living own).grace.processors ≡ 1 }
     requires first { (known_of knows_living own).grace.processor ≡ 0 }
-    requires settled { own.settled ≤ 40000 }
+    requires settled { own.settled ≤ 42000 }
     requires few { length classes.now ≤ 11 }
     requires outside { (d : DomainValue) → word_of knows_living d own % 2 ≡ 0 }
     requires unused { IsSome own.caches.recorder.told → (c : ℕ) → times c classes.now ≡ 0 → seven_lists ((shown own.caches).rows c) ≡ [] }

@@ -3,29 +3,40 @@
 ghost use Rattle.std.specs.Prelude.{◌≡◌, ◌+◌, ◌*◌, ◌<◌, ◌≤◌, ◌%◌, ◌^◌, [], ℕ, IfSome, None, OnOk, Some, length, slice_get};
 ghost use Rattle.bm_world.specs.ToldLiving.{knows_living};
 ghost use Rattle.bm_journal.specs.declared.ids.Domain.{Domain as DomainValue};
-ghost use Rattle.bm_journal.specs.declared.ids.Domain.TheVariants.{Plain};
+ghost use Rattle.bm_journal.specs.declared.ids.Domain.TheVariants.{Tracing};
 ghost use Rattle.bm_lang.specs.Limits.{block_cost};
 ghost use Rattle.bm_exec.specs.Lists.{Behind, behind_of};
 ghost use Rattle.bm_exec.specs.Running.{RanScript};
 ghost use Rattle.bm_exec.specs.declared.running.Stopped.TheVariants as stopped;
-ghost use Rattle.bm_law_scenario.specs.Grammar.{AreScripts, IsScript, lines_of};
+ghost use Rattle.bm_law_scenario.specs.Grammar.{AreScripts, IsScript, lines_of, section_of};
 ghost use Rattle.bm_exec_levels.specs.AtProcessor.{SameLives, lists_of, log_of};
 ghost use Rattle.bm_exec_levels.specs.AtTie.{TiedAt};
-ghost use Rattle.bm_exec_levels.specs.Ordinary.{Statements};
+ghost use Rattle.bm_exec_levels.specs.Ordinary.{Scripted};
 ghost use Rattle.bm_exec_levels.specs.Ready.{asked_of, left_of, word_of};
 ghost use Rattle.bm_exec_levels.specs.Sound.{Sound};
-ghost use Rattle.bm_run.specs.Lines.{lines_cost, works_for, AllDeclared, Wrote};
+ghost use Rattle.bm_run.specs.Lines.{asks_in, lines_cost, works_for, AllDeclared, Wrote};
 
 use crate::stretches::{begin_script, end_script, settle_behind};
 use bm_exec::{Stopped, run_script};
 use bm_exec_levels::{Deferred, Ground, Processor, Program, Since};
-use bm_lang::Script;
+use bm_journal::Domain;
+use bm_lang::{Script, ScriptKind};
 use bm_word::NoMemory;
 use bm_world::LivingSide;
 use std::alloc::Global;
 use std::marker::PhantomData;
 
-// Runs the statements of a script, as ordinary code.
+// The domain of the section that a script of a kind runs in.
+fn section_of(kind: ScriptKind) -> Domain
+    ensures { result ≡ section_of kind }
+{
+    match kind {
+        ScriptKind::Sleepable => Domain::Tracing,
+        ScriptKind::Plain | ScriptKind::Handler => Domain::Plain,
+    }
+}
+
+// Runs the statements of a script, as ordinary code, in a plain section as a whole if the processor is in one.
 fn run_body<'s, B: Since<LivingSide>>(
     alloc: Global,
     own: &mut Processor<LivingSide>,
@@ -36,21 +47,24 @@ fn run_body<'s, B: Since<LivingSide>>(
     requires sound { Sound knows_living program.now own.old }
     requires tied { TiedAt knows_living B.since B.start own.old }
     requires few { IfSome deferred.now.behind (λ classes. length classes.now ≤ 11) }
-    requires room { asked_of knows_living program.now.scenario.now own.old + 2 * block_cost script.now.body < 2 ^ 22 }
+    requires room { asks_in program.now.scenario.now own.old + 2 * block_cost script.now.body < 2 ^ 22 }
     requires found { (i : ℕ) × (slice_get program.now.scenario.now.scripts i ≡ Some script.now) }
     requires down { Behind (behind_of deferred.now.behind) (lists_of own.old) [] }
-    ensures ended { result ≡ stopped.Ended → RanScript program.now.scenario.now.types 0 (behind_of deferred.now.behind) (lists_of own.old) script.now (log_of own.old) (log_of own.new) }
+    ensures ended { result ≡ stopped.Ended → RanScript program.now.scenario.now.types 0 own.old.inside (behind_of deferred.now.behind) (lists_of own.old) script.now (log_of own.old) (log_of own.new) }
     ensures lives { result ≡ stopped.Ended → SameLives knows_living own.old own.new }
-    ensures asked { result ≡ stopped.Ended → asked_of knows_living program.now.scenario.now own.new ≤ asked_of knows_living program.now.scenario.now own.old + 2 * block_cost script.now.body }
+    ensures asked { result ≡ stopped.Ended → asks_in program.now.scenario.now own.new ≤ asks_in program.now.scenario.now own.old + 2 * block_cost script.now.body }
     ensures down { result ≡ stopped.Ended → Behind (behind_of deferred.now.behind) (lists_of own.new) [] }
-    ensures statements { result ≡ stopped.Ended → Statements knows_living own.old own.new }
+    ensures scripted { result ≡ stopped.Ended → Scripted knows_living own.old.inside own.old own.new }
+    ensures inside { result ≡ stopped.Ended → own.new.inside ≡ own.old.inside }
     ensures sound { result ≡ stopped.Ended → Sound knows_living program.now own.new }
     ensures tied { result ≡ stopped.Ended → TiedAt knows_living B.since B.start own.new }
 {
+    let within = own.inside;
     let mut code = Ground::<LivingSide, B> {
         own,
         program,
         deferred,
+        within,
         since: PhantomData,
     };
     let stopped = run_script(alloc, &mut code, &program.types, program.scenario, script);
@@ -58,12 +72,13 @@ fn run_body<'s, B: Since<LivingSide>>(
         own: _,
         program: _,
         deferred: _,
+        within: _,
         since: _,
     } = code;
     stopped
 }
 
-// Runs a script in its plain section, and the deferred work behind it.
+// Runs a script in its section, and the deferred work after it.
 fn run_line<'s, B: Since<LivingSide>>(
     alloc: Global,
     own: &mut Processor<LivingSide>,
@@ -75,32 +90,33 @@ fn run_line<'s, B: Since<LivingSide>>(
     requires tied { TiedAt knows_living B.since B.start own.old }
     requires works { behind_of deferred.now.behind ≡ works_for program.now.scenario.now }
     requires few { IfSome deferred.now.behind (λ classes. length classes.now ≤ 11) }
-    requires room { asked_of knows_living program.now.scenario.now own.old + (2 * block_cost script.now.body + 1) < 2 ^ 22 }
+    requires room { asks_in program.now.scenario.now own.old + (2 * block_cost script.now.body + 3) < 2 ^ 22 }
+    requires short { word_of knows_living Tracing own.old + 2 < 2 ^ 28 }
     requires found { (i : ℕ) × (slice_get program.now.scenario.now.scripts i ≡ Some script.now) }
     requires down { Behind (behind_of deferred.now.behind) (lists_of own.old) [] }
-    requires outside { word_of knows_living Plain own.old % 2 ≡ 0 }
-    requires short { word_of knows_living Plain own.old + 2 * length (left_of own.old) + 2 < 2 ^ 28 }
-    ensures wrote { OnOk result (Wrote (IsScript program.now.scenario.now script.now (word_of knows_living Plain own.old + 1)) own.old own.new) }
+    requires outside { (d : DomainValue) → word_of knows_living d own.old % 2 ≡ 0 }
+    ensures wrote { OnOk result ((w : ℕ) × Wrote (IsScript program.now.scenario.now script.now w) own.old own.new) }
     ensures lives { OnOk result (SameLives knows_living own.old own.new) }
-    ensures asked { OnOk result (asked_of knows_living program.now.scenario.now own.new ≤ asked_of knows_living program.now.scenario.now own.old + (2 * block_cost script.now.body + 1)) }
+    ensures asked { OnOk result (asks_in program.now.scenario.now own.new ≤ asks_in program.now.scenario.now own.old + (2 * block_cost script.now.body + 3)) }
+    ensures tracing { OnOk result (word_of knows_living Tracing own.new ≤ word_of knows_living Tracing own.old + 2) }
     ensures down { OnOk result (Behind (behind_of deferred.now.behind) (lists_of own.new) []) }
     ensures outside { OnOk result ((d : DomainValue) → word_of knows_living d own.new % 2 ≡ word_of knows_living d own.old % 2) }
-    ensures words { OnOk result (word_of knows_living Plain own.new + 2 * length (left_of own.new) ≤ word_of knows_living Plain own.old + 2 * length (left_of own.old) + 2) }
     ensures sound { OnOk result (Sound knows_living program.now own.new) }
     ensures tied { OnOk result (TiedAt knows_living B.since B.start own.new) }
 {
-    begin_script(own, &script.name);
+    let domain = section_of(script.kind);
+    begin_script(own, &script.name, domain);
     match run_body::<B>(alloc, own, program, deferred, script) {
         Stopped::NoMemory => Err(NoMemory),
         Stopped::Ended => {
-            end_script(own, &script.name);
+            end_script(own, &script.name, domain);
             settle_behind::<B>(own, program, deferred)
         }
     }
 }
 
-/// Runs the scripts of the `run` lines of processor 0, in order, each in a plain section and with the deferred work behind it; and
-/// the handlers that are due meanwhile. Want of memory is the only refusal.
+/// Runs the scripts of the `run` lines of processor 0, in order, each in its section and with the deferred work after it; and
+/// the handlers that are due meanwhile. Out of memory is the only refusal.
 pub fn run_lines<'s, B: Since<LivingSide>>(
     alloc: Global,
     own: &mut Processor<LivingSide>,
@@ -119,7 +135,7 @@ pub fn run_lines<'s, B: Since<LivingSide>>(
     ensures wrote { OnOk result (Wrote (AreScripts program.now.scenario.now (lines_of 0 program.now.scenario.now.runs)) own.old own.new) }
     ensures lives { OnOk result (SameLives knows_living own.old own.new) }
     ensures outside { OnOk result ((d : DomainValue) → word_of knows_living d own.new % 2 ≡ 0) }
-    ensures asked { OnOk result (asked_of knows_living program.now.scenario.now own.new ≤ 40000) }
+    ensures asked { OnOk result (asked_of knows_living program.now.scenario.now own.new ≤ 42000) }
     ensures sound { OnOk result (Sound knows_living program.now own.new) }
     ensures tied { OnOk result (TiedAt knows_living B.since B.start own.new) }
 {

@@ -4,6 +4,7 @@ ghost use Rattle.std.specs.Prelude.{◌≡◌, ◌+◌, ◌*◌, ◌<◌, ◌≤
 ghost use Rattle.bm_world.specs.ToldLiving.{knows_living};
 ghost use Rattle.bm_journal.specs.declared.entry.Entry.TheVariants as entry;
 ghost use Rattle.bm_journal.specs.declared.ids.Domain.TheVariants.{Plain};
+ghost use Rattle.bm_law.specs.Begun.{for_domain};
 ghost use Rattle.bm_journal.specs.Recording.{Appends};
 ghost use Rattle.bm_grace.specs.Calls.{entered, left};
 ghost use Rattle.bm_cache.specs.Shown.{shown};
@@ -26,7 +27,7 @@ ghost use Rattle.bm_run.specs.Lines.{BehindScript, Wrote};
 use bm_exec_levels::{
     Deferred, Processor, Program, Since, enter_section, leave_section, settle_script,
 };
-use bm_journal::{Entry, Level};
+use bm_journal::{Domain, Entry, Level};
 use bm_word::{Name, NoMemory};
 use bm_world::LivingSide;
 
@@ -46,73 +47,79 @@ fn note(own: &mut Processor<LivingSide>, entry: Entry)
     own.caches.note(Level::ordinary(), entry);
 }
 
-// Begins the plain section that a script runs in, and records it.
-fn go_in(own: &mut Processor<LivingSide>)
+// Begins the section that a script runs in, and records it.
+fn go_in(own: &mut Processor<LivingSide>, domain: Domain)
     requires fine { FineAt knows_living 0 own.old }
-    requires outside { word_of knows_living Plain own.old % 2 ≡ 0 }
+    requires outside { word_of knows_living domain own.old % 2 ≡ 0 }
+    requires few { word_of knows_living domain own.old + 1 < 2 ^ 28 }
     requires room { word_of knows_living Plain own.old + 2 * length (left_of own.old) + 1 < 2 ^ 28 }
-    ensures wrote { Wrote (Stand 0 (entry.In Plain (word_of knows_living Plain own.old + 1) ∷ [])) own.old own.new }
+    ensures wrote { Wrote (Stand 0 (entry.In domain (word_of knows_living domain own.old + 1) ∷ [])) own.old own.new }
     ensures lists { shown own.new.caches ≡ shown own.old.caches }
     ensures processor { own.new.caches.processor ≡ own.old.caches.processor }
-    ensures known { known_of knows_living own.new ≡ entered false Plain (known_of knows_living own.old) }
+    ensures known { known_of knows_living own.new ≡ entered false domain (known_of knows_living own.old) }
+    ensures inside { own.new.inside ≡ for_domain Plain domain true own.old.inside }
     ensures same { own.new ≡ record own.old { caches = own.new.caches; side = own.new.side; inside = own.new.inside } }
     ensures fine { FineAt knows_living 0 own.new }
     ensures tied { (since : Log) (start : LivingState) → TiedAt knows_living since start own.old → TiedAt knows_living since start own.new }
     ensures sound { (p : ProgramValue) → Sound knows_living p own.old → Sound knows_living p own.new }
 {
-    enter_section(own, Level::ordinary());
+    enter_section(own, Level::ordinary(), domain);
 }
 
-// Ends the plain section that a script ran in, and records it.
-fn go_out(own: &mut Processor<LivingSide>)
+// Ends the section that a script ran in, and records it.
+fn go_out(own: &mut Processor<LivingSide>, domain: Domain)
     requires fine { FineAt knows_living 0 own.old }
-    requires inside { word_of knows_living Plain own.old % 2 ≡ 1 }
+    requires inside { word_of knows_living domain own.old % 2 ≡ 1 }
     requires room { word_of knows_living Plain own.old + 2 * length (left_of own.old) + 1 < 2 ^ 28 }
-    ensures wrote { Wrote (Stand 0 (entry.Out Plain (word_of knows_living Plain own.old + 1) ∷ [])) own.old own.new }
+    ensures wrote { Wrote (Stand 0 (entry.Out domain (word_of knows_living domain own.old + 1) ∷ [])) own.old own.new }
     ensures lists { shown own.new.caches ≡ shown own.old.caches }
     ensures processor { own.new.caches.processor ≡ own.old.caches.processor }
-    ensures known { known_of knows_living own.new ≡ left false Plain (known_of knows_living own.old) }
+    ensures known { known_of knows_living own.new ≡ left false domain (known_of knows_living own.old) }
+    ensures inside { own.new.inside ≡ for_domain Plain domain false own.old.inside }
     ensures same { own.new ≡ record own.old { caches = own.new.caches; side = own.new.side; inside = own.new.inside } }
     ensures fine { FineAt knows_living 0 own.new }
     ensures tied { (since : Log) (start : LivingState) → TiedAt knows_living since start own.old → TiedAt knows_living since start own.new }
     ensures sound { (p : ProgramValue) → Sound knows_living p own.old → Sound knows_living p own.new }
 {
-    leave_section(own, Level::ordinary());
+    leave_section(own, Level::ordinary(), domain);
 }
 
-/// Names a script, and begins its plain section.
-pub(crate) fn begin_script(own: &mut Processor<LivingSide>, name: &Name)
+/// Names a script, and begins its section.
+pub(crate) fn begin_script(own: &mut Processor<LivingSide>, name: &Name, domain: Domain)
     requires fine { FineAt knows_living 0 own.old }
-    requires outside { word_of knows_living Plain own.old % 2 ≡ 0 }
+    requires outside { word_of knows_living domain own.old % 2 ≡ 0 }
+    requires few { word_of knows_living domain own.old + 1 < 2 ^ 28 }
     requires room { word_of knows_living Plain own.old + 2 * length (left_of own.old) + 1 < 2 ^ 28 }
-    ensures wrote { Wrote (Stand 0 (entry.Script name.now ∷ entry.In Plain (word_of knows_living Plain own.old + 1) ∷ [])) own.old own.new }
+    ensures wrote { Wrote (Stand 0 (entry.Script name.now ∷ entry.In domain (word_of knows_living domain own.old + 1) ∷ [])) own.old own.new }
     ensures lists { shown own.new.caches ≡ shown own.old.caches }
-    ensures known { known_of knows_living own.new ≡ entered false Plain (known_of knows_living own.old) }
+    ensures known { known_of knows_living own.new ≡ entered false domain (known_of knows_living own.old) }
+    ensures inside { own.new.inside ≡ for_domain Plain domain true own.old.inside }
     ensures same { own.new ≡ record own.old { caches = own.new.caches; side = own.new.side; inside = own.new.inside } }
     ensures tied { (since : Log) (start : LivingState) → TiedAt knows_living since start own.old → TiedAt knows_living since start own.new }
     ensures sound { (p : ProgramValue) → Sound knows_living p own.old → Sound knows_living p own.new }
 {
     note(own, Entry::Script(name.duplicate()));
-    go_in(own);
+    go_in(own, domain);
 }
 
-/// Ends a script's plain section, and the script.
-pub(crate) fn end_script(own: &mut Processor<LivingSide>, name: &Name)
+/// Ends a script's section, and the script.
+pub(crate) fn end_script(own: &mut Processor<LivingSide>, name: &Name, domain: Domain)
     requires fine { FineAt knows_living 0 own.old }
-    requires inside { word_of knows_living Plain own.old % 2 ≡ 1 }
+    requires inside { word_of knows_living domain own.old % 2 ≡ 1 }
     requires room { word_of knows_living Plain own.old + 2 * length (left_of own.old) + 1 < 2 ^ 28 }
-    ensures wrote { Wrote (Stand 0 (entry.Out Plain (word_of knows_living Plain own.old + 1) ∷ entry.Done name.now ∷ [])) own.old own.new }
+    ensures wrote { Wrote (Stand 0 (entry.Out domain (word_of knows_living domain own.old + 1) ∷ entry.Done name.now ∷ [])) own.old own.new }
     ensures lists { shown own.new.caches ≡ shown own.old.caches }
-    ensures known { known_of knows_living own.new ≡ left false Plain (known_of knows_living own.old) }
+    ensures known { known_of knows_living own.new ≡ left false domain (known_of knows_living own.old) }
+    ensures inside { own.new.inside ≡ for_domain Plain domain false own.old.inside }
     ensures same { own.new ≡ record own.old { caches = own.new.caches; side = own.new.side; inside = own.new.inside } }
     ensures tied { (since : Log) (start : LivingState) → TiedAt knows_living since start own.old → TiedAt knows_living since start own.new }
     ensures sound { (p : ProgramValue) → Sound knows_living p own.old → Sound knows_living p own.new }
 {
-    go_out(own);
+    go_out(own, domain);
     note(own, Entry::Done(name.duplicate()));
 }
 
-/// Runs the deferred work that stands behind a script, if any runs. Want of memory is the only refusal.
+/// Runs the deferred work that stands after a script, if any runs. Out of memory is the only refusal.
 pub(crate) fn settle_behind<'s, B: Since<LivingSide>>(
     own: &mut Processor<LivingSide>,
     program: &'s Program<'s>,

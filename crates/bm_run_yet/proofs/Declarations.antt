@@ -1,5 +1,5 @@
--- A scenario in whose words no form begins that can't be run yet runs by now.
-use Rattle.std.proofs.Common.{◌≡◌, ◌≢◌, ℕ, zero, suc, Bool, true, false, not, ◌&&◌, ◌==◌, if◌then◌else◌, List, [], ◌∷◌, ◌++◌, map, length, nat_lt, Option, Some, None, slice_get, refl, subst, arith}
+-- A scenario in whose words no form begins that can't be run yet runs so far.
+use Rattle.std.proofs.Common.{◌≡◌, ℕ, zero, suc, Bool, true, false, not, ◌&&◌, ◌==◌, if◌then◌else◌, List, [], ◌∷◌, ◌++◌, map, length, nat_lt, Option, Some, None, slice_get, refl, subst, arith}
 use Rattle.std.specs.List.{list_all, flat_map}
 use Rattle.std.proofs.lemmas.Bool.Decides.{nat_tests}
 use Rattle.bm_lang.specs.declared.bounds.Limit.{Limit}
@@ -59,14 +59,14 @@ maps_built : (types : List TypeForm) (maps : List MapDeclaration) (rest : List W
 maps_built types [] rest b = (refl, b)
 maps_built types (m ∷ ms) rest b = let e : true ≡ false = not_begun (is_unbuilt_word (map_word m.kind)) _ (map_begins m.kind) b in cc
 
-kind_built : (k : ScriptKind) (rest : List Word) → built false (reserved (script_word k) ∷ rest) ≡ true → (k ≢ script.Sleepable) × (built false rest ≡ true)
-kind_built script.Plain rest b = (λ e. cc, b)
-kind_built script.Sleepable rest b = cc
-kind_built script.Handler rest b = (λ e. cc, b)
+kind_built : (k : ScriptKind) (rest : List Word) → built false (reserved (script_word k) ∷ rest) ≡ true → built false rest ≡ true
+kind_built script.Plain rest b = b
+kind_built script.Sleepable rest b = b
+kind_built script.Handler rest b = b
 
 -- what RunsYet asks of a script
 abbrev Runs : List TypeDeclaration → Script → Type 0
-Runs types x = (x.kind ≢ script.Sleepable) × (can_run_block types x.body ≡ true)
+Runs types x = can_run_block types x.body ≡ true
 
 script_built : (types : List TypeDeclaration) (maps : List MapForm) (before : List ScriptForm) (scripts : List Script) (rest : List Word) → has_many types ≡ false → FineScripts (map type_form types) maps before scripts → built false (flat_map (spell_script (map type_form types) maps) scripts ++ rest) ≡ true → ((i : ℕ) (x : Script) → slice_get scripts i ≡ Some x → Runs types x) × (built false rest ≡ true)
 script_built types maps before [] rest h fine b = (λ i x e. cc, b)
@@ -74,13 +74,13 @@ script_built types maps before (s ∷ ss) rest h fine b =
     let forms = map type_form types in
     let more = flat_map (spell_script forms maps) ss in
     let kind = kind_built s.kind (spell_block forms maps s.body ++ (more ++ rest)) (along (spell_script forms maps s) more rest b) in
-    let body = block_runs types maps 16 s.body (more ++ rest) h fine.1 kind.1 in
+    let body = block_runs types maps 16 s.body (more ++ rest) h fine.1 kind in
     let others = script_built types maps (before ++ script_form s ∷ []) ss rest h fine.2 body.1 in
-    (found kind.0 body.0 others.0, others.1)
+    (found body.0 others.0, others.1)
   where
-    found : s.kind ≢ script.Sleepable → can_run_block types s.body ≡ true → ((i : ℕ) (x : Script) → slice_get ss i ≡ Some x → Runs types x) → (i : ℕ) (x : Script) → slice_get (s ∷ ss) i ≡ Some x → Runs types x
-    found k r o zero x e = let same : s ≡ x = cc in subst (λ (y : Script). Runs types y) same (k, r)
-    found k r o (suc i) x e = o i x e
+    found : can_run_block types s.body ≡ true → ((i : ℕ) (x : Script) → slice_get ss i ≡ Some x → Runs types x) → (i : ℕ) (x : Script) → slice_get (s ∷ ss) i ≡ Some x → Runs types x
+    found r o zero x e = let same : s ≡ x = cc in subst (λ (y : Script). Runs types y) same r
+    found r o (suc i) x e = o i x e
 
 switch_built : (deferred : Bool) (rest : List Word) → built false (reserved (on_or_off deferred) ∷ rest) ≡ true → built false rest ≡ true
 switch_built true rest b = b
@@ -113,13 +113,12 @@ words_run s fine limits b =
     let switched = switch_built s.deferred ((types ++ (maps ++ (scripts ++ (runs ++ (ats ++ last))))) ++ end) alone.1 in
     let uncounted = types_built s.types ((maps ++ (scripts ++ (runs ++ (ats ++ last)))) ++ end) (along types (maps ++ (scripts ++ (runs ++ (ats ++ last)))) end switched) in
     let unmapped = maps_built d.types s.maps ((scripts ++ (runs ++ (ats ++ last))) ++ end) (along maps (scripts ++ (runs ++ (ats ++ last))) end uncounted.1) in
-    let awake = script_built s.types d.maps [] s.scripts ((runs ++ (ats ++ last)) ++ end) few fine.scripts (along scripts (runs ++ (ats ++ last)) end unmapped.1) in
+    let running = script_built s.types d.maps [] s.scripts ((runs ++ (ats ++ last)) ++ end) few fine.scripts (along scripts (runs ++ (ats ++ last)) end unmapped.1) in
     record {
       one = alone.0;
       no_maps = unmapped.0;
       uncounted = uncounted.0;
-      awake = λ i x e. (awake.0 i x e).0;
-      scripts = λ i x e. (awake.0 i x e).1;
+      scripts = running.0;
     }
 
 pub built_runs : (bytes : List ℕ) (s : Parts) → Reads bytes s → unbuilt_before None false (tokens start bytes) ≡ None → first_limit s ≡ None → RunsYet s

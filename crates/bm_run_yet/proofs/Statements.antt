@@ -2,7 +2,7 @@
 use Rattle.std.proofs.Common.{◌≡◌, ℕ, zero, suc, ◌-◌, Bool, true, false, ◌&&◌, ◌||◌, List, [], ◌∷◌, ◌++◌, map, length, nat_lt, nat_le, IsSomeAnd, is_some, slice_get, refl, subst, append_assoc, arith}
 use Rattle.std.specs.List.{list_any}
 use Rattle.std.proofs.lemmas.Bool.Decides.{nat_tests}
-use Rattle.bm_lang.specs.declared.scenario.Action.{Action, New, Drop, If', Repeat, Held-Action-If-2, None', Some'}
+use Rattle.bm_lang.specs.declared.scenario.Action.{Action, New, Drop, If', Repeat, Section, Yield, Held-Action-If-2, None', Some'}
 use Rattle.bm_lang.specs.declared.scenario.Block.{Block, Block', Row_of-Statement, end_of-Statement, more_of-Statement}
 use Rattle.bm_lang.specs.declared.scenario.TypeDeclaration.{TypeDeclaration}
 use Rattle.bm_lang.specs.Tokens.{Close}
@@ -41,6 +41,8 @@ mutual
       let other = else_runs types maps d otherwise rest h fine.1 first.1 in
       (both (can_run_block types body) (can_run_else types otherwise) first.0 other.0, other.1)
   action_runs types maps d l (Repeat n body) rest h fine b = block_runs types maps d body rest h fine b
+  action_runs types maps d l (Section body) rest h fine b = block_runs types maps d body rest h fine b
+  action_runs types maps d l Yield rest h fine b = (refl, b)
   action_runs types maps d l a rest h fine b = cc
 
   else_runs : (types : List TypeDeclaration) (maps : List MapForm) (d : ℕ) (o : Held-Action-If-2) (rest : List Word) → has_many types ≡ false → FineElse (map type_form types) maps d o → built false (spell_else (map type_form types) maps o ++ rest) ≡ true → (can_run_else types o ≡ true) × (built false rest ≡ true)

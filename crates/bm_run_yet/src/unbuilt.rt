@@ -16,15 +16,11 @@ fn is_unbuilt_word(word: Keyword) -> bool
             | Keyword::List
             | Keyword::Tree
             | Keyword::Slot
-            | Keyword::Sleepable
-            | Keyword::Turns
             | Keyword::Acquire
             | Keyword::Get
             | Keyword::Xchg
-            | Keyword::Section
             | Keyword::Lock
             | Keyword::Unlock
-            | Keyword::Yield
             | Keyword::PushFront
             | Keyword::PushBack
             | Keyword::PopFront

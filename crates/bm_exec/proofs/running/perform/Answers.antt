@@ -2,8 +2,8 @@ use Rattle.std.proofs.Common.{length, reverse, sym, refl, arith}
 use Rattle.std.proofs.lemmas.List.{length-reverse}
 use Rattle.bm_lang.specs.declared.scenario.Action.{New, None', Some'}
 use Rattle.bm_exec.specs.Seen.{has_name, names_of}
-use Rattle.bm_exec.proofs.Meeting.{block-room, new-known, opens-again, opens-if, opens-other}
-use Rattle.bm_exec.proofs.Performing.{first-performed, other-performed, skip-performed, repeat-performed}
+use Rattle.bm_exec.proofs.Meeting.{block-room, new-known, opens-again, opens-if, opens-other, opens-section}
+use Rattle.bm_exec.proofs.Performing.{first-performed, other-performed, skip-performed, repeat-performed, yield-performed}
 use Rattle.bm_exec.proofs.running.perform.Goals as goal
 
 -- ---- room for a block
@@ -36,6 +36,15 @@ repeat_block-requires g c =
     let room = block-room types known (length (reverse os)) c.in-Repeat.body o.1 in
     record { room = omega (arith, room, length-reverse os) }
 
+pub perform_section-requires-clause-fits : goal.perform_section-requires-clause-fits
+perform_section-requires-clause-fits g c =
+    let types = c.args.types.now.declared.now in
+    let known = has_name c.args.names.now in
+    let os = c.args.frame.now.blocks.items in
+    let o = opens-section types known (length (reverse os)) c.in-Section.body (rw c.in-Section.is at c.requires.may) in
+    let room = block-room types known (length (reverse os)) c.in-Section.body o.1 in
+    omega (arith, room, length-reverse os)
+
 -- ---- calls
 
 pub perform_new-requires-clause-can : goal.perform_new-requires-clause-can
@@ -53,23 +62,23 @@ perform_new-requires-clause-there g c =
 pub returns-in-Object-clause-performed : goal.returns-in-Object-clause-performed
 returns-in-Object-clause-performed g c =
     let held = rw c.as_bytes.ensures.value at (rw c.in-Object.is at c.holding.ensures) in
-    rw c.in-If.is (first-performed c.args.types.now.declared.now (g.M.Machine.level c.args.machine.now) (g.M.Machine.behind c.args.machine.now) (g.M.Machine.lists c.args.machine.now) c.in-If.name _ _ _ c.in-If.body _ (names_of c.args.names.now) _ _ (g.M.Machine.lives c.args.machine.now) (g.M.Machine.asked c.args.machine.now) (g.M.Machine.log c.args.machine.now) c.requires.open c.requires.down (sym held) c.open_block.ensures.pushed)
+    rw c.in-If.is (first-performed c.args.types.now.declared.now (g.M.Machine.level c.args.machine.now) (g.M.Machine.around c.args.machine.now) (g.M.Machine.behind c.args.machine.now) (g.M.Machine.lists c.args.machine.now) c.in-If.name _ _ _ c.in-If.body _ (names_of c.args.names.now) _ _ (g.M.Machine.lives c.args.machine.now) (g.M.Machine.asked c.args.machine.now) (g.M.Machine.log c.args.machine.now) c.requires.open c.requires.down (sym held) c.open_block.ensures.pushed)
 
 pub returns-in-Some-clause-performed : goal.returns-in-Some-clause-performed
 returns-in-Some-clause-performed g c =
     let held = rw c.as_bytes.ensures.value at (rw c.in-Null.is at c.holding.ensures) in
     let is = rw c.in-Some.is at c.in-If.is in
-    rw is (other-performed c.args.types.now.declared.now (g.M.Machine.level c.args.machine.now) (g.M.Machine.behind c.args.machine.now) (g.M.Machine.lists c.args.machine.now) c.in-If.name c.in-If.body c.in-Some.block (Some' c.in-Some.block) (names_of c.args.names.now) _ _ (g.M.Machine.lives c.args.machine.now) (g.M.Machine.asked c.args.machine.now) (g.M.Machine.log c.args.machine.now) c.requires.open c.requires.down (sym held) refl c.open_block-in-Some.ensures.pushed)
+    rw is (other-performed c.args.types.now.declared.now (g.M.Machine.level c.args.machine.now) (g.M.Machine.around c.args.machine.now) (g.M.Machine.behind c.args.machine.now) (g.M.Machine.lists c.args.machine.now) c.in-If.name c.in-If.body c.in-Some.block (Some' c.in-Some.block) (names_of c.args.names.now) _ _ (g.M.Machine.lives c.args.machine.now) (g.M.Machine.asked c.args.machine.now) (g.M.Machine.log c.args.machine.now) c.requires.open c.requires.down (sym held) refl c.open_block-in-Some.ensures.pushed)
 
 pub returns-in-None-clause-performed : goal.returns-in-None-clause-performed
 returns-in-None-clause-performed g c =
     let held = rw c.as_bytes.ensures.value at (rw c.in-Null.is at c.holding.ensures) in
     let is = rw c.in-None.is at c.in-If.is in
-    rw is (skip-performed c.args.types.now.declared.now (g.M.Machine.level c.args.machine.now) (g.M.Machine.behind c.args.machine.now) (g.M.Machine.lists c.args.machine.now) c.in-If.name c.in-If.body None' (names_of c.args.names.now) _ (g.M.Machine.lives c.args.machine.now) (g.M.Machine.asked c.args.machine.now) (g.M.Machine.log c.args.machine.now) c.requires.down (sym held) refl)
+    rw is (skip-performed c.args.types.now.declared.now (g.M.Machine.level c.args.machine.now) (g.M.Machine.around c.args.machine.now) (g.M.Machine.behind c.args.machine.now) (g.M.Machine.lists c.args.machine.now) c.in-If.name c.in-If.body None' (names_of c.args.names.now) _ (g.M.Machine.lives c.args.machine.now) (g.M.Machine.asked c.args.machine.now) (g.M.Machine.log c.args.machine.now) c.requires.down (sym held) refl)
 
 pub returns-in-Repeat-clause-performed : goal.returns-in-Repeat-clause-performed
 returns-in-Repeat-clause-performed g c =
-    rw c.in-Repeat.is (repeat-performed c.args.types.now.declared.now (g.M.Machine.level c.args.machine.now) (g.M.Machine.behind c.args.machine.now) (g.M.Machine.lists c.args.machine.now) c.in-Repeat.count c.in-Repeat.body (names_of c.args.names.now) _ _ (g.M.Machine.lives c.args.machine.now) (g.M.Machine.asked c.args.machine.now) (g.M.Machine.log c.args.machine.now) c.requires.open c.requires.down c.repeat_block.ensures.pushed)
+    rw c.in-Repeat.is (repeat-performed c.args.types.now.declared.now (g.M.Machine.level c.args.machine.now) (g.M.Machine.around c.args.machine.now) (g.M.Machine.behind c.args.machine.now) (g.M.Machine.lists c.args.machine.now) c.in-Repeat.count c.in-Repeat.body (names_of c.args.names.now) _ _ (g.M.Machine.lives c.args.machine.now) (g.M.Machine.asked c.args.machine.now) (g.M.Machine.log c.args.machine.now) c.requires.open c.requires.down c.repeat_block.ensures.pushed)
 
 pub returns-in-Object-clause-keeps : goal.returns-in-Object-clause-keeps
 returns-in-Object-clause-keeps g c = g.met.M.Machine.keeps_same c.args.machine.now
@@ -82,3 +91,14 @@ returns-in-None-clause-keeps g c = g.met.M.Machine.keeps_same c.args.machine.now
 
 pub returns-in-Repeat-clause-keeps : goal.returns-in-Repeat-clause-keeps
 returns-in-Repeat-clause-keeps g c = g.met.M.Machine.keeps_same c.args.machine.now
+
+pub returns-in-Section-clause-performed : goal.returns-in-Section-clause-performed
+returns-in-Section-clause-performed g c = rw c.in-Section.is (c.perform_section.ensures.performed c.args.types.now.declared.now (names_of c.args.names.now))
+
+pub returns-in-Yield-clause-performed : goal.returns-in-Yield-clause-performed
+returns-in-Yield-clause-performed g c =
+    let m = c.args.machine.now in
+    let n = c.pause.new.self in
+    let e = c.pause.ensures in
+    rw c.in-Yield.is (rw e.around (yield-performed c.args.types.now.declared.now (g.M.Machine.level m) (g.M.Machine.around m) (g.M.Machine.behind m) (g.M.Machine.processor m) (g.M.Machine.lists m) (g.M.Machine.lists n) (names_of c.args.names.now) _ (g.M.Machine.lives m) (g.M.Machine.lives n) (g.M.Machine.asked m) (g.M.Machine.asked n) (g.M.Machine.log m) (g.M.Machine.log n)
+    (g.met.M.Machine.told m c.requires.sound) (rw e.processor at (g.met.M.Machine.told n e.sound)) e.paused e.lists e.lives e.asked c.requires.down))

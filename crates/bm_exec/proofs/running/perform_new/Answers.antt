@@ -13,7 +13,7 @@ returns-clause-performed g c =
     let s = c.settle.ensures in
     let facts = both-ok r _ _ (both-ok r _ _ s.settled s.down) (both-ok r _ _ (both-ok r _ _ s.sound s.processor) (both-ok r _ _ s.lives s.asked)) in
     on-ok r _ _ facts (λ f os.
-    new-performed c.args.types.now.declared.now c.args.types.now.classes.now (g.M.Machine.level m0) (g.M.Machine.behind c.args.machine.now) (g.M.Machine.processor m0) (g.M.Machine.lists m0) (g.M.Machine.lists m1) (g.M.Machine.lists m2) c.args.name.now c.args.type_id c.args.values.now
+    new-performed c.args.types.now.declared.now c.args.types.now.classes.now (g.M.Machine.level m0) (g.M.Machine.around m0) (g.M.Machine.behind c.args.machine.now) (g.M.Machine.processor m0) (g.M.Machine.lists m0) (g.M.Machine.lists m1) (g.M.Machine.lists m2) c.args.name.now c.args.type_id c.args.values.now
     (names_of c.args.names.now) (names_of c.put.new.self) (g.M.Machine.lives m0) (g.M.Machine.lives m1) (g.M.Machine.lives m2) (g.M.Machine.asked m0) (g.M.Machine.asked m2)
     (g.M.Machine.log m0) (g.M.Machine.log m1) (g.M.Machine.log m2) c.create-reply.result c.in-Some.declared.now c.in-Some-get.class.now
     (g.met.M.Machine.told m0 c.requires.sound) (rw c.create-reply.ensures.processor at (g.met.M.Machine.told m1 c.create-reply.ensures.sound))

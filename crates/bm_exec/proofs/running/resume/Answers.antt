@@ -1,6 +1,6 @@
 use Rattle.std.proofs.Common.{arith, refl, ◌∙◌}
 use Rattle.bm_exec.proofs.Results.{not-err}
-use Rattle.bm_exec.proofs.Going.{went-none, went-step, went-end, some-cost}
+use Rattle.bm_exec.proofs.Going.{went-none, went-step, went-left, went-end, some-cost}
 use Rattle.bm_exec.specs.Meets.{may_run}
 use Rattle.bm_exec.specs.Seen.{has_name}
 use Rattle.bm_exec.proofs.KnownNames.{same-names}
@@ -10,7 +10,7 @@ use Rattle.bm_exec.proofs.running.resume.Goals as goal
 
 pub loop-statement-init : goal.loop-statement-init
 loop-statement-init g c = record {
-  went = went-none _ _ _ _ _ _ _ _ _ c.requires.down;
+  went = went-none _ _ _ _ _ _ _ _ _ _ c.requires.down;
   known = refl;
   sound = c.requires.sound;
   level = refl;
@@ -20,29 +20,29 @@ loop-statement-init g c = record {
   keeps = g.met.M.Machine.keeps_same c.args.machine.now;
 }
 
-pub returns-clause-ended : goal.returns-clause-ended
-returns-clause-ended g c = λ _. went-end _ _ _ c.requires.accepted.0 _ _ _ _ _ _ _ _ _ _ _ _ c.loop-statement.invariant.went (rw c.in_default.is at c.next_statement.ensures.stepped) c.requires.accepted.1
+pub returns-in-End-clause-ended : goal.returns-in-End-clause-ended
+returns-in-End-clause-ended g c = λ _. went-end _ _ _ _ _ c.requires.accepted.0 _ _ _ _ _ _ _ _ _ _ _ _ c.loop-statement.invariant.went (rw c.in-End.is at c.next_statement.ensures.stepped) c.requires.accepted.1
 
-pub returns-clause-lives : goal.returns-clause-lives
-returns-clause-lives g c = λ _ base h.
-    (let r = went-end _ _ _ c.requires.accepted.0 _ _ _ _ _ _ _ _ _ _ _ _ c.loop-statement.invariant.went (rw c.in_default.is at c.next_statement.ensures.stepped) c.requires.accepted.1 in
+pub returns-in-End-clause-lives : goal.returns-in-End-clause-lives
+returns-in-End-clause-lives g c = λ _ base h.
+    (let r = went-end _ _ _ _ _ c.requires.accepted.0 _ _ _ _ _ _ _ _ _ _ _ _ c.loop-statement.invariant.went (rw c.in-End.is at c.next_statement.ensures.stepped) c.requires.accepted.1 in
     only-base _ base _ _ (c.loop-statement.invariant.went.holds base h) r.owns_nothing)
 
-pub returns-clause-asked : goal.returns-clause-asked
-returns-clause-asked g c = λ _. omega (arith, c.loop-statement.invariant.went.cost)
+pub returns-in-End-clause-asked : goal.returns-in-End-clause-asked
+returns-in-End-clause-asked g c = λ _. omega (arith, c.loop-statement.invariant.went.cost)
 
-pub returns-clause-down : goal.returns-clause-down
-returns-clause-down g c = λ _. c.loop-statement.invariant.went.down
+pub returns-in-End-clause-down : goal.returns-in-End-clause-down
+returns-in-End-clause-down g c = λ _. c.loop-statement.invariant.went.down
 
 pub perform-requires-clause-room : goal.perform-requires-clause-room
-perform-requires-clause-room g c = let t = rw c.in-Some.is at c.next_statement.ensures.stepped in omega (arith, c.requires.room, c.loop-statement.invariant.went.cost, t.cost, some-cost c.in-Some.statement.now.action)
+perform-requires-clause-room g c = let t = rw c.in-Statement.is at c.next_statement.ensures.stepped in omega (arith, c.requires.room, c.loop-statement.invariant.went.cost, t.cost, some-cost c.in-Statement.statement.now.action)
 
 pub perform-requires-clause-holds : goal.perform-requires-clause-holds
 perform-requires-clause-holds g c = (c.requires.holds.0, c.loop-statement.invariant.went.holds c.requires.holds.0 c.requires.holds.1)
 
 pub perform-requires-clause-may : goal.perform-requires-clause-may
 perform-requires-clause-may g c =
-    let t = rw c.in-Some.is at c.next_statement.ensures.stepped in
+    let t = rw c.in-Statement.is at c.next_statement.ensures.stepped in
     let types = c.args.types.now.declared.now in
     let known = has_name c.args.names.now in
     let all = c.loop-statement.invariant.went.meets (may_run types known) (may-inherits types known) c.requires.may in
@@ -52,25 +52,25 @@ pub perform-requires-clause-down : goal.perform-requires-clause-down
 perform-requires-clause-down g c = rw c.loop-statement.invariant.behind c.loop-statement.invariant.went.down
 
 pub perform-requires-clause-open : goal.perform-requires-clause-open
-perform-requires-clause-open g c = let t = rw c.in-Some.is at c.next_statement.ensures.stepped in t.some
+perform-requires-clause-open g c = let t = rw c.in-Statement.is at c.next_statement.ensures.stepped in t.some
 
 pub perform-requires-clause-needed : goal.perform-requires-clause-needed
-perform-requires-clause-needed g c = let t = rw c.in-Some.is at c.next_statement.ensures.stepped in (c.requires.accepted.0, t.safe _ _ (c.loop-statement.invariant.went.safe _ c.requires.accepted.1))
+perform-requires-clause-needed g c = let t = rw c.in-Statement.is at c.next_statement.ensures.stepped in (c.requires.accepted.0, t.safe _ _ (c.loop-statement.invariant.went.safe _ c.requires.accepted.1))
 
-pub loop-statement-smaller : goal.loop-statement-smaller
-loop-statement-smaller g c =
-    let t = rw c.in-Some.is at c.next_statement.ensures.stepped in
+pub loop-statement-smaller-else-is_err : goal.loop-statement-smaller-else-is_err
+loop-statement-smaller-else-is_err g c =
+    let t = rw c.in-Statement.is at c.next_statement.ensures.stepped in
     let p = not-err c.perform.result _ c.if-is_err.ensures.value c.perform.ensures.performed in
     omega (arith, t.weight, p.weight)
 
-pub loop-statement-preserved : goal.loop-statement-preserved
-loop-statement-preserved g c =
-    let t = rw c.in-Some.is at c.next_statement.ensures.stepped in
+pub loop-statement-preserved-else-is_err : goal.loop-statement-preserved-else-is_err
+loop-statement-preserved-else-is_err g c =
+    let t = rw c.in-Statement.is at c.next_statement.ensures.stepped in
     let i = c.loop-statement.invariant in
     let e = c.if-is_err.ensures.value in
     let p = not-err c.perform.result _ e c.perform.ensures.performed in
     record {
-      went = went-step _ _ _ _ _ _ _ _ _ _ _ _ _ _ _ _ _ _ _ _ _ _ _ i.went t (rw (i.level, i.behind) at p);
+      went = went-step _ _ _ _ _ _ _ _ _ _ _ _ _ _ _ _ _ _ _ _ _ _ _ _ _ _ i.went t (rw (i.level, i.behind) at p);
       known = c.perform.ensures.known ∙ i.known;
       sound = not-err c.perform.result _ e c.perform.ensures.sound;
       level = not-err c.perform.result _ e c.perform.ensures.level ∙ i.level;
@@ -79,3 +79,39 @@ loop-statement-preserved g c =
       through = c.perform.ensures.through ∙ i.through;
       keeps = g.met.M.Machine.keeps_join c.args.machine.now c.loop-statement.machine c.perform.new.machine i.keeps (not-err c.perform.result _ e c.perform.ensures.keeps);
     }
+
+-- ---- the end of a section
+
+pub leave-requires-clause-begun : goal.leave-requires-clause-begun
+leave-requires-clause-begun g c =
+    let t = rw c.in-Leave.is at c.next_statement.ensures.stepped in
+    (t.sections c.requires.sections.0 (g.M.Machine.around c.loop-statement.machine) (c.loop-statement.invariant.went.sections c.requires.sections.0 c.requires.sections.1)).0
+
+pub leave-requires-clause-room : goal.leave-requires-clause-room
+leave-requires-clause-room g c = omega (arith, c.requires.room, c.loop-statement.invariant.went.cost)
+
+pub loop-statement-smaller : goal.loop-statement-smaller
+loop-statement-smaller g c = let t = rw c.in-Leave.is at c.next_statement.ensures.stepped in t.weight
+
+pub loop-statement-preserved : goal.loop-statement-preserved
+loop-statement-preserved g c =
+    let t = rw c.in-Leave.is at c.next_statement.ensures.stepped in
+    let i = c.loop-statement.invariant in
+    let m = c.loop-statement.machine in
+    let n = c.leave.new.self in
+    let e = c.leave.ensures in
+    record {
+      went = went-left _ _ _ _ _ _ (g.M.Machine.processor m) _ _ _ _ _ _ _ _ _ _ _ _ _ _ _ _ _ (g.met.M.Machine.told m i.sound) (rw e.processor at (g.met.M.Machine.told n e.sound)) i.went t (rw i.level at e.left) e.lists e.lives e.asked;
+      known = i.known;
+      sound = e.sound;
+      level = e.level ∙ i.level;
+      processor = e.processor ∙ i.processor;
+      behind = e.behind ∙ i.behind;
+      through = e.through ∙ i.through;
+      keeps = g.met.M.Machine.keeps_join c.args.machine.now m n i.keeps e.keeps;
+    }
+
+-- ---- the end
+
+pub returns-in-End-clause-around : goal.returns-in-End-clause-around
+returns-in-End-clause-around g c = λ _ base h. (rw c.in-End.is at c.next_statement.ensures.stepped).sections base _ (c.loop-statement.invariant.went.sections base h)

@@ -5,7 +5,7 @@ use Rattle.bm_exec.specs.Meets.{may_run}
 use Rattle.bm_exec.specs.Seen.{has_name}
 use Rattle.bm_exec.proofs.KnownNames.{same-names}
 use Rattle.bm_exec.proofs.Meeting.{block-meets}
-use Rattle.bm_exec.proofs.Starting.{start-cost, start-meets, start-safe, start-runs, start-holds}
+use Rattle.bm_exec.proofs.Starting.{start-cost, start-meets, start-safe, start-runs, start-holds, start-sections}
 use Rattle.bm_exec.proofs.running.run_handler.Goals as goal
 
 pub resume-requires-clause-room : goal.resume-requires-clause-room
@@ -33,7 +33,7 @@ returns-clause-ran g c =
     let r = rw w at (c.resume.ensures.ended c.in-Ended.is) in
     record {
       after = _;
-      grew = grew-map _ _ (g.M.Machine.lists c.args.machine.now) (g.M.Machine.log c.args.machine.now) _ (λ part y. start-runs c.args.types.now.declared.now (g.M.Machine.level c.args.machine.now) None _ _ o _ _ (g.M.Machine.lists c.args.machine.now) part y) (rw c.clear.ensures.names at r.grew);
+      grew = grew-map _ _ (g.M.Machine.lists c.args.machine.now) (g.M.Machine.log c.args.machine.now) _ (λ part y. start-runs c.args.types.now.declared.now (g.M.Machine.level c.args.machine.now) (g.M.Machine.around c.args.machine.now) None _ _ o _ _ (g.M.Machine.lists c.args.machine.now) part y) (rw c.clear.ensures.names at r.grew);
       owns_nothing = r.owns_nothing;
     }
 
@@ -44,3 +44,9 @@ pub returns-clause-asked : goal.returns-clause-asked
 returns-clause-asked g c =
     let o = c.start-frame.ensures.pushed in
     omega (arith, c.resume.ensures.asked c.in-Ended.is, start-cost c.args.types.now.declared.now _ _ o)
+
+pub resume-requires-clause-sections : goal.resume-requires-clause-sections
+resume-requires-clause-sections g c = (g.M.Machine.around c.args.machine.now, start-sections _ _ _ c.start-frame.ensures.pushed)
+
+pub returns-clause-around : goal.returns-clause-around
+returns-clause-around g c = c.resume.ensures.around c.in-Ended.is (g.M.Machine.around c.args.machine.now) (start-sections _ _ _ c.start-frame.ensures.pushed)

@@ -4,7 +4,7 @@ use Rattle.bm_law_work.proofs.Grown.{grew-map}
 use Rattle.bm_exec.specs.Meets.{may_run}
 use Rattle.bm_exec.specs.Seen.{has_name}
 use Rattle.bm_exec.proofs.Meeting.{block-meets}
-use Rattle.bm_exec.proofs.Starting.{start-cost, start-meets, start-safe, start-runs, start-holds}
+use Rattle.bm_exec.proofs.Starting.{start-cost, start-meets, start-safe, start-runs, start-holds, start-sections}
 use Rattle.bm_exec.proofs.running.run_script.Goals as goal
 
 pub resume-requires-clause-room : goal.resume-requires-clause-room
@@ -31,7 +31,7 @@ returns-clause-ended g c =
     λ e. (let r = c.resume.ensures.ended e in
     record {
       after = _;
-      grew = grew-map _ _ (g.M.Machine.lists c.args.machine.now) (g.M.Machine.log c.args.machine.now) _ (λ part y. start-runs c.args.types.now.declared.now (g.M.Machine.level c.args.machine.now) (g.M.Machine.behind c.args.machine.now) _ _ o _ _ (g.M.Machine.lists c.args.machine.now) part y) (rw c.in-Ok.ensures.none at r.grew);
+      grew = grew-map _ _ (g.M.Machine.lists c.args.machine.now) (g.M.Machine.log c.args.machine.now) _ (λ part y. start-runs c.args.types.now.declared.now (g.M.Machine.level c.args.machine.now) (g.M.Machine.around c.args.machine.now) (g.M.Machine.behind c.args.machine.now) _ _ o _ _ (g.M.Machine.lists c.args.machine.now) part y) (rw c.in-Ok.ensures.none at r.grew);
       owns_nothing = r.owns_nothing;
     })
 
@@ -42,3 +42,9 @@ pub returns-clause-asked : goal.returns-clause-asked
 returns-clause-asked g c =
     let o = c.start-frame.ensures.pushed in
     λ e. omega (arith, c.resume.ensures.asked e, start-cost c.args.types.now.declared.now _ _ o)
+
+pub resume-requires-clause-sections : goal.resume-requires-clause-sections
+resume-requires-clause-sections g c = (g.M.Machine.around c.args.machine.now, start-sections _ _ _ c.start-frame.ensures.pushed)
+
+pub returns-clause-around : goal.returns-clause-around
+returns-clause-around g c = λ e. c.resume.ensures.around e (g.M.Machine.around c.args.machine.now) (start-sections _ _ _ c.start-frame.ensures.pushed)

@@ -1,13 +1,13 @@
-use Rattle.std.proofs.Common.{◌≡◌, ◌≤◌, ◌+◌, ◌*◌, ◌%◌, [], drop, length}
+use Rattle.std.proofs.Common.{◌≡◌, ◌≤◌, ◌+◌, ◌*◌, ◌%◌, [], drop}
 use Rattle.bm_world.specs.ToldLiving.{knows_living}
 use Rattle.bm_journal.specs.declared.ids.Domain.{Domain}
-use Rattle.bm_journal.specs.declared.ids.Domain.TheVariants.{Plain}
+use Rattle.bm_journal.specs.declared.ids.Domain.TheVariants.{Tracing}
 use Rattle.bm_exec.specs.Lists.{Behind, behind_of}
 use Rattle.bm_exec_levels.specs.AtProcessor.{SameLives, lists_of}
 use Rattle.bm_exec_levels.specs.AtTie.{TiedAt}
-use Rattle.bm_exec_levels.specs.Ready.{asked_of, left_of, word_of}
+use Rattle.bm_exec_levels.specs.Ready.{word_of}
 use Rattle.bm_exec_levels.specs.Sound.{Sound}
-use Rattle.bm_run.specs.Lines.{lines_cost}
+use Rattle.bm_run.specs.Lines.{asks_in, lines_cost}
 use Rattle.bm_run.proofs.Lines.{Wrote_so_far}
 use Rattle.bm_run.proofs.scripts.run_lines.Given as goal
 
@@ -18,7 +18,7 @@ invariant-loop-run g l = record {
   lives : SameLives knows_living l.initial.own l.own;
   down : Behind (behind_of l.deferred.behind) (lists_of l.own) [];
   even : (d : Domain) → word_of knows_living d l.own % 2 ≡ 0;
-  cost : asked_of knows_living l.scenario l.own + 2 * lines_cost l.scenario.scripts (drop l.run-index l.run-items) ≤ 40000;
-  words : asked_of knows_living l.scenario l.own + (9 * (word_of knows_living Plain l.own + 2 * length (left_of l.own)) + 2 * lines_cost l.scenario.scripts (drop l.run-index l.run-items)) ≤ 60000;
+  cost : asks_in l.scenario l.own + 2 * lines_cost l.scenario.scripts (drop l.run-index l.run-items) ≤ 42000;
+  words : word_of knows_living Tracing l.own + 2 * lines_cost l.scenario.scripts (drop l.run-index l.run-items) ≤ 40000;
   wrote : Wrote_so_far l.scenario (drop l.run-index l.run-items) l.initial.own l.own;
 }

@@ -4,7 +4,7 @@ use Rattle.bm_world.specs.ToldLiving.{knows_living}
 use Rattle.bm_exec_levels.specs.declared.processor.Processor.{Processor}
 use Rattle.bm_exec_levels.specs.AtTie.{tied-quiet}
 use Rattle.bm_exec_levels.proofs.Noted.{fine-noted}
-use Rattle.bm_run.proofs.Sections.{sound-noted}
+use Rattle.bm_exec_levels.proofs.Moved.{sound-noted}
 use Rattle.bm_run.proofs.Written.{wrote-one}
 use Rattle.bm_run.proofs.stretches.note.Goals as goal
 
@@ -14,7 +14,7 @@ returns-clause-fine c = fine-noted knows_living 0 c.args.own.now c.note.new.self
 pub returns-clause-sound : goal.returns-clause-sound
 returns-clause-sound c p k i s =
     let n = rw c.ordinary.ensures at c.note.ensures.step in
-    sound-noted p c.args.own.now c.note.new.self c.args.entry k i c.note.ensures.same n.processor n.records (fine-noted knows_living 0 c.args.own.now c.note.new.self c.note.ensures.same c.note.ensures.step.processor c.note.ensures.placed c.requires.fine) s
+    sound-noted knows_living p c.args.own.now c.note.new.self c.args.entry k i c.note.ensures.same n.processor n.records (fine-noted knows_living 0 c.args.own.now c.note.new.self c.note.ensures.same c.note.ensures.step.processor c.note.ensures.placed c.requires.fine) s
 
 pub returns-clause-wrote : goal.returns-clause-wrote
 returns-clause-wrote c =
