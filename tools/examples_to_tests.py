@@ -35,8 +35,8 @@ def files() -> dict[pathlib.Path, str]:
         )
     rows = "".join(f"    ({name}::SCENARIO, {name}::JOURNAL),\n" for name in names)
     made[SOURCES / "examples.rt"] = (
-        "//! The scenarios of examples/ with their journals, as tools/examples_to_tests.py writes them. The journals are worked out\n"
-        "//! by hand from the rules.\n\n"
+        "//! The scenarios of examples/ with their journals, as tools/examples_to_tests.py writes them. Where the journals are from is\n"
+        "//! told in examples/README.md.\n\n"
         + "".join(f"pub(crate) mod {name};\n" for name in names)
         + "\n/// Each scenario with its journal.\npub(crate) const EXAMPLES: &[(&str, &str)] = &[\n"
         + rows

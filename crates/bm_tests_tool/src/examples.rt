@@ -1,5 +1,5 @@
-//! The scenarios of examples/ with their journals, as tools/examples_to_tests.py writes them. The journals are worked out
-//! by hand from the rules.
+//! The scenarios of examples/ with their journals, as tools/examples_to_tests.py writes them. Where the journals are from is
+//! told in examples/README.md.
 
 pub(crate) mod busy_handler;
 pub(crate) mod deferred_block;
@@ -8,6 +8,8 @@ pub(crate) mod nested_blocks;
 pub(crate) mod nested_handlers;
 pub(crate) mod one_object;
 pub(crate) mod refill_handlers;
+pub(crate) mod sleepable_script;
+pub(crate) mod sleepable_wait;
 pub(crate) mod two_classes;
 pub(crate) mod two_scripts;
 
@@ -20,6 +22,8 @@ pub(crate) const EXAMPLES: &[(&str, &str)] = &[
     (nested_handlers::SCENARIO, nested_handlers::JOURNAL),
     (one_object::SCENARIO, one_object::JOURNAL),
     (refill_handlers::SCENARIO, refill_handlers::JOURNAL),
+    (sleepable_script::SCENARIO, sleepable_script::JOURNAL),
+    (sleepable_wait::SCENARIO, sleepable_wait::JOURNAL),
     (two_classes::SCENARIO, two_classes::JOURNAL),
     (two_scripts::SCENARIO, two_scripts::JOURNAL),
 ];

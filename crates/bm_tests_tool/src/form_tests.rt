@@ -32,7 +32,7 @@ fn found(text: &[u8], fault: At) -> Result<At, Fail> {
 // Texts with the place of their fault, where they have one, and the place of their first form that can't be run yet.
 #[test]
 fn texts_with_the_place_of_their_first_form(rt: HostRuntime) -> Result<(), Fail> {
-    let table: [(&str, At, At); 30] = [
+    let table: [(&str, At, At); 31] = [
         // none
         ("", None, None),
         (
@@ -74,19 +74,20 @@ fn texts_with_the_place_of_their_first_form(rt: HostRuntime) -> Result<(), Fail>
         ("type item { a }\r\nlist q item\n", None, Some((2, 1))),
         ("type item { a }\n  tree t item\n", None, Some((2, 3))),
         // scripts
-        ("script main sleepable {", None, Some((1, 13))),
+        ("script main sleepable { yield }", None, None),
         ("script main handler{", None, None),
         ("run 0 main\nat 0 5 1 h\n", None, None),
-        ("run 0 main turns { 0 }", None, Some((1, 12))),
+        ("run 0 main turns { 0 }", None, None),
+        ("script m plain { section { lock q } }", None, Some((1, 28))),
         // the first of several
         ("processors 3 deferred on slot s item", None, Some((1, 12))),
         (
             "script m plain { new x t drop x }\nyield get",
             None,
-            Some((2, 1)),
+            Some((2, 7)),
         ),
         // before a fault, at it, and behind it
-        ("script m plain { yield }\n7", Some((2, 1)), Some((1, 18))),
+        ("script m plain { unlock }\n7", Some((2, 1)), Some((1, 18))),
         ("script m plain { drop x }\nlock", Some((2, 1)), None),
         ("script m plain { drop 7 }\nlock q", Some((1, 23)), None),
         ("processors 8 on", Some((1, 12)), None),
@@ -116,10 +117,8 @@ fn statements_with_their_first_word(rt: HostRuntime) -> Result<(), Fail> {
         "acquire",
         "get",
         "xchg",
-        "section",
         "lock",
         "unlock",
-        "yield",
         "push_front",
         "push_back",
         "pop_front",
@@ -132,7 +131,9 @@ fn statements_with_their_first_word(rt: HostRuntime) -> Result<(), Fail> {
         let text = with_statement(rt.alloc(), word)?;
         assert_eq!(rt; found(text.as_slice(), None)?, Some((8, 10)), "{word}");
     }
-    for word in ["new", "drop", "if", "else", "repeat", "null", "pad", "x"] {
+    for word in [
+        "new", "drop", "if", "else", "repeat", "section", "yield", "null", "pad", "x",
+    ] {
         let text = with_statement(rt.alloc(), word)?;
         assert_eq!(rt; found(text.as_slice(), None)?, None, "{word}");
     }

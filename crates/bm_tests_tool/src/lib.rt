@@ -20,4 +20,6 @@ mod page_tests;
 #[cfg(test)]
 mod refusal_tests;
 #[cfg(test)]
+mod section_tests;
+#[cfg(test)]
 mod worked_tests;

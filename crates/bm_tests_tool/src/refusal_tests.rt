@@ -71,7 +71,7 @@ fn is_refused(
     Ok(())
 }
 
-// A body for each rule that the forms which run by now can break. It begins on line 7.
+// A body for each rule that the forms which run so far can break. It begins on line 7.
 const RULES_OF_BUILT_FORMS: &[(&str, &str)] = &[
     ("drop x", "line 7: rule 1"),
     (
