@@ -25,6 +25,8 @@ class Maker:
 
     def __init__(self, seed: int):
         self.draw = random.Random(seed)
+        # whether what is made may yield, as ordinary code may
+        self.may_yield = False
         # every second scenario has great units, many held at once, and pages enough, so that caches are drained
         self.drains = seed % 2 == 1
         self.names = 0
@@ -55,8 +57,18 @@ class Maker:
             elif depth < DEEPEST:
                 times = self.draw.choice([0, 1, 2, 3, 5, 8])
                 statements.append(Statement("repeat", times=times, blocks=[Block(self.block(depth + 1, length // 2))]))
+            statements += self.pauses(depth, length)
         self.draw.shuffle(held)
         return statements + [self.end_of(name, depth, length) for name in held]
+
+    def pauses(self, depth: int, length: int) -> list[Statement]:
+        """Sometimes a section, sometimes a yield."""
+        made = []
+        if depth < DEEPEST and self.draw.random() < 0.12:
+            made.append(Statement("section", blocks=[Block(self.block(depth + 1, length // 2))]))
+        if self.may_yield and self.draw.random() < 0.08:
+            made.append(Statement("yield"))
+        return made
 
     def maybe(self, chance: float, depth: int, length: int) -> list[Statement]:
         return self.block(depth + 1, length // 3) if depth < DEEPEST and self.draw.random() < chance else []
@@ -78,21 +90,24 @@ class Maker:
         return news + drops
 
     def script(self, name: str, kind: str, lengths: list[int]) -> Script:
+        self.may_yield = kind != "handler"
         return Script(name, kind, Block(self.block(int(kind == "handler"), self.draw.choice(lengths))))
 
     def scenario(self) -> Scenario:
         draw = self.draw
-        plain = [self.script(f"s{number}", "plain", [3, 8, 15, 40]) for number in range(draw.randint(1, 2))]
+        kinds = [draw.choice(["plain", "sleepable"]) for _ in range(draw.randint(1, 2))]
+        ordinary = [self.script(f"s{number}", kind, [3, 8, 15, 40]) for number, kind in enumerate(kinds)]
         if draw.random() < (0.8 if self.drains else 0.25):
-            plain.append(Script("many", "plain", Block(self.many())))
+            ordinary.append(Script("many", draw.choice(["plain", "sleepable"]), Block(self.many())))
         handlers = [self.script(f"h{number}", "handler", [0, 1, 3, 6]) for number in range(draw.randint(0, 3))]
         return Scenario(
             pages=draw.choice([3, 5, 8, 12, 20, 30] if self.drains else [0, 1, 1, 2, 3, 5, 20]),
             deferred=draw.random() < 0.8,
             types={each.name: each for each in self.types},
-            scripts={each.name: each for each in plain + handlers},
-            runs=[RunLine(0, draw.choice(plain)) for _ in range(draw.randint(0, 3))],
+            scripts={each.name: each for each in ordinary + handlers},
+            runs=[RunLine(0, draw.choice(ordinary)) for _ in range(draw.randint(0, 3))],
             ats=self.planned(handlers),
+            turns=draw.choice([None, None, [], [0], [0, 0, 0]]),
         )
 
     def planned(self, handlers: list[Script]) -> list[AtLine]:

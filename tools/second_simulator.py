@@ -1,9 +1,10 @@
 """A second simulator of one processor, to compare the program's journals with.
 
 It was written from the rules alone, which docs/caches.md, docs/deferred-work.md, docs/grace-periods.md, docs/handlers.md
-and docs/journals.md restate, and shares no code with the program. It knows what runs by now: one processor, types without a
-node, plain scripts and handlers of `new`, `drop`, `if` and `repeat`, with deferred work or without. It knows counted types as well,
-which the program refuses so far; since nothing acquires a reference, each `drop` is the last one. Nothing of it is proved.
+and docs/journals.md restate, and shares no code with the program. It knows what runs so far: one processor, types without a
+count or a node, plain and sleepable scripts and handlers of `new`, `drop`, `if`, `repeat`, `section` and `yield`, with deferred
+work or without. It knows counted types as well, which the program refuses so far; since nothing acquires a reference, each `drop`
+is the last one. Nothing of it is proved.
 """
 
 from collections import Counter
@@ -244,6 +245,20 @@ class Simulator:
             case "repeat":
                 for _ in range(statement.times):
                     self.block(level, statement.blocks[0], names)
+            case "section":
+                self.in_plain(level, statement.blocks[0], names)
+            case "yield":
+                # (with one processor the next turn is its own again)
+                self.note(level, "yield")
+
+    def in_plain(self, level: int, block: Block, names: dict) -> None:
+        """Runs it in a plain section: a new one, where none is open."""
+        is_outermost = self.words["plain"] % 2 == 0
+        if is_outermost:
+            self.move_word(level, "in", "plain")
+        self.block(level, block, names)
+        if is_outermost:
+            self.move_word(level, "out", "plain")
 
     def give_up(self, level: int, made: ObjectType, unit: int, life: int) -> None:
         number = class_of(made.size())
@@ -273,27 +288,22 @@ class Simulator:
             self.note(level, "empty")
         return None
 
-    def section(self, level: int, line: str) -> None:
-        self.words["plain"] += 1
-        self.note(level, line, "plain", self.words["plain"])
+    def move_word(self, level: int, line: str, domain: str) -> None:
+        self.words[domain] += 1
+        self.note(level, line, domain, self.words[domain])
 
     def handler(self, at: AtLine) -> None:
-        script = at.script
         self.totals["handlers"] += 1
-        self.note(at.level, "handler", script.name)
-        is_outside = self.words["plain"] % 2 == 0
-        if is_outside:
-            self.section(at.level, "in")
-        self.block(at.level, script.body, {})
-        if is_outside:
-            self.section(at.level, "out")
-        self.note(at.level, "back", script.name)
+        self.note(at.level, "handler", at.script.name)
+        self.in_plain(at.level, at.script.body, {})
+        self.note(at.level, "back", at.script.name)
 
     def script(self, script: Script) -> None:
+        domain = "tracing" if script.kind == "sleepable" else "plain"
         self.note(0, "script", script.name)
-        self.section(0, "in")
+        self.move_word(0, "in", domain)
         self.block(0, script.body, {})
-        self.section(0, "out")
+        self.move_word(0, "out", domain)
         self.note(0, "done", script.name)
         if self.scenario.deferred:
             for number in self.caches:
