@@ -1,4 +1,4 @@
-use Rattle.std.proofs.Common.{◌≡◌, ◌∷◌, ◌∙◌, [], true, eqb, eq-eqb, refl, sym, ap, subst}
+use Rattle.std.proofs.Common.{◌≡◌, ◌∙◌, true, eqb, eq-eqb, refl, sym, ap, subst}
 use Rattle.std.specs.Prelude.{is_some}
 use Rattle.bm_grace.specs.Known.{Known}
 use Rattle.bm_journal.specs.declared.ids.ObjId.{ObjId}
@@ -19,3 +19,8 @@ end_life-last-requires g c =
     let u = c.fetch_one-again.result in
     let same : eqb u.number o.unit ≡ true = eq-eqb u.number o.unit (sym (ap (λ (x : ObjId). x.unit) b.object)) in
     record { lives = ap (λ (k : Known). is_some (k.objects.lives o.unit)) b.known ∙ (rw same refl) }
+
+pub put_back-requires-2-clause-mine : goal.put_back-requires-2-clause-mine
+put_back-requires-2-clause-mine g c =
+    let e = c.end_life-last.ensures in
+    subst (Holds (rights_living c.end_life-last.new.self)) (sym c.parcel_of-2.ensures) (one-held _ _ _ c.end_life-last.result e.mine e.number)

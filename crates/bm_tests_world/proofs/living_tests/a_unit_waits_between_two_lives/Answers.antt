@@ -1,6 +1,6 @@
-use Rattle.std.proofs.Common.{◌≡◌, ◌∙◌, ◌∷◌, [], None, ℕ, true, eqb, eq-eqb, refl, sym, ap, subst}
+use Rattle.std.proofs.Common.{◌≡◌, ◌∙◌, None, true, eqb, eq-eqb, refl, sym, ap, subst}
 use Rattle.std.specs.Prelude.{is_some}
-use Rattle.bm_grace.specs.Known.{Known, Living}
+use Rattle.bm_grace.specs.Known.{Known}
 use Rattle.bm_journal.specs.declared.ids.ObjId.{ObjId}
 use Rattle.bm_post.specs.Rights.{Holds}
 use Rattle.bm_world.specs.LivingState.{LivingState, rights_living}
