@@ -1,0 +1,10 @@
+pub mod Accepted
+pub mod BodyLines
+pub mod BodyTaken
+pub mod DraftRead
+pub mod Later
+pub mod NumbersRead
+pub mod OwnersPut
+pub mod Refused
+pub mod Shapes
+pub mod Stepping
