@@ -7,4 +7,5 @@ pub mod NumbersRead
 pub mod OwnersPut
 pub mod Refused
 pub mod Shapes
+pub mod Staged
 pub mod Stepping
