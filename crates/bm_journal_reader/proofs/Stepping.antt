@@ -26,7 +26,7 @@ use Rattle.bm_journal_reader.proofs.Accepted.{run, accepted}
 use Rattle.bm_journal_reader.proofs.Refused.{Follows, no_feed, refused}
 
 -- behind the maps their names stay
-abbrev Named : List (List ℕ) → Stage → Type 0
+abbrev pub Named : List (List ℕ) → Stage → Type 0
 Named m Begun = ⊥
 Named m Sized = ⊥
 Named m Typed = ⊥
@@ -36,7 +36,7 @@ Named m (Logging n k) = n ≡ m
 Named m (Telling n k) = n ≡ m
 Named m (Counting n k) = n ≡ m
 
-named-maps : (m : List (List ℕ)) (s : Stage) → Named m s → stage_maps s ≡ m
+pub named-maps : (m : List (List ℕ)) (s : Stage) → Named m s → stage_maps s ≡ m
 named-maps m Begun h = absurd h
 named-maps m Sized h = absurd h
 named-maps m Typed h = absurd h
@@ -52,7 +52,7 @@ moved P x y e h = subst P (same e) h
 only-moved : {A : Type 0} (P : A → Type 0) (b : Bool) (x y : A) → only_if b (Some x) ≡ Some y → P x → P y
 only-moved P b x y e h = subst P (same (only_if-some b (Some x) y e).1) h
 
-stays : (m : List (List ℕ)) (s : Stage) (l : Line) (t : Stage) → Named m s → next s l ≡ Some t → Named m t
+pub stays : (m : List (List ℕ)) (s : Stage) (l : Line) (t : Stage) → Named m s → next s l ≡ Some t → Named m t
 stays m Begun l t h e = absurd h
 stays m Sized l t h e = absurd h
 stays m Typed l t h e = absurd h

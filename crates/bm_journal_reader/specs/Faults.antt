@@ -1,7 +1,14 @@
 -- The lines of a text, and the first that no journal has there.
-use Rattle.std.specs.Prelude.{◌≡◌, ℕ, suc, ◌==◌, Bool, true, false, ◌&&◌, List, [], ◌∷◌, ◌++◌, Option, Some, None, take, option_map, if◌then◌else◌}
+use Rattle.std.specs.Prelude.{◌≡◌, ℕ, suc, ◌+◌, length, map, ◌==◌, Bool, true, false, ◌&&◌, List, [], ◌∷◌, ◌++◌, Option, Some, None, take, drop, position, ◌<◌, option_map, if◌then◌else◌}
 use Rattle.bm_law_text.specs.Pieces.{pieces, words}
-use Rattle.bm_journal_reader.specs.Drafts.{Stage, Counting, step}
+use Rattle.bm_journal.specs.Line.{spaced}
+use Rattle.bm_law_text.specs.declared.line.Line.{Line}
+use Rattle.bm_law_text.specs.Fits.{Each, LineFits}
+use Rattle.bm_law_text.specs.Lines.{line_head, line_tail}
+use Rattle.bm_journal_reader.specs.declared.draft.Draft.{Draft}
+use Rattle.bm_journal_reader.specs.declared.fault.JournalFault.{JournalFault}
+use Rattle.bm_journal_reader.specs.declared.fault.JournalFault.TheVariants.{Bad, NoMemory}
+use Rattle.bm_journal_reader.specs.Drafts.{Stage, Begun, Counting, stage_maps, step, draft_stage, draft_lines, IsSound}
 
 -- each line with its line feed, and behind the last line feed the end
 abbrev pub with_feeds : List (List ℕ) → List (List ℕ)
@@ -36,3 +43,31 @@ abbrev pub first_bad : Stage → List (List ℕ) → Option ℕ
 first_bad stage [] = None
 first_bad stage (p ∷ []) = if is_done stage && is_nothing p then None else Some 0
 first_bad stage (p ∷ q ∷ ps) = behind_step (step stage (words p)) (λ t. first_bad t (q ∷ ps))
+
+-- ---- what is kept while lines are read
+
+-- a line without its line feed
+abbrev pub line_content : List (List ℕ) → Line → List ℕ
+line_content maps l = line_head l ++ spaced (line_tail maps l)
+
+abbrev pub plus : ℕ → Option ℕ → Option ℕ
+plus n None = None
+plus n (Some k) = Some (n + k)
+
+-- so many lines are read, and this is left
+pub record Kept (bytes rest : List ℕ) (line : ℕ) (d : Draft) : Type 0 where
+  pub bad : first_bad Begun (pieces bytes) ≡ plus (length (draft_lines d)) (first_bad (draft_stage d) (pieces rest))
+  pub read : pieces bytes ≡ map (line_content (stage_maps (draft_stage d))) (draft_lines d) ++ pieces rest
+  pub fit : Each (LineFits (stage_maps (draft_stage d))) (draft_lines d)
+  pub sound : IsSound d
+  pub count : line ≡ length (draft_lines d) + 1
+
+-- a fault names the first line that may not come
+abbrev pub FaultSays : List ℕ → JournalFault → Type 0
+FaultSays bytes (Bad line) = (k : ℕ) × (line ≡ k + 1) × (first_bad Begun (pieces bytes) ≡ Some k)
+FaultSays bytes NoMemory = Unit {0}
+
+-- the bytes before the first line feed, and those behind it
+abbrev pub IsFirstLine : List ℕ → Option (List ℕ × List ℕ) → Type 0
+IsFirstLine bytes None = position (λ b. b == 10) bytes ≡ None
+IsFirstLine bytes (Some cut) = (end : ℕ) × (position (λ b. b == 10) bytes ≡ Some end) × (cut.0 ≡ take end bytes) × (cut.1 ≡ drop (end + 1) bytes) × (end < length bytes)

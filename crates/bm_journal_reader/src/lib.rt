@@ -6,11 +6,13 @@ mod calls;
 mod draft;
 mod entry;
 mod exchange;
+mod fault;
 mod history;
 mod lists;
 mod named;
 mod owners;
 mod parts;
+mod reader;
 mod steps;
 mod told;
 
