@@ -2,6 +2,7 @@ pub mod Accepted
 pub mod BodyLines
 pub mod BodyTaken
 pub mod DraftRead
+pub mod Finishing
 pub mod Keeping
 pub mod Later
 pub mod NumbersRead

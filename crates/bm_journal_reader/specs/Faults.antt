@@ -3,8 +3,10 @@ use Rattle.std.specs.Prelude.{◌≡◌, ℕ, suc, ◌+◌, length, map, ◌==�
 use Rattle.bm_law_text.specs.Pieces.{pieces, words}
 use Rattle.bm_journal.specs.Line.{spaced}
 use Rattle.bm_law_text.specs.declared.line.Line.{Line}
-use Rattle.bm_law_text.specs.Fits.{Each, LineFits}
-use Rattle.bm_law_text.specs.Lines.{line_head, line_tail}
+use Rattle.bm_law_text.specs.Fits.{Each, LineFits, JournalFits}
+use Rattle.bm_law_text.specs.Lines.{line_head, line_tail, journal_items}
+use Rattle.bm_journal.specs.declared.journal.Journal.{Journal}
+use Rattle.bm_journal.specs.JournalText.{journal_text}
 use Rattle.bm_journal_reader.specs.declared.draft.Draft.{Draft}
 use Rattle.bm_journal_reader.specs.declared.fault.JournalFault.{JournalFault}
 use Rattle.bm_journal_reader.specs.declared.fault.JournalFault.TheVariants.{Bad, NoMemory}
@@ -71,3 +73,14 @@ FaultSays bytes NoMemory = Unit {0}
 abbrev pub IsFirstLine : List ℕ → Option (List ℕ × List ℕ) → Type 0
 IsFirstLine bytes None = position (λ b. b == 10) bytes ≡ None
 IsFirstLine bytes (Some cut) = (end : ℕ) × (position (λ b. b == 10) bytes ≡ Some end) × (cut.0 ≡ take end bytes) × (cut.1 ≡ drop (end + 1) bytes) × (end < length bytes)
+
+-- all is read, and the journal has these lines
+pub record Finished (d : Draft) (j : Journal) : Type 0 where
+  pub done : is_done (draft_stage d) ≡ true
+  pub items : journal_items j ≡ draft_lines d
+  pub maps : j.maps ≡ stage_maps (draft_stage d)
+
+-- no journal's text agrees with these bytes up to the line
+abbrev pub NoJournal : List ℕ → JournalFault → Type 0
+NoJournal bytes (Bad line) = (j : Journal) → JournalFits j → AgreeIn line bytes (journal_text j) → ⊥
+NoJournal bytes NoMemory = Unit {0}

@@ -16,3 +16,5 @@ mod reader;
 mod steps;
 mod told;
 
+pub use fault::JournalFault;
+pub use reader::read_journal;

@@ -1,12 +1,17 @@
 //! The reader.
 
-ghost use Rattle.std.specs.Prelude.{◌≡◌, ◌<◌, ◌==◌, IfOk, IfSome, MatchResult, None, length, option_map, position};
-ghost use Rattle.bm_journal_reader.specs.Faults.{FaultSays, IsFirstLine, Kept};
+ghost use Rattle.std.specs.Prelude.{◌≡◌, ◌<◌, ◌==◌, IfOk, IfSome, MatchOption, MatchResult, false, None, length, option_map, position};
+ghost use Rattle.bm_journal_reader.specs.Faults.{FaultSays, Finished, IsFirstLine, Kept, NoJournal, is_done};
+ghost use Rattle.bm_journal_reader.specs.Drafts.{IsSound, draft_lines, draft_stage, stage_maps};
+ghost use Rattle.bm_law_text.specs.Fits.{Each, LineFits};
+ghost use Rattle.bm_journal.specs.JournalText.{journal_text};
 ghost use Rattle.bm_journal_reader.specs.Pieces.{texts};
 ghost use Rattle.bm_law_text.specs.Pieces.{words};
 
-use crate::draft::Draft;
+use crate::body::{Body, Part};
+use crate::draft::{Draft, Head};
 use crate::fault::JournalFault;
+use bm_journal::{Histories, Journal, Logs, Names, Opened, Totals};
 use bm_word::{NoMemory, numbers_round_trip};
 use std::alloc::Global;
 
@@ -64,4 +69,75 @@ fn read_lines<'a>(
         line += 1;
     }
     Ok((rest, line))
+}
+
+// The journal, where all of it is read.
+fn finish(draft: Draft) -> Option<Journal>
+    requires sound { IsSound draft }
+    requires fit { Each (LineFits (stage_maps (draft_stage draft))) (draft_lines draft) }
+    ensures { MatchOption result (is_done (draft_stage draft) ≡ false) (λ j. Finished draft j) }
+{
+    let Draft {
+        head,
+        processors,
+        pages,
+        types,
+        maps,
+        owners: _owners,
+        scripts,
+        body,
+    } = draft;
+    let Body {
+        classes,
+        logs,
+        graphs,
+        totals,
+        part,
+    } = body;
+    match head {
+        Head::Behind => {}
+        _ => return None,
+    }
+    match part {
+        Part::Totals => {}
+        _ => return None,
+    }
+    if totals.len() != 19 {
+        return None;
+    }
+    let mut values = [0u64; 19];
+    values.copy_from_slice(totals.as_slice());
+    Some(Journal {
+        processors,
+        pages,
+        types: Names::new(types),
+        maps: Names::new(maps),
+        scripts: Names::new(scripts),
+        classes: Opened::new(classes),
+        logs: Logs::new(logs),
+        graphs: Histories::new(graphs),
+        totals: Totals::new(values),
+    })
+}
+
+/// The journal whose text these bytes are. Otherwise the first line up to which no journal's text agrees with them.
+///
+/// Lines are counted from 1; a line is taken with its line feed, and the end of the text counts as a line. The time and the memory
+/// are linear in the bytes.
+pub fn read_journal(alloc: Global, bytes: &[u8]) -> Result<Journal, JournalFault>
+    ensures { MatchResult result (λ j. journal_text j ≡ bytes.now) (NoJournal bytes.now) }
+{
+    numbers_round_trip();
+    let mut draft = Draft::new(alloc);
+    let (rest, line) = match read_lines(alloc, &mut draft, bytes) {
+        Ok(left) => left,
+        Err(fault) => return Err(fault),
+    };
+    if !rest.is_empty() {
+        return Err(JournalFault::Bad(line));
+    }
+    match finish(draft) {
+        Some(journal) => Ok(journal),
+        None => Err(JournalFault::Bad(line)),
+    }
 }
