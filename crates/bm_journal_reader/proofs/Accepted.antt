@@ -1,5 +1,5 @@
 -- The lines of a journal may come one after the other.
-use Rattle.std.proofs.Common.{◌≡◌, ℕ, zero, suc, ◌+◌, Bool, true, false, ◌==◌, List, [], ◌∷◌, ◌++◌, Option, Some, None, length, refl, sym, ap, ◌∙◌, arith, append_assoc}
+use Rattle.std.proofs.Common.{◌≡◌, ℕ, suc, ◌+◌, true, ◌==◌, List, [], ◌∷◌, ◌++◌, Option, Some, length, refl, ap, ◌∙◌, arith, append_assoc}
 use Rattle.std.proofs.lemmas.Bool.Decides.{Decides-eqb}
 use Rattle.bm_class.specs.declared.watermarks.Marks.{Marks}
 use Rattle.bm_journal.specs.declared.entry.Entry.{Entry}
@@ -11,8 +11,8 @@ use Rattle.bm_journal.specs.TotalNames.{all_totals, total_place}
 use Rattle.bm_law_text.specs.declared.line.Line.{Line}
 use Rattle.bm_law_text.specs.declared.line.Line.TheVariants as line_as
 use Rattle.bm_law_text.specs.Parts.{after, only_if}
-use Rattle.bm_law_text.specs.Lines.{class_items, entry_items, log_items, past_items, graph_items, total_items, body_items, journal_items}
-use Rattle.bm_journal_reader.specs.Drafts.{Stage, Begun, Sized, Typed, Mapped, Opened, Logging, Telling, Counting, next}
+use Rattle.bm_law_text.specs.Lines.{class_items, entry_items, log_items, past_items, graph_items, total_items, journal_items}
+use Rattle.bm_journal_reader.specs.Drafts.{Stage, Begun, Opened, Logging, Telling, Counting, next}
 
 -- the stage behind lines that may come one after the other
 abbrev pub run : Stage → List Line → Option Stage
@@ -57,7 +57,7 @@ logs-run m p (log ∷ logs) s ready begin =
       stage = rest.stage;
       ready = rest.ready;
       same = λ ls. ap (λ o. after o (λ t. run t ((entry_items log ++ log_items (p + 1) logs) ++ ls))) begin
-        ∙ ap (run (Logging m (p + 1))) (append_assoc (entry_items log) (log_items (p + 1) logs) ls) ∙ entries-run m (p + 1) log (log_items (p + 1) logs ++ ls) ∙ rest.same ls;
+          ∙ ap (run (Logging m (p + 1))) (append_assoc (entry_items log) (log_items (p + 1) logs) ls) ∙ entries-run m (p + 1) log (log_items (p + 1) logs ++ ls) ∙ rest.same ls;
     }
 
 graphs-run : (m : List (List ℕ)) (gs : List (List ℕ × List Past)) (s : Stage) → Ready m s → Leads m s (graph_items gs)
@@ -69,7 +69,7 @@ graphs-run m (g ∷ gs) s ready =
       stage = rest.stage;
       ready = rest.ready;
       same = λ ls. ap (λ o. after o (λ t. run t ((past_items 0 g.1 ++ graph_items gs) ++ ls))) (ready.graph g.0)
-        ∙ ap (run (Telling m 0)) (append_assoc (past_items 0 g.1) (graph_items gs) ls) ∙ pasts-run m 0 g.1 (graph_items gs ++ ls) ∙ rest.same ls;
+          ∙ ap (run (Telling m 0)) (append_assoc (past_items 0 g.1) (graph_items gs) ls) ∙ pasts-run m 0 g.1 (graph_items gs ++ ls) ∙ rest.same ls;
     }
 
 -- totals with these places, one after the other

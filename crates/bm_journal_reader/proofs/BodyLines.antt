@@ -1,6 +1,5 @@
 -- One line more.
-use Rattle.std.proofs.Common.{◌≡◌, ℕ, zero, suc, ◌+◌, ◌<◌, ◌≤◌, Bool, true, false, cond, List, [], ◌∷◌, ◌++◌, Option, Some, None, length, refl, sym, ◌∙◌, ap, arith, append_assoc, append-nil, length-append, subst, ◌==◌, add-one, zero-add, add-zero}
-use Rattle.std.proofs.lemmas.Bool.{eqb-true}
+use Rattle.std.proofs.Common.{◌≡◌, ℕ, suc, ◌+◌, List, [], ◌∷◌, ◌++◌, Some, length, refl, sym, ◌∙◌, ap, arith, append_assoc, append-nil}
 use Rattle.std.specs.Prelude.{slice_get}
 use Rattle.bm_class.specs.declared.watermarks.Marks.{Marks}
 use Rattle.bm_journal.specs.declared.entry.Entry.{Entry}
@@ -10,11 +9,8 @@ use Rattle.bm_journal.specs.declared.total.Total.TheVariants as total
 use Rattle.bm_journal.specs.TotalNames.{all_totals, total_place}
 use Rattle.bm_law_text.specs.declared.line.Line.{Line}
 use Rattle.bm_law_text.specs.declared.line.Line.TheVariants as line_as
-use Rattle.bm_journal_reader.specs.declared.body.Part.{Part}
-use Rattle.bm_journal_reader.specs.declared.body.Part.TheVariants as part
 use Rattle.bm_law_text.specs.Lines.{class_items, entry_items, log_items, past_items, graph_items, total_items}
-use Rattle.bm_law_text.specs.Parts.{after, only_if}
-use Rattle.bm_journal_reader.specs.Drafts.{Stage, Opened, Logging, Telling, Counting, next, open_log, open_graph, parts_lines, staged, UpTo, begun_logs, begun_totals}
+use Rattle.bm_journal_reader.specs.Drafts.{parts_lines}
 
 class-push : (xs : List (ℕ × Marks)) (x : ℕ × Marks) → class_items (xs ++ x ∷ []) ≡ class_items xs ++ line_as.Class x.0 x.1 ∷ []
 class-push [] x = refl
@@ -93,8 +89,8 @@ pub push-entry : (cs : List (ℕ × Marks)) (ls : List (List (ℕ × Entry))) (l
 push-entry cs ls log x =
     let p = line_as.Processor (0 + length ls) in
     let e : log_items 0 (ls ++ (log ++ x ∷ []) ∷ []) ≡ log_items 0 (ls ++ log ∷ []) ++ line_as.Entry x.0 x.1 ∷ [] =
-        log-push 0 ls (log ++ x ∷ []) ∙ ap (λ es. log_items 0 ls ++ (p ∷ es)) (entry-push log x) ∙ sym (append_assoc (log_items 0 ls) (p ∷ entry_items log) (line_as.Entry x.0 x.1 ∷ []))
-        ∙ ap (λ es. es ++ line_as.Entry x.0 x.1 ∷ []) (sym (log-push 0 ls log)) in
+    log-push 0 ls (log ++ x ∷ []) ∙ ap (λ es. log_items 0 ls ++ (p ∷ es)) (entry-push log x) ∙ sym (append_assoc (log_items 0 ls) (p ∷ entry_items log) (line_as.Entry x.0 x.1 ∷ []))
+    ∙ ap (λ es. es ++ line_as.Entry x.0 x.1 ∷ []) (sym (log-push 0 ls log)) in
     two-nil (class_items cs) (log_items 0 (ls ++ (log ++ x ∷ []) ∷ [])) ∙ ap (λ xs. class_items cs ++ xs) e
     ∙ sym (append_assoc (class_items cs) (log_items 0 (ls ++ log ∷ [])) (line_as.Entry x.0 x.1 ∷ [])) ∙ ap (λ xs. xs ++ line_as.Entry x.0 x.1 ∷ []) (sym (two-nil (class_items cs) (log_items 0 (ls ++ log ∷ []))))
 
@@ -109,8 +105,8 @@ push-past cs ls gs n xs x =
     let z : 0 + length xs ≡ length xs = omega arith in
     let l = line_as.Past (length xs) x in
     let e : graph_items (gs ++ (n, xs ++ x ∷ []) ∷ []) ≡ graph_items (gs ++ (n, xs) ∷ []) ++ l ∷ [] =
-        graph-push gs (n, xs ++ x ∷ []) ∙ ap (λ es. graph_items gs ++ (line_as.Graph n ∷ es)) (past-push 0 xs x ∙ ap (λ k. past_items 0 xs ++ line_as.Past k x ∷ []) z) ∙ sym (append_assoc (graph_items gs) (line_as.Graph n ∷ past_items 0 xs) (l ∷ []))
-        ∙ ap (λ es. es ++ l ∷ []) (sym (graph-push gs (n, xs))) in
+    graph-push gs (n, xs ++ x ∷ []) ∙ ap (λ es. graph_items gs ++ (line_as.Graph n ∷ es)) (past-push 0 xs x ∙ ap (λ k. past_items 0 xs ++ line_as.Past k x ∷ []) z) ∙ sym (append_assoc (graph_items gs) (line_as.Graph n ∷ past_items 0 xs) (l ∷ []))
+    ∙ ap (λ es. es ++ l ∷ []) (sym (graph-push gs (n, xs))) in
     ap (λ es. class_items cs ++ (log_items 0 ls ++ (es ++ []))) e ∙ three (class_items cs) (log_items 0 ls) (graph_items (gs ++ (n, xs) ∷ [])) l
 
 pub push-total : (cs : List (ℕ × Marks)) (ls : List (List (ℕ × Entry))) (gs : List (List ℕ × List Past)) (vs : List ℕ) (t : Total) (v : ℕ) → total_place t ≡ length vs → parts_lines cs ls gs (vs ++ v ∷ []) ≡ parts_lines cs ls gs vs ++ line_as.Total t v ∷ []

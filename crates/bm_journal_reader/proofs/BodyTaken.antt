@@ -1,7 +1,6 @@
 -- What a line makes of what is read so far.
-use Rattle.std.proofs.Common.{◌≡◌, ℕ, zero, suc, ◌+◌, ◌<◌, ◌≤◌, Bool, true, false, cond, List, [], ◌∷◌, ◌++◌, Option, Some, None, length, refl, sym, ◌∙◌, ap, arith, append-nil, length-append, ◌==◌}
-use Rattle.std.proofs.lemmas.Bool.{eqb-true}
-use Rattle.std.proofs.lemmas.Bool.Decides.{Decides-eqb, nat_tests}
+use Rattle.std.proofs.Common.{◌≡◌, ℕ, ◌+◌, true, List, [], ◌∷◌, ◌++◌, Some, length, refl, sym, ◌∙◌, ap, arith, append-nil, length-append, ◌==◌}
+use Rattle.std.proofs.lemmas.Bool.Decides.{Decides-eqb}
 use Rattle.bm_class.specs.declared.watermarks.Marks.{Marks}
 use Rattle.bm_journal.specs.declared.entry.Entry.{Entry}
 use Rattle.bm_journal.specs.declared.past.Past.{Past}
@@ -12,8 +11,8 @@ use Rattle.bm_law_text.specs.declared.line.Line.TheVariants as line_as
 use Rattle.bm_journal_reader.specs.declared.body.Part.{Part}
 use Rattle.bm_journal_reader.specs.declared.body.Part.TheVariants as part
 use Rattle.bm_journal_reader.specs.declared.body.Body.{Body}
-use Rattle.bm_law_text.specs.Parts.{after, only_if}
-use Rattle.bm_journal_reader.specs.Drafts.{Stage, Opened, Logging, Telling, Counting, next, open_log, open_graph, parts_lines, staged, UpTo, begun_logs, begun_totals, read_logs, read_graphs, body_lines, body_stage, IsInOrder, Taken}
+use Rattle.bm_law_text.specs.Parts.{only_if}
+use Rattle.bm_journal_reader.specs.Drafts.{Logging, Telling, Counting, next, open_log, open_graph, parts_lines, staged, UpTo, begun_logs, Taken}
 use Rattle.bm_journal_reader.proofs.BodyLines.{push-class, push-log, push-entry, push-graph, push-past, push-total}
 
 Ls : Type 0

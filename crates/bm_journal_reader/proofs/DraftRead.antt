@@ -1,20 +1,18 @@
 -- A line of the heading, taken.
-use Rattle.std.proofs.Common.{◌≡◌, ℕ, Bool, true, false, List, [], ◌∷◌, ◌++◌, Option, Some, None, refl, sym, ap, ◌∙◌, subst}
-use Rattle.std.specs.Prelude.{codes, option_map}
+use Rattle.std.proofs.Common.{◌≡◌, ℕ, Bool, true, false, List, [], ◌∷◌, ◌++◌, Some, None, refl, sym, ap, ◌∙◌, subst}
+use Rattle.std.specs.Prelude.{codes}
 use Rattle.bm_journal.specs.EntryText.{Words}
 use Rattle.bm_journal.specs.WellFormed.{all_differ}
 use Rattle.bm_law_text.specs.declared.line.Line.{Line}
 use Rattle.bm_law_text.specs.declared.line.Line.TheVariants as line_as
-use Rattle.bm_journal_reader.specs.declared.draft.Head.{Head}
 use Rattle.bm_journal_reader.specs.declared.draft.Head.TheVariants as head
 use Rattle.bm_journal_reader.specs.declared.draft.Draft.{Draft}
-use Rattle.bm_journal_reader.specs.declared.body.Body.{Body}
 use Rattle.bm_journal_reader.specs.declared.body.Part.{Part}
 use Rattle.bm_journal_reader.specs.declared.body.Part.TheVariants as part
-use Rattle.bm_law_text.specs.Parts.{after, only_if, names}
+use Rattle.bm_law_text.specs.Parts.{after, names}
 use Rattle.bm_law_text.specs.Entries.{past_word}
 use Rattle.bm_law_text.specs.Reading.{size_words, body_line_of}
-use Rattle.bm_journal_reader.specs.Drafts.{Stage, Begun, Sized, Typed, Mapped, Opened, stage_line, stage_maps, next, draft_stage, draft_lines, head_stage, head_lines, head_order, staged, body_stage, body_lines, read_logs, read_graphs, parts_lines, open_log, open_graph, IsInOrder, UpTo, MapsKept, IsSound, Read, Reads, Takes, Taken}
+use Rattle.bm_journal_reader.specs.Drafts.{Opened, stage_line, next, draft_stage, head_order, staged, body_stage, body_lines, parts_lines, open_log, open_graph, IsInOrder, UpTo, MapsKept, IsSound, Read, Reads, Takes}
 
 pub size-read : (old new : Draft) (ws rest : Words) → old.head ≡ head.Size → new.head ≡ head.Types → Some rest ≡ past_word (codes "processors") ws → Some (line_as.Size new.processors new.pages) ≡ size_words rest → Read old ws new
 size-read old new ws rest e1 e2 a b = record {
@@ -73,15 +71,16 @@ behind-reads b old new ws line e1 so e2 p g t m o s a takes =
     let said : stage_line (draft_stage old) ws ≡ Some line = rw e1 (behind-line old.maps.items old.body.part _ _ ws ∙ here) in
     let behind : new.head ≡ head.Behind = e2 ∙ e1 in
     let case : (b : Bool) → Takes b old.maps.items old.body line new.body → Reads b old ws new = λ b.
-        elim b as (λ b. Takes b old.maps.items old.body line new.body → Reads b old ws new)
-        [ true ↦ λ h. record {
-            line = line;
-            said = said;
-            stage = rw e1 (rw behind (h.stage ∙ ap (λ v. Some (body_stage v.items new.body)) (sym m)));
-            lines = rw e1 (rw behind ((λ i. line_as.Size (p i) (g i) ∷ line_as.Types (t i).items ∷ line_as.Maps (m i).items ∷ line_as.Scripts (s i).items ∷ h.lines i)));
-            sound = rw behind ((o ∙ kept.0.0 ∙ ap (λ v. v.items) (sym m), ap (λ v. all_differ v.items) m ∙ kept.0.1), h.order);
-          }
-        | false ↦ λ h. rw said (rw e1 h) ]
+    elim b as (λ b. Takes b old.maps.items old.body line new.body → Reads b old ws new) [
+      | true ↦ λ h. record {
+        line = line;
+        said = said;
+        stage = rw e1 (rw behind (h.stage ∙ ap (λ v. Some (body_stage v.items new.body)) (sym m)));
+        lines = rw e1 (rw behind ((λ i. line_as.Size (p i) (g i) ∷ line_as.Types (t i).items ∷ line_as.Maps (m i).items ∷ line_as.Scripts (s i).items ∷ h.lines i)));
+        sound = rw behind ((o ∙ kept.0.0 ∙ ap (λ v. v.items) (sym m), ap (λ v. all_differ v.items) m ∙ kept.0.1), h.order);
+      }
+      | false ↦ λ h. rw said (rw e1 h)
+    ]
     in case b takes
 
 pub maps-refused : (old : Draft) (ws rest ns : Words) → old.head ≡ head.Maps → Some rest ≡ past_word (codes "maps") ws → Some ns ≡ names rest → ns ≡ rest → all_differ rest ≡ false → after (stage_line (draft_stage old) ws) (next (draft_stage old)) ≡ None

@@ -1,18 +1,18 @@
 -- What the lines of a journal say when all are read.
-use Rattle.std.proofs.Common.{◌≡◌, ℕ, zero, suc, ◌+◌, ◌<◌, ◌^◌, Bool, true, false, cond, ◌&&◌, not, ◌==◌, List, [], ◌∷◌, ◌++◌, Option, Some, None, length, map, take, refl, sym, ap, ◌∙◌, arith, subst, append_assoc, append-nil, ltb}
+use Rattle.std.proofs.Common.{◌≡◌, ℕ, suc, ◌+◌, Bool, true, false, cond, ◌&&◌, not, ◌==◌, List, [], ◌∷◌, ◌++◌, Some, None, length, map, refl, sym, ap, ◌∙◌, arith, subst, append_assoc, append-nil}
 use Rattle.std.proofs.lemmas.List.Splits.{join_with_byte-slice_split}
-use Rattle.std.specs.List.{list_all, join_with_byte, slice_split, onto_first, position_or_len}
+use Rattle.std.specs.List.{list_all, join_with_byte, onto_first, position_or_len}
 use Rattle.std.specs.Prelude.{IsTrue, position, nat_lt}
 use Rattle.bm_word.specs.Number.{NumbersRoundTrip}
 use Rattle.bm_journal.specs.declared.entry.Entry.{Entry}
 use Rattle.bm_journal.specs.declared.past.Past.{Past}
 use Rattle.bm_journal.specs.declared.journal.Journal.{Journal}
 use Rattle.bm_journal.specs.JournalText.{journal_text}
-use Rattle.bm_journal.specs.Line.{line, spaced}
-use Rattle.bm_journal.specs.WellFormed.{owner_below, owners_below, is_whole_entry, is_whole_log, are_whole}
+use Rattle.bm_journal.specs.Line.{line}
+use Rattle.bm_journal.specs.WellFormed.{owner_below, owners_below, is_whole_log, are_whole}
 use Rattle.bm_law_text.specs.declared.line.Line.{Line}
 use Rattle.bm_law_text.specs.Fits.{Each, LineFits, JournalFits}
-use Rattle.bm_law_text.specs.Lines.{line_head, line_tail, lines_text, class_items, entry_items, log_items, past_items, graph_items, total_items, journal_items}
+use Rattle.bm_law_text.specs.Lines.{lines_text, class_items, entry_items, log_items, past_items, graph_items, total_items}
 use Rattle.bm_law_text.specs.Pieces.{pieces}
 use Rattle.bm_law_text.proofs.TextBack.{text-lines}
 use Rattle.bm_journal_reader.specs.declared.draft.Draft.{Draft}
@@ -58,8 +58,8 @@ clean-pieces : (bytes : List ℕ) → Each (λ p. no_feed p ≡ true) (pieces by
 clean-pieces [] = (refl, tt)
 clean-pieces (b ∷ bytes) =
     let case : (c : Bool) → (b == 10) ≡ c → Each (λ p. no_feed p ≡ true) (cond c ([] ∷ pieces bytes) (onto_first b (pieces bytes))) = λ c.
-        elim c as (λ c. (b == 10) ≡ c → Each (λ p. no_feed p ≡ true) (cond c ([] ∷ pieces bytes) (onto_first b (pieces bytes))))
-        [ true ↦ λ e. (refl, clean-pieces bytes) | false ↦ λ e. first (pieces bytes) e (clean-pieces bytes) ]
+    elim c as (λ c. (b == 10) ≡ c → Each (λ p. no_feed p ≡ true) (cond c ([] ∷ pieces bytes) (onto_first b (pieces bytes))))
+    [ true ↦ λ e. (refl, clean-pieces bytes) | false ↦ λ e. first (pieces bytes) e (clean-pieces bytes) ]
     in case (b == 10) refl
   where
     first : (ps : List (List ℕ)) → (b == 10) ≡ false → Each (λ p. no_feed p ≡ true) ps → Each (λ p. no_feed p ≡ true) (onto_first b ps)
@@ -107,9 +107,10 @@ no-cut [] h = refl
 no-cut (b ∷ rest) h =
     let n = position_or_len (λ b. b == 10) rest in
     let case : (c : Bool) → (b == 10) ≡ c → nat_lt (cond (not c) (1 + n) 0) (suc (length rest)) ≡ false → cond c ([] ∷ pieces rest) (onto_first b (pieces rest)) ≡ (b ∷ rest) ∷ [] = λ c.
-        elim c as (λ c. (b == 10) ≡ c → nat_lt (cond (not c) (1 + n) 0) (suc (length rest)) ≡ false → cond c ([] ∷ pieces rest) (onto_first b (pieces rest)) ≡ (b ∷ rest) ∷ [])
-        [ true ↦ λ e h. absurd (omega (arith, ltb-false 0 (suc (length rest)) h))
-        | false ↦ λ e h. (let less : nat_lt n (length rest) ≡ false = grind (arith, nat_tests) in ap (onto_first b) (no-cut rest less)) ]
+    elim c as (λ c. (b == 10) ≡ c → nat_lt (cond (not c) (1 + n) 0) (suc (length rest)) ≡ false → cond c ([] ∷ pieces rest) (onto_first b (pieces rest)) ≡ (b ∷ rest) ∷ []) [
+      | true ↦ λ e h. absurd (omega (arith, ltb-false 0 (suc (length rest)) h))
+      | false ↦ λ e h. (let less : nat_lt n (length rest) ≡ false = grind (arith, nat_tests) in ap (onto_first b) (no-cut rest less))
+    ]
     in case (b == 10) refl h
 
 pub end-bad : (bytes rest : List ℕ) (line : ℕ) (d : Draft) → Kept bytes rest line d → position (λ b. b == 10) rest ≡ None → (is_done (draft_stage d) && is_nothing rest) ≡ false → FaultSays bytes (fault.Bad line)

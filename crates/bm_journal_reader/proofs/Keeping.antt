@@ -1,8 +1,8 @@
 -- What is kept from line to line.
-use Rattle.std.proofs.Common.{◌≡◌, ℕ, zero, suc, ◌+◌, ◌<◌, Bool, true, false, cond, ◌&&◌, not, ◌==◌, List, [], ◌∷◌, ◌++◌, Option, Some, None, length, take, drop, map, get_or, refl, sym, ap, ◌∙◌, arith, subst, append_assoc, append-nil, length-append, length-drop, add-one, ◌-◌, ◌≤◌, ◌⊎◌, inl, inr}
+use Rattle.std.proofs.Common.{◌≡◌, ℕ, zero, suc, ◌+◌, Bool, true, false, cond, ◌==◌, List, [], ◌∷◌, ◌++◌, Option, Some, None, length, take, drop, map, refl, sym, ap, ◌∙◌, arith, subst, append_assoc, append-nil, length-append, length-drop, ◌-◌, ◌≤◌, ◌⊎◌, inl, inr}
 use Rattle.std.proofs.lemmas.Bool.{ltb-true}
 use Rattle.std.proofs.lemmas.List.Splits.{slice_split_first, join_with_byte-slice_split}
-use Rattle.std.specs.List.{position_or_len, before_first, after_first, slice_split, onto_first, join_with_byte}
+use Rattle.std.specs.List.{position_or_len, onto_first, join_with_byte}
 use Rattle.std.specs.Prelude.{position, nat_lt, option_map}
 use Rattle.bm_word.specs.Number.{NumbersRoundTrip}
 use Rattle.bm_journal.specs.EntryText.{Words}
@@ -12,10 +12,8 @@ use Rattle.bm_law_text.specs.Parts.{after}
 use Rattle.bm_law_text.specs.Fits.{Each, LineFits}
 use Rattle.bm_law_text.specs.Lines.{line_head, line_tail}
 use Rattle.bm_law_text.specs.Pieces.{pieces, words}
-use Rattle.bm_law_text.specs.Reading.{line_of}
 use Rattle.bm_law_text.proofs.ItemsFit.{each-append}
 use Rattle.bm_law_text.proofs.LinesSound.{line-sound}
-use Rattle.bm_law_text.proofs.Options.{after-some, only_if-some}
 use Rattle.bm_law_text.proofs.PartsSound.{same}
 use Rattle.bm_journal_reader.specs.declared.draft.Draft.{Draft}
 use Rattle.bm_law_text.specs.declared.line.Line.TheVariants as line_as
@@ -35,9 +33,10 @@ piece-cut rest end at =
     let p : ℕ → Bool = λ b. b == 10 in
     let n = position_or_len p rest in
     let case : (b : Bool) → nat_lt n (length rest) ≡ b → cond b (Some n) None ≡ Some end → pieces rest ≡ take end rest ∷ pieces (drop (end + 1) rest) = λ b.
-        elim b as (λ b. nat_lt n (length rest) ≡ b → cond b (Some n) None ≡ Some end → pieces rest ≡ take end rest ∷ pieces (drop (end + 1) rest))
-        [ true ↦ λ e h. subst (λ m. pieces rest ≡ take m rest ∷ pieces (drop (m + 1) rest)) (same h) (slice_split_first p rest 0 (ltb-true n (length rest) e))
-        | false ↦ λ e h. absurd (cc) ]
+    elim b as (λ b. nat_lt n (length rest) ≡ b → cond b (Some n) None ≡ Some end → pieces rest ≡ take end rest ∷ pieces (drop (end + 1) rest)) [
+      | true ↦ λ e h. subst (λ m. pieces rest ≡ take m rest ∷ pieces (drop (m + 1) rest)) (same h) (slice_split_first p rest 0 (ltb-true n (length rest) e))
+      | false ↦ λ e h. absurd (cc)
+    ]
     in case (nat_lt n (length rest)) refl at
 
 -- the end of a text is a piece too
@@ -46,8 +45,8 @@ some-piece [] = ([], [], refl)
 some-piece (b ∷ rest) =
     let a = some-piece rest in
     let case : (c : Bool) → (p : List ℕ) × (ps : List (List ℕ)) × (cond c ([] ∷ pieces rest) (onto_first b (pieces rest)) ≡ p ∷ ps) = λ c.
-        elim c as (λ c. (p : List ℕ) × (ps : List (List ℕ)) × (cond c ([] ∷ pieces rest) (onto_first b (pieces rest)) ≡ p ∷ ps))
-        [ true ↦ ([], pieces rest, refl) | false ↦ (b ∷ a.0, a.1, ap (onto_first b) a.2) ]
+    elim c as (λ c. (p : List ℕ) × (ps : List (List ℕ)) × (cond c ([] ∷ pieces rest) (onto_first b (pieces rest)) ≡ p ∷ ps))
+    [ true ↦ ([], pieces rest, refl) | false ↦ (b ∷ a.0, a.1, ap (onto_first b) a.2) ]
     in case (b == 10)
 
 plus-zero : (o : Option ℕ) → plus 0 o ≡ o
@@ -115,14 +114,15 @@ stay-read old new l goes =
     let n = stage_maps (draft_stage new) in
     let ls = draft_lines old in
     let Stay : List (List ℕ) → Type 0 = λ n. (map (line_content n) ls ≡ map (line_content m) ls) × (Each (LineFits m) ls → Each (LineFits n) ls) × (line_content n l ≡ line_content m l) × (LineFits m l → LineFits n l) in
-    elim (moved-maps (draft_stage old) l (draft_stage new) goes)
-    [ inl e ↦ subst Stay (sym e) (refl, λ x. x, refl, λ x. x)
-    | inr typed ↦
-        (let Front : List Line → Type 0 = λ ls. (map (line_content n) ls ≡ map (line_content m) ls) × (Each (LineFits m) ls → Each (LineFits n) ls) in
-        let Last : Line → Type 0 = λ l. (line_content n l ≡ line_content m l) × (LineFits m l → LineFits n l) in
-        let front = subst Front (sym (two-read old.head old typed.0)) (refl, λ x. x) in
-        let last = subst Last (sym typed.1.1) (refl, λ x. x) in
-        (front.0, front.1, last.0, last.1)) ]
+    elim (moved-maps (draft_stage old) l (draft_stage new) goes) [
+      | inl e ↦ subst Stay (sym e) (refl, λ x. x, refl, λ x. x)
+      | inr typed ↦
+          (let Front : List Line → Type 0 = λ ls. (map (line_content n) ls ≡ map (line_content m) ls) × (Each (LineFits m) ls → Each (LineFits n) ls) in
+          let Last : Line → Type 0 = λ l. (line_content n l ≡ line_content m l) × (LineFits m l → LineFits n l) in
+          let front = subst Front (sym (two-read old.head old typed.0)) (refl, λ x. x) in
+          let last = subst Last (sym typed.1.1) (refl, λ x. x) in
+          (front.0, front.1, last.0, last.1))
+    ]
 
 pub line-kept : NumbersRoundTrip → (bytes rest : List ℕ) (line end : ℕ) (old new : Draft) → Kept bytes rest line old → position (λ b. b == 10) rest ≡ Some end → Read old (words (take end rest)) new → Kept bytes (drop (end + 1) rest) (line + 1) new
 line-kept rt bytes rest line end old new kept at read =
@@ -140,7 +140,7 @@ line-kept rt bytes rest line end old new kept at read =
     let more = some-piece left in
     let stay = stay-read old new l read.stage in
     let now : first_bad s (pieces rest) ≡ option_map (λ k. suc k) (first_bad t (pieces left)) =
-        ap (first_bad s) (cut ∙ ap (λ ps. p ∷ ps) more.2) ∙ ap (λ o. behind_step o (λ u. first_bad u (more.0 ∷ more.1))) stepped ∙ ap (λ ps. option_map (λ k. suc k) (first_bad t ps)) (sym more.2) in
+    ap (first_bad s) (cut ∙ ap (λ ps. p ∷ ps) more.2) ∙ ap (λ o. behind_step o (λ u. first_bad u (more.0 ∷ more.1))) stepped ∙ ap (λ ps. option_map (λ k. suc k) (first_bad t ps)) (sym more.2) in
     let long : length (draft_lines new) ≡ length (draft_lines old) + 1 = omega (arith, ap length read.lines, length-append (draft_lines old) (l ∷ [])) in
     let here : p ≡ line_content n l = spelt m l p sound.0 ∙ sym stay.2 in
     record {
@@ -159,7 +159,7 @@ line-refused rt bytes rest line end d ws kept at same-words none =
     let more = some-piece left in
     let stuck : step s (words p) ≡ None = ap (step s) (sym same-words) ∙ stage-none rt s ws none in
     let now : first_bad s (pieces rest) ≡ Some 0 =
-        ap (first_bad s) (piece-cut rest end at ∙ ap (λ ps. p ∷ ps) more.2) ∙ ap (λ o. behind_step o (λ u. first_bad u (more.0 ∷ more.1))) stuck in
+    ap (first_bad s) (piece-cut rest end at ∙ ap (λ ps. p ∷ ps) more.2) ∙ ap (λ o. behind_step o (λ u. first_bad u (more.0 ∷ more.1))) stuck in
     let e : line ≡ length (draft_lines d) + 0 + 1 = omega (arith, kept.count) in
     (length (draft_lines d) + 0, e, kept.bad ∙ ap (plus (length (draft_lines d))) now)
 

@@ -1,9 +1,8 @@
 -- The place of `later` among slices is its place among their texts.
-use Rattle.std.proofs.Common.{◌≡◌, ℕ, ◌+◌, Bool, cond, not, List, [], ◌∷◌, Option, Some, None, length, take, drop, refl, sym, ap, ◌∙◌, ltb, Bor}
+use Rattle.std.proofs.Common.{◌≡◌, ℕ, ◌+◌, Bool, cond, not, List, [], ◌∷◌, Some, None, length, take, drop, refl, ap, ◌∙◌, ltb, Bor}
 use Rattle.std.proofs.lemmas.List.{take-map, drop-map}
 use Rattle.std.specs.List.{position_or_len}
 use Rattle.std.specs.Prelude.{codes, position}
-use Rattle.bm_journal.specs.EntryText.{Words}
 use Rattle.bm_journal_reader.specs.Pieces.{texts}
 use Rattle.bm_law_text.specs.Parts.{after, word_is}
 use Rattle.bm_law_text.specs.Entries.{both_few, looked_at}

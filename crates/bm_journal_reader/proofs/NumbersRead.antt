@@ -1,5 +1,5 @@
 -- Numbers read one after the other.
-use Rattle.std.proofs.Common.{◌≡◌, ℕ, zero, suc, ◌+◌, ◌<◌, ◌≤◌, ◌^◌, Bool, true, false, cond, List, [], ◌∷◌, ◌++◌, Option, Some, None, length, take, get_or, refl, sym, ◌∙◌, ap, arith, add-one, Bor}
+use Rattle.std.proofs.Common.{◌≡◌, ℕ, zero, suc, ◌+◌, ◌<◌, ◌≤◌, ◌^◌, true, false, List, [], ◌∷◌, ◌++◌, Option, Some, None, length, take, get_or, refl, sym, ◌∙◌, ap, arith, add-one, Bor}
 use Rattle.std.proofs.lemmas.Bool.Decides.{nat_tests}
 use Rattle.std.specs.Prelude.{nat_le}
 use Rattle.bm_journal.specs.EntryText.{Words}
@@ -68,12 +68,13 @@ numbers-length limit ws ns h = each-length (number limit) ws ns h
 pub few-long : (most : ℕ) (ws : Words) → most < length ws → None ≡ few most ws
 few-long most ws lt =
     let case : (o : Option (List ℕ)) → numbers (2 ^ 32) ws ≡ o → None ≡ after o (λ ns. only_if (nat_le (length ns) most) (Some ns)) = λ o.
-        elim o as (λ o. numbers (2 ^ 32) ws ≡ o → None ≡ after o (λ ns. only_if (nat_le (length ns) most) (Some ns)))
-        [ None ↦ λ e. refl
-        | Some ns ↦ λ e.
-            let same = numbers-length (2 ^ 32) ws ns e in
-            let no : nat_le (length ns) most ≡ false = grind (arith, nat_tests) in
-            rw no refl ]
+    elim o as (λ o. numbers (2 ^ 32) ws ≡ o → None ≡ after o (λ ns. only_if (nat_le (length ns) most) (Some ns))) [
+      | None ↦ λ e. refl
+      | Some ns ↦ λ e.
+          let same = numbers-length (2 ^ 32) ws ns e in
+          let no : nat_le (length ns) most ≡ false = grind (arith, nat_tests) in
+          rw no refl
+    ]
     in case (numbers (2 ^ 32) ws) refl
 
 pub few-none : (most : ℕ) (ws : Words) → None ≡ numbers (2 ^ 32) ws → None ≡ few most ws

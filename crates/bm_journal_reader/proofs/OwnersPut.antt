@@ -40,11 +40,12 @@ puts {V} v ks n new d told made =
     let any = any_texts v (bytes_eq (v n)) ks in
     let test = list_any (λ k. bytes_eq (v n) (v k)) ks in
     let case : (b : Bool) (d : Bool) → test ≡ b → d ≡ not b → new ≡ cond b ks (ks ++ n ∷ []) → Puts d (map v ks) (v n) (map v new) = λ b.
-        elim b as (λ b. (d : Bool) → test ≡ b → d ≡ not b → new ≡ cond b ks (ks ++ n ∷ []) → Puts d (map v ks) (v n) (map v new))
-        [ true ↦ λ d. elim d as (λ d. test ≡ true → d ≡ false → new ≡ ks → Puts d (map v ks) (v n) (map v new))
-            [ true ↦ λ e f g. absurd (cc) | false ↦ λ e f g. any ∙ e ]
-        | false ↦ λ d. elim d as (λ d. test ≡ false → d ≡ true → new ≡ ks ++ n ∷ [] → Puts d (map v ks) (v n) (map v new))
-            [ true ↦ λ e f g. (any ∙ e, ap (map v) g ∙ texts_push v ks n) | false ↦ λ e f g. absurd (cc) ] ]
+    elim b as (λ b. (d : Bool) → test ≡ b → d ≡ not b → new ≡ cond b ks (ks ++ n ∷ []) → Puts d (map v ks) (v n) (map v new)) [
+      | true ↦ λ d. elim d as (λ d. test ≡ true → d ≡ false → new ≡ ks → Puts d (map v ks) (v n) (map v new))
+          [ true ↦ λ e f g. absurd (cc) | false ↦ λ e f g. any ∙ e ]
+      | false ↦ λ d. elim d as (λ d. test ≡ false → d ≡ true → new ≡ ks ++ n ∷ [] → Puts d (map v ks) (v n) (map v new))
+          [ true ↦ λ e f g. (any ∙ e, ap (map v) g ∙ texts_push v ks n) | false ↦ λ e f g. absurd (cc) ]
+    ]
     in case test d refl told made
 
 -- ---- names put one after the other differ
@@ -64,9 +65,10 @@ no_not false h = refl
 swapped : (x w : List ℕ) → bytes_eq x w ≡ false → bytes_eq w x ≡ false
 swapped x w apart =
     let case : (b : Bool) → bytes_eq w x ≡ b → bytes_eq w x ≡ false = λ b.
-        elim b as (λ b. bytes_eq w x ≡ b → bytes_eq w x ≡ false)
-        [ true ↦ λ e. let same : w ≡ x = (bytes_eq-Decides w x).0 e in let yes : bytes_eq x w ≡ true = (bytes_eq-Decides x w).1 (sym same) in cc
-        | false ↦ λ e. e ]
+    elim b as (λ b. bytes_eq w x ≡ b → bytes_eq w x ≡ false) [
+      | true ↦ λ e. let same : w ≡ x = (bytes_eq-Decides w x).0 e in let yes : bytes_eq x w ≡ true = (bytes_eq-Decides x w).1 (sym same) in cc
+      | false ↦ λ e. e
+    ]
     in case (bytes_eq w x) refl
 
 any_push : (x w : List ℕ) (xs : List (List ℕ)) → list_any (bytes_eq x) xs ≡ false → bytes_eq x w ≡ false → list_any (bytes_eq x) (xs ++ w ∷ []) ≡ false
@@ -98,9 +100,10 @@ pub differ-over : (xs rest : List (List ℕ)) (w : List ℕ) → list_any (bytes
 differ-over [] rest w h = cc
 differ-over (x ∷ xs) rest w h =
     let case : (b : Bool) → bytes_eq w x ≡ b → (b || list_any (bytes_eq w) xs) ≡ true → all_differ ((x ∷ xs) ++ w ∷ rest) ≡ false = λ b.
-        elim b as (λ b. bytes_eq w x ≡ b → (b || list_any (bytes_eq w) xs) ≡ true → all_differ ((x ∷ xs) ++ w ∷ rest) ≡ false)
-        [ true ↦ λ e h. rw (any_has x w xs rest (sym ((bytes_eq-Decides w x).0 e))) refl
-        | false ↦ λ e h. rw (differ-over xs rest w h) (and_false (not (list_any (bytes_eq x) (xs ++ w ∷ rest)))) ]
+    elim b as (λ b. bytes_eq w x ≡ b → (b || list_any (bytes_eq w) xs) ≡ true → all_differ ((x ∷ xs) ++ w ∷ rest) ≡ false) [
+      | true ↦ λ e h. rw (any_has x w xs rest (sym ((bytes_eq-Decides w x).0 e))) refl
+      | false ↦ λ e h. rw (differ-over xs rest w h) (and_false (not (list_any (bytes_eq x) (xs ++ w ∷ rest))))
+    ]
     in case (bytes_eq w x) refl h
 
 -- a slice among others

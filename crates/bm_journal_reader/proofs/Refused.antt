@@ -1,5 +1,5 @@
 -- Where a line may not come, no journal has it there.
-use Rattle.std.proofs.Common.{◌≡◌, ℕ, zero, suc, ◌+◌, Bool, true, false, cond, ◌&&◌, not, ◌==◌, List, [], ◌∷◌, ◌++◌, Option, Some, None, length, take, map, refl, sym, ap, ◌∙◌, arith, length-append}
+use Rattle.std.proofs.Common.{◌≡◌, ℕ, suc, Bool, true, false, cond, ◌&&◌, not, ◌==◌, List, [], ◌∷◌, ◌++◌, Option, Some, None, length, take, map, refl, sym, ap, ◌∙◌, arith, length-append}
 use Rattle.std.specs.List.{list_all}
 use Rattle.std.specs.Prelude.{option_map}
 use Rattle.bm_law_text.specs.declared.line.Line.{Line}
@@ -7,7 +7,7 @@ use Rattle.bm_law_text.specs.Pieces.{words}
 use Rattle.bm_law_text.specs.Fits.{Each}
 use Rattle.bm_law_text.proofs.TextBack.{content}
 use Rattle.bm_journal_reader.specs.Drafts.{Stage, step}
-use Rattle.bm_journal_reader.specs.Faults.{with_feeds, is_nothing, is_done, behind_step, first_bad}
+use Rattle.bm_journal_reader.specs.Faults.{with_feeds, is_done, behind_step, first_bad}
 
 -- from this stage on these lines may come one after the other, and behind them all is read
 abbrev pub Follows : List (List ℕ) → Stage → List Line → Type 0
@@ -49,8 +49,8 @@ stepped s None f t k e h = absurd (cc)
 stepped s (Some u) f t k e h =
     let same : u ≡ t = cc in
     let case : (o : Option ℕ) → f u ≡ o → option_map (λ n. suc n) o ≡ Some k → (n : ℕ) × (f t ≡ Some n) × (k ≡ suc n) = λ o.
-        elim o as (λ o. f u ≡ o → option_map (λ n. suc n) o ≡ Some k → (n : ℕ) × (f t ≡ Some n) × (k ≡ suc n))
-        [ None ↦ λ g h. absurd (cc) | Some n ↦ λ g h. (n, ap f (sym same) ∙ g, cc) ]
+    elim o as (λ o. f u ≡ o → option_map (λ n. suc n) o ≡ Some k → (n : ℕ) × (f t ≡ Some n) × (k ≡ suc n))
+    [ None ↦ λ g h. absurd (cc) | Some n ↦ λ g h. (n, ap f (sym same) ∙ g, cc) ]
     in case (f u) refl h
 
 ended : (s : Stage) (p : List ℕ) (k : ℕ) → is_done s ≡ true → p ≡ [] → first_bad s (p ∷ []) ≡ Some k → ⊥

@@ -1,6 +1,5 @@
 -- A line with another number of words than its form has says nothing.
-use Rattle.std.proofs.Common.{◌≡◌, ℕ, ◌<◌, ◌≤◌, List, [], ◌∷◌, None, length, refl, arith, Bor}
-use Rattle.bm_journal.specs.declared.entry.Entry.{Entry}
+use Rattle.std.proofs.Common.{◌≡◌, ℕ, List, [], ◌∷◌, None, length, refl, Bor}
 use Rattle.bm_law_text.specs.declared.kind.Kind.{Kind}
 use Rattle.bm_journal_reader.specs.Pieces.{texts}
 use Rattle.bm_law_text.specs.Entries.{pushed, found, class_domain}

@@ -1,5 +1,5 @@
 -- At each stage the lines that may come are those that are looked for.
-use Rattle.std.proofs.Common.{◌≡◌, ℕ, Bool, true, false, cond, List, [], ◌∷◌, ◌++◌, Option, Some, None, refl, sym, ap, ◌∙◌, ◌^◌, subst}
+use Rattle.std.proofs.Common.{◌≡◌, ℕ, Bool, true, false, cond, List, [], ◌∷◌, Option, Some, None, refl, sym, ap, ◌∙◌, ◌^◌, subst}
 use Rattle.std.specs.Prelude.{codes}
 use Rattle.bm_word.specs.Number.{NumbersRoundTrip}
 use Rattle.bm_journal.specs.EntryText.{Words}
@@ -7,9 +7,8 @@ use Rattle.bm_journal.specs.WellFormed.{all_differ}
 use Rattle.bm_law_text.specs.declared.line.Line.{Line}
 use Rattle.bm_law_text.specs.declared.line.Line.TheVariants as line_as
 use Rattle.bm_law_text.specs.Parts.{after, only_if, word_is, number, names}
-use Rattle.bm_law_text.specs.Lines.{line_head, line_tail}
-use Rattle.bm_law_text.specs.Entries.{entry_of, past_word}
-use Rattle.bm_law_text.specs.Reading.{line_of, body_line_of, headed, body_titled, heading_titled, size_words, past_line_words, graph_words, processor_words, total_words, class_words}
+use Rattle.bm_law_text.specs.Entries.{past_word}
+use Rattle.bm_law_text.specs.Reading.{line_of, body_line_of, headed, heading_titled, size_words}
 use Rattle.bm_law_text.proofs.LinesSound.{line-sound}
 use Rattle.bm_law_text.proofs.Options.{after-some, only_if-some}
 use Rattle.bm_law_text.proofs.PartsSound.{same, word-sound}
@@ -30,9 +29,10 @@ body-said : (maps : List (List ℕ)) (ws : Words) (l : Line) → body_line_of ma
 body-said maps [] l h = h
 body-said maps (w ∷ ws) l h =
     let case : (o : Option ℕ) → headed maps o w ws None ≡ Some l → headed maps o w ws (heading_titled w ws) ≡ Some l = λ o.
-        elim o as (λ o. headed maps o w ws None ≡ Some l → headed maps o w ws (heading_titled w ws) ≡ Some l)
-        [ None ↦ λ h. more (word_is (codes "at") w) _ _ _ l (more (word_is (codes "graph") w) _ _ _ l (more (word_is (codes "processor") w) _ _ _ l (more (word_is (codes "total") w) _ _ _ l (more (word_is (codes "class") w) _ _ _ l (λ none. absurd (cc)))))) h
-        | Some n ↦ λ h. h ]
+    elim o as (λ o. headed maps o w ws None ≡ Some l → headed maps o w ws (heading_titled w ws) ≡ Some l) [
+      | None ↦ λ h. more (word_is (codes "at") w) _ _ _ l (more (word_is (codes "graph") w) _ _ _ l (more (word_is (codes "processor") w) _ _ _ l (more (word_is (codes "total") w) _ _ _ l (more (word_is (codes "class") w) _ _ _ l (λ none. absurd (cc)))))) h
+      | Some n ↦ λ h. h
+    ]
     in case (number 4 w) h
 
 -- what is looked for is what the words say
@@ -75,9 +75,9 @@ heading-heading w ws l h =
     let types : after (names ws) (λ ns. Some (line_as.Types ns)) ≡ Some l → is_heading l = λ h. (let a = after-some (names ws) (λ ns. Some (line_as.Types ns)) l h in subst is_heading (same a.2) tt) in
     let scripts : after (names ws) (λ ns. Some (line_as.Scripts ns)) ≡ Some l → is_heading l = λ h. (let a = after-some (names ws) (λ ns. Some (line_as.Scripts ns)) l h in subst is_heading (same a.2) tt) in
     let declared : after (names ws) (λ ns. only_if (all_differ ns) (Some (line_as.Maps ns))) ≡ Some l → is_heading l = λ h.
-        (let a = after-some (names ws) (λ ns. only_if (all_differ ns) (Some (line_as.Maps ns))) l h in
-        let b = only_if-some (all_differ a.0) (Some (line_as.Maps a.0)) l a.2 in
-        subst is_heading (same b.1) tt) in
+    (let a = after-some (names ws) (λ ns. only_if (all_differ ns) (Some (line_as.Maps ns))) l h in
+    let b = only_if-some (all_differ a.0) (Some (line_as.Maps a.0)) l a.2 in
+    subst is_heading (same b.1) tt) in
     either is_heading (word_is (codes "processors") w) _ _ l (size-heading ws l)
     (either is_heading (word_is (codes "types") w) _ _ l types
     (either is_heading (word_is (codes "maps") w) _ _ l declared
@@ -91,9 +91,10 @@ body-line : (maps : List (List ℕ)) (ws : Words) (l : Line) → (is_heading l �
 body-line maps [] l other h = h
 body-line maps (w ∷ ws) l other h =
     let case : (o : Option ℕ) → headed maps o w ws (heading_titled w ws) ≡ Some l → headed maps o w ws None ≡ Some l = λ o.
-        elim o as (λ o. headed maps o w ws (heading_titled w ws) ≡ Some l → headed maps o w ws None ≡ Some l)
-        [ None ↦ λ h. fewer (word_is (codes "at") w) _ _ _ l (fewer (word_is (codes "graph") w) _ _ _ l (fewer (word_is (codes "processor") w) _ _ _ l (fewer (word_is (codes "total") w) _ _ _ l (fewer (word_is (codes "class") w) _ _ _ l (λ said. absurd (other (heading-heading w ws l said))))))) h
-        | Some n ↦ λ h. h ]
+    elim o as (λ o. headed maps o w ws (heading_titled w ws) ≡ Some l → headed maps o w ws None ≡ Some l) [
+      | None ↦ λ h. fewer (word_is (codes "at") w) _ _ _ l (fewer (word_is (codes "graph") w) _ _ _ l (fewer (word_is (codes "processor") w) _ _ _ l (fewer (word_is (codes "total") w) _ _ _ l (fewer (word_is (codes "class") w) _ _ _ l (λ said. absurd (other (heading-heading w ws l said))))))) h
+      | Some n ↦ λ h. h
+    ]
     in case (number 4 w) h
 
 no-heading : (s : Stage) (l : Line) (t : Stage) → next s l ≡ Some t → (s ≡ Begun → ⊥) → (s ≡ Sized → ⊥) → (s ≡ Typed → ⊥) → ((maps : List (List ℕ)) → s ≡ Mapped maps → ⊥) → is_heading l → ⊥
@@ -135,11 +136,12 @@ stage-looks rt (Counting maps n) ws l t said goes = body-line maps ws l (no-head
 pub stage-none : NumbersRoundTrip → (s : Stage) (ws : Words) → after (stage_line s ws) (next s) ≡ None → step s ws ≡ None
 stage-none rt s ws none =
     let case : (o : Option Stage) → step s ws ≡ o → step s ws ≡ None = λ o.
-        elim o as (λ o. step s ws ≡ o → step s ws ≡ None)
-        [ None ↦ λ e. e
-        | Some t ↦ λ e.
-            let a = after-some (line_of (stage_maps s) ws) (next s) t e in
-            let said = stage-looks rt s ws a.0 t a.1 a.2 in
-            let found : after (stage_line s ws) (next s) ≡ Some t = ap (λ o. after o (next s)) said ∙ a.2 in
-            absurd (cc) ]
+    elim o as (λ o. step s ws ≡ o → step s ws ≡ None) [
+      | None ↦ λ e. e
+      | Some t ↦ λ e.
+          let a = after-some (line_of (stage_maps s) ws) (next s) t e in
+          let said = stage-looks rt s ws a.0 t a.1 a.2 in
+          let found : after (stage_line s ws) (next s) ≡ Some t = ap (λ o. after o (next s)) said ∙ a.2 in
+          absurd (cc)
+    ]
     in case (step s ws) refl

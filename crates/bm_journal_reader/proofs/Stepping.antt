@@ -1,9 +1,8 @@
 -- The lines of a journal are read from its text, stage by stage.
-use Rattle.std.proofs.Common.{◌≡◌, ℕ, zero, suc, ◌+◌, ◌<◌, ◌^◌, Bool, true, false, ◌==◌, List, [], ◌∷◌, ◌++◌, Option, Some, None, length, map, take, refl, sym, ap, ◌∙◌, arith, subst}
+use Rattle.std.proofs.Common.{◌≡◌, ℕ, suc, ◌+◌, Bool, true, ◌==◌, List, [], ◌∷◌, ◌++◌, Some, map, take, refl, sym, ap, ◌∙◌, subst}
 use Rattle.std.specs.Prelude.{IsTrue}
 use Rattle.bm_word.specs.Number.{NumbersRoundTrip}
 use Rattle.bm_journal.specs.declared.journal.Journal.{Journal}
-use Rattle.bm_journal.specs.EntryText.{Words}
 use Rattle.bm_journal.specs.JournalText.{journal_text}
 use Rattle.bm_journal.specs.TotalNames.{total_place}
 use Rattle.bm_journal.specs.WellFormed.{all_differ}
@@ -11,7 +10,7 @@ use Rattle.bm_law_text.specs.declared.line.Line.{Line}
 use Rattle.bm_law_text.specs.declared.line.Line.TheVariants as line_as
 use Rattle.bm_law_text.specs.Parts.{after, only_if}
 use Rattle.bm_law_text.specs.Fits.{Each, IsName, LineFits, JournalFits}
-use Rattle.bm_law_text.specs.Lines.{line_head, line_tail, lines_text, body_items, journal_items}
+use Rattle.bm_law_text.specs.Lines.{line_head, line_tail, body_items, journal_items}
 use Rattle.bm_law_text.specs.Pieces.{pieces, words}
 use Rattle.bm_law_text.specs.Reading.{line_of}
 use Rattle.bm_law_text.proofs.Clean.{clean, clean_words, both, line-clean}
@@ -21,7 +20,7 @@ use Rattle.bm_law_text.proofs.Options.{after-some, only_if-some}
 use Rattle.bm_law_text.proofs.PartsSound.{same}
 use Rattle.bm_law_text.proofs.TextBack.{content, words-back, lines-cut, text-lines}
 use Rattle.bm_journal_reader.specs.Drafts.{Stage, Begun, Sized, Typed, Mapped, Opened, Logging, Telling, Counting, stage_maps, next, step}
-use Rattle.bm_journal_reader.specs.Faults.{with_feeds, text_lines, AgreeIn, is_done, first_bad}
+use Rattle.bm_journal_reader.specs.Faults.{with_feeds, AgreeIn, is_done, first_bad}
 use Rattle.bm_journal_reader.proofs.Accepted.{run, accepted}
 use Rattle.bm_journal_reader.proofs.Refused.{Follows, no_feed, refused}
 
@@ -86,14 +85,14 @@ follows rt m differ names s u [] named fits ran all = subst (λ u. is_done u ≡
 follows rt m differ names s u (l ∷ ls) named fits ran all =
     let a = after-some (next s l) (λ t. run t ls) u ran in
     let said : line_of (stage_maps s) (words (content m l)) ≡ Some l =
-        ap (line_of (stage_maps s)) (line-words m l names fits.0) ∙ ap (λ n. line_of n (line_head l ∷ line_tail m l)) (named-maps m s named) ∙ line-back rt m l differ fits.0 in
+    ap (line_of (stage_maps s)) (line-words m l names fits.0) ∙ ap (λ n. line_of n (line_head l ∷ line_tail m l)) (named-maps m s named) ∙ line-back rt m l differ fits.0 in
     (a.0, ap (λ o. after o (next s)) said ∙ a.1, follows rt m differ names a.0 u ls (stays m s l a.0 named a.1) fits.1 a.2 all)
 
 -- the first three lines say the same whatever the names of the maps
 heading-line : NumbersRoundTrip → (m : List (List ℕ)) (l : Line) (s t : Stage) → Each IsName m → LineFits m l → LineFits [] l → line_tail [] l ≡ line_tail m l → stage_maps s ≡ [] → next s l ≡ Some t → step s (words (content m l)) ≡ Some t
 heading-line rt m l s t names fits fits0 tail none goes =
     let said : line_of (stage_maps s) (words (content m l)) ≡ Some l =
-        ap (line_of (stage_maps s)) (line-words m l names fits ∙ ap (λ ws. line_head l ∷ ws) (sym tail)) ∙ ap (λ n. line_of n (line_head l ∷ line_tail [] l)) none ∙ line-back rt [] l refl fits0 in
+    ap (line_of (stage_maps s)) (line-words m l names fits ∙ ap (λ ws. line_head l ∷ ws) (sym tail)) ∙ ap (λ n. line_of n (line_head l ∷ line_tail [] l)) none ∙ line-back rt [] l refl fits0 in
     ap (λ o. after o (next s)) said ∙ goes
 
 journal-follows : NumbersRoundTrip → (j : Journal) → JournalFits j → Follows j.maps Begun (journal_items j)
@@ -102,11 +101,19 @@ journal-follows rt j h =
     let fits = items-fit j h in
     let size = line_as.Size j.processors j.pages in
     let types = line_as.Types j.types in
-    let declared = line_as.Maps j.maps in
-    (Sized, heading-line rt m size Begun Sized h.maps fits.0 fits.0 refl refl refl,
-    (Typed, heading-line rt m types Sized Typed h.maps fits.1.0 fits.1.0 refl refl refl,
-    (Mapped m, heading-line rt m declared Typed (Mapped m) h.maps fits.1.1.0 fits.1.1.0 refl refl refl,
-    follows rt m j.maps_differ h.maps (Mapped m) (Counting m 19) (line_as.Scripts j.scripts ∷ body_items j) refl fits.1.1.1 (accepted j h.nineteen) refl)))
+    let declared = line_as.Maps j.maps in (
+      Sized,
+      heading-line rt m size Begun Sized h.maps fits.0 fits.0 refl refl refl,
+      (
+        Typed,
+        heading-line rt m types Sized Typed h.maps fits.1.0 fits.1.0 refl refl refl,
+        (
+          Mapped m,
+          heading-line rt m declared Typed (Mapped m) h.maps fits.1.1.0 fits.1.1.0 refl refl refl,
+          follows rt m j.maps_differ h.maps (Mapped m) (Counting m 19) (line_as.Scripts j.scripts ∷ body_items j) refl fits.1.1.1 (accepted j h.nineteen) refl,
+        ),
+      ),
+    )
 
 -- where a line may not come, no journal's text agrees with these up to it
 pub no-journal : NumbersRoundTrip → (bytes : List ℕ) (k : ℕ) (j : Journal) → Each (λ p. no_feed p ≡ true) (pieces bytes) → first_bad Begun (pieces bytes) ≡ Some k → JournalFits j → AgreeIn (suc k) bytes (journal_text j) → ⊥

@@ -2,10 +2,10 @@
 
 ghost use Rattle.std.specs.Prelude.{◌≡◌, ℕ, List, [], IfOk, OnOk, length};
 
-use bm_law_text::Line;
 use arrayvec::ArrayVec;
 use bm_class::{Class, Marks};
 use bm_journal::{Entry, History, Level, Log, Past, Total};
+use bm_law_text::Line;
 use bm_word::{Name, NoMemory};
 use std::alloc::Global;
 use std::mem;

@@ -4,9 +4,9 @@ ghost use Rattle.std.specs.Prelude.{◌≡◌};
 ghost use Rattle.bm_journal_reader.specs.Pieces.{texts};
 ghost use Rattle.bm_law_text.specs.Entries.{bare_entry, bare, named_entry, named, of_domain_entry, of_domain, one_entry, one, freed_entry, freed, dropped, given, acquired, got};
 
-use bm_law_text::Kind;
 use crate::parts;
 use bm_journal::{Domain, Entry};
+use bm_law_text::Kind;
 use bm_word::Name;
 
 fn bare_entry(kind: Kind) -> Option<Entry>

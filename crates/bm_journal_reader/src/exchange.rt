@@ -10,7 +10,10 @@ use crate::parts;
 use crate::parts::past_word;
 use bm_journal::{Entry, ObjId, Period, Tag, Words};
 
-fn object_some<'a, 'b>(unit: &[u8], words: &'a [&'b [u8]]) -> Option<(Option<ObjId>, &'a [&'b [u8]])>
+fn object_some<'a, 'b>(
+    unit: &[u8],
+    words: &'a [&'b [u8]],
+) -> Option<(Option<ObjId>, &'a [&'b [u8]])>
     ensures { option_map (λ read. (read.0, texts read.1.now)) result ≡ object_some unit.now (texts words.now) }
 {
     let [life, rest @ ..] = words else {

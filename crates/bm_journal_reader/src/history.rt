@@ -4,10 +4,10 @@ ghost use Rattle.std.specs.Prelude.{◌≡◌};
 ghost use Rattle.bm_journal_reader.specs.Pieces.{texts};
 ghost use Rattle.bm_law_text.specs.Reading.{past_pushed_call, past_refused_call, past_refused, past_pushed, past_added, past_found_call, past_none_call, past_found, past_as, past_call};
 
-use bm_law_text::{Kind, kind_of};
 use crate::owners::Owners;
 use crate::parts;
 use bm_journal::{ObjId, PastCall};
+use bm_law_text::{Kind, kind_of};
 
 fn past_pushed_call(kind: Kind, object: ObjId) -> Option<PastCall>
     ensures { result ≡ past_pushed_call kind object }

@@ -4,9 +4,9 @@ ghost use Rattle.std.specs.Prelude.{◌≡◌, option_map};
 ghost use Rattle.bm_journal_reader.specs.Pieces.{texts};
 ghost use Rattle.bm_law_text.specs.Entries.{at_position, pushed_entry, refused_entry, pushed_at, refused_at, pushed, found_entry, found_none, found_at, found};
 
-use bm_law_text::Kind;
 use crate::parts;
 use bm_journal::{Entry, ObjId};
+use bm_law_text::Kind;
 use bm_word::Name;
 
 fn at_position(at: &[u8], position: &[u8]) -> Option<u32>
@@ -41,12 +41,7 @@ fn refused_entry(kind: Kind, name: Name, o: ObjId, owner: Name, position: u32) -
     }
 }
 
-fn pushed_at(
-    kind: Kind,
-    name: &[u8],
-    object: Option<ObjId>,
-    position: Option<u32>,
-) -> Option<Entry>
+fn pushed_at(kind: Kind, name: &[u8], object: Option<ObjId>, position: Option<u32>) -> Option<Entry>
     ensures { result ≡ pushed_at kind name.now object position }
 {
     pushed_entry(kind, parts::name(name)?, object?, position?)
@@ -65,7 +60,13 @@ fn refused_at(
     if already != b"already".as_slice() {
         return None;
     }
-    refused_entry(kind, parts::name(name)?, object?, parts::name(owner)?, position?)
+    refused_entry(
+        kind,
+        parts::name(name)?,
+        object?,
+        parts::name(owner)?,
+        position?,
+    )
 }
 
 /// A name, an object and a position; where the object was refused, the owner stands between.
@@ -79,7 +80,14 @@ pub fn pushed(kind: Kind, words: &[&[u8]]) -> Option<Entry>
         }
         [name, unit, life, already, owner, at, position] => {
             let object = parts::object_id(unit, life);
-            refused_at(kind, name, object, already, owner, at_position(at, position))
+            refused_at(
+                kind,
+                name,
+                object,
+                already,
+                owner,
+                at_position(at, position),
+            )
         }
         _ => None,
     }
@@ -105,12 +113,7 @@ fn found_none(kind: Kind, name: &[u8], none: &[u8], position: Option<u32>) -> Op
     found_entry(kind, parts::name(name)?, None, position?)
 }
 
-fn found_at(
-    kind: Kind,
-    name: &[u8],
-    object: Option<ObjId>,
-    position: Option<u32>,
-) -> Option<Entry>
+fn found_at(kind: Kind, name: &[u8], object: Option<ObjId>, position: Option<u32>) -> Option<Entry>
     ensures { result ≡ found_at kind name.now object position }
 {
     found_entry(kind, parts::name(name)?, Some(object?), position?)

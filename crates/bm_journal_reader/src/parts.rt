@@ -90,7 +90,10 @@ pub fn class(word: &[u8]) -> Option<Class>
 fn of_size(classes: &[Class], size: u64) -> Option<Class>
     ensures { result ≡ find (λ c. size_of_class c == size) classes.now }
 {
-    classes.iter().copied().find(|class| class.size() as u64 == size)
+    classes
+        .iter()
+        .copied()
+        .find(|class| class.size() as u64 == size)
 }
 
 /// A unit and a life.

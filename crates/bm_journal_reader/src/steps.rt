@@ -4,11 +4,11 @@ ghost use Rattle.std.specs.Prelude.{◌≡◌, IfOk};
 ghost use Rattle.bm_journal_reader.specs.Pieces.{texts};
 ghost use Rattle.bm_law_text.specs.Entries.{of_class_entry, of_class, class_number_entry, class_number, class_unit_entry, class_unit, popped, class_units_entry, class_units, fetched, sent, class_domain_entry, class_domain};
 
-use bm_law_text::Kind;
 use crate::lists::unit_numbers;
 use crate::parts;
 use bm_class::Class;
 use bm_journal::{Domain, Entry, UnitNumbers, Units};
+use bm_law_text::Kind;
 use bm_word::NoMemory;
 use std::alloc::Global;
 
@@ -178,5 +178,10 @@ pub fn class_domain(kind: Kind, words: &[&[u8]]) -> Option<Entry>
     let [class, domain, number] = words else {
         return None;
     };
-    class_domain_entry(kind, parts::class(class)?, parts::domain(domain)?, parts::number(number)?)
+    class_domain_entry(
+        kind,
+        parts::class(class)?,
+        parts::domain(domain)?,
+        parts::number(number)?,
+    )
 }

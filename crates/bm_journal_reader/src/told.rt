@@ -9,11 +9,11 @@ ghost use Rattle.bm_law_text.specs.Reading.{size_words, class_words, processor_w
 
 use crate::entry::entry_of;
 use crate::history::past_call;
-use bm_law_text::Line;
 use crate::owners::Owners;
 use crate::parts;
 use bm_class::Marks;
 use bm_journal::{Past, Total};
+use bm_law_text::Line;
 use bm_word::NoMemory;
 use std::alloc::Global;
 

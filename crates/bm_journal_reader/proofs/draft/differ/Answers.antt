@@ -1,9 +1,9 @@
-use Rattle.std.proofs.Common.{◌≡◌, true, false, take, drop, refl, sym, ap, ◌∙◌, List, ℕ, ◌++◌, ◌∷◌, [], get_or, ◌+◌}
+use Rattle.std.proofs.Common.{take, drop, sym, ap, ◌∙◌, ◌+◌}
 use Rattle.bm_journal.specs.WellFormed.{all_differ}
 use Rattle.std.specs.List.{list_any}
 use Rattle.std.specs.Str.{bytes_eq}
 use Rattle.bm_journal_reader.specs.Pieces.{texts}
-use Rattle.bm_journal_reader.proofs.OwnersPut.{differ-over, texts-cut, texts-more, put-no, differ-kept}
+use Rattle.bm_journal_reader.proofs.OwnersPut.{differ-over, texts-cut, put-no, differ-kept}
 use Rattle.bm_journal_reader.proofs.draft.differ.Goals as goal
 
 pub returns-then-not-differs : goal.returns-then-not-differs

@@ -1,6 +1,6 @@
-use Rattle.std.proofs.Common.{◌≡◌, ◌^◌, ◌<◌, ◌≤◌, ◌+◌, length, Some, None, take, refl, sym, ap, ◌∙◌, arith}
+use Rattle.std.proofs.Common.{◌≡◌, ◌^◌, ◌<◌, ◌≤◌, length, Some, take, sym, ap, ◌∙◌, arith}
 use Rattle.bm_journal_reader.specs.Pieces.{texts}
-use Rattle.bm_law_text.specs.Parts.{numbers, few}
+use Rattle.bm_law_text.specs.Parts.{numbers}
 use Rattle.bm_journal_reader.proofs.NumbersRead.{numbers-more, numbers-none, numbers-all, numbers-length, few-long, few-none, few-some, length-texts}
 use Rattle.std.proofs.lemmas.List.{length-take-le}
 use Rattle.bm_journal_reader.proofs.lists.few.Goals as goal

@@ -1,5 +1,4 @@
-use Rattle.std.proofs.Common.{◌≡◌, Some, None, take, refl, sym, ap, ◌∙◌, arith}
-use Rattle.bm_journal_reader.specs.Pieces.{texts}
+use Rattle.std.proofs.Common.{Some, sym, ap, ◌∙◌, arith}
 use Rattle.bm_law_text.specs.Parts.{name, names}
 use Rattle.bm_journal_reader.proofs.NumbersRead.{each-more, each-none, each-all}
 use Rattle.bm_journal_reader.proofs.lists.names.Goals as goal

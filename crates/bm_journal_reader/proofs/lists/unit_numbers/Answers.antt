@@ -1,7 +1,6 @@
-use Rattle.std.proofs.Common.{◌≡◌, ◌^◌, Some, None, take, refl, sym, ap, ◌∙◌}
-use Rattle.bm_journal_reader.specs.Pieces.{texts}
+use Rattle.std.proofs.Common.{◌^◌, Some, sym, ap, ◌∙◌}
 use Rattle.bm_law_text.specs.Parts.{numbers}
-use Rattle.bm_journal_reader.proofs.NumbersRead.{numbers-more, numbers-none, numbers-all}
+use Rattle.bm_journal_reader.proofs.NumbersRead.{numbers-more, numbers-none}
 use Rattle.bm_journal_reader.proofs.lists.unit_numbers.Goals as goal
 
 pub loop-word-init : goal.loop-word-init

@@ -1,4 +1,4 @@
-use Rattle.std.proofs.Common.{◌≡◌, ap, sym, ◌∙◌, subst, true, length}
+use Rattle.std.proofs.Common.{ap, ◌∙◌, subst, length}
 use Rattle.bm_journal.specs.WellFormed.{all_differ, owners_below, are_whole}
 use Rattle.bm_journal_reader.specs.Drafts.{head_order}
 use Rattle.bm_journal_reader.proofs.Finishing.{finished-parts}

@@ -1,4 +1,4 @@
-use Rattle.std.proofs.Common.{◌≡◌, ap, sym, ◌∙◌, subst, true, false, [], arith, length}
+use Rattle.std.proofs.Common.{subst}
 use Rattle.bm_journal_reader.specs.declared.fault.JournalFault.TheVariants as fault
 use Rattle.bm_journal_reader.specs.Faults.{Kept}
 use Rattle.bm_journal_reader.specs.Drafts.{draft_stage}

@@ -1,4 +1,4 @@
-use Rattle.std.proofs.Common.{◌≡◌, ◌+◌, ◌≤◌, length}
+use Rattle.std.proofs.Common.{◌+◌, ◌≤◌, length}
 use Rattle.bm_journal_reader.specs.Faults.{Kept}
 use Rattle.bm_journal_reader.proofs.reader.read_lines.Given as goal
 

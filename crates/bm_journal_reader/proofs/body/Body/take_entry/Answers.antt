@@ -1,4 +1,4 @@
-use Rattle.std.proofs.Common.{ap, sym, ◌∙◌, [], ◌∷◌}
+use Rattle.std.proofs.Common.{ap, [], ◌∷◌}
 use Rattle.bm_law_text.specs.declared.line.Line.TheVariants as line_as
 use Rattle.bm_journal_reader.specs.Drafts.{open_log}
 use Rattle.bm_journal_reader.proofs.BodyTaken.{taken, entry-step}

@@ -1,4 +1,4 @@
-use Rattle.std.proofs.Common.{ap, sym, ◌∙◌, [], ◌∷◌, arith, ◌≡◌, length}
+use Rattle.std.proofs.Common.{ap, [], ◌∷◌}
 use Rattle.bm_law_text.specs.declared.line.Line.TheVariants as line_as
 use Rattle.bm_journal_reader.proofs.BodyTaken.{taken, graph-step}
 use Rattle.bm_journal_reader.proofs.body.Body.take_graph.Goals as goal

@@ -1,4 +1,4 @@
-use Rattle.std.proofs.Common.{ap, sym, ◌∙◌, [], ◌∷◌, ◌++◌, arith, ◌≡◌, length}
+use Rattle.std.proofs.Common.{ap, ◌∙◌, [], ◌∷◌, ◌++◌, arith, ◌≡◌, length}
 use Rattle.bm_journal.specs.TotalNames.{total_place}
 use Rattle.bm_law_text.specs.declared.line.Line.TheVariants as line_as
 use Rattle.bm_journal_reader.proofs.BodyTaken.{taken, total-step}

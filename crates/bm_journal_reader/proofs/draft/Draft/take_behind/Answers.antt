@@ -1,4 +1,4 @@
-use Rattle.std.proofs.Common.{sym, ◌∙◌, ap, refl, Some, subst}
+use Rattle.std.proofs.Common.{sym, ◌∙◌, refl}
 use Rattle.bm_journal_reader.proofs.DraftRead.{behind-reads}
 use Rattle.bm_journal_reader.proofs.draft.Draft.take_behind.Goals as goal
 

@@ -1,4 +1,4 @@
-use Rattle.std.proofs.Common.{sym, ◌∙◌, ap, refl, Some, subst}
+use Rattle.std.proofs.Common.{sym, ◌∙◌, ap, refl, subst}
 use Rattle.std.specs.Prelude.{option_map}
 use Rattle.bm_journal_reader.specs.Owning.{Differ}
 use Rattle.bm_journal_reader.specs.Pieces.{texts}

@@ -1,4 +1,4 @@
-use Rattle.std.proofs.Common.{sym, ◌∙◌, ap, refl, Some}
+use Rattle.std.proofs.Common.{refl}
 use Rattle.bm_journal_reader.proofs.DraftRead.{size-read}
 use Rattle.bm_journal_reader.proofs.draft.Draft.take_size.Goals as goal
 

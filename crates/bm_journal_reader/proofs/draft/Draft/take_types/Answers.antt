@@ -1,8 +1,5 @@
-use Rattle.std.proofs.Common.{sym, ◌∙◌, ap, refl, Some, subst}
+use Rattle.std.proofs.Common.{sym, ◌∙◌, ap, refl}
 use Rattle.std.specs.Prelude.{option_map}
-use Rattle.bm_journal_reader.specs.Owning.{Differ}
-use Rattle.bm_journal_reader.specs.Pieces.{texts}
-use Rattle.bm_law_text.proofs.PartsSound.{names-sound}
 use Rattle.bm_journal_reader.proofs.DraftRead.{types-read}
 use Rattle.bm_journal_reader.proofs.draft.Draft.take_types.Goals as goal
 
