@@ -1,0 +1,13 @@
+pub mod Accepted
+pub mod BodyLines
+pub mod BodyTaken
+pub mod DraftRead
+pub mod Finishing
+pub mod Keeping
+pub mod Later
+pub mod NumbersRead
+pub mod OwnersPut
+pub mod Refused
+pub mod Shapes
+pub mod Staged
+pub mod Stepping

@@ -1,0 +1,4 @@
+pub mod Drafts
+pub mod Faults
+pub mod Owning
+pub mod Pieces
