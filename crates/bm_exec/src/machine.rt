@@ -1,6 +1,6 @@
 //! Machines: what statements run on.
 
-ghost use Rattle.std.specs.Prelude.{◌≡◌, ◌+◌, ◌<◌, ◌≤◌, ◌^◌, ◌∷◌, [], ℕ, IfSome, IsOk, List, None, OnOk, Option, Some, false};
+ghost use Rattle.std.specs.Prelude.{◌≡◌, ◌+◌, ◌<◌, ◌≤◌, ◌^◌, ◌∷◌, [], ℕ, IfSome, IsOk, List, None, OnOk, Option, Some, false, true};
 ghost use Rattle.bm_journal.specs.declared.entry.Entry.TheVariants as entry;
 ghost use Rattle.bm_law.specs.State.{State};
 ghost use Rattle.bm_law.specs.Lists.{Log, Leaves};
@@ -84,13 +84,13 @@ pub trait Machine {
     fn is_inside(&self) -> bool
         ensures { result ≡ is_inside (around self.now) };
 
-    /// Begins a plain section, where the code is in none. It takes no memory but the recorder's. It stands for rcu_read_lock of
-    /// include/linux/rcupdate.h.
+    /// Begins a plain section where the code is in none; else it does nothing. It takes no memory but the recorder's. It stands for
+    /// rcu_read_lock of include/linux/rcupdate.h.
     fn enter(&mut self)
         requires sound { sound self.old }
-        requires outside { is_inside (around self.old) ≡ false }
         requires room { asked self.old + 2 < 2 ^ 22 }
-        ensures entered { Entered (level self.old) (around self.old) (around self.new) (log self.old) (log self.new) }
+        ensures entered { is_inside (around self.old) ≡ false → Entered (level self.old) (around self.old) (around self.new) (log self.old) (log self.new) }
+        ensures inner { is_inside (around self.old) ≡ true → (around self.new ≡ around self.old) × (log self.new ≡ log self.old) }
         ensures lists { lists self.new ≡ lists self.old }
         ensures lives { lives self.new ≡ lives self.old }
         ensures sound { sound self.new }
@@ -101,13 +101,13 @@ pub trait Machine {
         ensures through { through self.new ≡ through self.old }
         ensures keeps { keeps self.old self.new };
 
-    /// Ends the plain section that `enter` began. It takes no memory but the recorder's. It stands for rcu_read_unlock of
-    /// include/linux/rcupdate.h.
+    /// Ends the plain section that `enter` began; where it began none it does nothing. It takes no memory but the recorder's. It stands
+    /// for rcu_read_unlock of include/linux/rcupdate.h.
     fn leave(&mut self)
         requires sound { sound self.old }
-        requires begun { (w : ℕ) × ((around self.old).begun ≡ Some w) }
         requires room { asked self.old < 2 ^ 22 }
-        ensures left { HasLeft (level self.old) (around self.old) (around self.new) (log self.old) (log self.new) }
+        ensures left { (w : ℕ) → (around self.old).begun ≡ Some w → HasLeft (level self.old) (around self.old) (around self.new) (log self.old) (log self.new) }
+        ensures outer { (around self.old).begun ≡ None → (around self.new ≡ around self.old) × (log self.new ≡ log self.old) }
         ensures lists { lists self.new ≡ lists self.old }
         ensures lives { lives self.new ≡ lives self.old }
         ensures sound { sound self.new }

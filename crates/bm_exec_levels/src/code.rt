@@ -53,13 +53,11 @@ impl<'a, 's, W: Lives, B: Since<W>, L: Rank> Machine for At<'a, 's, W, B, L> {
         true
     }
 
-    fn enter(&mut self) {
-        unreachable!();
-    }
+    // It is in a plain section already.
+    fn enter(&mut self) {}
 
-    fn leave(&mut self) {
-        unreachable!();
-    }
+    // So no statement of it began one.
+    fn leave(&mut self) {}
 
     fn pause(&mut self) {
         self.own.caches.note(L::level(), Entry::Yield);

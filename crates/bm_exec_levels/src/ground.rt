@@ -160,11 +160,15 @@ impl<'a, 's, W: Lives, B: Since<W>> Machine for Ground<'a, 's, W, B> {
     }
 
     fn enter(&mut self) {
-        enter_section(self.own, Level::ordinary(), Domain::Plain);
+        if !self.within && !self.own.inside {
+            enter_section(self.own, Level::ordinary(), Domain::Plain);
+        }
     }
 
     fn leave(&mut self) {
-        leave_section(self.own, Level::ordinary(), Domain::Plain);
+        if !self.within && self.own.inside {
+            leave_section(self.own, Level::ordinary(), Domain::Plain);
+        }
     }
 
     fn pause(&mut self) {

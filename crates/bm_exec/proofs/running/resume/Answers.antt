@@ -82,11 +82,6 @@ loop-statement-preserved-else-is_err g c =
 
 -- ---- the end of a section
 
-pub leave-requires-clause-begun : goal.leave-requires-clause-begun
-leave-requires-clause-begun g c =
-    let t = rw c.in-Leave.is at c.next_statement.ensures.stepped in
-    (t.sections c.requires.sections.0 (g.M.Machine.around c.loop-statement.machine) (c.loop-statement.invariant.went.sections c.requires.sections.0 c.requires.sections.1)).0
-
 pub leave-requires-clause-room : goal.leave-requires-clause-room
 leave-requires-clause-room g c = omega (arith, c.requires.room, c.loop-statement.invariant.went.cost)
 
@@ -100,8 +95,9 @@ loop-statement-preserved g c =
     let m = c.loop-statement.machine in
     let n = c.leave.new.self in
     let e = c.leave.ensures in
+    let b = (t.sections c.requires.sections.0 (g.M.Machine.around m) (i.went.sections c.requires.sections.0 c.requires.sections.1)).0 in
     record {
-      went = went-left _ _ _ _ _ _ (g.M.Machine.processor m) _ _ _ _ _ _ _ _ _ _ _ _ _ _ _ _ _ (g.met.M.Machine.told m i.sound) (rw e.processor at (g.met.M.Machine.told n e.sound)) i.went t (rw i.level at e.left) e.lists e.lives e.asked;
+      went = went-left _ _ _ _ _ _ (g.M.Machine.processor m) _ _ _ _ _ _ _ _ _ _ _ _ _ _ _ _ _ (g.met.M.Machine.told m i.sound) (rw e.processor at (g.met.M.Machine.told n e.sound)) i.went t (rw i.level at (e.left b.0 b.1)) e.lists e.lives e.asked;
       known = i.known;
       sound = e.sound;
       level = e.level ∙ i.level;

@@ -6,8 +6,8 @@ use Rattle.bm_exec_levels.specs.declared.processor.Processor.{Processor}
 use Rattle.bm_exec_levels.proofs.Moved.{sound-moved}
 use Rattle.bm_exec_levels.proofs.ground.GroundMachine.enter.Goals as goal
 
-pub returns-clause-sound : goal.returns-clause-sound
-returns-clause-sound g c =
+pub returns-then-not-self-2-clause-sound : goal.returns-then-not-self-2-clause-sound
+returns-then-not-self-2-clause-sound g c =
     let m = c.args.self.now.own.now in
     let k = c.enter_section.new.own in
     let p = c.args.self.now.program.now in

@@ -1,23 +1,22 @@
 use Rattle.std.proofs.Common.{ap, arith}
 use Rattle.bm_grace.specs.declared.step.StepKind.TheVariants.{Leave}
 use Rattle.bm_journal.specs.declared.ids.Domain.TheVariants.{Plain}
-use Rattle.bm_exec_levels.specs.Ready.{left_of, word_of}
+use Rattle.bm_exec_levels.specs.Ready.{left_of}
 use Rattle.bm_exec_levels.specs.declared.processor.Processor.{Processor}
 use Rattle.bm_exec_levels.proofs.Moved.{sound-moved}
-use Rattle.bm_exec_levels.proofs.Scripts.{begun-is, not-whole}
+use Rattle.bm_exec_levels.proofs.Scripts.{not-whole}
 use Rattle.bm_exec_levels.proofs.ground.GroundMachine.leave.Goals as goal
 
-pub returns-clause-sound : goal.returns-clause-sound
-returns-clause-sound g c =
+pub returns-then-self-clause-sound : goal.returns-then-self-clause-sound
+returns-then-self-clause-sound g c =
     let m = c.args.self.now.own.now in
     let k = c.leave_section.new.own in
     let p = c.args.self.now.program.now in
     let s = c.requires.sound in
     let e = rw c.ordinary.ensures at c.leave_section.ensures in
-    let room = c.requires.room in
-    let b = begun-is c.args.self.now.within m.inside (word_of g.W.Knows Plain m) c.requires.begun.0 c.requires.begun.1 in (
+    let room = c.requires.room in (
       sound-moved g.W.Knows Leave Plain p m k e.rights e.lists e.known (ap (λ (x : Processor _). left_of x) e.same) (ap (λ (x : Processor _). x.settled) e.same) (e.at p s.0.at (omega (arith, room))) e.fine s.0,
       s.1,
       e.tied g.B.Since.since g.B.Since.start s.2,
-      not-whole c.args.self.now.within b.0,
+      not-whole c.args.self.now.within c.if-not-self.true,
     )
