@@ -6,7 +6,7 @@ mod Stocked
 mod Caches
 mod Hands
 mod Lived
-mod Standing
-mod Apart
-mod Logs
+pub mod Standing
+pub mod Apart
+pub mod Logs
 mod Once

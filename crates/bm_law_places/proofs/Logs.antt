@@ -86,6 +86,10 @@ log-found p (e ∷ es) s boxes w is same h n f = (
   log-found p es (next s e) (inboxes_after p e.1 boxes) (world_after p e.0 e.1 w) (own-next p e w ∙ ap (λ (t : State ℕ). next t e) is) (λ c. inboxes-on p e.0 c e.1 s boxes w.shared.boxes f.0 same) h.1 n.1 f.1,
 )
 
+-- .. from the outset on
+pub log-finds : (pages : ℕ) (log : Log) (last : State ℕ) → IsLaid 1 pages (by 0 log) → Leaves 0 log last → ParcelLaw 0 log → AllFound (by 0 log) (outset 1 pages)
+log-finds pages log last laid leaves parcels = log-found 0 log (opening 0) no_parcels (outset 1 pages) refl (λ c. refl) laid leaves.named parcels
+
 pub log-placed : (pages : ℕ) (log : Log) (last : State ℕ) → IsLaid 1 pages (by 0 log) → Leaves 0 log last → ParcelLaw 0 log → IsPlaced 1 pages (by 0 log)
 log-placed pages log last laid leaves parcels =
-    all-placed 1 pages (by 0 log) (log-found 0 log (opening 0) no_parcels (outset 1 pages) refl (λ c. refl) laid leaves.named parcels)
+    all-placed 1 pages (by 0 log) (log-finds pages log last laid leaves parcels)

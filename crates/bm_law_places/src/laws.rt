@@ -27,7 +27,8 @@ pub fn places_law()
 
 /// An order finds what it needs where each entry finds it of what is shared, each processor's own entries name what is in its lists
 /// and hands, and its sweeps take from outside what waits in its inboxes. So a stretch of one processor's log does, and one order after
-/// the other. The lists of a processor are those that its own entries leave.
+/// the other. The lists of a processor are those that its own entries leave. The log of the one processor that there is finds what it
+/// needs where it is laid, leaves lists, and fits the law of parcels.
 pub fn found_law()
     ensures parts { (o : Order) (w : World) → AllShared o w.shared →
         ((p : ℕ) → AllName (w.lists p) (part_of p o)) → AllFit world_after SweepsInbox o w →
@@ -40,6 +41,9 @@ pub fn found_law()
     ensures shared { (o : Order) (w : World) → (world_over o w).shared ≡ shared_over o w.shared }
     ensures lists { (p : ℕ) (o : Order) (w : World) →
         (world_over o w).lists p ≡ after (w.lists p) (part_of p o) }
+    ensures one { (pages : ℕ) (log : Log) (last : State ℕ) →
+        IsLaid 1 pages (by 0 log) → Leaves 0 log last → ParcelLaw 0 log →
+        AllFound (by 0 log) (outset 1 pages) }
 {}
 
 /// In an order of logs each unit is in exactly one place where the order is laid, each log names what is in the lists and hands of its

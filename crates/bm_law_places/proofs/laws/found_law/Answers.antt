@@ -1,4 +1,4 @@
-use Rattle.bm_law_places.proofs.Logs.{found-join, stretch-found}
+use Rattle.bm_law_places.proofs.Logs.{found-join, log-finds, stretch-found}
 use Rattle.bm_law_places.proofs.Standing.{found-in-parts, lists-of, shared-of}
 use Rattle.bm_law_places.proofs.laws.found_law.Goals as goal
 
@@ -16,3 +16,6 @@ returns-clause-stretch c = stretch-found
 
 pub returns-clause-join : goal.returns-clause-join
 returns-clause-join c = found-join
+
+pub returns-clause-one : goal.returns-clause-one
+returns-clause-one c = log-finds
