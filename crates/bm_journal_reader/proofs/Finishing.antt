@@ -18,22 +18,20 @@ use Rattle.bm_law_text.proofs.TextBack.{text-lines}
 use Rattle.bm_journal_reader.specs.declared.draft.Draft.{Draft}
 use Rattle.bm_journal_reader.specs.declared.draft.Head.TheVariants as head
 use Rattle.bm_journal_reader.specs.declared.body.Part.TheVariants as part
-use Rattle.bm_journal_reader.specs.declared.fault.JournalFault.{JournalFault}
-use Rattle.bm_journal_reader.specs.declared.fault.JournalFault.TheVariants as fault
 use Rattle.bm_law_text.specs.declared.line.Line.TheVariants as line_as
 use Rattle.bm_journal.specs.TotalNames.{all_totals}
 use Rattle.std.proofs.lemmas.Bool.{ltb-false, eqb-true}
 use Rattle.std.proofs.lemmas.Bool.Decides.{nat_tests}
 use Rattle.bm_journal_reader.specs.Drafts.{Stage, Begun, stage_maps, draft_stage, draft_lines}
-use Rattle.bm_journal_reader.specs.Faults.{AgreeIn, first_bad, is_done, is_nothing, line_content, plus, Kept, Finished, FaultSays, NoJournal}
+use Rattle.bm_journal_reader.specs.Faults.{AgreeIn, first_bad, is_done, is_nothing, line_content, plus, Kept, Finished}
 use Rattle.bm_journal_reader.proofs.Refused.{no_feed}
 use Rattle.bm_journal_reader.proofs.Stepping.{no-journal}
 
-left-each : {X : Type 0} (P : X → Type 0) (xs ys : List X) → Each P (xs ++ ys) → Each P xs
+pub left-each : {X : Type 0} (P : X → Type 0) (xs ys : List X) → Each P (xs ++ ys) → Each P xs
 left-each P [] ys h = tt
 left-each P (x ∷ xs) ys h = (h.0, left-each P xs ys h.1)
 
-right-each : {X : Type 0} (P : X → Type 0) (xs ys : List X) → Each P (xs ++ ys) → Each P ys
+pub right-each : {X : Type 0} (P : X → Type 0) (xs ys : List X) → Each P (xs ++ ys) → Each P ys
 right-each P [] ys h = h
 right-each P (x ∷ xs) ys h = right-each P xs ys h.1
 
@@ -98,10 +96,6 @@ finished-parts d e p fit =
     let behind = right-each (LineFits m) cs (ls ++ (gs ++ ts)) body in
     (owned-graphs m d.body.graphs.items (left-each (LineFits m) gs ts (right-each (LineFits m) ls (gs ++ ts) behind)), whole-logs m 0 d.body.logs.items (left-each (LineFits m) ls (gs ++ ts) behind))
 
-pub fault-none : NumbersRoundTrip → (bytes : List ℕ) (f : JournalFault) → FaultSays bytes f → NoJournal bytes f
-fault-none rt bytes (fault.Bad line) h = λ j fits agree. no-one rt bytes line h.0 h.1 h.2 j fits agree
-fault-none rt bytes fault.NoMemory h = tt
-
 no-cut : (rest : List ℕ) → nat_lt (position_or_len (λ b. b == 10) rest) (length rest) ≡ false → pieces rest ≡ rest ∷ []
 no-cut [] h = refl
 no-cut (b ∷ rest) h =
@@ -113,7 +107,7 @@ no-cut (b ∷ rest) h =
     ]
     in case (b == 10) refl h
 
-pub end-bad : (bytes rest : List ℕ) (line : ℕ) (d : Draft) → Kept bytes rest line d → position (λ b. b == 10) rest ≡ None → (is_done (draft_stage d) && is_nothing rest) ≡ false → FaultSays bytes (fault.Bad line)
+pub end-bad : (bytes rest : List ℕ) (line : ℕ) (d : Draft) → Kept bytes rest line d → position (λ b. b == 10) rest ≡ None → (is_done (draft_stage d) && is_nothing rest) ≡ false → (k : ℕ) × (line ≡ k + 1) × (first_bad Begun (pieces bytes) ≡ Some k)
 end-bad bytes rest line d kept none not_done =
     let n = position_or_len (λ b. b == 10) rest in
     let none_less : nat_lt n (length rest) ≡ false = not_found (nat_lt n (length rest)) n none in

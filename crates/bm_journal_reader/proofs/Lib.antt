@@ -1,6 +1,7 @@
 pub mod Accepted
 pub mod BodyLines
 pub mod BodyTaken
+pub mod Completed
 pub mod DraftRead
 pub mod Finishing
 pub mod Keeping
@@ -9,5 +10,6 @@ pub mod NumbersRead
 pub mod OwnersPut
 pub mod Refused
 pub mod Shapes
+pub mod SoFar
 pub mod Staged
 pub mod Stepping

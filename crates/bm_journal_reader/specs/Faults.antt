@@ -25,6 +25,20 @@ text_lines bytes = with_feeds (pieces bytes)
 abbrev pub AgreeIn : ℕ → List ℕ → List ℕ → Type 0
 AgreeIn lines bytes text = take lines (text_lines bytes) ≡ take lines (text_lines text)
 
+-- some journal's text agrees with these bytes in so many lines
+abbrev pub SomeAgrees : List ℕ → ℕ → Type 0
+SomeAgrees bytes lines = (j : Journal) × JournalFits j × AgreeIn lines bytes (journal_text j)
+
+-- the least number of lines in which no journal's text agrees with these bytes
+pub record IsFirstWrong (bytes : List ℕ) (line : ℕ) : Type 0 where
+  pub none : SomeAgrees bytes line → ⊥
+  pub before : (n : ℕ) → n < line → SomeAgrees bytes n
+
+-- what a fault says: its line is the first that is wrong
+abbrev pub NamesFirst : List ℕ → JournalFault → Type 0
+NamesFirst bytes (Bad line) = IsFirstWrong bytes line
+NamesFirst bytes NoMemory = Unit {0}
+
 -- ---- found by the stages
 
 abbrev pub is_nothing : List ℕ → Bool
@@ -64,9 +78,9 @@ pub record Kept (bytes rest : List ℕ) (line : ℕ) (d : Draft) : Type 0 where
   pub sound : IsSound d
   pub count : line ≡ length (draft_lines d) + 1
 
--- a fault names the first line that may not come
+-- a fault names the first line that may not come, and some journal has those before it
 abbrev pub FaultSays : List ℕ → JournalFault → Type 0
-FaultSays bytes (Bad line) = (k : ℕ) × (line ≡ k + 1) × (first_bad Begun (pieces bytes) ≡ Some k)
+FaultSays bytes (Bad line) = (k : ℕ) × (line ≡ k + 1) × (first_bad Begun (pieces bytes) ≡ Some k) × SomeAgrees bytes k
 FaultSays bytes NoMemory = Unit {0}
 
 -- the bytes before the first line feed, and those behind it
@@ -79,8 +93,4 @@ pub record Finished (d : Draft) (j : Journal) : Type 0 where
   pub done : is_done (draft_stage d) ≡ true
   pub items : journal_items j ≡ draft_lines d
   pub maps : j.maps ≡ stage_maps (draft_stage d)
-
--- no journal's text agrees with these bytes up to the line
-abbrev pub NoJournal : List ℕ → JournalFault → Type 0
-NoJournal bytes (Bad line) = (j : Journal) → JournalFits j → AgreeIn line bytes (journal_text j) → ⊥
-NoJournal bytes NoMemory = Unit {0}
+  pub nineteen : length j.totals ≡ 19

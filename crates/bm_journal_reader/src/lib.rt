@@ -7,10 +7,12 @@
 //!   entries, histories with their calls, the nineteen totals. Numbers of processors, positions and totals go up one by one.
 //! - `Draft` and `Body` are what is read so far; each line that is taken is one line more of it (`Read`, `Taken`).
 //! - `text_lines` (specs/Faults) are the lines of a text, each with its line feed, and behind the last one the end; `AgreeIn` says
-//!   that two texts agree in so many lines, and `NoJournal` what a fault says.
+//!   that two texts agree in so many lines, `SomeAgrees` that some journal's text agrees in so many, and `IsFirstWrong` that this is
+//!   so for fewer lines alone. `worked_faults` computes them on small texts.
 //!
 //! That no journal's text agrees with a refused text up to its line rests on `lines_law` of bm_law_text: a journal's lines are read
-//! back from its text, so that a line that may not come is in none.
+//! back from its text, so that a line that may not come is in none. That some journal's text agrees before it is shown by one: what
+//! was read is led on to a whole journal, with the lines of the heading that are missing and zero for each missing total.
 #![tactic(auto)]
 
 mod body;
@@ -27,6 +29,8 @@ mod parts;
 mod reader;
 mod steps;
 mod told;
+mod worked;
 
 pub use fault::JournalFault;
 pub use reader::read_journal;
+pub use worked::worked_faults;

@@ -1,9 +1,9 @@
 //! The reader.
 
-ghost use Rattle.std.specs.Prelude.{◌≡◌, ◌<◌, ◌==◌, IfOk, IfSome, MatchOption, MatchResult, false, None, length, option_map, position};
-ghost use Rattle.bm_journal_reader.specs.Faults.{FaultSays, Finished, IsFirstLine, Kept, NoJournal, is_done};
+ghost use Rattle.std.specs.Prelude.{◌≡◌, ◌<◌, ◌==◌, IfErr, IfOk, IfSome, MatchOption, MatchResult, false, None, length, option_map, position};
+ghost use Rattle.bm_journal_reader.specs.Faults.{FaultSays, Finished, IsFirstLine, Kept, NamesFirst, is_done};
 ghost use Rattle.bm_journal_reader.specs.Drafts.{IsSound, draft_lines, draft_stage, stage_maps};
-ghost use Rattle.bm_law_text.specs.Fits.{Each, LineFits};
+ghost use Rattle.bm_law_text.specs.Fits.{Each, JournalFits, LineFits};
 ghost use Rattle.bm_journal.specs.JournalText.{journal_text};
 ghost use Rattle.bm_journal_reader.specs.Pieces.{texts};
 ghost use Rattle.bm_law_text.specs.Pieces.{words};
@@ -120,12 +120,15 @@ fn finish(draft: Draft) -> Option<Journal>
     })
 }
 
-/// The journal whose text these bytes are. Otherwise the first line up to which no journal's text agrees with them.
+/// The journal whose text these bytes are. Otherwise the first line up to which no journal's text agrees with them: in the lines
+/// before it some journal's does.
 ///
 /// Lines are counted from 1; a line is taken with its line feed, and the end of the text counts as a line. The time and the memory
 /// are linear in the bytes.
 pub fn read_journal(alloc: Global, bytes: &[u8]) -> Result<Journal, JournalFault>
-    ensures { MatchResult result (λ j. journal_text j ≡ bytes.now) (NoJournal bytes.now) }
+    ensures text { IfOk result (λ j. journal_text j ≡ bytes.now) }
+    ensures fits { IfOk result (λ j. JournalFits j) }
+    ensures fault { IfErr result (NamesFirst bytes.now) }
 {
     numbers_round_trip();
     let mut draft = Draft::new(alloc);
