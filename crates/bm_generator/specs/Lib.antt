@@ -1,0 +1,5 @@
+pub mod Draws
+pub mod Generated
+pub mod Pieces
+pub mod Texts
+pub mod Worked

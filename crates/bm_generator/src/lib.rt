@@ -1,0 +1,10 @@
+//! The generator: the text of a scenario that is made of two numbers, with all forms that processors share.
+#![tactic(auto)]
+
+mod draws;
+mod law;
+mod pieces;
+mod scenario;
+
+pub use law::worked_scenarios;
+pub use scenario::generated_text;
