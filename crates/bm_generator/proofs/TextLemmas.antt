@@ -1,5 +1,5 @@
 -- What is printed of the parts of a generated scenario.
-use Rattle.std.proofs.Common.{◌≡◌, ℕ, zero, suc, ◌+◌, ◌-◌, ◌*◌, ◌<◌, ◌≤◌, ◌^◌, true, List, [], ◌∷◌, ◌++◌, length, length-append, refl, sym, ap, ◌∙◌, Some, append_assoc, arith, codes, lit≤, lit<}
+use Rattle.std.proofs.Common.{◌≡◌, ℕ, zero, suc, ◌+◌, ◌-◌, ◌*◌, ◌<◌, ◌≤◌, true, List, [], ◌∷◌, ◌++◌, length, length-append, refl, sym, ap, ◌∙◌, Some, append_assoc, arith, codes, lit≤, lit<}
 use Rattle.std.specs.Prelude.{map, decimal}
 use Rattle.std.specs.List.{flat_map}
 use Rattle.std.proofs.lemmas.List.{take_all, append-nil}
@@ -9,10 +9,10 @@ use Rattle.bm_lang.specs.declared.keyword.Keyword.TheVariants as word
 use Rattle.bm_lang.specs.Keywords.{keyword_text}
 use Rattle.bm_lang.specs.declared.scenario.Action.{Drop, Exchange, Lock, Unlock, PushBack, Add}
 use Rattle.bm_lang.specs.declared.scenario.Statement.{Statement}
-use Rattle.bm_lang.specs.Tokens.{Open, Close, Reserved}
+use Rattle.bm_lang.specs.Tokens.{Open, Close}
 use Rattle.bm_lang.specs.Names.{TypeForm, MapForm}
 use Rattle.bm_lang.specs.Built.{spell_statement}
-use Rattle.bm_lang.specs.Spelling.{Word, any, on, name, number, reserved, type_form, map_form, script_form, spell_block, spell_header, spell_type, spell_map, spell_script, spell_run, spell_at, spell_turns, spell_scenario}
+use Rattle.bm_lang.specs.Spelling.{Word, any, on, number, reserved, type_form, map_form, script_form, spell_block, spell_header, spell_type, spell_map, spell_script, spell_run, spell_at, spell_turns, spell_scenario}
 use Rattle.bm_lang.specs.Printing.{printed}
 use Rattle.bm_lang.proofs.Printed.{begins, printed-lines, open_line, word_before_block}
 use Rattle.bm_lang.proofs.Listed.{scenario_printed}

@@ -10,7 +10,7 @@ use Rattle.bm_generator.specs.Draws.{next, drawn}
 use Rattle.bm_generator.specs.Pieces.{pieces}
 use Rattle.bm_generator.specs.Generated.{generated}
 use Rattle.bm_generator.specs.Texts.{header_text, types_text, maps_text, scripts_text, handler_text, run_text, at_text, turns_text}
-use Rattle.bm_generator.specs.Worked.{WorkedScenarios, text_1_0, scripts_1_0, front, back, pieces_2_11}
+use Rattle.bm_generator.specs.Worked.{WorkedScenarios, text_1_0, scripts_1_0, pieces_2_11}
 use Rattle.bm_generator.proofs.TextLemmas.{whole_text}
 
 d7 : decimal 7 ≡ 55 ∷ []

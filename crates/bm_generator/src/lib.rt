@@ -6,5 +6,5 @@ mod law;
 mod pieces;
 mod scenario;
 
-pub use law::worked_scenarios;
+pub use law::{generated_scenarios_are_accepted, worked_scenarios};
 pub use scenario::generated_text;

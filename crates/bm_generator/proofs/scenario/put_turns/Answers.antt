@@ -1,4 +1,3 @@
-use Rattle.std.proofs.Common.{arith}
 use Rattle.bm_lang.proofs.Printed.{on_ok_then}
 use Rattle.bm_generator.proofs.TextLemmas.{round_written, turns_written}
 use Rattle.bm_generator.proofs.scenario.put_turns.Goals as goal
