@@ -8,9 +8,10 @@ use Rattle.bm_lang.specs.declared.scenario.TypeDeclaration.{TypeDeclaration}
 use Rattle.bm_law.specs.Null.{Asked, Nothing, RepliesFit, asked_at_end, all_apart, is_apart}
 use Rattle.bm_law.specs.Phrases.{AllocPhrase}
 use Rattle.bm_law.specs.Spans.{own_entries}
-use Rattle.bm_law.proofs.Null.{replies-append, asked-append, alloc-answers, apart-answers, apart-free}
+use Rattle.bm_law.proofs.Null.{replies-append, asked-append, alloc-answers, apart-answers, apart-delay, apart-free}
 use Rattle.bm_law_work.proofs.Each.{AllOf}
 use Rattle.bm_law_scenario.specs.Calls.{Allocates}
+use Rattle.bm_law_scenario.proofs.Freed.{either-free}
 use Rattle.bm_law_scenario.proofs.RunsAll.{Closed}
 use Rattle.bm_law_logs.specs.Owed.{AllReplied}
 use Rattle.bm_law_scenario.specs.WorkEntries.{IsOfWork}
@@ -39,7 +40,7 @@ closed types = record {
   none = record { replies = tt; owed = refl };
   join = join;
   new = λ x t values names part after r. subst AllReplied (sym r.part_is) (new r.declared.name values r.class r.own r.reply r.allocates);
-  dropped = λ x names part after r. subst AllReplied (sym r.part_is) (apart (entry.Drop r.unit r.life ∷ entry.Last ∷ r.own) (apart-free r.class r.unit r.home r.own r.frees));
+  dropped = λ x names part after r. subst AllReplied (sym r.part_is) (apart (entry.Drop r.unit r.life ∷ entry.Last ∷ r.own) (either-free (λ own. all_apart own ≡ true) r.declared.counted r.class r.unit r.home r.batch r.own (apart-free r.class r.unit r.home r.own) (apart-delay r.class r.unit r.home r.batch r.own) r.frees));
   enters = λ w. apart (entry.In Plain w ∷ []) refl;
   leaves = λ w. apart (entry.Out Plain w ∷ []) refl;
   yields = apart (entry.Yield ∷ []) refl;

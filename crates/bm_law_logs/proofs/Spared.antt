@@ -16,9 +16,10 @@ use Rattle.bm_law_work.specs.WorkPhrases.{Work}
 use Rattle.bm_law_work.proofs.Each.{AllOf}
 use Rattle.bm_law_scenario.specs.Opened.{OfClass, is_class, object_size, opened_classes, uses_class}
 use Rattle.bm_law_scenario.proofs.RunsAll.{Closed}
-use Rattle.bm_law_scenario.proofs.Spares.{AllSpare, Spares, other-row, spare-alloc, spare-free, spare-join}
+use Rattle.bm_law_scenario.proofs.Spares.{AllSpare, Spares, other-row, spare-alloc, spare-delay, spare-free, spare-join}
 use Rattle.bm_law_scenario.proofs.PartLaws.{among}
 use Rattle.bm_law_scenario.specs.WorkEntries.{IsOfWork}
+use Rattle.bm_law_scenario.proofs.Freed.{either-free}
 use Rattle.bm_law_scenario.proofs.FrontLaws.{Written}
 use Rattle.bm_law_scenario.proofs.OfWork.{work-writes}
 use Rattle.bm_law_scenario.proofs.PartLaws.{Has}
@@ -112,7 +113,7 @@ closed types c e = record {
   none = tt;
   join = spare-join c;
   new = λ x t values names part after r. subst (AllSpare c) (sym r.part_is) (λ l us s. refl, spare-alloc c r.class r.own r.reply (other-class types c r.class e (used types t.0 r.class r.declared r.of_class)) r.allocates);
-  dropped = λ x names part after r. subst (AllSpare c) (sym r.part_is) (λ l us s. refl, (λ l us s. refl, spare-free c r.class r.unit r.home r.own (other-class types c r.class e (used types r.type.0 r.class r.declared r.of_class)) r.frees));
+  dropped = λ x names part after r. subst (AllSpare c) (sym r.part_is) (λ l us s. refl, (λ l us s. refl, (let ne = other-class types c r.class e (used types r.type.0 r.class r.declared r.of_class) in either-free (AllSpare c) r.declared.counted r.class r.unit r.home r.batch r.own (spare-free c r.class r.unit r.home r.own ne) (spare-delay c r.class r.unit r.home r.batch r.own ne) r.frees)));
   enters = λ w. (λ l us s. refl, tt);
   leaves = λ w. (λ l us s. refl, tt);
   yields = (λ l us s. refl, tt);

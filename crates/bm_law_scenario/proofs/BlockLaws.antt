@@ -10,14 +10,15 @@ use Rattle.bm_law.specs.Lists.{Log}
 use Rattle.bm_law.specs.State.{State}
 use Rattle.bm_law_work.specs.Parts.{Part, Nothing, Say, Stand, Then}
 use Rattle.bm_law_scenario.specs.Held.{Held, Nothing as Nothing_held, Null, Object, Names}
-use Rattle.bm_law_scenario.specs.Calls.{RunsNew, RunsDrop}
+use Rattle.bm_law_scenario.specs.Calls.{RunsNew, RunsDrop, any_batch, batch_in}
 use Rattle.bm_law_scenario.specs.Runs.{Run, Leaving, Done, Followed, Times, Chosen, Enclosed, Within, RunsAction, RunsElse, RunsBlock, RunsRow}
 use Rattle.bm_law_scenario.proofs.PartLaws.{Laws, law-as, law-never}
+use Rattle.bm_law_scenario.proofs.Freed.{loosened}
 
 -- what the calls of a script, its plain sections and its yields have
 pub record Called (types : List TypeDeclaration) (L : Part → Type 0) : Type 0 where
   pub new : (x : List ℕ) (t : TypeId) (values : List ℕ) (names after : Names) → L (Say 0 (λ own. RunsNew types x t values names own after))
-  pub dropped : (x : List ℕ) (names after : Names) → L (Say 0 (λ own. RunsDrop types x names own after))
+  pub dropped : (x : List ℕ) (names after : Names) → L (Say 0 (λ own. RunsDrop types x any_batch names own after))
   pub enters : (w : ℕ) → L (Stand 0 (entry.In Plain w ∷ []))
   pub leaves : (w : ℕ) → L (Stand 0 (entry.Out Plain w ∷ []))
   pub yields : L (Stand 0 (entry.Yield ∷ []))
@@ -58,7 +59,7 @@ module _ (types : List TypeDeclaration) (L : Part → Type 0) (k : Laws L) (c : 
   mutual
     law-action : (i : Bool) (a : Action) → LawRun L (RunsAction types 0 i behind a)
     law-action i (New x t values) = λ names after. c.new x t values names after
-    law-action i (Drop x) = λ names after. c.dropped x names after
+    law-action i (Drop x) = λ names after. law-as L k (Say 0 (λ own. RunsDrop types x any_batch names own after)) (RunsAction types 0 i behind (Drop x) names after) (c.dropped x names after) (λ s part h. (h.0, loosened types x (batch_in 0 s) names after h.0 h.1, h.2))
     law-action i (If' x body otherwise) = λ names after. law-chosen (names x) (RunsBlock types 0 i behind body) (RunsElse types 0 i behind otherwise) (law-block i body) (law-else i otherwise) names after
     law-action i (Repeat n body) = law-times (RunsBlock types 0 i behind body) n (law-block i body)
     law-action i (Section body) = law-within i (RunsBlock types 0 true behind body) (law-block true body)

@@ -14,7 +14,7 @@ use Rattle.bm_lang.specs.declared.scenario.TypeDeclaration.{TypeDeclaration}
 use Rattle.bm_page.specs.Stock.{Stock, fetched}
 use Rattle.bm_law.specs.State.{State}
 use Rattle.bm_law.specs.Lists.{Log, next, after}
-use Rattle.bm_law.specs.Phrases.{given, raise_below, overtaken, FreePhrase}
+use Rattle.bm_law.specs.Phrases.{given, raise_below, overtaken, overtaken_delayed, raise_unless, DelayPhrase, FreePhrase}
 use Rattle.bm_law.specs.SweepPhrases.{PollPhrase}
 use Rattle.bm_law_scenario.specs.Held.{no_names}
 use Rattle.bm_law_scenario.specs.Calls.{Allocates}
@@ -25,6 +25,7 @@ use Rattle.bm_law_scenario.specs.Parcels.{ParcelFits, ParcelsFit}
 use Rattle.bm_law.specs.Ordinary.{ordinary}
 use Rattle.bm_law_scenario.specs.Grammar.{section_of, starts_inside}
 use Rattle.bm_law_scenario.proofs.OwnGrammar.{IsScript, AreScripts}
+use Rattle.bm_law_scenario.proofs.Freed.{either-free}
 use Rattle.bm_law_scenario.proofs.RunsAll.{Closed, block-all}
 use Rattle.bm_law_scenario.proofs.Spares.{Polled, poll-all}
 
@@ -106,12 +107,24 @@ calm-free : (c u home : ℕ) (own : List Entry) → FreePhrase c u home own → 
 calm-free c u home own (inl x) = subst AllCalm (sym x.2) (calm (entry.Free u home) (λ p s b. tt) (λ p b. refl) (λ d. refl), (calm (entry.Enter c 1) (λ p s b. tt) (λ p b. refl) (λ d. refl), (calm (entry.Push c u) (λ p s b. tt) (λ p b. refl) (λ d. refl), (calm (entry.Count c x.0) (λ p s b. tt) (λ p b. refl) (λ d. refl), (calm (entry.Leave c x.1) (λ p s b. tt) (λ p b. refl) (λ d. refl), calm-raise c (nat_lt (high_of_size (size_of_class c)) x.0))))))
 calm-free c u home own (inr x) = subst AllCalm (sym x.5) (calm (entry.Free u home) (λ p s b. tt) (λ p b. refl) (λ d. refl), (calm (entry.Enter c x.0) (λ p s b. tt) (λ p b. refl) (λ d. refl), calm-join (overtaken c x.1) (entry.Look c x.2 ∷ entry.Put c u ∷ entry.Leave c x.3 ∷ []) (calm-overtaken c x.1) (calm (entry.Look c x.2) (λ p s b. tt) (λ p b. refl) (λ d. refl), (calm (entry.Put c u) (λ p s b. tt) (λ p b. refl) (λ d. refl), (calm (entry.Leave c x.3) (λ p s b. tt) (λ p b. refl) (λ d. refl), tt)))))
 
+calm-delayed : (d : ℕ) (ks : List ℕ) → AllCalm (overtaken_delayed d ks)
+calm-delayed d [] = tt
+calm-delayed d (k ∷ ks) = (calm (entry.LookDelayed d k) (λ p s b. tt) (λ p b. refl) (λ d. refl), (calm (entry.LostDelayed d) (λ p s b. tt) (λ p b. refl) (λ d. refl), calm-delayed d ks))
+
+calm-unless : (b : Bool) (c : ℕ) → AllCalm (raise_unless b c)
+calm-unless true c = tt
+calm-unless false c = (calm (entry.Raise c) (λ p s b. tt) (λ p b. refl) (λ e. refl), tt)
+
+calm-delay : (c u home : ℕ) (batch : Bool) (own : List Entry) → DelayPhrase c u home batch own → AllCalm own
+calm-delay c u home batch own (inl x) = subst AllCalm (sym x.1) (calm (entry.Delay u home) (λ p s b. tt) (λ p b. refl) (λ d. refl), (calm (entry.Enter c 1) (λ p s b. tt) (λ p b. refl) (λ d. refl), (calm (entry.Delayed c u) (λ p s b. tt) (λ p b. refl) (λ d. refl), (calm (entry.Leave c x.0) (λ p s b. tt) (λ p b. refl) (λ d. refl), calm-unless batch c))))
+calm-delay c u home batch own (inr x) = subst AllCalm (sym x.5) (calm (entry.Delay u home) (λ p s b. tt) (λ p b. refl) (λ d. refl), (calm (entry.Enter c x.0) (λ p s b. tt) (λ p b. refl) (λ d. refl), calm-join (overtaken_delayed c x.1) (entry.LookDelayed c x.2 ∷ entry.PutDelayed c u ∷ entry.Leave c x.3 ∷ raise_unless batch c) (calm-delayed c x.1) (calm (entry.LookDelayed c x.2) (λ p s b. tt) (λ p b. refl) (λ d. refl), (calm (entry.PutDelayed c u) (λ p s b. tt) (λ p b. refl) (λ d. refl), (calm (entry.Leave c x.3) (λ p s b. tt) (λ p b. refl) (λ d. refl), calm-unless batch c)))))
+
 calm-closed : (types : List TypeDeclaration) → Closed types AllCalm
 calm-closed types = record {
   none = tt;
   join = calm-join;
   new = λ x t values names part after r. subst AllCalm (sym r.part_is) (calm (entry.New r.declared.name values) (λ p s b. tt) (λ p b. refl) (λ d. refl), calm-alloc r.class r.own r.reply r.allocates);
-  dropped = λ x names part after r. subst AllCalm (sym r.part_is) (calm (entry.Drop r.unit r.life) (λ p s b. tt) (λ p b. refl) (λ d. refl), (calm entry.Last (λ p s b. tt) (λ p b. refl) (λ d. refl), calm-free r.class r.unit r.home r.own r.frees));
+  dropped = λ x names part after r. subst AllCalm (sym r.part_is) (calm (entry.Drop r.unit r.life) (λ p s b. tt) (λ p b. refl) (λ d. refl), (calm entry.Last (λ p s b. tt) (λ p b. refl) (λ d. refl), either-free AllCalm r.declared.counted r.class r.unit r.home r.batch r.own (calm-free r.class r.unit r.home r.own) (calm-delay r.class r.unit r.home r.batch r.own) r.frees));
   enters = λ w. (calm (entry.In Plain w) (λ p s b. tt) (λ p b. refl) (λ d. refl), tt);
   leaves = λ w. (calm (entry.Out Plain w) (λ p s b. tt) (λ p b. refl) (λ d. refl), tt);
   yields = (calm entry.Yield (λ p s b. tt) (λ p b. refl) (λ d. refl), tt);

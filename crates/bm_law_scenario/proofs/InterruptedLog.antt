@@ -26,13 +26,14 @@ use Rattle.bm_law.specs.Ordinary.{ordinary}
 use Rattle.bm_law_scenario.specs.SectionWords.{SectionWords}
 use Rattle.bm_law_scenario.specs.Handlers.{HandlersDone}
 use Rattle.bm_law_scenario.specs.Lawful.{HeadingOf, LawfulLogs, LawfulLog}
-use Rattle.bm_law_scenario.specs.WorkedJournal.{asks, block_of, drops_x, drops_x_unless_null, gave, makes_and_drops, makes_x, one_object_log, one_page, swept, took, types, vector_of}
+use Rattle.bm_law_scenario.specs.WorkedJournal.{asks, block_of, drops_x, drops_x_unless_null, gave, makes_and_drops, makes_x, one_object_log, one_page, swept, took, types, vector_of, x_name}
 use Rattle.bm_law_scenario.specs.WorkedHandlers.{counted, finds_busy, handled, handler, interrupted, interrupted_journal, interrupted_log, taken, uninterrupted_journal}
 use Rattle.bm_law_scenario.proofs.BlockParts.{RunsList, block-parts}
 use Rattle.bm_law_scenario.proofs.Opening.{first-four}
 use Rattle.bm_law_scenario.proofs.OneObject.{sweep}
 use Rattle.bm_law_scenario.specs.Short.{all_entries}
 use Rattle.bm_law_work.proofs.Pages.{short-named}
+use Rattle.bm_law_scenario.proofs.Freed.{no-count, uncounted}
 use Rattle.bm_law_scenario.proofs.Ran.{drop-runs, dropped, dropped-owns_nothing, new-runs}
 use Rattle.bm_law_scenario.proofs.Taken.{holding}
 use Rattle.bm_law_scenario.proofs.Told.{one-log}
@@ -107,7 +108,7 @@ stops = ordinary (entry.Out Plain 2 ∷ entry.Done (codes "main") ∷ [])
 inner-runs : (s : State ℕ) → RunsBlock types 0 true part.Nothing (block_of (drops_x 8 ∷ []) (lit≤ tt) 8) holding dropped s drop
 inner-runs s =
     let list : RunsList types 0 part.Nothing (drops_x 8 ∷ []) holding dropped s drop =
-    (dropped, then-of _ _ s drop [] (dropped, then-of _ _ s drop [] (ordinary-say _ (gave 3 4) s drop drop-runs refl) (refl, refl)) (refl, refl)) in
+    (dropped, then-of _ _ s drop [] (dropped, then-of _ _ s drop [] (ordinary-say _ (gave 3 4) s drop (uncounted types x_name s holding dropped (gave 3 4) drop-runs (no-count types drop-runs.type.0 drop-runs.declared (refl, tt) drop-runs.of_class.found)) refl) (refl, refl)) (refl, refl)) in
     subst (λ (run : Run). run holding dropped s drop) (sym (block-parts types 0 part.Nothing (vector_of (drops_x 8 ∷ []) (lit≤ tt)) 8)) list
 
 body-runs : (s : State ℕ) → RunsBlock types 0 true part.Nothing (makes_and_drops 7 8 9) no_names dropped s (call ++ drop)

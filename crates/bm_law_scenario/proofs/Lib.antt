@@ -3,6 +3,7 @@ pub mod OwnGrammar
 pub mod Blocks
 pub mod Ordinary
 pub mod RunsAll
+pub mod Freed
 pub mod SameRuns
 pub mod Spares
 pub mod Calm
@@ -12,6 +13,8 @@ pub mod Told
 pub mod Ran
 pub mod OneObject
 pub mod NoObject
+pub mod WorkedDropped
+pub mod CountedObject
 pub mod ThreeCalls
 pub mod Wrong
 pub mod WrongScripts

@@ -72,7 +72,7 @@ is-log = record {
   front = ordinary (entry.Fill 0 (Whole []) ∷ part);
   closing = ordinary (entry.Ended ∷ entry.Close ∷ []);
   log_is = refl;
-  is_front = then-of _ _ (opening 0) (entry.Fill 0 (Whole []) ∷ []) part (says _ _ _ ([], ap (λ units. entry.Fill 0 (Whole units) ∷ []) (sym no-page), refl)) (scripts-told no_object refl (lines_of 0 no_object.runs) _ part (_, refl, (1, part, [], refl, record { part = asks ∷ took_none; after = with_null no_names; own_is = refl; runs = null-runs 7 8 9 no_names; owns_nothing = null-owns_nothing }, refl)));
+  is_front = then-of _ _ (opening 0) (entry.Fill 0 (Whole []) ∷ []) part (says _ _ _ ([], ap (λ units. entry.Fill 0 (Whole units) ∷ []) (sym no-page), refl)) (scripts-told no_object (refl, tt) refl (lines_of 0 no_object.runs) _ part (_, refl, (1, part, [], refl, record { part = asks ∷ took_none; after = with_null no_names; own_is = refl; runs = null-runs 7 8 9 no_names; owns_nothing = null-owns_nothing }, refl)));
   is_closing = then-of _ _ _ (entry.Ended ∷ entry.Close ∷ []) [] (stands _ _) (then-of _ _ _ [] [] (then-of _ _ _ [] [] refl refl) ([], then-of _ _ _ [] [] refl refl));
 }
 

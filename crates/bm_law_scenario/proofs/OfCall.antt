@@ -5,10 +5,11 @@ use Rattle.bm_class.specs.Watermarks.{low_of_size, high_of_size}
 use Rattle.bm_journal.specs.declared.entry.Entry.{Entry}
 use Rattle.bm_journal.specs.declared.entry.Entry.TheVariants as entry
 use Rattle.bm_lang.specs.declared.scenario.TypeDeclaration.{TypeDeclaration}
-use Rattle.bm_law.specs.Phrases.{given, raise_below, overtaken, FreePhrase}
+use Rattle.bm_law.specs.Phrases.{given, raise_below, overtaken, overtaken_delayed, raise_unless, DelayPhrase, FreePhrase}
 use Rattle.bm_law_work.proofs.Each.{AllOf, of-append}
 use Rattle.bm_law_scenario.specs.CallEntries.{IsOfStatement}
 use Rattle.bm_law_scenario.specs.Calls.{Allocates}
+use Rattle.bm_law_scenario.proofs.Freed.{either-free}
 use Rattle.bm_law_scenario.proofs.RunsAll.{Closed}
 
 abbrev pub OfCalls : List Entry → Type 0
@@ -35,12 +36,24 @@ of-free : (c u home : ℕ) (own : List Entry) → FreePhrase c u home own → Of
 of-free c u home own (inl x) = subst OfCalls (sym x.2) (tt, (tt, (tt, (tt, (tt, of-raise c (nat_lt (high_of_size (size_of_class c)) x.0))))))
 of-free c u home own (inr x) = subst OfCalls (sym x.5) (tt, (tt, of-append IsOfStatement (overtaken c x.1) (entry.Look c x.2 ∷ entry.Put c u ∷ entry.Leave c x.3 ∷ []) (of-overtaken c x.1) (tt, (tt, (tt, tt)))))
 
+of-overtaken_delayed : (c : ℕ) (ks : List ℕ) → OfCalls (overtaken_delayed c ks)
+of-overtaken_delayed c [] = tt
+of-overtaken_delayed c (k ∷ ks) = (tt, (tt, of-overtaken_delayed c ks))
+
+of-unless : (b : Bool) (c : ℕ) → OfCalls (raise_unless b c)
+of-unless true c = tt
+of-unless false c = (tt, tt)
+
+of-delay : (c u home : ℕ) (batch : Bool) (own : List Entry) → DelayPhrase c u home batch own → OfCalls own
+of-delay c u home batch own (inl x) = subst OfCalls (sym x.1) (tt, (tt, (tt, (tt, of-unless batch c))))
+of-delay c u home batch own (inr x) = subst OfCalls (sym x.5) (tt, (tt, of-append IsOfStatement (overtaken_delayed c x.1) (entry.LookDelayed c x.2 ∷ entry.PutDelayed c u ∷ entry.Leave c x.3 ∷ raise_unless batch c) (of-overtaken_delayed c x.1) (tt, (tt, (tt, of-unless batch c)))))
+
 pub of-calls : (types : List TypeDeclaration) → Closed types OfCalls
 of-calls types = record {
   none = tt;
   join = of-append IsOfStatement;
   new = λ x t values names part after r. subst OfCalls (sym r.part_is) (tt, of-alloc r.class r.own r.reply r.allocates);
-  dropped = λ x names part after r. subst OfCalls (sym r.part_is) (tt, (tt, of-free r.class r.unit r.home r.own r.frees));
+  dropped = λ x names part after r. subst OfCalls (sym r.part_is) (tt, (tt, either-free OfCalls r.declared.counted r.class r.unit r.home r.batch r.own (of-free r.class r.unit r.home r.own) (of-delay r.class r.unit r.home r.batch r.own) r.frees));
   enters = λ w. (tt, tt);
   leaves = λ w. (tt, tt);
   yields = (tt, tt);

@@ -21,7 +21,7 @@ use Rattle.bm_law_work.specs.WorkPhrases.{Work}
 use Rattle.bm_law_scenario.specs.Held.{Names, no_names, OwnsNothing, with_name}
 use Rattle.bm_law_scenario.specs.Held as held
 use Rattle.bm_law_scenario.specs.Opened.{OfClass}
-use Rattle.bm_law_scenario.specs.Calls.{Allocates, RunsNew, RunsDrop}
+use Rattle.bm_law_scenario.specs.Calls.{Allocates, RunsNew, RunsDrop, batch_in}
 use Rattle.bm_law_scenario.specs.Works.{UntilDown}
 use Rattle.bm_law_scenario.specs.Runs.{Run, RunsBlock}
 use Rattle.bm_law_scenario.specs.Parcels.{ParcelLaw}
@@ -153,7 +153,13 @@ frees : FreePhrase 10 0 0 (entry.Free 0 0 ∷ entry.Enter 10 1 ∷ entry.Push 10
 unfolding size_of_class high_of_size
 frees = inl (2, 0, refl)
 
-drop-runs : RunsDrop (block ∷ []) x_name holding (drops 2) dropped
+abbrev s0 : State ℕ
+s0 = after (opening 0) (ordinary begins)
+
+abbrev s3 : State ℕ
+s3 = after (opening 0) (ordinary (begins ++ takes ++ work1))
+
+drop-runs : RunsDrop (block ∷ []) x_name (batch_in 0 s3) holding (drops 2) dropped
 drop-runs = record {
   type = item_id;
   unit = 0;
@@ -162,8 +168,9 @@ drop-runs = record {
   class = 10;
   declared = block;
   of_class = of-block;
-  plain = refl;
   home = 0;
+  batch = false;
+  batch_is = refl;
   own = entry.Free 0 0 ∷ entry.Enter 10 1 ∷ entry.Push 10 0 ∷ entry.Count 10 2 ∷ entry.Leave 10 0 ∷ [];
   part_is = refl;
   frees = frees;
@@ -172,12 +179,6 @@ drop-runs = record {
 
 abbrev until : Part
 until = UntilDown (10 ∷ [])
-
-abbrev s0 : State ℕ
-s0 = after (opening 0) (ordinary begins)
-
-abbrev s3 : State ℕ
-s3 = after (opening 0) (ordinary (begins ++ takes ++ work1))
 
 inner-runs : RunsBlock (block ∷ []) 0 true until (block_of (drops_x 8 ∷ []) (lit≤ tt) 8) holding dropped s3 (ordinary (drops 2))
 inner-runs =

@@ -92,7 +92,7 @@ is-log = record {
   front = ordinary (entry.Fill 0 (Whole one_page) ∷ part);
   closing = ordinary (entry.Ended ∷ entry.Close ∷ swept (3 ∷ 2 ∷ 1 ∷ 0 ∷ []));
   log_is = refl;
-  is_front = then-of _ _ (opening 0) (entry.Fill 0 (Whole one_page) ∷ []) part (says _ _ _ ([], ap (λ units. entry.Fill 0 (Whole units) ∷ []) (sym first-four), refl)) (scripts-told one_object refl (lines_of 0 one_object.runs) _ part (_, refl, (1, part, [], refl, record { part = asks ∷ took 3 ++ gave 3 4; after = dropped; own_is = refl; runs = object-runs 7 8 9; owns_nothing = dropped-owns_nothing }, refl)));
+  is_front = then-of _ _ (opening 0) (entry.Fill 0 (Whole one_page) ∷ []) part (says _ _ _ ([], ap (λ units. entry.Fill 0 (Whole units) ∷ []) (sym first-four), refl)) (scripts-told one_object (refl, tt) refl (lines_of 0 one_object.runs) _ part (_, refl, (1, part, [], refl, record { part = asks ∷ took 3 ++ gave 3 4; after = dropped; own_is = refl; runs = object-runs 7 8 9; owns_nothing = dropped-owns_nothing }, refl)));
   is_closing = then-of _ _ _ (entry.Ended ∷ entry.Close ∷ []) sweeps (stands _ _)
       (then-of _ _ _ [] sweeps (then-of _ _ _ [] [] refl refl) ([], then-of _ _ _ sweeps [] (says _ _ _ (record { phrase = sweep; taken = refl; waited = lit≤ tt; given = refl })) refl));
 }

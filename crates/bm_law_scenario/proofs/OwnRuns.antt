@@ -8,7 +8,7 @@ use Rattle.bm_lang.specs.declared.scenario.Action.{Action, New, Drop, Acquire, G
 use Rattle.bm_lang.specs.declared.scenario.Block.{Block, Block', Row_of-Statement, end_of-Statement, more_of-Statement}
 use Rattle.bm_lang.specs.declared.scenario.TypeDeclaration.{TypeDeclaration}
 use Rattle.bm_law_scenario.specs.Held.{Held, Nothing, Null, Object, Names}
-use Rattle.bm_law_scenario.specs.Calls.{RunsNew, RunsDrop}
+use Rattle.bm_law_scenario.specs.Calls.{RunsNew, RunsDrop, any_batch}
 
 -- from these names, this part of a log, to those names
 abbrev pub Run : Type 1
@@ -51,7 +51,7 @@ Within false block = λ names part after. (w : ℕ) × Then (Leaving (entry.In P
 abbrev mutual
   pub RunsAction : List TypeDeclaration → (inside : Bool) → Action → Run
   RunsAction types i (New x t values) = RunsNew types x t values
-  RunsAction types i (Drop x) = RunsDrop types x
+  RunsAction types i (Drop x) = RunsDrop types x any_batch
   RunsAction types i (If' x body otherwise) = λ names. Chosen (names x) (RunsBlock types i body) (RunsElse types i otherwise) names
   RunsAction types i (Repeat n body) = Times (RunsBlock types i body) n
   RunsAction types i (Section body) = Within i (RunsBlock types true body)

@@ -8,7 +8,7 @@ use Rattle.bm_lang.specs.declared.scenario.Action.{Repeat}
 use Rattle.bm_law.specs.Phrases.{FreePhrase}
 use Rattle.bm_law_scenario.specs.Held.{Nothing, Null, Object, Names, no_names, with_name, OwnsNothing}
 use Rattle.bm_law_scenario.specs.Opened.{OfClass}
-use Rattle.bm_law_scenario.specs.Calls.{Allocates, RunsNew, RunsDrop}
+use Rattle.bm_law_scenario.specs.Calls.{Allocates, RunsNew, RunsDrop, any_batch}
 use Rattle.bm_law_scenario.proofs.OwnRuns.{Run, RunsBlock}
 use Rattle.bm_law_scenario.specs.Worked.{item}
 use Rattle.bm_law_scenario.specs.WorkedJournal.{vector_of, block_of, types, x_name, item_id, makes_x, drops_x, drops_x_unless_null, makes_and_drops, makes_and_drops_twice, asks, took, took_none, gave}
@@ -49,7 +49,7 @@ frees : FreePhrase 0 3 0 freed
 unfolding size_of_class high_of_size
 frees = inl (4, 0, refl)
 
-pub drop-runs : RunsDrop types x_name holding (gave 3 4) dropped
+pub drop-runs : RunsDrop types x_name any_batch holding (gave 3 4) dropped
 drop-runs = record {
   type = item_id;
   unit = 3;
@@ -58,8 +58,9 @@ drop-runs = record {
   class = 0;
   declared = record item { line = 5 };
   of_class = of-item;
-  plain = refl;
   home = 0;
+  batch = false;
+  batch_is = tt;
   own = freed;
   part_is = refl;
   frees = frees;

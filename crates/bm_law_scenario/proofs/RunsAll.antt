@@ -8,7 +8,7 @@ use Rattle.bm_lang.specs.declared.scenario.Block.{Block, Block', Row_of-Statemen
 use Rattle.bm_lang.specs.declared.scenario.TypeDeclaration.{TypeDeclaration}
 use Rattle.bm_lang.specs.declared.scenario.TypeId.{TypeId}
 use Rattle.bm_law_scenario.specs.Held.{Held, Nothing, Null, Object, Names}
-use Rattle.bm_law_scenario.specs.Calls.{RunsNew, RunsDrop}
+use Rattle.bm_law_scenario.specs.Calls.{RunsNew, RunsDrop, any_batch}
 use Rattle.bm_law_scenario.proofs.OwnRuns.{Times, Chosen, Within, RunsAction, RunsElse, RunsBlock, RunsRow}
 
 -- a property of stretches that joins, and that each `new` and each `drop` has, each begin and end of a plain section and each `yield`
@@ -16,7 +16,7 @@ pub record Closed (types : List TypeDeclaration) (P : List Entry → Type 0) : T
   pub none : P []
   pub join : (v w : List Entry) → P v → P w → P (v ++ w)
   pub new : (x : List ℕ) (t : TypeId) (values : List ℕ) (names : Names) (part : List Entry) (after : Names) → RunsNew types x t values names part after → P part
-  pub dropped : (x : List ℕ) (names : Names) (part : List Entry) (after : Names) → RunsDrop types x names part after → P part
+  pub dropped : (x : List ℕ) (names : Names) (part : List Entry) (after : Names) → RunsDrop types x any_batch names part after → P part
   pub enters : (w : ℕ) → P (entry.In Plain w ∷ [])
   pub leaves : (w : ℕ) → P (entry.Out Plain w ∷ [])
   pub yields : P (entry.Yield ∷ [])

@@ -33,6 +33,7 @@ use Rattle.bm_law.specs.Ordinary.{ordinary}
 use Rattle.bm_law_scenario.proofs.OwnGrammar as own
 use Rattle.bm_law_scenario.specs.Lawful.{LawfulLog}
 use Rattle.bm_law_scenario.proofs.Ordinary.{stands, stood, said, then-of, parted, cut-of}
+use Rattle.bm_law_scenario.proofs.Freed.{NoCounts}
 use Rattle.bm_law_scenario.proofs.SameRuns.{block-same}
 use Rattle.bm_law_scenario.proofs.Spares.{spared, spare-sweep}
 use Rattle.bm_law_scenario.proofs.Calm.{Empty, AllCalm, calm-join, calm-quiet, calm-idle, quiet-fitted, quiet-behind, calm-fills, calm-scripts, calm-ended}
@@ -45,15 +46,15 @@ none-statement s e = ap (λ b. If b (UntilDown (opened_classes s.types)) part.No
 pub none-script : (s : Parts) → s.deferred ≡ false → behind_script s ≡ part.Nothing
 none-script s e = ap (λ b. If b (WorkBehind (opened_classes s.types)) part.Nothing) e
 
-script-told : (s : Parts) → s.deferred ≡ false → (x : Script) (w : ℕ) (l : State ℕ) (es : List Entry) → own.IsScript s x w es → IsScript s x w l (ordinary es)
-script-told s e x w l es k =
+script-told : (s : Parts) → NoCounts s.types → s.deferred ≡ false → (x : Script) (w : ℕ) (l : State ℕ) (es : List Entry) → own.IsScript s x w es → IsScript s x w l (ordinary es)
+script-told s loose e x w l es k =
     let head : List Entry = entry.Script x.name ∷ entry.In (section_of x.kind) w ∷ [] in
     let last : List Entry = entry.Out (section_of x.kind) (w + 1) ∷ entry.Done x.name ∷ [] in
     let l1 = after l (ordinary head) in
     let l2 = after l1 (ordinary k.part) in
     let bare : behind_script s (after l2 (ordinary last)) [] = subst (λ (P : Part). P (after l2 (ordinary last)) []) (sym (none-script s e)) refl in
     let body : IsBody s x l1 (ordinary k.part) =
-    (k.after, subst (λ (P : Part). RunsBlock s.types 0 (starts_inside x) P x.body no_names k.after l1 (ordinary k.part)) (sym (none-statement s e)) ((block-same 0 s.types (starts_inside x) x.body).told no_names k.after l1 k.part k.runs), k.owns_nothing) in
+    (k.after, subst (λ (P : Part). RunsBlock s.types 0 (starts_inside x) P x.body no_names k.after l1 (ordinary k.part)) (sym (none-statement s e)) ((block-same 0 s.types (starts_inside x) x.body).told loose no_names k.after l1 k.part k.runs), k.owns_nothing) in
     let stop : Then (Stand 0 last) (behind_script s) l2 (ordinary last) = record { one = ordinary last; two = []; part_is = refl; is_first = stands last l2; is_second = bare } in
     subst (λ v. IsScript s x w l (ordinary v)) (sym k.own_is)
     (then-of (Stand 0 head) (Then (IsBody s x) (Then (Stand 0 last) (behind_script s))) l head (k.part ++ last) (stands head l) (then-of (IsBody s x) (Then (Stand 0 last) (behind_script s)) l1 k.part last body stop))
@@ -80,9 +81,9 @@ script-owned s e x w l es h =
       owns_nothing = u.is_first.2;
     }
 
-pub scripts-told : (s : Parts) → s.deferred ≡ false → (rs : List RunLine) (l : State ℕ) (es : List Entry) → own.AreScripts s rs es → AreScripts s rs l (ordinary es)
-scripts-told s e [] l es h = ap ordinary h
-scripts-told s e (r ∷ rs) l es h =
+pub scripts-told : (s : Parts) → NoCounts s.types → s.deferred ≡ false → (rs : List RunLine) (l : State ℕ) (es : List Entry) → own.AreScripts s rs es → AreScripts s rs l (ordinary es)
+scripts-told s loose e [] l es h = ap ordinary h
+scripts-told s loose e (r ∷ rs) l es h =
     let w = h.2.0 in
     let one = h.2.1 in
     let two = h.2.2 in (
@@ -90,7 +91,7 @@ scripts-told s e (r ∷ rs) l es h =
       h.1,
       w,
       subst (λ v. Then (IsScript s h.0 w) (AreScripts s rs) l (ordinary v)) (sym h.2.3)
-          (then-of (IsScript s h.0 w) (AreScripts s rs) l one two (script-told s e h.0 w l one h.2.4) (scripts-told s e rs (after l (ordinary one)) two h.2.5)),
+          (then-of (IsScript s h.0 w) (AreScripts s rs) l one two (script-told s loose e h.0 w l one h.2.4) (scripts-told s loose e rs (after l (ordinary one)) two h.2.5)),
     )
 
 pub scripts-owned : (s : Parts) → s.deferred ≡ false → (rs : List RunLine) (l : State ℕ) (es : List Entry) → AreScripts s rs l (ordinary es) → own.AreScripts s rs es

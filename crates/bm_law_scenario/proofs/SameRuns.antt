@@ -15,34 +15,50 @@ use Rattle.bm_law.proofs.Alone.{level-append, level-from, level-own}
 use Rattle.bm_law_work.specs.Parts.{Part, Stand, Then}
 use Rattle.bm_law_work.specs.Parts as part
 use Rattle.bm_law_scenario.specs.Held.{Held, Nothing, Null, Object, Names}
-use Rattle.bm_law_scenario.specs.Calls.{RunsNew, RunsDrop}
+use Rattle.bm_law_scenario.specs.Calls.{RunsNew, RunsDrop, any_batch, batch_in}
 use Rattle.bm_law_scenario.specs.Runs.{Run, Leaving, Done, Followed, Times, Calls, Chosen, Within, RunsAction, RunsAlone, RunsElse, RunsBlock, RunsRow}
+use Rattle.bm_law_scenario.proofs.Freed.{NoCounts, loosened, no-count, tightened, uncounted}
 use Rattle.bm_law_scenario.proofs.OwnRuns as own
-use Rattle.bm_law.specs.Ordinary.{ordinary}
+
+-- A run by entries needn't know of batches: it is of a level above ordinary code, or no type has a count.
+abbrev pub IsLoose : ℕ → List TypeDeclaration → Type 0
+IsLoose zero types = NoCounts types
+IsLoose (suc l) types = Unit {0}
 
 -- Each part of a run is of level l and above, and its entries of that level are a run by entries; and such entries alone are a
 -- run.
-pub record Same (l : ℕ) (R : Run) (Q : own.Run) : Type 0 where
+pub record Same (types : List TypeDeclaration) (l : ℕ) (R : Run) (Q : own.Run) : Type 0 where
   pub owned : (names after : Names) (s : State ℕ) (log : Log) → R names after s log → AllFrom l log × Q names (own_entries l log) after
-  pub told : (names after : Names) (s : State ℕ) (es : List Entry) → Q names es after → R names after s (at_level l es)
+  pub told : IsLoose l types → (names after : Names) (s : State ℕ) (es : List Entry) → Q names es after → R names after s (at_level l es)
 
-none-same : (l : ℕ) → Same l (λ names after s log. ⊥) (λ names es after. ⊥)
-none-same l = record { owned = λ names after s log h. absurd h; told = λ names after s es h. absurd h }
+none-same : (types : List TypeDeclaration) (l : ℕ) → Same types l (λ names after s log. ⊥) (λ names es after. ⊥)
+none-same types l = record { owned = λ names after s log h. absurd h; told = λ loose names after s es h. absurd h }
 
-done-same : (l : ℕ) → Same l Done own.Done
-done-same l = record {
+done-same : (types : List TypeDeclaration) (l : ℕ) → Same types l Done own.Done
+done-same types l = record {
   owned = λ names after s log h. (let F : Log → Type 0 = AllFrom l in subst F (sym h.1) tt, (ap (own_entries l) h.1, h.0));
-  told = λ names after s es h. (h.1, ap (at_level l) h.0);
+  told = λ loose names after s es h. (h.1, ap (at_level l) h.0);
 }
 
-calls-same : (l : ℕ) (call : Names → List Entry → Names → Type 0) → Same l (Calls l call) call
-calls-same l call = record {
+calls-same : (types : List TypeDeclaration) (l : ℕ) (call : Names → List Entry → Names → Type 0) → Same types l (Calls l call) call
+calls-same types l call = record {
   owned = λ names after s log h. (h.2.from, subst (λ es. call names es after) (sym h.2.own_is) h.1);
-  told = λ names after s es h. (es, h, record { from = level-from l es; own_is = level-own l es });
+  told = λ loose names after s es h. (es, h, record { from = level-from l es; own_is = level-own l es });
 }
 
-followed-same : (l : ℕ) (R R' : Run) (Q Q' : own.Run) → Same l R Q → Same l R' Q' → Same l (Followed R R') (own.Then Q Q')
-followed-same l R R' Q Q' a b = record {
+-- what ordinary code knows of batches its entries don't say
+told-drop : (l : ℕ) (types : List TypeDeclaration) (x : List ℕ) (s : State ℕ) (names after : Names) (own : List Entry) → IsLoose l types → RunsDrop types x any_batch names own after → RunsDrop types x (batch_in l s) names own after
+told-drop zero types x s names after own loose h = uncounted types x s names after own h (no-count types h.type.0 h.declared loose h.of_class.found)
+told-drop (suc l) types x s names after own loose h = tightened types x (batch_in (suc l) s) names after own h tt
+
+drop-same : (l : ℕ) (types : List TypeDeclaration) (x : List ℕ) → Same types l (λ names after s. Calls l (RunsDrop types x (batch_in l s)) names after s) (RunsDrop types x any_batch)
+drop-same l types x = record {
+  owned = λ names after s log h. (h.2.from, subst (λ es. RunsDrop types x any_batch names es after) (sym h.2.own_is) (loosened types x (batch_in l s) names after h.0 h.1));
+  told = λ loose names after s es h. (es, told-drop l types x s names after es loose h, record { from = level-from l es; own_is = level-own l es });
+}
+
+followed-same : (types : List TypeDeclaration) (l : ℕ) (R R' : Run) (Q Q' : own.Run) → Same types l R Q → Same types l R' Q' → Same types l (Followed R R') (own.Then Q Q')
+followed-same types l R R' Q Q' a b = record {
   owned = λ names last s log h.
       let t = h.1 in
       let f = a.owned names h.0 s t.one t.is_first in
@@ -58,63 +74,63 @@ followed-same l R R' Q Q' a b = record {
           second_runs = g.1;
         },
       );
-  told = λ names last s es h. (
+  told = λ loose names last s es h. (
     h.middle,
     record {
       one = at_level l h.one;
       two = at_level l h.two;
       part_is = ap (at_level l) h.part_is ∙ level-append l h.one h.two;
-      is_first = a.told names h.middle s h.one h.first_runs;
-      is_second = b.told h.middle last (after s (at_level l h.one)) h.two h.second_runs;
+      is_first = a.told loose names h.middle s h.one h.first_runs;
+      is_second = b.told loose h.middle last (after s (at_level l h.one)) h.two h.second_runs;
     },
   );
 }
 
 -- nothing stands behind a statement
-bare-same : (l : ℕ) (R : Run) (Q : own.Run) → Same l R Q → Same l (Followed R (Leaving part.Nothing)) Q
-bare-same l R Q a = record {
+bare-same : (types : List TypeDeclaration) (l : ℕ) (R : Run) (Q : own.Run) → Same types l R Q → Same types l (Followed R (Leaving part.Nothing)) Q
+bare-same types l R Q a = record {
   owned = λ names last s log h.
       let t = h.1 in
       let whole : log ≡ t.one = t.part_is ∙ (ap (λ w. t.one ++ w) t.is_second.1 ∙ append-nil t.one) in
       let F : Log → Names → Type 0 = λ w n. AllFrom l w × Q names (own_entries l w) n in
       subst (λ n. F log n) (sym t.is_second.0) (subst (λ w. F w h.0) (sym whole) (a.owned names h.0 s t.one t.is_first));
-  told = λ names last s es h. (
+  told = λ loose names last s es h. (
     last,
     record {
       one = at_level l es;
       two = [];
       part_is = sym (append-nil (at_level l es));
-      is_first = a.told names last s es h;
+      is_first = a.told loose names last s es h;
       is_second = (refl, refl);
     },
   );
 }
 
-times-same : (l : ℕ) (R : Run) (Q : own.Run) (n : ℕ) → Same l R Q → Same l (Times R n) (own.Times Q n)
-times-same l R Q zero a = done-same l
-times-same l R Q (suc n) a = followed-same l R (Times R n) Q (own.Times Q n) a (times-same l R Q n a)
+times-same : (types : List TypeDeclaration) (l : ℕ) (R : Run) (Q : own.Run) (n : ℕ) → Same types l R Q → Same types l (Times R n) (own.Times Q n)
+times-same types l R Q zero a = done-same types l
+times-same types l R Q (suc n) a = followed-same types l R (Times R n) Q (own.Times Q n) a (times-same types l R Q n a)
 
-chosen-same : (l : ℕ) (F O : Run) (G P : own.Run) → Same l F G → Same l O P → (v : Held) → Same l (Chosen v F O) (own.Chosen v G P)
-chosen-same l F O G P a b Nothing = none-same l
-chosen-same l F O G P a b Null = b
-chosen-same l F O G P a b (Object t u n) = a
+chosen-same : (types : List TypeDeclaration) (l : ℕ) (F O : Run) (G P : own.Run) → Same types l F G → Same types l O P → (v : Held) → Same types l (Chosen v F O) (own.Chosen v G P)
+chosen-same types l F O G P a b Nothing = none-same types l
+chosen-same types l F O G P a b Null = b
+chosen-same types l F O G P a b (Object t u n) = a
 
-if-same : (l : ℕ) (F O : Run) (G P : own.Run) (x : List ℕ) → Same l F G → Same l O P → Same l (λ names. Chosen (names x) F O names) (λ names. own.Chosen (names x) G P names)
-if-same l F O G P x a b = record {
-  owned = λ names. (chosen-same l F O G P a b (names x)).owned names;
-  told = λ names. (chosen-same l F O G P a b (names x)).told names;
+if-same : (types : List TypeDeclaration) (l : ℕ) (F O : Run) (G P : own.Run) (x : List ℕ) → Same types l F G → Same types l O P → Same types l (λ names. Chosen (names x) F O names) (λ names. own.Chosen (names x) G P names)
+if-same types l F O G P x a b = record {
+  owned = λ names. (chosen-same types l F O G P a b (names x)).owned names;
+  told = λ loose names. (chosen-same types l F O G P a b (names x)).told loose names;
 }
 
 -- these entries stand there, and the names hold what they held
-stand-same : (l : ℕ) (stands : List Entry) → Same l (Leaving (Stand l stands)) (own.Leaving stands)
-stand-same l stands = record {
+stand-same : (types : List TypeDeclaration) (l : ℕ) (stands : List Entry) → Same types l (Leaving (Stand l stands)) (own.Leaving stands)
+stand-same types l stands = record {
   owned = λ names after s log h. (h.1.from, (h.1.own_is, h.0));
-  told = λ names after s es h. (h.1, record { from = level-from l es; own_is = level-own l es ∙ h.0 });
+  told = λ loose names after s es h. (h.1, record { from = level-from l es; own_is = level-own l es ∙ h.0 });
 }
 
-within-same : (l : ℕ) (R : Run) (Q : own.Run) (i : Bool) → Same l R Q → Same l (Within i l R) (own.Within i Q)
-within-same l R Q true a = a
-within-same l R Q false a = record {
+within-same : (types : List TypeDeclaration) (l : ℕ) (R : Run) (Q : own.Run) (i : Bool) → Same types l R Q → Same types l (Within i l R) (own.Within i Q)
+within-same types l R Q true a = a
+within-same types l R Q false a = record {
   owned = λ names last s log h.
       let t = h.1 in
       let u = t.is_second in
@@ -142,7 +158,7 @@ within-same l R Q false a = record {
           },
         ),
       );
-  told = λ names last s es h.
+  told = λ loose names last s es h.
       let t = h.1 in
       let u = t.second_runs in
       let m = after s (at_level l t.one) in (
@@ -156,7 +172,7 @@ within-same l R Q false a = record {
             one = at_level l u.one;
             two = at_level l u.two;
             part_is = ap (at_level l) u.part_is ∙ level-append l u.one u.two;
-            is_first = subst (λ n. R names n m (at_level l u.one)) (sym u.second_runs.1) (subst (λ n. R n u.middle m (at_level l u.one)) t.first_runs.1 (a.told t.middle u.middle m u.one u.first_runs));
+            is_first = subst (λ n. R names n m (at_level l u.one)) (sym u.second_runs.1) (subst (λ n. R n u.middle m (at_level l u.one)) t.first_runs.1 (a.told loose t.middle u.middle m u.one u.first_runs));
             is_second = record { from = level-from l u.two; own_is = level-own l u.two ∙ u.second_runs.0 };
           };
         },
@@ -164,42 +180,42 @@ within-same l R Q false a = record {
 }
 
 mutual
-  action-same : (l : ℕ) (types : List TypeDeclaration) (i : Bool) (a : Action) → Same l (RunsAction types l i part.Nothing a) (own.RunsAction types i a)
-  action-same l types i (New x t values) = calls-same l (RunsNew types x t values)
-  action-same l types i (Drop x) = calls-same l (RunsDrop types x)
-  action-same l types i (If' x body otherwise) = if-same l (RunsBlock types l i part.Nothing body) (RunsElse types l i part.Nothing otherwise) (own.RunsBlock types i body) (own.RunsElse types i otherwise) x (block-same l types i body) (else-same l types i otherwise)
-  action-same l types i (Repeat n body) = times-same l (RunsBlock types l i part.Nothing body) (own.RunsBlock types i body) n (block-same l types i body)
-  action-same l types i (Section body) = within-same l (RunsBlock types l true part.Nothing body) (own.RunsBlock types true body) i (block-same l types true body)
-  action-same l types i (Acquire y x) = none-same l
-  action-same l types i (Get x field) = none-same l
-  action-same l types i (Exchange y slot x) = none-same l
-  action-same l types i (Lock graph) = none-same l
-  action-same l types i Unlock = none-same l
-  action-same l types i Yield = stand-same l (entry.Yield ∷ [])
-  action-same l types i (PushFront list x) = none-same l
-  action-same l types i (PushBack list x) = none-same l
-  action-same l types i (PopFront x list) = none-same l
-  action-same l types i (PopBack x list) = none-same l
-  action-same l types i (Add tree x) = none-same l
-  action-same l types i (First x tree) = none-same l
-  action-same l types i (Remove y tree x) = none-same l
+  action-same : (l : ℕ) (types : List TypeDeclaration) (i : Bool) (a : Action) → Same types l (RunsAction types l i part.Nothing a) (own.RunsAction types i a)
+  action-same l types i (New x t values) = calls-same types l (RunsNew types x t values)
+  action-same l types i (Drop x) = drop-same l types x
+  action-same l types i (If' x body otherwise) = if-same types l (RunsBlock types l i part.Nothing body) (RunsElse types l i part.Nothing otherwise) (own.RunsBlock types i body) (own.RunsElse types i otherwise) x (block-same l types i body) (else-same l types i otherwise)
+  action-same l types i (Repeat n body) = times-same types l (RunsBlock types l i part.Nothing body) (own.RunsBlock types i body) n (block-same l types i body)
+  action-same l types i (Section body) = within-same types l (RunsBlock types l true part.Nothing body) (own.RunsBlock types true body) i (block-same l types true body)
+  action-same l types i (Acquire y x) = none-same types l
+  action-same l types i (Get x field) = none-same types l
+  action-same l types i (Exchange y slot x) = none-same types l
+  action-same l types i (Lock graph) = none-same types l
+  action-same l types i Unlock = none-same types l
+  action-same l types i Yield = stand-same types l (entry.Yield ∷ [])
+  action-same l types i (PushFront list x) = none-same types l
+  action-same l types i (PushBack list x) = none-same types l
+  action-same l types i (PopFront x list) = none-same types l
+  action-same l types i (PopBack x list) = none-same types l
+  action-same l types i (Add tree x) = none-same types l
+  action-same l types i (First x tree) = none-same types l
+  action-same l types i (Remove y tree x) = none-same types l
 
-  else-same : (l : ℕ) (types : List TypeDeclaration) (i : Bool) (o : Held-Action-If-2) → Same l (RunsElse types l i part.Nothing o) (own.RunsElse types i o)
-  else-same l types i None' = done-same l
+  else-same : (l : ℕ) (types : List TypeDeclaration) (i : Bool) (o : Held-Action-If-2) → Same types l (RunsElse types l i part.Nothing o) (own.RunsElse types i o)
+  else-same l types i None' = done-same types l
   else-same l types i (Some' body) = block-same l types i body
 
-  pub block-same : (l : ℕ) (types : List TypeDeclaration) (i : Bool) (b : Block) → Same l (RunsBlock types l i part.Nothing b) (own.RunsBlock types i b)
+  pub block-same : (l : ℕ) (types : List TypeDeclaration) (i : Bool) (b : Block) → Same types l (RunsBlock types l i part.Nothing b) (own.RunsBlock types i b)
   block-same l types i (Block' shape row end_line) = row-same l types i row
 
-  row-same : (l : ℕ) (types : List TypeDeclaration) (i : Bool) {m : _} (row : Row_of-Statement m) → Same l (RunsRow types l i part.Nothing row) (own.RunsRow types i row)
-  row-same l types i end_of-Statement = done-same l
+  row-same : (l : ℕ) (types : List TypeDeclaration) (i : Bool) {m : _} (row : Row_of-Statement m) → Same types l (RunsRow types l i part.Nothing row) (own.RunsRow types i row)
+  row-same l types i end_of-Statement = done-same types l
   row-same l types i (more_of-Statement line action rest) =
-      followed-same l (Followed (RunsAction types l i part.Nothing action) (Leaving part.Nothing)) (RunsRow types l i part.Nothing rest) (own.RunsAction types i action) (own.RunsRow types i rest)
-      (bare-same l (RunsAction types l i part.Nothing action) (own.RunsAction types i action) (action-same l types i action)) (row-same l types i rest)
+      followed-same types l (Followed (RunsAction types l i part.Nothing action) (Leaving part.Nothing)) (RunsRow types l i part.Nothing rest) (own.RunsAction types i action) (own.RunsRow types i rest)
+      (bare-same types l (RunsAction types l i part.Nothing action) (own.RunsAction types i action) (action-same l types i action)) (row-same l types i rest)
 
 -- the same of a block that stands alone
 pub alone-owned : (types : List TypeDeclaration) (b : Block) (names last : Names) (es : List Entry) → RunsAlone types b names es last → own.RunsBlock types true b names es last
-alone-owned types b names last es h = subst (λ v. own.RunsBlock types true b names v last) (level-own 0 es) ((block-same 0 types true b).owned names last (opening 0) (ordinary es) h).1
+alone-owned types b names last es h = subst (λ v. own.RunsBlock types true b names v last) (level-own 1 es) ((block-same 1 types true b).owned names last (opening 0) (at_level 1 es) h).1
 
 pub alone-told : (types : List TypeDeclaration) (b : Block) (names last : Names) (es : List Entry) → own.RunsBlock types true b names es last → RunsAlone types b names es last
-alone-told types b names last es h = (block-same 0 types true b).told names last (opening 0) es h
+alone-told types b names last es h = (block-same 1 types true b).told tt names last (opening 0) es h

@@ -10,7 +10,7 @@ use Rattle.bm_journal.specs.declared.entry.Entry.TheVariants as entry
 use Rattle.bm_law.specs.State.{State, Row, with_row}
 use Rattle.bm_law.specs.Effect.{effect}
 use Rattle.bm_law.specs.Lists.{next, after}
-use Rattle.bm_law.specs.Phrases.{given, raise_below, overtaken, FreePhrase}
+use Rattle.bm_law.specs.Phrases.{given, raise_below, overtaken, overtaken_delayed, raise_unless, DelayPhrase, FreePhrase}
 use Rattle.bm_law.specs.SweepPhrases.{Finishes, MayFinish, MayBegin, PollPhrase, SweepPhrase}
 use Rattle.bm_law_scenario.specs.Calls.{Allocates}
 use Rattle.bm_law.specs.Ordinary.{ordinary}
@@ -102,6 +102,28 @@ spare-free c d u home own ne (inr x) = subst (AllSpare c) (sym x.5) (
     λ l us s. other-row c d _ s ne,
     spare-join c (overtaken d x.1) (entry.Look d x.2 ∷ entry.Put d u ∷ entry.Leave d x.3 ∷ []) (spare-overtaken c d x.1)
         (λ l us s. refl, (λ l us s. other-row c d _ s ne, (λ l us s. other-row c d _ s ne, tt))),
+  ),
+)
+
+spare-delayed : (c d : ℕ) (ks : List ℕ) → AllSpare c (overtaken_delayed d ks)
+spare-delayed c d [] = tt
+spare-delayed c d (k ∷ ks) = (λ l us s. refl, (λ l us s. refl, spare-delayed c d ks))
+
+spare-unless : (c d : ℕ) (b : Bool) → c ≢ d → AllSpare c (raise_unless b d)
+spare-unless c d true ne = tt
+spare-unless c d false ne = (λ l us s. other-row c d _ s ne, tt)
+
+pub spare-delay : (c d u home : ℕ) (batch : Bool) (own : List Entry) → c ≢ d → DelayPhrase d u home batch own → AllSpare c own
+spare-delay c d u home batch own ne (inl x) = subst (AllSpare c) (sym x.1) (
+  λ l us s. refl,
+  (λ l us s. other-row c d _ s ne, (λ l us s. other-row c d _ s ne, (λ l us s. other-row c d _ s ne, spare-unless c d batch ne))),
+)
+spare-delay c d u home batch own ne (inr x) = subst (AllSpare c) (sym x.5) (
+  λ l us s. refl,
+  (
+    λ l us s. other-row c d _ s ne,
+    spare-join c (overtaken_delayed d x.1) (entry.LookDelayed d x.2 ∷ entry.PutDelayed d u ∷ entry.Leave d x.3 ∷ raise_unless batch d) (spare-delayed c d x.1)
+        (λ l us s. refl, (λ l us s. other-row c d _ s ne, (λ l us s. other-row c d _ s ne, spare-unless c d batch ne))),
   ),
 )
 

@@ -1,5 +1,5 @@
 -- What is left of a log behind a part of it that a statement of the worked scripts left.
-use Rattle.std.proofs.Common.{◌≡◌, ℕ, inl, inr, List, [], ◌∷◌, ◌++◌, Option, Some, None, sym, ap, subst, ◌∙◌, append_assoc, append-nil, lit≤}
+use Rattle.std.proofs.Common.{Bool, true, false, ◌≡◌, ℕ, inl, inr, List, [], ◌∷◌, ◌++◌, Option, Some, None, sym, ap, subst, ◌∙◌, append_assoc, append-nil, lit≤}
 use Rattle.bm_journal.specs.declared.entry.Entry.{Entry}
 use Rattle.bm_journal.specs.declared.entry.Entry.TheVariants as entry
 use Rattle.bm_class.specs.Sizes.{class_of_size, size_of_class}
@@ -10,7 +10,7 @@ use Rattle.bm_law.specs.Phrases.{raise_below, raise_above, given, overtaken, all
 use Rattle.bm_law_scenario.specs.Held.{Object, Names, no_names, with_name}
 use Rattle.bm_law_scenario.specs.Opened.{object_size}
 use Rattle.bm_law_scenario.specs.Worked.{item}
-use Rattle.bm_law_scenario.specs.Calls.{Allocates, answered, RunsNew, RunsDrop}
+use Rattle.bm_law_scenario.specs.Calls.{Allocates, answered, Frees, RunsNew, RunsDrop, any_batch}
 use Rattle.bm_law_scenario.proofs.OwnRuns.{Run, Done, Then}
 use Rattle.bm_law_scenario.specs.WorkedJournal.{types, x_name, item_id, drops_x, drops_x_unless_null, vector_of, asks, took, gave}
 use Rattle.bm_law_scenario.proofs.Blocks.{RunsList, block-runs}
@@ -106,26 +106,26 @@ new-enters rest names after part tail more call d h e =
 
 -- ---- the block of the `if`
 
-pub if-taken : (line : ℕ) (after : Names) (tail more : List Entry) → Stays (RunsList types (drops_x_unless_null line ∷ [])) holding after tail more → Stays (Then (RunsDrop types x_name) Done) holding after tail more
+pub if-taken : (line : ℕ) (after : Names) (tail more : List Entry) → Stays (RunsList types (drops_x_unless_null line ∷ [])) holding after tail more → Stays (Then (RunsDrop types x_name any_batch) Done) holding after tail more
 if-taken line after tail more h =
     let r = h.runs in
     let inner : RunsList types (drops_x line ∷ []) holding r.one r.middle = subst (λ (run : Run). run holding r.one r.middle) (block-runs types (vector_of (drops_x line ∷ []) (lit≤ tt)) line) r.first_runs in
     record {
       part = r.one;
       more_is = h.more_is ∙ ap (λ p. p ++ tail) (r.part_is ∙ (ap (λ t. r.one ++ t) r.second_runs.0 ∙ append-nil r.one));
-      runs = subst (λ m. Then (RunsDrop types x_name) Done holding r.one m) (sym r.second_runs.1) inner;
+      runs = subst (λ m. Then (RunsDrop types x_name any_batch) Done holding r.one m) (sym r.second_runs.1) inner;
     }
 
 -- ---- a drop
 
 -- a drop begins with its call and its reply
-pub drop-begins : (rest : Run) (names after : Names) (tail more : List Entry) → Stays (Then (RunsDrop types x_name) rest) names after tail more → (unit life : ℕ) × (later : List Entry) × (more ≡ entry.Drop unit life ∷ entry.Last ∷ later)
+pub drop-begins : (rest : Run) (names after : Names) (tail more : List Entry) → Stays (Then (RunsDrop types x_name any_batch) rest) names after tail more → (unit life : ℕ) × (later : List Entry) × (more ≡ entry.Drop unit life ∷ entry.Last ∷ later)
 drop-begins rest names after tail more h =
     let d = h.runs.first_runs in
     (d.unit, d.life, (d.own ++ h.runs.two) ++ tail, h.more_is ∙ ap (λ p. p ++ tail) (h.runs.part_is ∙ ap (λ o. o ++ h.runs.two) d.part_is))
 
 -- the object that is dropped is the one that x holds
-pub drop-holds : (rest : Run) (after : Names) (tail more : List Entry) (u n : ℕ) → Stays (Then (RunsDrop types x_name) rest) holding after tail (entry.Drop u n ∷ more) → (u ≡ 3) × (n ≡ 1)
+pub drop-holds : (rest : Run) (after : Names) (tail more : List Entry) (u n : ℕ) → Stays (Then (RunsDrop types x_name any_batch) rest) holding after tail (entry.Drop u n ∷ more) → (u ≡ 3) × (n ≡ 1)
 drop-holds rest after tail more u n h =
     let d = h.runs.first_runs in
     same-object _ _ _ _ _ d.held (h.more_is ∙ ap (λ p. p ++ tail) (h.runs.part_is ∙ ap (λ o. o ++ h.runs.two) d.part_is))
@@ -136,6 +136,9 @@ drop-holds rest after tail more u n h =
 put-later : (c u n : ℕ) (lost : List ℕ) (v rest more : List Entry) → (overtaken c lost ++ entry.Look c n ∷ v) ++ rest ≡ entry.Push 0 3 ∷ more → ⊥
 put-later c u n [] v rest more e = cc
 put-later c u n (k ∷ ks) v rest more e = cc
+
+not-plain : (u home : ℕ) (v w : List Entry) → entry.Delay u home ∷ v ≡ entry.Free 3 0 ∷ w → ⊥
+not-plain u home v w e = cc
 
 -- a free that pushed its unit counts it
 pub free-counts : (c u home : ℕ) (own rest more : List Entry) → FreePhrase c u home own → own ++ rest ≡ entry.Free 3 0 ∷ entry.Enter 0 1 ∷ entry.Push 0 3 ∷ more → (k a : ℕ) × (entry.Count 0 k ∷ entry.Leave 0 a ∷ raise_above 0 k ++ rest ≡ more)
@@ -151,16 +154,22 @@ free-counts c u home own rest more (inr y) e = absurd (put-later c u y.2 y.1 _ r
     later : (c u home b : ℕ) (v w : List Entry) → entry.Free u home ∷ entry.Enter c b ∷ v ≡ entry.Free 3 0 ∷ entry.Enter 0 1 ∷ w → v ≡ w
     later c u home b v w e = cc
 
+-- so does a free whose first line says that it is a plain one
+frees-count : (counted : Bool) (c u home : ℕ) (batch : Bool) (own rest more : List Entry) → Frees counted c u home batch own → own ++ rest ≡ entry.Free 3 0 ∷ entry.Enter 0 1 ∷ entry.Push 0 3 ∷ more → (k a : ℕ) × (entry.Count 0 k ∷ entry.Leave 0 a ∷ raise_above 0 k ++ rest ≡ more)
+frees-count false c u home batch own rest more f e = free-counts c u home own rest more f e
+frees-count true c u home batch own rest more (inl y) e = absurd (not-plain u home _ _ (ap (λ v. v ++ rest) (sym y.1) ∙ e))
+frees-count true c u home batch own rest more (inr y) e = absurd (not-plain u home _ _ (ap (λ v. v ++ rest) (sym y.5) ∙ e))
+
 -- the free in a drop
-pub drop-frees : (rest : Run) (names after : Names) (tail more : List Entry) → Stays (Then (RunsDrop types x_name) rest) names after tail (entry.Drop 3 1 ∷ entry.Last ∷ entry.Free 3 0 ∷ entry.Enter 0 1 ∷ entry.Push 0 3 ∷ more) → (middle : Names) × (two : List Entry) × rest middle two after × ((k a : ℕ) × (entry.Count 0 k ∷ entry.Leave 0 a ∷ raise_above 0 k ++ (two ++ tail) ≡ more))
+pub drop-frees : (rest : Run) (names after : Names) (tail more : List Entry) → Stays (Then (RunsDrop types x_name any_batch) rest) names after tail (entry.Drop 3 1 ∷ entry.Last ∷ entry.Free 3 0 ∷ entry.Enter 0 1 ∷ entry.Push 0 3 ∷ more) → (middle : Names) × (two : List Entry) × rest middle two after × ((k a : ℕ) × (entry.Count 0 k ∷ entry.Leave 0 a ∷ raise_above 0 k ++ (two ++ tail) ≡ more))
 drop-frees rest names after tail more h =
     let r = h.runs in
     let d = r.first_runs in
     let whole : entry.Drop d.unit d.life ∷ entry.Last ∷ ((d.own ++ r.two) ++ tail) ≡ entry.Drop 3 1 ∷ entry.Last ∷ entry.Free 3 0 ∷ entry.Enter 0 1 ∷ entry.Push 0 3 ∷ more = sym (h.more_is ∙ ap (λ p. p ++ tail) (r.part_is ∙ ap (λ o. o ++ r.two) d.part_is)) in
-    (r.middle, r.two, r.second_runs, free-counts d.class d.unit d.home d.own (r.two ++ tail) more d.frees (sym (append_assoc d.own r.two tail) ∙ behind (behind whole)))
+    (r.middle, r.two, r.second_runs, frees-count d.declared.counted d.class d.unit d.home d.batch d.own (r.two ++ tail) more d.frees (sym (append_assoc d.own r.two tail) ∙ behind (behind whole)))
 
 -- a drop that counts four units doesn't raise the flag
-pub drop-taken : (rest : Run) (names after : Names) (tail more : List Entry) → Stays (Then (RunsDrop types x_name) rest) names after tail (gave 3 4 ++ more) → (middle : Names) × (two : List Entry) × rest middle two after × (two ++ tail ≡ more)
+pub drop-taken : (rest : Run) (names after : Names) (tail more : List Entry) → Stays (Then (RunsDrop types x_name any_batch) rest) names after tail (gave 3 4 ++ more) → (middle : Names) × (two : List Entry) × rest middle two after × (two ++ tail ≡ more)
 unfolding size_of_class high_of_size
 drop-taken rest names after tail more h =
     let f = drop-frees rest names after tail (entry.Count 0 4 ∷ entry.Leave 0 0 ∷ more) h in
@@ -171,7 +180,7 @@ drop-taken rest names after tail more h =
     counted k a v w e = (cc, cc)
 
 -- a drop that counts nothing
-pub drop-counts : (rest : Run) (names after : Names) (tail more : List Entry) → Stays (Then (RunsDrop types x_name) rest) names after tail (entry.Drop 3 1 ∷ entry.Last ∷ entry.Free 3 0 ∷ entry.Enter 0 1 ∷ entry.Push 0 3 ∷ entry.Leave 0 0 ∷ more) → ⊥
+pub drop-counts : (rest : Run) (names after : Names) (tail more : List Entry) → Stays (Then (RunsDrop types x_name any_batch) rest) names after tail (entry.Drop 3 1 ∷ entry.Last ∷ entry.Free 3 0 ∷ entry.Enter 0 1 ∷ entry.Push 0 3 ∷ entry.Leave 0 0 ∷ more) → ⊥
 drop-counts rest names after tail more h =
     let f = drop-frees rest names after tail (entry.Leave 0 0 ∷ more) h in
     apart f.3.0 f.3.1 _ more f.3.2

@@ -71,7 +71,7 @@ is-log = record {
   front = ordinary (entry.Fill 0 (Whole []) ∷ scripts);
   closing = ordinary (entry.Ended ∷ entry.Close ∷ []);
   log_is = refl;
-  is_front = then-of _ _ (opening 0) (entry.Fill 0 (Whole []) ∷ []) scripts (says _ _ _ ([], ap (λ units. entry.Fill 0 (Whole units) ∷ []) (sym no-page), refl)) (scripts-told three_calls refl (lines_of 0 three_calls.runs) _ scripts (
+  is_front = then-of _ _ (opening 0) (entry.Fill 0 (Whole []) ∷ []) scripts (says _ _ _ ([], ap (λ units. entry.Fill 0 (Whole units) ∷ []) (sym no-page), refl)) (scripts-told three_calls (refl, tt) refl (lines_of 0 three_calls.runs) _ scripts (
     _,
     refl,
     (

@@ -33,7 +33,7 @@ asleep-is = record {
   front = ordinary asleep_script;
   closing = ordinary (entry.Ended ∷ entry.Close ∷ []);
   log_is = refl;
-  is_front = then-of _ _ (opening 0) [] asleep_script (says _ _ _ refl) (scripts-told asleep refl (lines_of 0 asleep.runs) _ asleep_script (_, refl, (1, asleep_script, [], refl, record { part = slept 1; after = no_names; own_is = refl; runs = asleep-told 1 no_names; owns_nothing = λ x. tt }, refl)));
+  is_front = then-of _ _ (opening 0) [] asleep_script (says _ _ _ refl) (scripts-told asleep tt refl (lines_of 0 asleep.runs) _ asleep_script (_, refl, (1, asleep_script, [], refl, record { part = slept 1; after = no_names; own_is = refl; runs = asleep-told 1 no_names; owns_nothing = λ x. tt }, refl)));
   is_closing = then-of _ _ _ (entry.Ended ∷ entry.Close ∷ []) [] (stands _ _) (then-of _ _ _ [] [] (then-of _ _ _ [] [] refl refl) refl);
 }
 
@@ -80,7 +80,7 @@ awake-is = record {
   front = ordinary awake_script;
   closing = ordinary (entry.Ended ∷ entry.Close ∷ []);
   log_is = refl;
-  is_front = then-of _ _ (opening 0) [] awake_script (says _ _ _ refl) (scripts-told awake refl (lines_of 0 awake.runs) _ awake_script (_, refl, (1, awake_script, [], refl, record { part = entry.Yield ∷ entry.Yield ∷ []; after = no_names; own_is = refl; runs = awake-told no_names; owns_nothing = λ x. tt }, refl)));
+  is_front = then-of _ _ (opening 0) [] awake_script (says _ _ _ refl) (scripts-told awake tt refl (lines_of 0 awake.runs) _ awake_script (_, refl, (1, awake_script, [], refl, record { part = entry.Yield ∷ entry.Yield ∷ []; after = no_names; own_is = refl; runs = awake-told no_names; owns_nothing = λ x. tt }, refl)));
   is_closing = then-of _ _ _ (entry.Ended ∷ entry.Close ∷ []) [] (stands _ _) (then-of _ _ _ [] [] (then-of _ _ _ [] [] refl refl) refl);
 }
 

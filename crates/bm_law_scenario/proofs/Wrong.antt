@@ -11,7 +11,7 @@ use Rattle.bm_journal.specs.declared.entry.Entry.TheVariants as entry
 use Rattle.bm_law.specs.State.{State, seven_lists}
 use Rattle.bm_law.specs.Lists.{Log}
 use Rattle.bm_law_scenario.specs.Held.{Names, no_names, OwnsNothing}
-use Rattle.bm_law_scenario.specs.Calls.{RunsDrop}
+use Rattle.bm_law_scenario.specs.Calls.{RunsDrop, any_batch}
 use Rattle.bm_law_scenario.proofs.OwnRuns.{Run, Done, Then}
 use Rattle.bm_law_scenario.specs.Lawful.{LawfulLogs}
 use Rattle.bm_law_scenario.proofs.OwnGrammar.{LawfulLog}
@@ -129,7 +129,7 @@ ran-of log more h e =
     }
 
 -- behind the allocation the drop follows, and then the end of the script
-drops : (log : Log) (more : List Entry) → LawfulLog one_object 0 log → entries_of log ≡ asked one_page ++ took 3 ++ more → (after' : Names) × (sweeps : List Entry) × Stays (Then (RunsDrop types x_name) Done) holding after' (ended ++ sweeps) more
+drops : (log : Log) (more : List Entry) → LawfulLog one_object 0 log → entries_of log ≡ asked one_page ++ took 3 ++ more → (after' : Names) × (sweeps : List Entry) × Stays (Then (RunsDrop types x_name any_batch) Done) holding after' (ended ++ sweeps) more
 drops log more h e =
     let s = ran-of log (asks ∷ took 3 ++ more) h e in
     (s.after, s.sweeps, if-taken 8 s.after (ended ++ s.sweeps) more (new-taken (RunsList types (drops_x_unless_null 8 ∷ [])) s.part s.after (ended ++ s.sweeps) more s.runs s.more_is))

@@ -1,4 +1,4 @@
--- What the calls of a script and its other statements write. (unit_alloc and unit_free in kernel/bpf/memalloc.c touch one cache, and none of them sends
+-- What the calls of a script and its other statements write. (unit_alloc, unit_free and unit_free_rcu in kernel/bpf/memalloc.c touch one cache, and none of them sends
 -- units to another processor or waits for a grace period.)
 use Rattle.bm_journal.specs.declared.entry.Entry.{Entry}
 use Rattle.bm_journal.specs.declared.entry.Entry.TheVariants as entry
@@ -14,6 +14,7 @@ IsOfCall (entry.Busy a) = Unit {0}
 IsOfCall (entry.Drop u life) = Unit {0}
 IsOfCall entry.Last = Unit {0}
 IsOfCall (entry.Free u home) = Unit {0}
+IsOfCall (entry.Delay u home) = Unit {0}
 IsOfCall (entry.Enter c a) = Unit {0}
 IsOfCall (entry.Pop c u) = Unit {0}
 IsOfCall (entry.PopNone c) = Unit {0}
@@ -22,6 +23,10 @@ IsOfCall (entry.Count c k) = Unit {0}
 IsOfCall (entry.Look c k) = Unit {0}
 IsOfCall (entry.Put c u) = Unit {0}
 IsOfCall (entry.Lost c) = Unit {0}
+IsOfCall (entry.Delayed c u) = Unit {0}
+IsOfCall (entry.LookDelayed c k) = Unit {0}
+IsOfCall (entry.PutDelayed c u) = Unit {0}
+IsOfCall (entry.LostDelayed c) = Unit {0}
 IsOfCall (entry.Leave c a) = Unit {0}
 IsOfCall (entry.Raise c) = Unit {0}
 IsOfCall _ = ⊥

@@ -1,12 +1,13 @@
 -- What the calls of a script leave at its level, and in the script's names. (This project's own language. That an
 -- allocation may answer null, that the reference given has to be given up, and that the memory is freed behind the last
 -- one, are bpf_obj_new_impl and bpf_obj_drop_impl in kernel/bpf/helpers.c.)
-use Rattle.std.specs.Prelude.{◌≡◌, ◌<◌, ◌⊎◌, ℕ, false, List, ◌∷◌, Option, Some, None}
+use Rattle.std.specs.Prelude.{◌≡◌, ◌<◌, ◌⊎◌, ℕ, zero, suc, Bool, true, false, is_some, List, ◌∷◌, Option, Some, None}
 use Rattle.bm_journal.specs.declared.entry.Entry.{Entry}
 use Rattle.bm_journal.specs.declared.entry.Entry.TheVariants as entry
 use Rattle.bm_lang.specs.declared.scenario.TypeDeclaration.{TypeDeclaration}
 use Rattle.bm_lang.specs.declared.scenario.TypeId.{TypeId}
-use Rattle.bm_law.specs.Phrases.{alloc_took, alloc_empty, alloc_busy, FreePhrase}
+use Rattle.bm_law.specs.Phrases.{alloc_took, alloc_empty, alloc_busy, DelayPhrase, FreePhrase}
+use Rattle.bm_law.specs.State.{State}
 use Rattle.bm_law_scenario.specs.Held.{Held, Nothing, Null, Object, Names, with_name}
 use Rattle.bm_law_scenario.specs.Opened.{OfClass}
 
@@ -31,9 +32,24 @@ pub record RunsNew (types : List TypeDeclaration) (x : List ℕ) (t : TypeId) (v
   pub allocates : Allocates class own reply
   pub after_is : after ≡ with_name x (answered t reply) names
 
--- `drop x`, where x holds the one reference to an object of a type without a count: the call, its reply, and a plain
--- free of the unit. Then x holds nothing.
-pub record RunsDrop (types : List TypeDeclaration) (x : List ℕ) (names : Names) (part : List Entry) (after : Names) : Type 0 where
+-- The free of a unit whose last reference is given up: with delay where objects of its type are counted, with whether a plain batch of its
+-- class is in progress then, and else a plain one. (__bpf_obj_drop_impl in kernel/bpf/helpers.c frees a counted object by
+-- bpf_mem_free_rcu, since programs in a read section may still hold it.)
+abbrev pub Frees : (counted : Bool) → (c u home : ℕ) → (batch : Bool) → List Entry → Type 0
+Frees false c u home batch own = FreePhrase c u home own
+Frees true c u home batch own = DelayPhrase c u home batch own
+
+-- whether a plain batch of a class is in progress, where nothing is known of it
+abbrev pub any_batch : ℕ → Bool → Type 0
+any_batch c batch = Unit {0}
+
+-- the same, by these lists, where ordinary code runs. What a handler knows of it isn't said so far.
+abbrev pub batch_in : (l : ℕ) → State ℕ → ℕ → Bool → Type 0
+batch_in zero s c batch = batch ≡ is_some (s.rows c).deferred.plain
+batch_in (suc l) s c batch = Unit {0}
+
+-- `drop x`, where x holds the one reference to an object: the call, its reply, and the free of the unit. Then x holds nothing.
+pub record RunsDrop (types : List TypeDeclaration) (x : List ℕ) (known : ℕ → Bool → Type 0) (names : Names) (part : List Entry) (after : Names) : Type 0 where
   pub type : TypeId
   pub unit : ℕ
   pub life : ℕ
@@ -41,9 +57,10 @@ pub record RunsDrop (types : List TypeDeclaration) (x : List ℕ) (names : Names
   pub class : ℕ
   pub declared : TypeDeclaration
   pub of_class : OfClass types type.0 class declared
-  pub plain : declared.counted ≡ false
   pub home : ℕ
+  pub batch : Bool
+  pub batch_is : known class batch
   pub own : List Entry
   pub part_is : part ≡ entry.Drop unit life ∷ entry.Last ∷ own
-  pub frees : FreePhrase class unit home own
+  pub frees : Frees declared.counted class unit home batch own
   pub after_is : after ≡ with_name x Nothing names

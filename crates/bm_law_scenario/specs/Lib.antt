@@ -14,6 +14,7 @@ pub mod WorkEntries
 pub mod Lawful
 pub mod Worked
 pub mod WorkedJournal
+pub mod WorkedDrops
 pub mod WrongJournals
 pub mod WorkedText
 pub mod WorkedDeferred

@@ -19,6 +19,7 @@
 #![tactic(auto)]
 
 mod deferred;
+mod drops;
 mod handlers;
 mod interrupted;
 mod sections;
@@ -26,6 +27,7 @@ mod worked;
 mod worked_journal;
 
 pub use deferred::{worked_deferred, worked_flags, worked_parcels, worked_periods, wrong_deferred};
+pub use drops::worked_drops;
 pub use handlers::{handlers_law, unplanned_law};
 pub use interrupted::{worked_handlers, wrong_handlers, wrong_words};
 pub use sections::{worked_sections, wrong_sections};

@@ -1,0 +1,100 @@
+-- The free of a drop, plain or with delay.
+use Rattle.std.specs.Prelude.{◌≡◌, ℕ, zero, suc, Bool, true, false, is_some, List, [], ◌∷◌, Some, slice_get}
+use Rattle.std.proofs.Common.{◌∙◌, ap, refl, subst, sym}
+use Rattle.bm_journal.specs.declared.entry.Entry.{Entry}
+use Rattle.bm_lang.specs.declared.scenario.TypeDeclaration.{TypeDeclaration}
+use Rattle.bm_law.specs.Phrases.{DelayPhrase, FreePhrase}
+use Rattle.bm_law.specs.State.{State}
+use Rattle.bm_law_scenario.specs.Held.{Names}
+use Rattle.bm_law_scenario.specs.Calls.{Frees, RunsDrop, any_batch, batch_in}
+
+-- what is known of batches needn't be
+pub loosened : (types : List TypeDeclaration) (x : List ℕ) (known : ℕ → Bool → Type 0) (names after : Names) (own : List Entry) → RunsDrop types x known names own after → RunsDrop types x any_batch names own after
+loosened types x known names after own h = record {
+  type = h.type;
+  unit = h.unit;
+  life = h.life;
+  held = h.held;
+  class = h.class;
+  declared = h.declared;
+  of_class = h.of_class;
+  home = h.home;
+  batch = h.batch;
+  batch_is = tt;
+  own = h.own;
+  part_is = h.part_is;
+  frees = h.frees;
+  after_is = h.after_is;
+}
+
+-- and where it is known it may be said
+pub tightened : (types : List TypeDeclaration) (x : List ℕ) (known : ℕ → Bool → Type 0) (names after : Names) (own : List Entry) (h : RunsDrop types x any_batch names own after) → known h.class h.batch → RunsDrop types x known names own after
+tightened types x known names after own h k = record {
+  type = h.type;
+  unit = h.unit;
+  life = h.life;
+  held = h.held;
+  class = h.class;
+  declared = h.declared;
+  of_class = h.of_class;
+  home = h.home;
+  batch = h.batch;
+  batch_is = k;
+  own = h.own;
+  part_is = h.part_is;
+  frees = h.frees;
+  after_is = h.after_is;
+}
+
+-- what plain frees and delayed ones have, frees have
+pub either-free : (P : List Entry → Type 0) (counted : Bool) (c u home : ℕ) (batch : Bool) (own : List Entry) → (FreePhrase c u home own → P own) → (DelayPhrase c u home batch own → P own) → Frees counted c u home batch own → P own
+either-free P false c u home batch own f g h = f h
+either-free P true c u home batch own f g h = g h
+
+-- where the type isn't counted the free is a plain one
+pub plain-free : (counted : Bool) (c u home : ℕ) (batch : Bool) (own : List Entry) → counted ≡ false → Frees counted c u home batch own → FreePhrase c u home own
+plain-free false c u home batch own e h = h
+plain-free true c u home batch own e h = absurd (cc)
+
+other-batch : (counted : Bool) (c u home : ℕ) (b d : Bool) (own : List Entry) → counted ≡ false → Frees counted c u home b own → Frees counted c u home d own
+other-batch false c u home b d own e h = h
+other-batch true c u home b d own e h = absurd (cc)
+
+-- the free of a type without a count says nothing of batches
+pub uncounted : (types : List TypeDeclaration) (x : List ℕ) (s : State ℕ) (names after : Names) (own : List Entry) (h : RunsDrop types x any_batch names own after) → h.declared.counted ≡ false → RunsDrop types x (batch_in 0 s) names own after
+uncounted types x s names after own h e = record {
+  type = h.type;
+  unit = h.unit;
+  life = h.life;
+  held = h.held;
+  class = h.class;
+  declared = h.declared;
+  of_class = h.of_class;
+  home = h.home;
+  batch = is_some (s.rows h.class).deferred.plain;
+  batch_is = refl;
+  own = h.own;
+  part_is = h.part_is;
+  frees = other-batch h.declared.counted h.class h.unit h.home h.batch (is_some (s.rows h.class).deferred.plain) h.own e h.frees;
+  after_is = h.after_is;
+}
+
+-- no type has a count
+abbrev pub NoCounts : List TypeDeclaration → Type 0
+NoCounts [] = Unit {0}
+NoCounts (t ∷ types) = (t.counted ≡ false) × NoCounts types
+
+pub no-count : (types : List TypeDeclaration) (t : ℕ) (d : TypeDeclaration) → NoCounts types → slice_get types t ≡ Some d → d.counted ≡ false
+no-count [] t d h f = absurd (cc)
+no-count (x ∷ xs) zero d h f = (let q : x ≡ d = cc in ap (λ (y : TypeDeclaration). y.counted) (sym q) ∙ h.0)
+no-count (x ∷ xs) (suc t) d h f = no-count xs t d h.1 f
+
+-- the free of a type without a count is a plain one
+pub plainly : (counted : Bool) (c u home : ℕ) (batch : Bool) (own : List Entry) → counted ≡ false → FreePhrase c u home own → Frees counted c u home batch own
+plainly false c u home batch own e h = h
+plainly true c u home batch own e h = absurd (cc)
+
+-- ordinary code knows of batches by the lists
+pub knows-batch : (l : ℕ) (s : State ℕ) (c : ℕ) → batch_in l s c (is_some (s.rows c).deferred.plain)
+knows-batch zero s c = refl
+knows-batch (suc l) s c = tt

@@ -1,0 +1,75 @@
+-- Worked drops of objects with a count and without one, and a whole journal with a counted object: `type item counted { }`, and a plain
+-- script `new x item` with `if x { drop x }`, on one processor with one page.
+use Rattle.std.specs.Prelude.{ℕ, true, false, refl, Bool, Option, Some, None, List, [], ◌∷◌, ◌++◌, codes}
+use Rattle.std.proofs.Common.{lit≤}
+use Rattle.bm_journal.specs.declared.ids.Domain.TheVariants.{Plain}
+use Rattle.bm_journal.specs.declared.units.Units.TheVariants.{Whole}
+use Rattle.bm_journal.specs.declared.entry.Entry.{Entry}
+use Rattle.bm_journal.specs.declared.entry.Entry.TheVariants as entry
+use Rattle.bm_journal.specs.declared.journal.Journal.{Journal}
+use Rattle.bm_lang.specs.declared.scenario.Action.{New}
+use Rattle.bm_lang.specs.declared.scenario.Block.{Block}
+use Rattle.bm_lang.specs.declared.scenario.Parts.{Parts}
+use Rattle.bm_lang.specs.declared.scenario.Statement.{Statement}
+use Rattle.bm_lang.specs.declared.scenario.TypeDeclaration.{TypeDeclaration}
+use Rattle.bm_law.specs.Lists.{Log}
+use Rattle.bm_law.specs.Ordinary.{ordinary}
+use Rattle.bm_law.specs.State.{State, on_row, opening}
+use Rattle.bm_law_scenario.specs.Held.{Names, Object, no_names, with_name}
+use Rattle.bm_law_scenario.specs.Held as held
+use Rattle.bm_law_scenario.specs.Worked.{item}
+use Rattle.bm_law_scenario.specs.WorkedJournal.{block_of, drops_x_unless_null, ended, item_id, journal_of, one_page, scenario_of, script_of, swept, took, x_name}
+
+-- ---- single drops
+
+abbrev pub counted_types : List TypeDeclaration
+counted_types = record item { line = 5; counted = true; fields = [] } ∷ []
+
+-- x holds the first life of unit 3, and nothing
+abbrev pub holding_three : Names
+holding_three = with_name x_name (Object item_id 3 1) no_names
+
+abbrev pub none_held : Names
+none_held = with_name x_name held.Nothing holding_three
+
+-- the lists where no plain batch is in progress, and where one waits for stamp 2
+abbrev pub no_batch : State ℕ
+no_batch = opening 0
+
+abbrev pub in_batch : State ℕ
+in_batch = on_row 0 (λ r. record r { deferred = record r.deferred { plain = Some 2 } }) (opening 0)
+
+-- unit 3 is given up, by a delayed free that raises the flag, by one that doesn't, and by a plain free
+abbrev pub delays : List Entry
+delays = entry.Drop 3 1 ∷ entry.Last ∷ entry.Delay 3 0 ∷ entry.Enter 0 1 ∷ entry.Delayed 0 3 ∷ entry.Leave 0 0 ∷ []
+
+abbrev pub delays_and_raises : List Entry
+delays_and_raises = entry.Drop 3 1 ∷ entry.Last ∷ entry.Delay 3 0 ∷ entry.Enter 0 1 ∷ entry.Delayed 0 3 ∷ entry.Leave 0 0 ∷ entry.Raise 0 ∷ []
+
+abbrev pub frees_plainly : List Entry
+frees_plainly = entry.Drop 3 1 ∷ entry.Last ∷ entry.Free 3 0 ∷ entry.Enter 0 1 ∷ entry.Push 0 3 ∷ entry.Count 0 4 ∷ entry.Leave 0 0 ∷ []
+
+-- ---- a whole journal
+
+abbrev pub makes_counted : Statement
+makes_counted = record { line = 7; action = New x_name item_id [] }
+
+abbrev pub makes_and_drops_counted : Block
+makes_and_drops_counted = block_of (makes_counted ∷ drops_x_unless_null 8 ∷ []) (lit≤ tt) 9
+
+abbrev pub counted_object : Parts
+counted_object = record (scenario_of 1 makes_and_drops_counted) { types = counted_types }
+
+abbrev pub counted_call : List Entry
+counted_call = entry.New (codes "item") [] ∷ took 3
+
+abbrev pub counted_entries : List Entry
+counted_entries =
+    entry.Fill 0 (Whole one_page) ∷ entry.Script (codes "main") ∷ entry.In Plain 1 ∷ counted_call ++ delays_and_raises ++ ended ++ swept (2 ∷ 1 ∷ 0 ∷ 3 ∷ [])
+
+abbrev pub counted_log : Log
+counted_log = ordinary counted_entries
+
+-- two flags are raised, by the allocation and by the free
+abbrev pub counted_journal : Journal
+counted_journal = journal_of 1 (counted_log ∷ []) refl (13 ∷ 1 ∷ 0 ∷ 0 ∷ 1 ∷ 0 ∷ 0 ∷ 0 ∷ 0 ∷ 0 ∷ 0 ∷ 0 ∷ 2 ∷ 0 ∷ 4 ∷ 4 ∷ 0 ∷ 1 ∷ 0 ∷ [])
