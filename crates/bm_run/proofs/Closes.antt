@@ -39,6 +39,8 @@ use Rattle.bm_closing.specs.EndsBegun.{EndsBegun}
 abbrev pub IsLate : Entry → Type 0
 IsLate (entry.Handler name) = ⊥
 IsLate entry.Ended = ⊥
+IsLate (entry.Given u life) = ⊥
+IsLate (entry.GivenAfter u life stamp seen) = ⊥
 IsLate e = IsInner e
 
 finish-late : (d : Domain) (own : List Entry) → MayFinish d own → AllOf IsLate own
@@ -85,6 +87,8 @@ pub record LawfulSoFar (x : Position) (s : Parts) (log : Log) : Type 0 where
 late-inner : (e : Entry) → IsLate e → IsInner e
 late-inner (entry.Handler name) h = absurd h
 late-inner entry.Ended h = absurd h
+late-inner (entry.Given u life) h = absurd h
+late-inner (entry.GivenAfter u life stamp seen) h = absurd h
 late-inner e h = h
 
 by-count : (n : ℕ) → (step_or_not n ≡ Steps) ⊎ (step_or_not n ≡ Stays)

@@ -21,4 +21,5 @@ pub mod ParcelsTold
 pub mod StampsBound
 pub mod PollsTold
 pub mod SealsTold
+pub mod BatchesTold
 pub mod Nesting

@@ -23,7 +23,9 @@ use Rattle.bm_cache.specs.Opening.{Fills, fill_log, named}
 use Rattle.bm_cache.specs.Shown.{shown}
 use Rattle.bm_cache.specs.Tokens.{Token, number_of}
 use Rattle.bm_law.specs.Begun.{begun_by}
+use Rattle.bm_law.specs.Spans.{own_entries}
 use Rattle.bm_law_work.specs.Grown.{GrewBy, GrewPart}
+use Rattle.bm_law_work.proofs.Each.{AllOf}
 use Rattle.bm_law.specs.Inboxes.{Inboxes}
 use Rattle.bm_law_work.specs.Parts.{Part, Say, Stand, Then}
 use Rattle.bm_law_scenario.specs.Closing.{AreSweeps, EndsPeriods, in_progress}
@@ -63,7 +65,7 @@ use Rattle.bm_exec_levels.specs.AtPolls.{DoesHere, tied-bare, polled}
 use Rattle.bm_run.proofs.Laid.{tied-led}
 use Rattle.bm_run.proofs.ParcelsTold.{tied-parcels}
 use Rattle.bm_run.proofs.Progress.{led-progress}
-use Rattle.bm_run.proofs.Closes.{LawfulSoFar, closing-is, ends-are, late-goes-on, rest-late}
+use Rattle.bm_run.proofs.Closes.{IsLate, LawfulSoFar, closing-is, ends-are, late-goes-on, rest-late}
 use Rattle.bm_run.proofs.OpenedList.{opened-has, opened-none}
 use Rattle.bm_run.proofs.Sections.{runs-none}
 use Rattle.bm_run.proofs.Written.{told-of}
@@ -100,6 +102,13 @@ pub record Told (s : Parts) (final : Log) : Type 0 where
   pub closes : ClosingTold 0 (opened_classes s.types) (fills ++ scripts) boxes (after (opening 0) (fills ++ scripts)) closing
   pub before : State ℕ
   pub leaves : Leaves 0 (fills ++ scripts) before
+  -- what stands before the periods and sweeps of the closing, and these
+  pub ended : Log
+  pub late : Log
+  pub closing_is : closing ≡ ended ++ late
+  pub ended_own : own_entries 0 ended ≡ entry.Ended ∷ entry.Close ∷ []
+  pub late_at : AllAt 0 late
+  pub late_own : AllOf IsLate (own_entries 0 late)
 
 same-some : {x y : Log} → Some x ≡ Some y → x ≡ y
 same-some q = cc
@@ -212,6 +221,12 @@ told-run s p m0 m2 m3 final r =
         closes = closes;
         before = lists_of m2;
         leaves = front2;
+        ended = e'.added;
+        late = rest;
+        closing_is = refl;
+        ended_own = e'.is_part.own_is;
+        late_at = at_rest;
+        late_own = late;
       },
       refl,
     )

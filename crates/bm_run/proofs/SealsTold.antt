@@ -1,12 +1,7 @@
 -- Each unit of a log that is tied since the outset was given with what it had waited for.
-use Rattle.std.specs.Prelude.{◌≡◌, ◌++◌, ◌-◌, ◌==◌, ◌&&◌, ℕ, zero, suc, Bool, true, false, eqb, if◌then◌else◌, List, [], ◌∷◌, map}
-use Rattle.std.proofs.Common.{◌∙◌, ap, append-nil, refl, subst, sym}
-use Rattle.bm_journal.specs.declared.entry.Entry.{Entry}
-use Rattle.bm_journal.specs.declared.entry.Entry.TheVariants as entry
+use Rattle.std.specs.Prelude.{◌≡◌, ◌++◌, ℕ, zero, suc, List, [], ◌∷◌, map}
+use Rattle.std.proofs.Common.{◌∙◌, append-nil, refl, subst, sym}
 use Rattle.bm_law.specs.Lists.{Log}
-use Rattle.bm_law.specs.Spans.{own_entries}
-use Rattle.bm_law_lives.specs.Lives.{is_last}
-use Rattle.bm_law_lives.specs.StampLaw.{GivenFits, SealsFit, delayed_parts, is_delay_of, is_delayed, part_behind, parts_behind}
 use Rattle.bm_law_order.specs.Act as act
 use Rattle.bm_law_order.specs.Chunk.{Chunk, acts_of}
 use Rattle.bm_law_order.specs.Chunk as chunk
@@ -15,7 +10,7 @@ use Rattle.bm_law_order.specs.Seals.{ArePlainEnds, IsSealed, Nothing, NothingWai
 use Rattle.bm_law_order.specs.Story.{AllJudged, Story, deeds, lines, lines_of}
 use Rattle.bm_law_order.specs.Tie.{Tied}
 use Rattle.bm_law_order.specs.Whole.{whole}
-use Rattle.bm_law_order.proofs.Unwaited.{ArePlain, IsPlain, ends-append, none-waits, story-plain, story-sealed}
+use Rattle.bm_law_order.proofs.Unwaited.{ends-append, none-waits, story-sealed}
 use Rattle.bm_world.specs.LivingState.{LivingState}
 use Rattle.bm_world.specs.Standings.{waits_told}
 use Rattle.bm_world.specs.ToldLiving.{LivingDoes, knows_living}
@@ -48,7 +43,7 @@ none-at-first pages zero = refl
 none-at-first pages (suc n) = refl
 
 -- so nothing waited
-told-none : (pages : ℕ) (log : Log) (world : LivingState) (t : Tied (polled knows_living [] (outset pages)) LivingDoes [] (outset pages) 0 [] [] log world) → NothingWaits (deeds t.story)
+pub told-none : (pages : ℕ) (log : Log) (world : LivingState) (t : Tied (polled knows_living [] (outset pages)) LivingDoes [] (outset pages) 0 [] [] log world) → NothingWaits (deeds t.story)
 told-none pages log world t =
     let go : WaitLeads (deeds t.story) (waits_told (outset pages).standings) (waits_told world.standings) = subst (λ z. WaitLeads z (waits_told (outset pages).standings) (waits_told world.standings)) (append-nil (deeds t.story)) t.done_is.waits in
     none-waits (deeds t.story) (waits_told (outset pages).standings) (waits_told world.standings) (plain-ends [] [] (outset pages) t.story t.judged) (none-at-first pages) go
@@ -60,55 +55,3 @@ tied-sealed pages log world t =
 
 pub sealed-whole : (turns : List ℕ) (log : Log) → IsSealed (by 0 log) → IsSealed (whole turns (log ∷ []))
 sealed-whole turns log = subst (λ (o : Order). IsSealed o) (sym (whole-one turns log))
-
--- ---- the same, as the logs say it
-
-abbrev EntriesPlain : List Entry → Type 0
-EntriesPlain [] = Unit {0}
-EntriesPlain (e ∷ es) = IsPlain e × EntriesPlain es
-
-keep-plain : (b : Bool) (e : Entry) (es : List Entry) → IsPlain e → EntriesPlain es → EntriesPlain (if b then e ∷ es else es)
-keep-plain true e es h k = (h, k)
-keep-plain false e es h k = k
-
-own-plain : (l : ℕ) (log : Log) → ArePlain log → EntriesPlain (own_entries l log)
-own-plain l [] h = tt
-own-plain l (e ∷ log) h = keep-plain (eqb e.0 l) e.1 (own_entries l log) h.0 (own-plain l log h.1)
-
-delays-not : (u : ℕ) (e : Entry) → IsPlain e → is_delay_of u e ≡ false
-delays-not u (entry.Delay v home) h = absurd h
-delays-not u _ h = refl
-
-and-none : (a b : Bool) → b ≡ false → (a && b) ≡ false
-and-none true b h = h
-and-none false b h = refl
-
-delayed-not : (u : ℕ) (own : List Entry) → EntriesPlain own → is_delayed u own ≡ false
-delayed-not u [] h = refl
-delayed-not u (reply ∷ []) h = refl
-delayed-not u (reply ∷ free ∷ own) h = and-none (is_last reply) (is_delay_of u free) (delays-not u free h.1.0)
-
-no-part : (u life : ℕ) (e : Entry) (own : List Entry) (part : Log) → EntriesPlain own → part_behind u life e own part ≡ []
-no-part u life (entry.Drop v k) own part h =
-    ap (λ (b : Bool). if b then part ∷ [] else []) (and-none (u == v) ((life == k) && is_delayed u own) (and-none (life == k) (is_delayed u own) (delayed-not u own h)))
-no-part u life _ own part h = refl
-
-no-parts : (u life : ℕ) (log : Log) → ArePlain log → parts_behind u life log ≡ []
-no-parts u life [] h = refl
-no-parts u life (e ∷ log) h =
-    ap (λ (ps : List Log). ps ++ parts_behind u life log) (no-part u life e.1 (own_entries e.0 log) log (own-plain e.0 log h.1)) ∙ no-parts u life log h.1
-
-given-fits : (logs : List Log) → ((u life : ℕ) → delayed_parts u life logs ≡ []) → (e : Entry) → IsPlain e → GivenFits logs e
-given-fits logs none (entry.Given u life) h = none u (life - 1)
-given-fits logs none (entry.GivenAfter u life stamp seen) h = absurd h
-given-fits logs none _ h = tt
-
-seals-fit : (logs : List Log) → ((u life : ℕ) → delayed_parts u life logs ≡ []) → (log : Log) → ArePlain log → SealsFit logs log
-seals-fit logs none [] h = tt
-seals-fit logs none (e ∷ log) h = (given-fits logs none e.1 h.0, seals-fit logs none log h.1)
-
-pub tied-seals : (pages : ℕ) (log : Log) (world : LivingState) → Tied (polled knows_living [] (outset pages)) LivingDoes [] (outset pages) 0 [] [] log world → SealsFit (log ∷ []) log
-tied-seals pages log world t =
-    let log_is : log ≡ lines t.story = t.log_is ∙ append-nil (lines t.story) in
-    let plain : ArePlain log = subst ArePlain (sym log_is) (story-plain t.story (told-none pages log world t)) in
-    seals-fit (log ∷ []) (λ u life. ap (λ (ps : List Log). ps ++ []) (no-parts u life log plain)) log plain

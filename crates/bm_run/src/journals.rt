@@ -17,7 +17,7 @@ ghost use Rattle.bm_law_scenario.specs.Opened.{object_size, opened_classes};
 ghost use Rattle.bm_law_scenario.specs.Lawful.{LawfulLog};
 ghost use Rattle.bm_law_lives.specs.Lives.{WholeLives};
 ghost use Rattle.bm_law_lives.specs.Returns.{ReturnsLaw};
-ghost use Rattle.bm_law_lives.specs.StampLaw.{SealsFit};
+ghost use Rattle.bm_law_seals.specs.Batches.{WaitsInBatches};
 ghost use Rattle.bm_law_journal.specs.Lawful.{Laid, Lawful};
 ghost use Rattle.bm_law_order.specs.Orders.{IsLaid, by};
 ghost use Rattle.bm_law_order.specs.Polls.{IsPolled};
@@ -47,7 +47,8 @@ use bm_journal::{Histories, Journal, Log, Logs, Names, Opened, Recorder, totals_
 use bm_lang::{Parts, Scenario, Script, TypeDeclaration};
 use bm_law_laid::{journal_law, whole_law};
 use bm_law_logs::{handled_law, lives_law, parcels_law, returned_law, returns_law, sweeps_law};
-use bm_law_places::logs_law;
+use bm_law_places::{found_law, logs_law};
+use bm_law_seals::seals_law;
 use bm_word::NoMemory;
 use bm_world::LivingSide;
 use std::alloc::Global;
@@ -101,14 +102,16 @@ fn journal_of(
     requires laid { IsLaid 1 scenario.now.pages (by 0 log) }
     requires polled { IsPolled 1 scenario.now.pages (by 0 log) }
     requires sealed { IsSealed (by 0 log) }
-    requires seals { SealsFit (log ∷ []) log }
+    requires batched { WaitsInBatches (by 0 log) }
     requires idle { IsIdleAfter scenario.now.pages log }
     ensures lawful { IfOk result (Lawful scenario.now) }
     ensures laid { IfOk result (Laid scenario.now) }
 {
     whole_law();
     journal_law();
+    found_law();
     logs_law();
+    seals_law();
     returned_law();
     let types = type_names(alloc, scenario.types.as_slice())?;
     let scripts = script_names(alloc, scenario.scripts.as_slice())?;
@@ -209,7 +212,7 @@ fn log_of<B: Since<LivingSide>>(
     ensures laid { IfOk result (λ log. IsLaid 1 scenario.now.pages (by 0 log)) }
     ensures polled { IfOk result (λ log. IsPolled 1 scenario.now.pages (by 0 log)) }
     ensures sealed { IfOk result (λ log. IsSealed (by 0 log)) }
-    ensures seals { IfOk result (λ log. SealsFit (log ∷ []) log) }
+    ensures batched { IfOk result (λ log. WaitsInBatches (by 0 log)) }
     ensures idle { IfOk result (IsIdleAfter scenario.now.pages) }
     ensures lives { IfOk result (λ log. WholeLives (log ∷ [])) }
     ensures returns { IfOk result (λ log. ReturnsLaw (log ∷ [])) }

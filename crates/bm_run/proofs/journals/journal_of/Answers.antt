@@ -2,7 +2,8 @@ use Rattle.std.specs.Prelude.{None}
 use Rattle.std.proofs.Common.{rules, ◌≡◌, ◌∷◌, [], ℕ, List, Some, lit≤, refl, sym, subst, slice_get}
 use Rattle.bm_law.specs.Lists.{Log}
 use Rattle.bm_law_order.specs.ByDomain.{of}
-use Rattle.bm_law_order.specs.Orders.{IsLaid, Order, shared_over}
+use Rattle.bm_law_laid.specs.OrderOf.{IsOrderOf}
+use Rattle.bm_law_order.specs.Orders.{IsLaid, Order, by, shared_over}
 use Rattle.bm_law_order.specs.Polls.{IsPolled}
 use Rattle.bm_law_order.specs.Seals.{IsSealed}
 use Rattle.bm_law_order.specs.Shared.{fresh}
@@ -36,6 +37,7 @@ returns-clause-lawful c =
     let laws = c.journal_law.ensures in
     let l : LawfulLog s 0 log = c.requires.lawful in
     let one = sym c.in_ok-logs.ensures in
+    let found = c.found_law.ensures.one s.pages log l.last c.requires.laid l.lists (l.parcels (alone-sends s c.requires.yet.one)) in
     record {
       logs = record {
         heading = record {
@@ -64,7 +66,7 @@ returns-clause-lawful c =
         tracing_stamps = laws.stamps Tracing 1 s.pages logs order of-logs laid;
         plain_seen = laws.seen Plain 1 s.pages logs order of-logs laid;
         tracing_seen = laws.seen Tracing 1 s.pages logs order of-logs laid;
-        seals = (c.requires.seals, tt);
+        seals = c.seals_law.ensures 1 s.pages logs (by 0 log) (subst (IsOrderOf logs) (whole-one [] log) (c.whole_law.ensures [] logs)) found c.requires.sealed c.requires.batched c.requires.lives.law;
         returns = (c.returned_law.ensures s 0 log l.last l.handlers l.phrases l.is_log l.lists, tt);
       });
     }

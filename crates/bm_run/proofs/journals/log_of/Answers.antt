@@ -32,12 +32,13 @@ use Rattle.bm_run.proofs.Lines.{down-when, few-when}
 use Rattle.bm_run.proofs.Nesting.{all-nest}
 use Rattle.bm_run.proofs.LivesTold.{lived_in, tied-lives}
 use Rattle.bm_run.proofs.Laid.{laid-whole, led-idle, tied-led}
-use Rattle.bm_run.proofs.LogLaw.{RunLeft, alone-sends, lawful-run, lived-run, unused-rows}
+use Rattle.bm_run.proofs.LogLaw.{RunLeft, alone-sends, lawful-run, lived-run, told-run, unused-rows}
 use Rattle.bm_run.proofs.OpenedList.{opened-ascend, opened-few}
 use Rattle.bm_run.proofs.Results.{both-if-ok, if-ok, not-err}
 use Rattle.bm_run.proofs.journals.log_of.Given.{Over}
 use Rattle.bm_run.proofs.PollsTold.{tied-polled}
-use Rattle.bm_run.proofs.SealsTold.{tied-sealed, tied-seals}
+use Rattle.bm_run.proofs.BatchesTold.{told-batched}
+use Rattle.bm_run.proofs.SealsTold.{tied-sealed}
 use Rattle.bm_run.proofs.journals.log_of.Goals as goal
 
 some-processors : (n : ℕ) → n ≡ 1 → 1 ≤ n
@@ -201,5 +202,8 @@ returns-clause-polled g c = if-ok c.close.result _ _ c.close.ensures.tied (λ fi
 pub returns-clause-sealed : goal.returns-clause-sealed
 returns-clause-sealed g c = if-ok c.close.result _ _ c.close.ensures.tied (λ final t. tied-sealed c.args.scenario.now.pages final t.world (since-outset g c final t.world t.tied))
 
-pub returns-clause-seals : goal.returns-clause-seals
-returns-clause-seals g c = if-ok c.close.result _ _ c.close.ensures.tied (λ final t. tied-seals c.args.scenario.now.pages final t.world (since-outset g c final t.world t.tied))
+pub returns-clause-batched : goal.returns-clause-batched
+returns-clause-batched g c = both-if-ok c.close.result _ _ _ c.close.ensures.closed c.close.ensures.tied (λ final x t.
+    let r = run-left g c final x in
+    let told = told-run c.args.scenario.now r.0 c.in_ok-own.own c.run_lines.new.own c.begin_closing.new.own final r.1 in
+    told-batched c.args.scenario.now c.args.scenario.now.pages final t.world told.0 (since-outset g c final t.world t.tied))
