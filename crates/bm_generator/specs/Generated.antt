@@ -1,6 +1,6 @@
--- The scenario that `gen N START` makes: a queue of counted jobs, a tree by key and a spare part in a slot, which four
--- processors and two handlers share. It is this project's own, and docs/scenarios.md tells it in words. Lines are those of
--- its printed text.
+-- The scenario that two numbers make, a count of pieces and a start: a queue of counted jobs, a tree by key and a spare part in
+-- a slot, which four processors and two planned handlers share. It is this project's own, and docs/scenarios.md tells it in
+-- words. Lines are those of its printed text.
 use Rattle.std.specs.Prelude.{ℕ, zero, suc, ◌+◌, ◌≤◌, true, false, List, [], ◌∷◌, ◌++◌, length, take, Some, None, codes}
 use Rattle.std.specs.Global.{Vec}
 use Rattle.std.specs.Ptr.{null_ptr}

@@ -8,7 +8,7 @@
 //! - `seals_law`: the law, for each order of logs in which each unit is in one place.
 //! - `WaitsInBatches` says what it needs of the order besides: a drop, its reply and its free stand together; a delayed free puts its
 //!   unit on Delayed or ExtraDelayed; what waits goes away as a batch, directly after its pass; and nothing is given after a sweep.
-//! - `worked_batches`: an order of two processors that is so, and wrong ones beside it.
+//! - `worked_batches`: the order of a whole journal of one processor that is so, and wrong ones beside it.
 #![tactic(auto)]
 
 mod laws;
