@@ -10,9 +10,9 @@ use Rattle.clap.proofs.WalkLemmas.{one_text-rows}
 use Rattle.clap.specs.declared.parser.matches.SubCommand.{SubCommand}
 use Rattle.clap.specs.declared.parser.matches.ArgMatches.TheViews.{out-SubCommand}
 use Rattle.clap.proofs.OnLiterals.{clap_on_literals}
-use Rattle.bm_command.specs.declared.command.Command.TheVariants.{Replay}
-use Rattle.bm_command.specs.Words.{command_of}
-use Rattle.bm_command.specs.Grammar.{grammar_app, entered_command, replay_by}
+use Rattle.bm_command.specs.declared.command.Reading.TheVariants.{Replay}
+use Rattle.bm_command.specs.Words.{reading_of}
+use Rattle.bm_command.specs.Grammar.{grammar_app, entered_reading, replay_by}
 use Rattle.bm_command.proofs.WordLemmas.{are_known, is_or_not, same_word}
 
 pub is_simple_grammar : is_simple grammar_app ≡ true
@@ -22,7 +22,7 @@ is_simple_grammar = refl
 -- the parser takes the words, and what it finds is the command
 pub record IsReadAs (words : List Text) : Type 0 where
   pub taken : takes grammar_app words ≡ true
-  pub found : entered_command (subcommand_of grammar_app words) ≡ command_of words
+  pub found : entered_reading (subcommand_of grammar_app words) ≡ reading_of words
 
 replay_read : IsReadAs (codes "replay" ∷ [])
 unfolding clap_on_literals
@@ -36,7 +36,7 @@ check_read : IsReadAs (codes "check" ∷ [])
 unfolding clap_on_literals
 check_read = record { taken = refl; found = refl }
 
-pub commands_are_read : (words : List Text) → is_some (command_of words) ≡ true → IsReadAs words
+pub commands_are_read : (words : List Text) → is_some (reading_of words) ≡ true → IsReadAs words
 commands_are_read words h = elim (are_known words h) [
   | inl replay ↦ rw replay replay_read
   | inr others ↦ elim others [
@@ -75,10 +75,10 @@ pub replay_entered : {Z : Type 0} (entered : Option (Box SubCommand Z)) (name : 
     → Some name ≡ option_map (λ b. (out-SubCommand (box_value b)).name.now) entered
     → Some (rows_of found) ≡ option_map (λ p. p.1) (subcommand_rows entered)
     → name ≡ codes "replay"
-    → is_some (entered_command (subcommand_rows entered)) ≡ true
+    → is_some (entered_reading (subcommand_rows entered)) ≡ true
     → (one_text found (codes "totals") ≡ Some (codes "true") → flag ≡ true)
     → (one_text found (codes "totals") ≡ Some (codes "false") → flag ≡ false)
-    → entered_command (subcommand_rows entered) ≡ Some (Replay flag)
+    → entered_reading (subcommand_rows entered) ≡ Some (Replay flag)
 replay_entered entered name found flag n r is h set unset =
     let whole : subcommand_rows entered ≡ Some (codes "replay", rows_of found) = entered_is entered _ _ (n' n is) r in
     let given : is_some (replay_by (one_of (codes "totals") (rows_of found))) ≡ true = rw whole at h in
@@ -89,14 +89,14 @@ replay_entered entered name found flag n r is h set unset =
     n' e f = cc
 
 -- what the parser found of a command's words is the command
-pub matches_are : (program : App) (words : List Text) (m : ArgMatches) → program ≡ grammar_app → is_some (command_of words) ≡ true
-    → HasMatchesOf program words m → entered_command (subcommand_rows_of m) ≡ command_of words
+pub matches_are : (program : App) (words : List Text) (m : ArgMatches) → program ≡ grammar_app → is_some (reading_of words) ≡ true
+    → HasMatchesOf program words m → entered_reading (subcommand_rows_of m) ≡ reading_of words
 matches_are program words m is h has =
     let found : subcommand_rows_of m ≡ subcommand_of grammar_app words =
     (has (ap is_simple is ∙ is_simple_grammar)).1 ∙ ap (λ (a : App). subcommand_of a words) is in
     rw found (commands_are_read words h).found
 
 -- the parser takes a command's words
-pub words_are_taken : (program : App) (words : List Text) → program ≡ grammar_app → is_some (command_of words) ≡ true
+pub words_are_taken : (program : App) (words : List Text) → program ≡ grammar_app → is_some (reading_of words) ≡ true
     → takes program words ≡ true
 words_are_taken program words is h = rw is (commands_are_read words h).taken

@@ -3,7 +3,7 @@ use Rattle.std.proofs.Common.{◌≡◌, ◌≤◌, ◌⊎◌, inl, inr, ℕ, Bo
 use Rattle.std.specs.Borrow.{Bor}
 use Rattle.std.specs.Str.{bytes_eq}
 use Rattle.std.proofs.lemmas.Slice.Eq.{bytes_eq-Decides}
-use Rattle.bm_command.specs.Words.{texts, is_flag, is_argument, replay_of, check_of, command_of}
+use Rattle.bm_command.specs.Words.{texts, is_flag, is_argument, replay_of, check_of, reading_of}
 
 pub is_or_not : (b : Bool) → (b ≡ true) ⊎ (b ≡ false)
 is_or_not true = inl refl
@@ -78,7 +78,7 @@ behind_check (x ∷ more) h = absurd (let bad : false ≡ true = rw (one_too_man
 -- ---- all commands
 
 -- the words of a command are one of three lists
-pub are_known : (words : List (List ℕ)) → is_some (command_of words) ≡ true
+pub are_known : (words : List (List ℕ)) → is_some (reading_of words) ≡ true
     → (words ≡ codes "replay" ∷ []) ⊎ ((words ≡ codes "replay" ∷ codes "--totals" ∷ []) ⊎ (words ≡ codes "check" ∷ []))
 are_known [] h = absurd (let bad : false ≡ true = h in cc)
 are_known (word ∷ rest) h = elim (is_or_not (bytes_eq word (codes "replay"))) [

@@ -1,10 +1,10 @@
--- What the parser of command lines is told of the commands, and how its answer reads.
+-- What the parser of command lines is told of the commands that read a scenario, and how its answer reads.
 use Rattle.std.specs.Prelude.{true, false, List, Option, Some, None, if◌then◌else◌, codes}
 use Rattle.std.specs.Str.{bytes_eq}
 use Rattle.clap.specs.Words.{App, Row, Rule, Shape, Text, new_app, new_rule, one_of, with_rule, with_subcommand}
 use Rattle.clap.specs.declared.builder.action.ArgAction.TheVariants.{SetTrue}
-use Rattle.bm_command.specs.declared.command.Command.{Command}
-use Rattle.bm_command.specs.declared.command.Command.TheVariants.{Replay, Check}
+use Rattle.bm_command.specs.declared.command.Reading.{Reading}
+use Rattle.bm_command.specs.declared.command.Reading.TheVariants.{Replay, Check}
 
 -- a command's word, with neither help nor a version of its own
 abbrev pub bare_shape : Shape → Shape
@@ -29,7 +29,7 @@ abbrev pub grammar_app : App
 grammar_app = with_subcommand (with_subcommand program_app (with_rule (bare_app (codes "replay")) totals_rule).top) (bare_app (codes "check")).top
 
 -- `replay`, by the text that was read for its flag
-abbrev pub replay_by : Option Text → Option Command
+abbrev pub replay_by : Option Text → Option Reading
 replay_by None = None
 replay_by (Some text) =
     if bytes_eq text (codes "true") then Some (Replay true)
@@ -37,9 +37,9 @@ replay_by (Some text) =
     else None)
 
 -- the command of a subcommand's name and what was found behind it
-abbrev pub entered_command : Option (Text × List Row) → Option Command
-entered_command None = None
-entered_command (Some found) =
+abbrev pub entered_reading : Option (Text × List Row) → Option Reading
+entered_reading None = None
+entered_reading (Some found) =
     if bytes_eq found.0 (codes "replay") then replay_by (one_of (codes "totals") found.1)
     else (if bytes_eq found.0 (codes "check") then Some Check
     else None)

@@ -1,12 +1,12 @@
-//! The commands, as the parser of command lines knows and reads them.
+//! The commands that read a scenario, as the parser of command lines knows and reads them.
 
 ghost use Rattle.std.specs.Prelude.{◌≡◌, Some, true, false, is_some, IfOk, IfErr};
 ghost use Rattle.clap.specs.Words.{app_of, subcommand_rows_of};
 ghost use Rattle.clap.specs.declared.builder.command.Command.TheViews.{out-Command};
-ghost use Rattle.bm_command.specs.Grammar.{bare_app, grammar_app, entered_command};
-ghost use Rattle.bm_command.specs.Words.{command_of, texts};
+ghost use Rattle.bm_command.specs.Grammar.{bare_app, grammar_app, entered_reading};
+ghost use Rattle.bm_command.specs.Words.{reading_of, texts};
 
-use crate::command::{Command, CommandFault};
+use crate::command::{CommandFault, Reading};
 use clap::error::ErrorKind;
 use clap::{Arg, ArgAction, ArgMatches};
 use std::alloc::{AllocError, Global};
@@ -39,23 +39,23 @@ fn grammar<'a>(alloc: Global) -> Result<clap::Command<'a>, AllocError>
 }
 
 // The command that the parser found.
-fn entered(matches: &ArgMatches) -> Command
-    requires { is_some (entered_command (subcommand_rows_of matches.now)) ≡ true }
-    ensures { entered_command (subcommand_rows_of matches.now) ≡ Some result }
+fn entered(matches: &ArgMatches) -> Reading
+    requires { is_some (entered_reading (subcommand_rows_of matches.now)) ≡ true }
+    ensures { entered_reading (subcommand_rows_of matches.now) ≡ Some result }
 {
     match matches.subcommand() {
-        Some(("replay", found)) => Command::Replay {
+        Some(("replay", found)) => Reading::Replay {
             totals: found.get_flag("totals"),
         },
-        Some(("check", _)) => Command::Check,
+        Some(("check", _)) => Reading::Check,
         _ => unreachable!(),
     }
 }
 
 /// The command that the words are, as the parser reads them. It refuses them for want of memory alone.
-pub fn parsed(alloc: Global, words: &[&str]) -> Result<Command, CommandFault>
-    requires { is_some (command_of (texts words.now)) ≡ true }
-    ensures read { IfOk result (λ command. command_of (texts words.now) ≡ Some command) }
+pub fn parsed(alloc: Global, words: &[&str]) -> Result<Reading, CommandFault>
+    requires { is_some (reading_of (texts words.now)) ≡ true }
+    ensures read { IfOk result (λ reading. reading_of (texts words.now) ≡ Some reading) }
     ensures memory { IfErr result (λ fault. fault ≡ CommandFault.NoMemory) }
 {
     let Ok(program) = grammar(alloc) else {

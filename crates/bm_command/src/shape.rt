@@ -1,11 +1,11 @@
-//! Whether words are a command's.
+//! Whether words are those of a command that reads a scenario.
 
 ghost use Rattle.std.specs.Prelude.{◌≡◌, is_some, filter};
-ghost use Rattle.bm_command.specs.Words.{command_of, replay_of, is_flag, is_argument, texts};
+ghost use Rattle.bm_command.specs.Words.{reading_of, replay_of, is_flag, is_argument, texts};
 
-/// Whether the words are a command's. It takes no memory.
-pub fn are_command(words: &[&str]) -> bool
-    ensures { result ≡ is_some (command_of (texts words.now)) }
+/// Whether the words are those of a command that reads a scenario. It takes no memory.
+pub fn are_reading(words: &[&str]) -> bool
+    ensures { result ≡ is_some (reading_of (texts words.now)) }
 {
     match words {
         [] => false,

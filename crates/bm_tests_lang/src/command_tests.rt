@@ -1,18 +1,19 @@
 //! Lists of words, each with its command or refused.
 
-use bm_command::{Command, CommandFault, read_command};
+use bm_command::{Command, CommandFault, PieceCount, Reading, read_command};
 use std::alloc::Global;
+use std::process::Abort;
 
 // Whether the words are read as this, where there is memory.
 fn read(alloc: Global, words: &[&str], answer: Result<Command, CommandFault>) -> bool {
     read_command(alloc, words) == answer
 }
 
-const REPLAY: Result<Command, CommandFault> = Ok(Command::Replay { totals: false });
+const REPLAY: Result<Command, CommandFault> = Ok(Command::Read(Reading::Replay { totals: false }));
 
-const TOTALS: Result<Command, CommandFault> = Ok(Command::Replay { totals: true });
+const TOTALS: Result<Command, CommandFault> = Ok(Command::Read(Reading::Replay { totals: true }));
 
-const CHECK: Result<Command, CommandFault> = Ok(Command::Check);
+const CHECK: Result<Command, CommandFault> = Ok(Command::Read(Reading::Check));
 
 const USAGE: Result<Command, CommandFault> = Err(CommandFault::Usage);
 
@@ -94,5 +95,99 @@ fn help_and_versions_are_no_commands(rt: HostRuntime) {
     ];
     for words in table {
         assert!(rt; read(rt.alloc(), words, USAGE), "{words:?}");
+    }
+}
+
+// Words behind `gen`, with their two numbers where they are a command.
+const GEN: &[(&[&str], Option<(u64, u64)>)] = &[
+    // The flag stands anywhere behind the command's word.
+    (&["gen", "1", "0", "--text"], Some((1, 0))),
+    (&["gen", "1", "--text", "0"], Some((1, 0))),
+    (&["gen", "--text", "1", "0"], Some((1, 0))),
+    // The least and the greatest numbers, and those beside them.
+    (&["gen", "2", "1", "--text"], Some((2, 1))),
+    (&["gen", "1999", "--text", "10"], Some((1999, 10))),
+    (
+        &["gen", "2000", "18446744073709551615", "--text"],
+        Some((2000, 18446744073709551615)),
+    ),
+    (&["gen", "0", "1", "--text"], None),
+    (&["gen", "2001", "1", "--text"], None),
+    (&["gen", "4294967297", "1", "--text"], None),
+    (&["gen", "18446744073709551616", "1", "--text"], None),
+    (&["gen", "1", "18446744073709551616", "--text"], None),
+    // The first number is the count.
+    (&["gen", "5", "3000", "--text"], Some((5, 3000))),
+    (&["gen", "3000", "5", "--text"], None),
+    // Words that are no numbers, and numbers in another form.
+    (&["gen", "01", "0", "--text"], None),
+    (&["gen", "1", "00", "--text"], None),
+    (&["gen", "1", "07", "--text"], None),
+    (&["gen", "+1", "0", "--text"], None),
+    (&["gen", "-1", "0", "--text"], None),
+    (&["gen", "1", "-0", "--text"], None),
+    (&["gen", "1", "0x7", "--text"], None),
+    (&["gen", "1", "1_000", "--text"], None),
+    (&["gen", "1", "7 ", "--text"], None),
+    (&["gen", "", "7", "--text"], None),
+    (&["gen", "1", "", "--text"], None),
+    (&["gen", "one", "7", "--text"], None),
+    (&["gen", "１", "7", "--text"], None),
+    // Words too few and too many.
+    (&["gen"], None),
+    (&["gen", "--text"], None),
+    (&["gen", "1"], None),
+    (&["gen", "1", "--text"], None),
+    (&["gen", "1", "0"], None),
+    (&["gen", "1", "0", "0", "--text"], None),
+    (&["gen", "1", "0", "--text", "x"], None),
+    (&["gen", "gen", "1", "0", "--text"], None),
+    // The flag twice, in another form, or before the command's word, and flags of others.
+    (&["gen", "1", "0", "--text", "--text"], None),
+    (&["gen", "--text", "--text", "1"], None),
+    (&["gen", "--text", "1", "--text"], None),
+    (&["gen", "1", "0", "--text=1"], None),
+    (&["gen", "1", "0", "--tex"], None),
+    (&["gen", "1", "0", "--Text"], None),
+    (&["gen", "1", "0", "-text"], None),
+    (&["gen", "1", "0", "text"], None),
+    (&["gen", "1", "0", "--totals"], None),
+    (&["gen", "1", "0", "--text", "--totals"], None),
+    (&["gen", "1", "0", "--help"], None),
+    (&["gen", "1", "0", "--"], None),
+    (&["gen", "--", "1", "0", "--text"], None),
+    (&["--text", "gen", "1", "0"], None),
+    (&["gen --text", "1", "0"], None),
+    (&["Gen", "1", "0", "--text"], None),
+    (&["generate", "1", "0", "--text"], None),
+    (&["replay", "1", "0", "--text"], None),
+    (&["check", "1", "0", "--text"], None),
+];
+
+// The command of two numbers, or that words are none.
+fn gen_answer(rt: &impl Abort, numbers: Option<(u64, u64)>) -> Result<Command, CommandFault> {
+    let Some((count, start)) = numbers else {
+        return USAGE;
+    };
+    let count = PieceCount::new(count).expect(rt, "a count of pieces");
+    Ok(Command::Gen { count, start })
+}
+
+#[test]
+fn words_of_gen(rt: HostRuntime) {
+    for (words, numbers) in GEN {
+        let answer = gen_answer(&rt, *numbers);
+        assert!(rt; read(rt.alloc(), words, answer), "{words:?}");
+    }
+}
+
+#[test]
+fn counts_of_pieces(rt: HostRuntime) {
+    for number in [1, 2, 1000, 1999, 2000] {
+        let count = PieceCount::new(number).expect(&rt, "a count of pieces");
+        assert_eq!(rt; u64::from(count.number()), number);
+    }
+    for number in [0, 2001, 4294967297, 18446744073709551615] {
+        assert!(rt; PieceCount::new(number).is_none(), "{number}");
     }
 }

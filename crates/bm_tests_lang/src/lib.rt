@@ -1,5 +1,5 @@
-//! Tests of what texts are made of, devices, words of the program, classes, the language of scenarios and the ownership
-//! checker, over their public calls; and the definition of faults computed on worked texts.
+//! Tests of what texts are made of, devices, words of the program, classes, the language of scenarios, the ownership checker and
+//! the generator, over their public calls; and the definition of faults computed on worked texts.
 #![tactic(auto)]
 
 #[cfg(test)]
@@ -12,6 +12,8 @@ mod command_tests;
 mod device_tests;
 #[cfg(test)]
 mod fault_tests;
+#[cfg(test)]
+mod generator_tests;
 #[cfg(test)]
 mod limit_tests;
 #[cfg(test)]

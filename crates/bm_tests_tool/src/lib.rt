@@ -10,6 +10,8 @@ mod examples;
 #[cfg(test)]
 mod form_tests;
 #[cfg(test)]
+mod generated_tests;
+#[cfg(test)]
 mod handler_tests;
 #[cfg(test)]
 mod journal_tests;

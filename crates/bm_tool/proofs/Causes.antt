@@ -8,7 +8,9 @@ use Rattle.bm_lang.specs.Scenarios.{Reads}
 use Rattle.bm_lang.specs.Tokens.{tokens, start}
 use Rattle.bm_run_yet.specs.Unbuilt.{unbuilt_before}
 use Rattle.bm_command.specs.declared.command.Command.{Command}
-use Rattle.bm_command.specs.declared.command.Command.TheVariants.{Replay}
+use Rattle.bm_command.specs.declared.command.Reading.{Reading}
+use Rattle.bm_command.specs.declared.command.Reading.TheVariants.{Replay}
+use Rattle.bm_command.specs.Words.{command_of}
 use Rattle.bm_tool.specs.declared.refusal.Refusal.{Refusal}
 use Rattle.bm_tool.specs.declared.refusal.Refusal.TheVariants as refusal
 use Rattle.bm_tool.specs.Causes.{InputCause, IsBuilt, IsExceeded, IsRefused, IsRejection, IsScriptRejected, earlier}
@@ -19,7 +21,7 @@ of_left : (P : List ℕ → Type 0) (left : Option (List ℕ)) (bytes : List ℕ
 of_left P None bytes same p = tt
 of_left P (Some l) bytes same p = subst P same p
 
-moved : (c : Command) (left : Option (List ℕ)) (bytes : List ℕ) (before after : ℕ) (r : Refusal) → IfSome left (λ l. bytes ≡ l) → InputCause c (Some bytes) before after r → InputCause c left before after r
+moved : (c : Reading) (left : Option (List ℕ)) (bytes : List ℕ) (before after : ℕ) (r : Refusal) → IfSome left (λ l. bytes ≡ l) → InputCause c (Some bytes) before after r → InputCause c left before after r
 moved c left bytes before after refusal.Usage same h = h
 moved c left bytes before after refusal.ReadFailed same h = h
 moved c left bytes before after refusal.WriteFailed same h = h
@@ -28,7 +30,7 @@ moved c left bytes before after (refusal.Text bad) same h = of_left (λ bytes. (
 moved c left bytes before after (refusal.Rejected script line rule) same h = of_left (λ bytes. IsScriptRejected c bytes script line rule) left bytes same h
 moved c left bytes before after (refusal.Limit l) same h = of_left (λ bytes. IsExceeded c bytes l) left bytes same h
 
-pub cause_of_left : {T : Type 0} (x : Result T Refusal) (c : Command) (left : Option (List ℕ)) (bytes : List ℕ) (before after : ℕ) → IfSome left (λ l. bytes ≡ l)
+pub cause_of_left : {T : Type 0} (x : Result T Refusal) (c : Reading) (left : Option (List ℕ)) (bytes : List ℕ) (before after : ℕ) → IfSome left (λ l. bytes ≡ l)
     → IfErr x (λ r. (b a : ℕ) → InputCause c (Some bytes) b a r) → IfErr x (InputCause c left before after)
 cause_of_left (Ok t) c left bytes before after same h = tt
 cause_of_left (Err r) c left bytes before after same h = moved c left bytes before after r same (h before after)
@@ -46,7 +48,7 @@ named scripts place name h = found (slice_get scripts place) refl h
     found None e h = absurd h
 
 -- scripts that aren't accepted
-pub rejected : (c : Command) (bytes : List ℕ) (s : Parts) (r : Refusal) → length bytes ≤ input_limit → Reads bytes s → IsBuilt c bytes → first_limit s ≡ None → IsRejection s r → (before after : ℕ) → InputCause c (Some bytes) before after r
+pub rejected : (c : Reading) (bytes : List ℕ) (s : Parts) (r : Refusal) → length bytes ≤ input_limit → Reads bytes s → IsBuilt c bytes → first_limit s ≡ None → IsRejection s r → (before after : ℕ) → InputCause c (Some bytes) before after r
 rejected c bytes s refusal.Usage short reads built within h before after = absurd h
 rejected c bytes s refusal.ReadFailed short reads built within h before after = absurd h
 rejected c bytes s refusal.WriteFailed short reads built within h before after = absurd h
@@ -65,5 +67,13 @@ first_none None h = refl
 first_none (Some place) h = cc
 
 -- a text that `replay` lets pass has no form that can't be run yet
-pub has_built_forms : (c : Command) (totals : Bool) (bytes : List ℕ) → c ≡ Replay totals → IsBuilt c bytes → unbuilt_before None false (tokens start bytes) ≡ None
+pub has_built_forms : (c : Reading) (totals : Bool) (bytes : List ℕ) → c ≡ Replay totals → IsBuilt c bytes → unbuilt_before None false (tokens start bytes) ≡ None
 has_built_forms c totals bytes is built = first_none _ (subst (λ c. IsBuilt c bytes) is built)
+
+-- words that aren't none are a command
+pub some_command : (words : List (List ℕ)) → (command_of words ≡ None → ⊥) → (c : Command) × (command_of words ≡ Some c)
+some_command words h = found (command_of words) refl
+  where
+    found : (o : Option Command) → command_of words ≡ o → (c : Command) × (command_of words ≡ Some c)
+    found (Some c) e = (c, e)
+    found None e = absurd (h e)

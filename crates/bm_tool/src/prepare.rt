@@ -1,17 +1,18 @@
-//! What a command does with its input: the text is read, its limits and its scripts are checked, and it is run.
+//! What a command that reads a scenario does with its input: the text is read, its limits and its scripts are checked, and it is run.
 
 ghost use Rattle.std.specs.Prelude.{◌≡◌, ◌≤◌, ℕ, None, Some, IfOk, IfErr, length};
 ghost use Rattle.bm_journal.specs.JournalText.{totals_text};
 ghost use Rattle.bm_lang.specs.Scenarios.{Reads};
 ghost use Rattle.bm_lang.specs.Limits.{first_limit};
 ghost use Rattle.bm_check.specs.Answers.{IsFault};
+ghost use Rattle.bm_command.specs.declared.command.Command.TheVariants.{Read};
 ghost use Rattle.bm_tool.specs.Causes.{InputCause, IsBuilt, IsRejection, command_fault};
 ghost use Rattle.bm_tool.specs.Outcome.{IsPrepared, Serves, out_text};
 ghost use Rattle.bm_tool.specs.Refusals.{input_limit};
 
 use crate::refusal::Refusal;
 use bm_check::{CheckFault, Checked, check};
-use bm_command::Command;
+use bm_command::Reading;
 use bm_journal::{Journal, Totals, put_totals, text_of};
 use bm_lang::{BadKind, BadText, LangFault, Parts, Scenario, limits, read_scenario};
 use bm_run::replay;
@@ -27,13 +28,13 @@ pub(crate) struct Done {
 }
 
 // The first fault of a text for a command, where its fault by the whole language is this.
-fn first_fault(command: Command, bytes: &[u8], fault: Option<BadText>) -> Option<BadText>
+fn first_fault(command: Reading, bytes: &[u8], fault: Option<BadText>) -> Option<BadText>
     requires { length bytes.now ≤ input_limit }
     ensures { result ≡ command_fault command fault bytes.now }
 {
     match command {
-        Command::Check => fault,
-        Command::Replay { totals: _ } => match first_unbuilt(bytes, fault) {
+        Reading::Check => fault,
+        Reading::Replay { totals: _ } => match first_unbuilt(bytes, fault) {
             Some(place) => Some(BadText {
                 line: place.line,
                 column: place.column,
@@ -45,7 +46,7 @@ fn first_fault(command: Command, bytes: &[u8], fault: Option<BadText>) -> Option
 }
 
 // The scenario of a text.
-fn read(alloc: Global, command: Command, bytes: &[u8]) -> Result<Scenario, Refusal>
+fn read(alloc: Global, command: Reading, bytes: &[u8]) -> Result<Scenario, Refusal>
     requires { length bytes.now ≤ input_limit }
     ensures reads { IfOk result (Reads bytes.now) }
     ensures built { IfOk result (λ _. IsBuilt command bytes.now) }
@@ -85,7 +86,7 @@ fn rejection(fault: CheckFault, scenario: &Parts) -> Refusal
 }
 
 /// The scenario of a text, which is within the limits, and whose scripts are accepted.
-pub(crate) fn prepare(alloc: Global, command: Command, bytes: &[u8]) -> Result<Checked, Refusal>
+pub(crate) fn prepare(alloc: Global, command: Reading, bytes: &[u8]) -> Result<Checked, Refusal>
     requires { length bytes.now ≤ input_limit }
     ensures prepared { IfOk result (IsPrepared command bytes.now) }
     ensures cause { IfErr result (λ r. (before after : ℕ) → InputCause command (Some bytes.now) before after r) }
@@ -112,20 +113,20 @@ fn totals_lines(alloc: Global, totals: &Totals) -> Result<Vec<u8>, NoMemory>
 /// Does a command on a prepared scenario. Want of memory is the only refusal.
 pub(crate) fn perform(
     alloc: Global,
-    command: Command,
+    command: Reading,
     bytes: &[u8],
     checked: &Checked,
 ) -> Result<Done, NoMemory>
     requires { IsPrepared command bytes.now checked.now }
-    ensures serves { IfOk result (λ done. Serves command (Some bytes.now) done.journal) }
-    ensures text { IfOk result (λ done. done.text.items ≡ out_text command done.journal) }
+    ensures serves { IfOk result (λ done. Serves (Read command) (Some bytes.now) done.journal) }
+    ensures text { IfOk result (λ done. done.text.items ≡ out_text (Read command) done.journal) }
 {
     match command {
-        Command::Check => Ok(Done {
+        Reading::Check => Ok(Done {
             journal: None,
             text: Vec::from_slice(alloc, b"accepted\n")?,
         }),
-        Command::Replay { totals } => {
+        Reading::Replay { totals } => {
             built_scenarios_run();
             let journal = replay(alloc, checked)?;
             let text = if totals {

@@ -5,15 +5,18 @@ ghost use Rattle.std.specs.Io.KnownBytes.{IsAtEnd};
 ghost use Rattle.bm_text.specs.Faults.{Rose};
 ghost use Rattle.bm_command.specs.Words.{command_of, texts};
 ghost use Rattle.bm_command.specs.declared.command.Command.{Command as Asked};
+ghost use Rattle.bm_command.specs.declared.command.Command.TheVariants.{Read, Gen};
+ghost use Rattle.bm_command.specs.declared.command.Reading.{Reading as Asking};
 ghost use Rattle.bm_tool.specs.declared.refusal.Refusal.{Refusal as RefusalValue};
 ghost use Rattle.bm_tool.specs.declared.refusal.Refusal.TheVariants.{OutOfMemory, WriteFailed};
 ghost use Rattle.bm_tool.specs.Causes.{InputCause};
 ghost use Rattle.bm_tool.specs.Outcome.{IsServable, Serves, out_text, Printed, PrintedInPart, Refuses, Stayed};
 ghost use Rattle.bm_tool.specs.Refusals.{input_limit, status_of, line_of, IsLong, Told};
 
+use crate::generate::generate;
 use crate::prepare::{Done, perform, prepare};
 use crate::refusal::{Refusal, bad_text_line, limit_line, rejected_line};
-use bm_command::{Command, CommandFault, read_command};
+use bm_command::{Command, CommandFault, Reading, read_command};
 use bm_journal::Journal;
 use bm_lang::Limit;
 use bm_text::{Sink, Source, TextFault, read_all, write_all};
@@ -33,7 +36,7 @@ pub struct Answer {
 }
 
 // Reads the whole input, up to its limit.
-fn input<S: Source>(alloc: Global, command: Command, source: &mut S) -> Result<Vec<u8>, Refusal>
+fn input<S: Source>(alloc: Global, command: Reading, source: &mut S) -> Result<Vec<u8>, Refusal>
     ensures all { IfOk result (λ bytes. IfSome (S.left source.old) (λ left. bytes.items ≡ left)) }
     ensures within { IfOk result (λ bytes. vec_len bytes ≤ input_limit) }
     ensures end { OnOk result (IsAtEnd (S.left source.new)) }
@@ -47,11 +50,11 @@ fn input<S: Source>(alloc: Global, command: Command, source: &mut S) -> Result<V
     }
 }
 
-// What a command answers of bytes.
-fn serve(alloc: Global, command: Command, bytes: &[u8]) -> Result<Done, Refusal>
+// What a command that reads answers of bytes.
+fn serve(alloc: Global, command: Reading, bytes: &[u8]) -> Result<Done, Refusal>
     requires { length bytes.now ≤ input_limit }
-    ensures serves { IfOk result (λ done. Serves command (Some bytes.now) done.journal) }
-    ensures text { IfOk result (λ done. done.text.items ≡ out_text command done.journal) }
+    ensures serves { IfOk result (λ done. Serves (Read command) (Some bytes.now) done.journal) }
+    ensures text { IfOk result (λ done. done.text.items ≡ out_text (Read command) done.journal) }
     ensures cause { IfErr result (λ r. (before after : ℕ) → InputCause command (Some bytes.now) before after r) }
 {
     let checked = prepare(alloc, command, bytes)?;
@@ -62,9 +65,9 @@ fn serve(alloc: Global, command: Command, bytes: &[u8]) -> Result<Done, Refusal>
 }
 
 // Reads the input, and does what the command asks.
-fn run<S: Source>(alloc: Global, command: Command, source: &mut S) -> Result<Done, Refusal>
-    ensures serves { IfOk result (λ done. Serves command (S.left source.old) done.journal) }
-    ensures text { IfOk result (λ done. done.text.items ≡ out_text command done.journal) }
+fn run<S: Source>(alloc: Global, command: Reading, source: &mut S) -> Result<Done, Refusal>
+    ensures serves { IfOk result (λ done. Serves (Read command) (S.left source.old) done.journal) }
+    ensures text { IfOk result (λ done. done.text.items ≡ out_text (Read command) done.journal) }
     ensures end { OnOk result (IsAtEnd (S.left source.new)) }
     ensures cause { IfErr result (InputCause command (S.left source.old) (S.faults source.old) (S.faults source.new)) }
 {
@@ -179,12 +182,14 @@ pub fn out_of_memory<E: Sink>(err: &mut E) -> Answer
 }
 
 /// The program. `replay` reads a scenario from `source`, runs it and writes its journal to `out`, or with `--totals` the
-/// lines of its totals; `check` reads a scenario and writes `accepted` where all its scripts are accepted.
+/// lines of its totals; `check` reads a scenario and writes `accepted` where all its scripts are accepted; `gen` reads
+/// nothing and writes the text of the generated scenario of its two numbers.
 ///
 /// The statuses are 0 where all was done, 1 where the words are no command, 2 where the source failed, 3 where the sink
 /// failed, 4 where memory ran out, 5 where the text has no reading (for `replay` also where it has a form that can't be
 /// run yet), 6 where a script isn't accepted, and 7 where a limit is exceeded. They are looked for in the order words,
-/// input, text, limits, scripts, run, output. At every status but 0 a line is written to `err`.
+/// input, text, limits, scripts, run, output; of `gen` only 0, 3 and 4 come. At every status but 0 a line is written to
+/// `err`.
 pub fn bpfmem<S: Source, K: Sink, E: Sink>(
     alloc: Global,
     words: &[&str],
@@ -203,7 +208,8 @@ pub fn bpfmem<S: Source, K: Sink, E: Sink>(
         × (result.status ≡ 0 → Printed (out_text c result.journal) (K.written out.old) (K.written out.new) (K.flushed out.old) (K.flushed out.new))
         × (result.status ≡ 3 → PrintedInPart (out_text c result.journal) (K.written out.old) (K.written out.new)) }
     ensures silent { result.status ≡ 0 → E.written err.new ≡ E.written err.old }
-    ensures all_taken { (result.status ≡ 0) ⊎ (result.status ≡ 3) → IsAtEnd (S.left source.new) }
+    ensures all_taken { (c : Asking) → command_of (texts words.now) ≡ Some (Read c)
+        → (result.status ≡ 0) ⊎ (result.status ≡ 3) → IsAtEnd (S.left source.new) }
 
     // At every other status nothing is written to `out`, and no journal is answered.
     ensures nothing_printed { result.status ≢ 0 → result.status ≢ 3
@@ -211,19 +217,32 @@ pub fn bpfmem<S: Source, K: Sink, E: Sink>(
     ensures nothing_taken { result.status ≡ 1
         → (S.left source.new ≡ S.left source.old) × (S.faults source.new ≡ S.faults source.old) }
 
-    // A command, a text that it can serve, and no fault of the source or the sink: then all is done, or memory ran out.
-    ensures complete { (c : Asked) → command_of (texts words.now) ≡ Some c → IsSome (S.left source.old)
+    // A command that reads, a text that it can serve, and no fault of the source or the sink: then all is done, or memory ran out.
+    ensures complete { (c : Asking) → command_of (texts words.now) ≡ Some (Read c) → IsSome (S.left source.old)
         → IfSome (S.left source.old) (IsServable c)
         → Stayed (S.faults source.old) (S.faults source.new) → Stayed (K.faults out.old) (K.faults out.new)
         → (result.status ≡ 0) ⊎ (result.status ≡ 4) }
+
+    // `gen` takes nothing from the source. Where no fault of the sink came, all is done, or memory ran out; else it may be the writing
+    // that failed.
+    ensures made { (count start : ℕ) → command_of (texts words.now) ≡ Some (Gen count start)
+        → (S.left source.new ≡ S.left source.old) × (S.faults source.new ≡ S.faults source.old)
+        × ((result.status ≡ 0) ⊎ (result.status ≡ 4) ⊎ (result.status ≡ 3))
+        × (Stayed (K.faults out.old) (K.faults out.new) → (result.status ≡ 0) ⊎ (result.status ≡ 4)) }
 {
     let command = match read_command(alloc, words) {
         Ok(command) => command,
         Err(CommandFault::Usage) => return refused(alloc, err, Refusal::Usage),
         Err(CommandFault::NoMemory) => return refused(alloc, err, Refusal::OutOfMemory),
     };
-    match run(alloc, command, source) {
-        Ok(done) => print(out, err, done),
-        Err(refusal) => refused(alloc, err, refusal),
+    match command {
+        Command::Read(reading) => match run(alloc, reading, source) {
+            Ok(done) => print(out, err, done),
+            Err(refusal) => refused(alloc, err, refusal),
+        },
+        Command::Gen { count, start } => match generate(alloc, count, start) {
+            Ok(done) => print(out, err, done),
+            Err(NoMemory) => refused(alloc, err, Refusal::OutOfMemory),
+        },
     }
 }
