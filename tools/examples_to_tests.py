@@ -1,5 +1,5 @@
 #!/usr/bin/env python3
-"""Writes the scenarios and journals of examples/ as the constants that the tests of the program walk through.
+"""Writes the scenarios of examples/ that have a journal, and these, as the constants that the tests of the program walk through.
 
 The files of examples/ are the home of these texts. A test can't read files, so it has them as constants, in
 crates/bm_tests_tool/src/examples/, one file an example, and a table of them in crates/bm_tests_tool/src/examples.rt.
@@ -22,7 +22,7 @@ def constant(name: str, text: str) -> str:
 
 
 def files() -> dict[pathlib.Path, str]:
-    names = sorted(file.stem for file in EXAMPLES.glob("*.scenario"))
+    names = sorted(file.stem for file in EXAMPLES.glob("*.journal"))
     made = {}
     for name in names:
         scenario = (EXAMPLES / f"{name}.scenario").read_text()
