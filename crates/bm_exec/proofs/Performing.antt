@@ -1,6 +1,5 @@
 -- Statements that were performed.
-use Rattle.std.proofs.Common.{◌≡◌, ◌∙◌, ◌≤◌, ℕ, suc, zero, ◌+◌, ◌*◌, Bool, true, false, ◌&&◌, ◌||◌, if◌then◌else◌, List, [], ◌∷◌, ◌++◌, length, ◌<◌, refl, sym, ap, subst, Option, Some, None, IfSome, is_some, slice_get, append_assoc, arith, inl, max, not}
-use Rattle.std.specs.List.{list_all}
+use Rattle.std.proofs.Common.{◌≡◌, ◌∙◌, ◌≤◌, ℕ, suc, ◌+◌, ◌*◌, Bool, true, false, ◌&&◌, ◌||◌, if◌then◌else◌, List, [], ◌∷◌, ◌++◌, length, ◌<◌, refl, sym, ap, subst, Option, Some, None, IfSome, is_some, slice_get, append_assoc, arith, inl, max}
 use Rattle.bm_journal.specs.declared.entry.Entry.TheVariants as entry
 use Rattle.bm_journal.specs.declared.ids.ObjId.{ObjId}
 use Rattle.bm_lang.specs.declared.scenario.Action.{Action, New, Drop, If', Repeat, Section, Yield, Held-Action-If-2, None', Some'}
@@ -17,7 +16,7 @@ use Rattle.bm_law_scenario.specs.Opened.{OfClass}
 use Rattle.bm_law.proofs.Folds.{after-append}
 use Rattle.bm_law_work.specs.Grown.{GrewBy}
 use Rattle.bm_law_work.proofs.Grown.{grew-say, grew-none, grew-stand, grew-map, grew-join}
-use Rattle.bm_law_scenario.proofs.Freed.{knows-batch, plainly}
+use Rattle.bm_law_scenario.proofs.Freed.{knows-batch}
 use Rattle.bm_law_scenario.specs.Calls.{answered, RunsNew, RunsDrop, batch_in}
 use Rattle.bm_law_work.specs.Parts.{Say, Stand}
 use Rattle.bm_law_scenario.specs.Runs.{Done, Followed, Leaving, Times, Within, RunsAction, RunsBlock}
@@ -71,28 +70,14 @@ new-performed types classes l z w p s s1 s' x t values names names' lives lives'
       down = down;
     }
 
-not-true : (b a : Bool) → (not b && a) ≡ true → b ≡ false
-not-true true a e = cc
-not-true false a e = refl
-
-all-behind : (b a : Bool) → (not b && a) ≡ true → a ≡ true
-all-behind true a e = cc
-all-behind false a e = e
-
--- no type has a reference count
-plain-at : (types : List TypeDeclaration) (t : ℕ) (d : TypeDeclaration) → list_all (λ (x : TypeDeclaration). not x.counted) types ≡ true → slice_get types t ≡ Some d → d.counted ≡ false
-plain-at [] t d e f = cc
-plain-at (x ∷ xs) zero d e f = let q : x ≡ d = cc in rw q at (not-true x.counted _ e)
-plain-at (x ∷ xs) (suc t) d e f = plain-at xs t d (all-behind x.counted _ e) f
-
 pub drop-performed : (types : List TypeDeclaration) (classes : List ℕ) (l : ℕ) (z : Around) (w : Option (List ℕ)) (p : ℕ) (s s1 s' : State ℕ) (x : List ℕ) (t : TypeId) (o : ObjId) (names names' : Names) (lives lives' lives'' : Lives) (asked asked' : ℕ) (log log1 log' : Option Log) (c : ℕ) (d : TypeDeclaration) →
-    IfSome log (λ es. Leaves p es s) → IfSome log1 (λ es. Leaves p es s1) → IfSome log' (λ es. Leaves p es s') → Classes types classes → OfClass types t.0 c d → names x ≡ Object t o.unit o.life → Disposed l c o log log1 lives lives' → names' ≡ with_name x Nothing names → asked' ≤ asked + 2 →
+    IfSome log (λ es. Leaves p es s) → IfSome log1 (λ es. Leaves p es s1) → IfSome log' (λ es. Leaves p es s') → Classes types classes → OfClass types t.0 c d → names x ≡ Object t o.unit o.life → Disposed l d.counted c o s log log1 lives lives' → names' ≡ with_name x Nothing names → asked' ≤ asked + 2 →
     lives'' ≡ lives' → GrewBy (Behind w) s1 log1 log' → Behind w s' [] → (os : List Open) → Performed types l z z w s s' (Drop x) names names' os os lives lives'' asked asked' log log'
 drop-performed types classes l z w p s s1 s' x t o names names' lives lives' lives'' asked asked' log log1 log' c d leaves leaves1 leaves' cs of held gone e n same work down os = record {
   grew = called types l z w p (Drop x) s s1 s' names names' os log log1 log' leaves leaves1 leaves'
       (grew-map (Say l (λ own. RunsDrop types x (batch_in l s) names own names')) (RunsAction types l (is_inside z) (Behind w) (Drop x) names names') s log log1 (λ part y. y)
       (grew-say l (λ own. RunsDrop types x (batch_in l s) names own names') (entry.Drop o.unit o.life ∷ entry.Last ∷ gone.own) s log log1 gone.records
-      (record { type = t; unit = o.unit; life = o.life; held = held; class = c; declared = d; of_class = of; home = gone.home; batch = is_some (s.rows c).deferred.plain; batch_is = knows-batch l s c; own = gone.own; part_is = refl; frees = plainly d.counted c o.unit gone.home (is_some (s.rows c).deferred.plain) gone.own (plain-at types t.0 d cs.plain of.found) gone.frees; after_is = e }))) work;
+      (record { type = t; unit = o.unit; life = o.life; held = held; class = c; declared = d; of_class = of; home = gone.home; batch = is_some (s.rows c).deferred.plain; batch_is = knows-batch l s c; own = gone.own; part_is = refl; frees = gone.frees; after_is = e }))) work;
   safe = λ s y. rw e (rw (store-with x Nothing names) y.1.3);
   holds = λ base h. rw same (rw e (holds-less types base lives lives' names x t o.unit o.life held gone.ends h));
   meets = λ p h a b. b;

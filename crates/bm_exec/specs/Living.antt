@@ -1,5 +1,5 @@
 -- The objects that live, by their units.
-use Rattle.std.specs.Prelude.{◌≡◌, ◌⊎◌, ℕ, List, ◌∷◌, Option, Some, None}
+use Rattle.std.specs.Prelude.{◌≡◌, ◌⊎◌, ℕ, Bool, List, ◌∷◌, Option, Some, None, is_some}
 use Rattle.bm_journal.specs.declared.entry.Entry.{Entry}
 use Rattle.bm_journal.specs.declared.entry.Entry.TheVariants as entry
 use Rattle.bm_journal.specs.declared.ids.ObjId.{ObjId}
@@ -8,11 +8,11 @@ use Rattle.bm_lang.specs.declared.scenario.TypeId.{TypeId}
 pub use Rattle.bm_grace.specs.Known.{Living, Lives}
 pub use Rattle.bm_world.specs.Lives.{with_life}
 use Rattle.bm_law.specs.Lists.{Log}
-use Rattle.bm_law.specs.Phrases.{FreePhrase}
 use Rattle.bm_law.specs.Spans.{Records}
+use Rattle.bm_law.specs.State.{State}
 use Rattle.bm_law_scenario.specs.Held.{Names, Object}
 use Rattle.bm_law_scenario.specs.Opened.{OfClass}
-use Rattle.bm_law_scenario.specs.Calls.{Allocates}
+use Rattle.bm_law_scenario.specs.Calls.{Allocates, Frees}
 
 -- Unit u lives life n, and is of class c.
 pub record LivesAs (lives : Lives) (c u n : ℕ) : Type 0 where
@@ -46,13 +46,13 @@ pub record Created (l c : ℕ) (name values : List ℕ) (log log' : Option Log) 
   pub allocates : Allocates c own (reply_of reply)
   pub begins : Begins c lives lives' reply
 
--- The one reference to an object is given up: its entries, of which the free goes to the object's home, and that the object
--- lives no more.
-pub record Disposed (l c : ℕ) (o : ObjId) (log log' : Option Log) (lives lives' : Lives) : Type 0 where
+-- The one reference to an object of a counted type, or of another one, is given up, with these lists before: its entries, of which the
+-- free goes to the object's home, and that the object lives no more.
+pub record Disposed (l : ℕ) (counted : Bool) (c : ℕ) (o : ObjId) (s : State ℕ) (log log' : Option Log) (lives lives' : Lives) : Type 0 where
   pub home : ℕ
   pub own : List Entry
   pub records : Records l (entry.Drop o.unit o.life ∷ entry.Last ∷ own) log log'
-  pub frees : FreePhrase c o.unit home own
+  pub frees : Frees counted c o.unit home (is_some (s.rows c).deferred.plain) own
   pub to_home : home_of (lives o.unit) ≡ Some home
   pub ends : lives' ≡ with_life o.unit None lives
 

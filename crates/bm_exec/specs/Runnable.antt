@@ -1,6 +1,5 @@
 -- Which scripts run so far: those of `new`, `drop`, `if`, `repeat`, `section` and `yield`.
-use Rattle.std.specs.Prelude.{◌≡◌, ℕ, Bool, true, false, ◌&&◌, not, List, length, nat_le, is_some, slice_get, map, Some}
-use Rattle.std.specs.List.{list_all}
+use Rattle.std.specs.Prelude.{◌≡◌, ℕ, Bool, true, false, ◌&&◌, List, length, nat_le, is_some, slice_get, map, Some}
 use Rattle.bm_class.specs.Sizes.{class_of_size}
 use Rattle.bm_lang.specs.declared.scenario.Action.{Action, New, Drop, Acquire, Get, Exchange, If', Repeat, Section, Lock, Unlock, Yield, PushFront, PushBack, PopFront, PopBack, Add, First, Remove, Held-Action-If-2, None', Some'}
 use Rattle.bm_lang.specs.declared.scenario.Block.{Block, Block', Row_of-Statement, end_of-Statement, more_of-Statement}
@@ -39,7 +38,6 @@ abbrev mutual
   can_run_row types end_of-Statement = true
   can_run_row types (more_of-Statement line action rest) = can_run_action types action && can_run_row types rest
 
--- Each type has a class, which stands at its place in this list, and no reference count.
+-- Each type has a class, which stands at its place in this list.
 pub record Classes (types : List TypeDeclaration) (classes : List ℕ) : Type 0 where
   pub each : map Some classes ≡ map (λ d. class_of_size (object_size d)) types
-  pub plain : list_all (λ d. not d.counted) types ≡ true

@@ -66,11 +66,12 @@ pub trait Machine {
         ensures around { around self.new ≡ around self.old }
         ensures keeps { keeps self.old self.new };
 
-    /// Gives up the one reference to an object that lives.
-    fn dispose(&mut self, object: ObjId)
+    /// Gives up the one reference to an object that lives: its unit is freed with delay where objects of its type are counted, else
+    /// plainly. From `__bpf_obj_drop_impl` of kernel/bpf/helpers.c.
+    fn dispose(&mut self, object: ObjId, counted: bool)
         requires sound { sound self.old }
         requires living { (c : ℕ) × LivesAs (lives self.old) c object.unit object.life }
-        ensures disposed { (c : ℕ) → LivesAs (lives self.old) c object.unit object.life → Disposed (level self.old) c object (log self.old) (log self.new) (lives self.old) (lives self.new) }
+        ensures disposed { (c : ℕ) → LivesAs (lives self.old) c object.unit object.life → Disposed (level self.old) counted c object (lists self.old) (log self.old) (log self.new) (lives self.old) (lives self.new) }
         ensures sound { sound self.new }
         ensures level { level self.new ≡ level self.old }
         ensures asked { asked self.new ≤ asked self.old }

@@ -119,10 +119,13 @@ fn perform_drop<'s, M: Machine>(
     ensures known { names.new.names.keys ≡ names.old.names.keys }
     ensures bare { M.behind machine.old ≡ None → IsOk result }
 {
-    let Holding::Object(_, object) = names.holding(name.as_bytes()) else {
+    let Holding::Object(type_id, object) = names.holding(name.as_bytes()) else {
         unreachable!();
     };
-    machine.dispose(object);
+    let Some(declared) = types.declared.get(type_id.0) else {
+        unreachable!();
+    };
+    machine.dispose(object, declared.counted);
     let Ok(()) = names.put(name.as_bytes(), Holding::Nothing) else {
         unreachable!();
     };

@@ -1,5 +1,5 @@
 -- Objects that begin to live by a call of the code of a level, and that live no more.
-use Rattle.std.proofs.Common.{◌≡◌, ◌+◌, ℕ, List, [], ◌∷◌, Option, Some, None, refl, ap, subst, inl, inr}
+use Rattle.std.proofs.Common.{◌≡◌, ◌+◌, ℕ, Bool, true, false, is_some, List, [], ◌∷◌, Option, Some, None, refl, ap, subst, inl, inr}
 use Rattle.bm_journal.specs.declared.ids.ObjId.{ObjId}
 use Rattle.bm_journal.specs.declared.entry.Entry.{Entry}
 use Rattle.bm_journal.specs.declared.entry.Entry.TheVariants as entry
@@ -7,13 +7,14 @@ use Rattle.bm_journal.specs.Recording.{Appends}
 use Rattle.bm_page.specs.UnitState.{UnitState}
 use Rattle.bm_grace.specs.Known.{Lives}
 use Rattle.bm_law.specs.Lists.{Log}
-use Rattle.bm_law.specs.Phrases.{alloc_took, FreePhrase}
+use Rattle.bm_law.specs.Phrases.{alloc_took}
+use Rattle.bm_law.specs.State.{State}
 use Rattle.bm_law.specs.Spans.{Records}
 use Rattle.bm_law.proofs.Spans.{Records-one, Records-join}
-use Rattle.bm_law_scenario.specs.Calls.{Allocates}
-use Rattle.bm_cache.specs.Answers.{RestFreed}
+use Rattle.bm_law_scenario.specs.Calls.{Allocates, Frees}
 use Rattle.bm_cache.specs.Tokens.{seal_numbers}
 use Rattle.bm_exec.specs.Living.{Created, Disposed, home_of, with_life}
+use Rattle.bm_exec_levels.specs.Freeing.{FreeRest, free_entry}
 
 -- ---- what the call left
 
@@ -36,19 +37,28 @@ made-none l class name values log0 log1 log2 own lives lives' n r a same = recor
   begins = same;
 }
 
-rest-phrase : (fell c u home : ℕ) (rest : List Entry) → RestFreed fell c u rest → FreePhrase c u home (entry.Free u home ∷ rest)
-rest-phrase fell c u home rest (inl x) = inl (x.0, x.1, ap (λ z. entry.Free u home ∷ z) x.2)
-rest-phrase fell c u home rest (inr x) = inr (x.0, x.1, x.2, x.3, x.4, ap (λ z. entry.Free u home ∷ z) x.6)
+-- a free, plain or with delay, by its first entry and the rest
+rest-phrase : (delayed : Bool) (fell c u home : ℕ) (batch : Bool) (rest : List Entry) → FreeRest delayed fell c u batch rest → Frees delayed c u home batch (free_entry delayed u home ∷ rest)
+rest-phrase false fell c u home batch rest (inl x) = inl (x.0, x.1, ap (λ z. entry.Free u home ∷ z) x.2)
+rest-phrase false fell c u home batch rest (inr x) = inr (x.0, x.1, x.2, x.3, x.4, ap (λ z. entry.Free u home ∷ z) x.6)
+rest-phrase true fell c u home batch rest (inl x) = inl (x.0, ap (λ z. entry.Delay u home ∷ z) x.1)
+rest-phrase true fell c u home batch rest (inr x) = inr (x.0, x.1, x.2, x.3, x.4, ap (λ z. entry.Delay u home ∷ z) x.6)
 
-pub given-up : (l fell c : ℕ) (o : ObjId) (u : UnitState) (rest : List Entry) (log0 log1 log2 log3 : Option Log) (lives lives' : Lives) →
-    u.number ≡ o.unit → u.class ≡ c → home_of (lives o.unit) ≡ Some u.home → Appends log0 l (entry.Drop o.unit o.life) log1 → Appends log1 l entry.Last log2 → Records l (entry.Free u.number u.home ∷ rest) log2 log3 → RestFreed fell u.class u.number rest →
-    lives' ≡ with_life o.unit None lives → Disposed l c o log0 log3 lives lives'
-given-up l fell c o u rest log0 log1 log2 log3 lives lives' number class home n m r f ends = record {
+-- whether a plain batch of a class is in progress
+abbrev pub batch_of : State ℕ → ℕ → Bool
+batch_of s c = is_some (s.rows c).deferred.plain
+
+pub given-up : (delayed : Bool) (l fell c : ℕ) (o : ObjId) (u : UnitState) (s t : State ℕ) (rest : List Entry) (log0 log1 log2 log3 : Option Log) (lives lives' : Lives) →
+    u.number ≡ o.unit → u.class ≡ c → t ≡ s → home_of (lives o.unit) ≡ Some u.home → Appends log0 l (entry.Drop o.unit o.life) log1 → Appends log1 l entry.Last log2 → Records l (free_entry delayed u.number u.home ∷ rest) log2 log3 → FreeRest delayed fell u.class u.number (batch_of t u.class) rest →
+    lives' ≡ with_life o.unit None lives → Disposed l delayed c o s log0 log3 lives lives'
+given-up delayed l fell c o u s t rest log0 log1 log2 log3 lives lives' number class same home n m r f ends = record {
   home = u.home;
-  own = entry.Free u.number u.home ∷ rest;
-  records = Records-join l (entry.Drop o.unit o.life ∷ []) (entry.Last ∷ entry.Free u.number u.home ∷ rest) log0 log1 log3 (Records-one l (entry.Drop o.unit o.life) log0 log1 n)
-      (Records-join l (entry.Last ∷ []) (entry.Free u.number u.home ∷ rest) log1 log2 log3 (Records-one l entry.Last log1 log2 m) r);
-  frees = subst (λ k. FreePhrase k o.unit u.home (entry.Free u.number u.home ∷ rest)) class (subst (λ k. FreePhrase u.class k u.home (entry.Free u.number u.home ∷ rest)) number (rest-phrase fell u.class u.number u.home rest f));
+  own = free_entry delayed u.number u.home ∷ rest;
+  records = Records-join l (entry.Drop o.unit o.life ∷ []) (entry.Last ∷ free_entry delayed u.number u.home ∷ rest) log0 log1 log3 (Records-one l (entry.Drop o.unit o.life) log0 log1 n)
+      (Records-join l (entry.Last ∷ []) (free_entry delayed u.number u.home ∷ rest) log1 log2 log3 (Records-one l entry.Last log1 log2 m) r);
+  frees =
+      let own = free_entry delayed u.number u.home ∷ rest in
+      subst (λ k. Frees delayed k o.unit u.home (batch_of s k) own) class (subst (λ k. Frees delayed u.class k u.home (batch_of s u.class) own) number (subst (λ z. Frees delayed u.class u.number u.home (batch_of z u.class) own) same (rest-phrase delayed fell u.class u.number u.home (batch_of t u.class) rest f)));
   to_home = home;
   ends = ends;
 }

@@ -1,5 +1,5 @@
 -- What stands behind the passes and the begins of a tied log: why each poll had nothing to do, and for what each period began.
-use Rattle.std.specs.Prelude.{◌≡◌, ◌≤◌, ◌+◌, ℕ, false, List, [], ◌∷◌, ◌++◌, Some}
+use Rattle.std.specs.Prelude.{◌≡◌, ◌≤◌, ◌+◌, ℕ, Bool, false, true, List, [], ◌∷◌, ◌++◌, Some}
 use Rattle.std.proofs.Common.{◌∙◌, ap, refl, sym}
 use Rattle.bm_journal.specs.declared.ids.Domain.{Domain}
 use Rattle.bm_journal.specs.declared.period.Period.{Period}
@@ -15,7 +15,7 @@ use Rattle.bm_law_order.specs.Chunk.{Chunk, is_judged}
 use Rattle.bm_law_order.specs.Chunk as chunk
 use Rattle.bm_law_order.specs.Tie.{Tied, whatever}
 use Rattle.bm_grace.specs.Known.{side}
-use Rattle.bm_work.specs.Rested.{Fails, IsIdle}
+use Rattle.bm_work.specs.Rested.{Fails, GoesFrom, IsIdle}
 use Rattle.bm_grace.specs.declared.grace.Knows.{Ghosts as Knows}
 
 -- By the lists that the log of processor p leaves, the batch of this class, or of some class, waits for this stamp.
@@ -83,21 +83,34 @@ module _ {W : Type 0} (knows : Knows W) where
     pub from : AllFrom (l + 1) added
     pub log_is : log ≡ before ++ added
 
-  -- A chunk of level l is judged so by the log before it, since a time: a pass stands behind a poll that was idle, a period that
-  -- begins was due, a life ends by a plain free, and no batch of the first stage goes away.
-  abbrev pub polled : (since : Log) (start : W) → ℕ → Log → Chunk → Type 0
-  polled since start l log (chunk.Passing c d x n) = WasIdle since start l c d x log
-  polled since start l log (chunk.Beginning d n ws) = IsDue (home start) d n log
-  polled since start l log (chunk.WholePeriod n ws p) = IsDue (home start) p.domain n log
-  polled since start l log (chunk.Ending u life home delayed) = delayed ≡ false
-  polled since start l log (chunk.Releasing c to us stamp seen) = ⊥
-  polled since start l log _ = Unit {0}
+  -- A chunk of level l is judged so by the log before it, since a time: a pass stands after a poll that was idle, a period that
+  -- begins was due, a batch of the first stage goes away directly after its pass, and units go back of which nobody tells what they wait
+  -- for where the closing has begun, and are never sent.
+  abbrev pub polled : (closing : Bool) (since : Log) (start : W) → ℕ → Log → Chunk → Type 0
+  polled closing since start l log (chunk.Passing c d x n) = WasIdle since start l c d x log
+  polled closing since start l log (chunk.Beginning d n ws) = IsDue (home start) d n log
+  polled closing since start l log (chunk.WholePeriod n ws p) = IsDue (home start) p.domain n log
+  polled closing since start l log (chunk.Releasing c to us stamp seen) = GoesFrom (home start) l c stamp seen log
+  polled closing since start l log (chunk.Returning c us) = closing ≡ true
+  polled closing since start l log (chunk.Sending c to us) = ⊥
+  polled closing since start l log _ = Unit {0}
 
   -- what needs no judge has none
-  pub unpolled : (since : Log) (start : W) (l : ℕ) (log : Log) (c : Chunk) → is_judged c ≡ false → polled since start l log c
-  unpolled since start l log (chunk.Passing c d x n) e = absurd (cc)
-  unpolled since start l log (chunk.Beginning d n ws) e = absurd (cc)
-  unpolled since start l log (chunk.WholePeriod n ws p) e = absurd (cc)
-  unpolled since start l log (chunk.Ending u life home delayed) e = absurd (cc)
-  unpolled since start l log (chunk.Releasing c to us stamp seen) e = absurd (cc)
-  unpolled since start l log _ e = tt
+  pub unpolled : (closing : Bool) (since : Log) (start : W) (l : ℕ) (log : Log) (c : Chunk) → is_judged c ≡ false → polled closing since start l log c
+  unpolled closing since start l log (chunk.Passing c d x n) e = absurd (cc)
+  unpolled closing since start l log (chunk.Beginning d n ws) e = absurd (cc)
+  unpolled closing since start l log (chunk.WholePeriod n ws p) e = absurd (cc)
+  unpolled closing since start l log (chunk.Releasing c to us stamp seen) e = absurd (cc)
+  unpolled closing since start l log (chunk.Returning c us) e = absurd (cc)
+  unpolled closing since start l log (chunk.Sending c to us) e = absurd (cc)
+  unpolled closing since start l log _ e = tt
+
+  -- what is judged so before the closing is judged so in it
+  pub later : (since : Log) (start : W) (l : ℕ) (log : Log) (c : Chunk) → polled false since start l log c → polled true since start l log c
+  later since start l log (chunk.Passing c d x n) j = j
+  later since start l log (chunk.Beginning d n ws) j = j
+  later since start l log (chunk.WholePeriod n ws p) j = j
+  later since start l log (chunk.Releasing c to us stamp seen) j = j
+  later since start l log (chunk.Returning c us) j = refl
+  later since start l log (chunk.Sending c to us) j = j
+  later since start l log _ j = tt

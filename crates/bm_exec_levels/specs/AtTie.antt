@@ -1,5 +1,5 @@
 -- The log of a processor and its side, tied since a time.
-use Rattle.std.specs.Prelude.{◌&&◌, is_none, ◌≡◌, ◌⊎◌, ℕ, nat_eq, true, false, List, [], ◌∷◌, Option, Some, None, IsSome, ◌++◌}
+use Rattle.std.specs.Prelude.{◌&&◌, is_none, ◌≡◌, ◌⊎◌, ℕ, nat_eq, Bool, true, false, List, [], ◌∷◌, Option, Some, None, IsSome, ◌++◌}
 use Rattle.std.proofs.Common.{◌∙◌, ap, append_assoc, eq-eqb, inl, inr, refl, subst, sym}
 use Rattle.std.proofs.lemmas.Bool.{and_parts, eqb-true, false≢true}
 use Rattle.bm_journal.specs.declared.entry.Entry.{Entry}
@@ -12,7 +12,7 @@ use Rattle.bm_page.specs.declared.units.Seal.{Seal}
 use Rattle.bm_law_order.specs.Act.{Act}
 use Rattle.bm_law_order.specs.Act as act
 use Rattle.bm_cache.specs.Steps.{is_free}
-use Rattle.bm_cache.specs.Tests.{SuitsFree, Waits}
+use Rattle.bm_cache.specs.Tests.{Reusable, SuitsFree, Waits}
 use Rattle.bm_cache.specs.Tokens.{Token}
 use Rattle.bm_cache.specs.declared.caches.Caches.{Caches}
 use Rattle.bm_law_order.specs.Chunk.{Chunk, Shows, acts_of, entries_of, seal_told}
@@ -24,6 +24,7 @@ use Rattle.bm_law.proofs.Spans.{own-append}
 use Rattle.bm_law_order.proofs.Ties.{law-closed, law-done, law-quiet, law-said, law-stepped, tie-judged, tie-level}
 use Rattle.bm_exec_levels.specs.AtPolls.{DoesHere, here-join, here-same, polled, unpolled}
 use Rattle.bm_exec_levels.specs.AtProcessor.{log_of, tests_of}
+use Rattle.bm_exec_levels.specs.Freeing.{free_entry}
 use Rattle.bm_exec_levels.specs.Hosting.{with_caches, with_side}
 use Rattle.bm_exec_levels.specs.declared.processor.Processor.{Processor}
 use Rattle.bm_grace.specs.declared.grace.Knows.{Ghosts as Knows}
@@ -58,7 +59,7 @@ own-last l log e =
 module _ {W : Type 0} (knows : Knows W) where
   -- tied since then, with these acts and entries of level l that aren't told of yet
   abbrev pub OwesAt : Log → W → ℕ → List Act → List Entry → Processor W → Type 0
-  OwesAt since start l done es m = TiedBy (polled knows since start) (DoesHere knows) since start l done es (log_of m) m.side
+  OwesAt since start l done es m = TiedBy (polled knows false since start) (DoesHere knows) since start l done es (log_of m) m.side
 
   -- the same, where nothing is owed: the level is no matter then
   abbrev pub TiedAt : Log → W → Processor W → Type 0
@@ -68,15 +69,20 @@ module _ {W : Type 0} (knows : Knows W) where
   abbrev pub GaveAt : Log → W → (l u life : ℕ) → Processor W → Type 0
   GaveAt since start l u life m = (seal : Option (ℕ × ℕ)) × OwesAt since start l [] (given u life seal ∷ []) m
 
-  -- a life ended by its drop, and its unit's free, which is a plain one, hasn't begun: the unit isn't due
+  -- before the free of a unit: it isn't due before a plain one, and may not be used again before one with delay
+  abbrev pub Awaits : (delayed : Bool) → ℕ → Processor W → Type 0
+  Awaits false u m = (n : ℕ) (seal : Option Seal) → (knows.rights m.side).due u n seal ≡ false
+  Awaits true u m = (n : ℕ) (seal : Option Seal) → (knows.rights m.side).settled u n seal ≡ false
+
+  -- a life ended by its drop, and its unit's free, a plain one or one with delay, hasn't begun
   abbrev pub FreesAt : Log → W → (l u home : ℕ) → Processor W → Type 0
-  FreesAt since start l u home m = (life : ℕ) × OwesAt since start l (act.Ends u life home false ∷ []) (entry.Drop u life ∷ entry.Last ∷ []) m × ((n : ℕ) (seal : Option Seal) → (knows.rights m.side).due u n seal ≡ false)
+  FreesAt since start l u home m = (delayed : Bool) × (life : ℕ) × OwesAt since start l (act.Ends u life home delayed ∷ []) (entry.Drop u life ∷ entry.Last ∷ []) m × Awaits delayed u m
 
   -- ---- levels
 
-  by-level : (since : Log) (start : W) (l k : ℕ) (log : Option Log) (w : W) → TiedBy (polled knows since start) (DoesHere knows) since start l [] [] log w → TiedBy (polled knows since start) (DoesHere knows) since start k [] [] log w
+  by-level : (since : Log) (start : W) (l k : ℕ) (log : Option Log) (w : W) → TiedBy (polled knows false since start) (DoesHere knows) since start l [] [] log w → TiedBy (polled knows false since start) (DoesHere knows) since start k [] [] log w
   by-level since start l k None w t = tt
-  by-level since start l k (Some log) w t = tie-level (polled knows since start) (unpolled knows since start) (DoesHere knows) (here-same knows) (here-join knows) since start l k log w t
+  by-level since start l k (Some log) w t = tie-level (polled knows false since start) (unpolled knows false since start) (DoesHere knows) (here-same knows) (here-join knows) since start l k log w t
 
   pub tied-open : (since : Log) (start : W) (l : ℕ) (m : Processor W) → TiedAt since start m → OwesAt since start l [] [] m
   tied-open since start l m t = by-level since start 0 l (log_of m) m.side t
@@ -85,28 +91,28 @@ module _ {W : Type 0} (knows : Knows W) where
   tied-shut since start l m t = by-level since start l 0 (log_of m) m.side t
 
   -- by a chunk that the log before it judges
-  pub as-judged : (since : Log) (start : W) (l : ℕ) (done : List Act) (es : List Entry) (log : Option Log) (w : W) (c : Chunk) → acts_of c ≡ done → entries_of c ≡ es → ((before : Log) → log ≡ Some (before ++ at_level l es) → polled knows since start l before c) → TiedBy (polled knows since start) (DoesHere knows) since start l done es log w → TiedBy (polled knows since start) (DoesHere knows) since start l [] [] log w
-  as-judged since start l done es None w c a e j t = tt
-  as-judged since start l done es (Some log) w c a e j t = tie-judged (polled knows since start) (unpolled knows since start) (DoesHere knows) (here-same knows) (here-join knows) since start l done es log w c a e (λ before q. j before (ap Some q)) t
+  pub as-judged : (closing : Bool) (since : Log) (start : W) (l : ℕ) (done : List Act) (es : List Entry) (log : Option Log) (w : W) (c : Chunk) → acts_of c ≡ done → entries_of c ≡ es → ((before : Log) → log ≡ Some (before ++ at_level l es) → polled knows closing since start l before c) → TiedBy (polled knows closing since start) (DoesHere knows) since start l done es log w → TiedBy (polled knows closing since start) (DoesHere knows) since start l [] [] log w
+  as-judged closing since start l done es None w c a e j t = tt
+  as-judged closing since start l done es (Some log) w c a e j t = tie-judged (polled knows closing since start) (unpolled knows closing since start) (DoesHere knows) (here-same knows) (here-join knows) since start l done es log w c a e (λ before q. j before (ap Some q)) t
 
   pub tied-closed : (since : Log) (start : W) (l : ℕ) (done : List Act) (es : List Entry) (m : Processor W) → Shows done es → OwesAt since start l done es m → TiedAt since start m
-  tied-closed since start l done es m s t = by-level since start l 0 (log_of m) m.side (law-closed (polled knows since start) (unpolled knows since start) (DoesHere knows) (here-same knows) (here-join knows) since start l done es (log_of m) m.side s t)
+  tied-closed since start l done es m s t = by-level since start l 0 (log_of m) m.side (law-closed (polled knows false since start) (unpolled knows false since start) (DoesHere knows) (here-same knows) (here-join knows) since start l done es (log_of m) m.side s t)
 
   -- ---- other caches
 
   pub tied-same : (since : Log) (start : W) (m : Processor W) (c : Caches Recorded) → c.recorder.told ≡ log_of m → TiedAt since start m → TiedAt since start (with_caches m c)
-  tied-same since start m c e t = subst (λ o. TiedBy (polled knows since start) (DoesHere knows) since start 0 [] [] o m.side) (sym e) t
+  tied-same since start m c e t = subst (λ o. TiedBy (polled knows false since start) (DoesHere knows) since start 0 [] [] o m.side) (sym e) t
 
   -- an entry that touches nothing of what processors share, on the same side
   pub tied-turned : (since : Log) (start : W) (l : ℕ) (m b : Processor W) (e : Entry) → is_quiet e ≡ true → Appends (log_of m) l e (log_of b) → b.side ≡ m.side → TiedAt since start m → TiedAt since start b
   tied-turned since start l m b e q a f t =
-      subst (λ w. TiedBy (polled knows since start) (DoesHere knows) since start 0 [] [] (log_of b) w) (sym f) (by-level since start l 0 (log_of b) m.side (law-quiet (polled knows since start) (unpolled knows since start) (DoesHere knows) (here-same knows) (here-join knows) since start l e (log_of m) (log_of b) m.side q a (by-level since start 0 l (log_of m) m.side t)))
+      subst (λ w. TiedBy (polled knows false since start) (DoesHere knows) since start 0 [] [] (log_of b) w) (sym f) (by-level since start l 0 (log_of b) m.side (law-quiet (polled knows false since start) (unpolled knows false since start) (DoesHere knows) (here-same knows) (here-join knows) since start l e (log_of m) (log_of b) m.side q a (by-level since start 0 l (log_of m) m.side t)))
 
   pub tied-quiet : (since : Log) (start : W) (l : ℕ) (m : Processor W) (c : Caches Recorded) (e : Entry) → is_quiet e ≡ true → Appends (log_of m) l e c.recorder.told → TiedAt since start m → TiedAt since start (with_caches m c)
   tied-quiet since start l m c e q a t = tied-turned since start l m (with_caches m c) e q a refl t
 
   pub tied-gave : (since : Log) (start : W) (l : ℕ) (m : Processor W) (c : Caches Recorded) (u life : ℕ) (seal : Option (ℕ × ℕ)) → Appends (log_of m) l (given u life seal) c.recorder.told → TiedAt since start m → GaveAt since start l u life (with_caches m c)
-  tied-gave since start l m c u life seal a t = (seal, law-said (polled knows since start) (unpolled knows since start) (DoesHere knows) (here-same knows) (here-join knows) since start l [] [] (given u life seal) (log_of m) c.recorder.told m.side a (tied-open since start l m t))
+  tied-gave since start l m c u life seal a t = (seal, law-said (polled knows false since start) (unpolled knows false since start) (DoesHere knows) (here-same knows) (here-join knows) since start l [] [] (given u life seal) (log_of m) c.recorder.told m.side a (tied-open since start l m t))
 
   -- a unit that isn't due doesn't wait
   waits-not : (m : Processor W) (u : Token) → ((n : ℕ) (seal : Option Seal) → (knows.rights m.side).due u.number n seal ≡ false) → Waits (tests_of knows m) u → ⊥
@@ -115,33 +121,49 @@ module _ {W : Type 0} (knows : Knows W) where
       let due = and_parts (r.due u.number u.life None) (is_none u.seal) (and_parts (r.mine u.number) (r.due u.number u.life None && is_none u.seal) h).1 in
       false≢true (sym (d u.life None) ∙ due.0)
 
+  -- a unit that may not be used again isn't used again
+  unused-not : (m : Processor W) (u : Token) → ((n : ℕ) (seal : Option Seal) → (knows.rights m.side).settled u.number n seal ≡ false) → Reusable (tests_of knows m) u → ⊥
+  unused-not m u d h =
+      let r = knows.rights m.side in
+      false≢true (sym (d u.life u.seal) ∙ (and_parts (r.mine u.number) (r.settled u.number u.life u.seal) h).1)
+
+  -- the free that begins is the one that the life ended by
+  freed-so : (delayed : Bool) (m : Processor W) (e : Entry) (u : Token) → SuitsFree (tests_of knows m) u e → is_free u.number u.home e ≡ true → Awaits delayed u.number m → e ≡ free_entry delayed u.number u.home
+  freed-so false m e u f i a = elim (free-is u.number u.home e i) [
+    | inl q ↦ q
+    | inr q ↦ absurd (waits-not m u a (subst (SuitsFree (tests_of knows m) u) q f))
+  ]
+  freed-so true m e u f i a = elim (free-is u.number u.home e i) [
+    | inl q ↦ absurd (unused-not m u a (subst (SuitsFree (tests_of knows m) u) q f))
+    | inr q ↦ q
+  ]
+
   pub tied-freed : (since : Log) (start : W) (l : ℕ) (m : Processor W) (c : Caches Recorded) (e : Entry) (u : Token) → SuitsFree (tests_of knows m) u e → is_free u.number u.home e ≡ true → Appends (log_of m) l e c.recorder.told → FreesAt since start l u.number u.home m → TiedAt since start (with_caches m c)
   tied-freed since start l m c e u f i a t =
       let n = u.number in
-      let said = law-said (polled knows since start) (unpolled knows since start) (DoesHere knows) (here-same knows) (here-join knows) since start l (act.Ends n t.0 u.home false ∷ []) (entry.Drop n t.0 ∷ entry.Last ∷ []) e (log_of m) c.recorder.told m.side a t.1 in
-      elim (free-is n u.home e i) [
-        | inl q ↦ by-level since start l 0 c.recorder.told m.side (as-judged since start l (act.Ends n t.0 u.home false ∷ []) (entry.Drop n t.0 ∷ entry.Last ∷ e ∷ []) c.recorder.told m.side (chunk.Ending n t.0 u.home false) refl (ap (λ x. entry.Drop n t.0 ∷ entry.Last ∷ x ∷ []) (sym q)) (λ before r. refl) said)
-        | inr q ↦ absurd (waits-not m u t.2 (subst (SuitsFree (tests_of knows m) u) q f))
-      ]
+      let done = act.Ends n t.1 u.home t.0 ∷ [] in
+      let es = entry.Drop n t.1 ∷ entry.Last ∷ [] in
+      let said = law-said (polled knows false since start) (unpolled knows false since start) (DoesHere knows) (here-same knows) (here-join knows) since start l done es e (log_of m) c.recorder.told m.side a t.2 in
+      by-level since start l 0 c.recorder.told m.side (as-judged false since start l done (entry.Drop n t.1 ∷ entry.Last ∷ e ∷ []) c.recorder.told m.side (chunk.Ending n t.1 u.home t.0) refl (ap (λ x. entry.Drop n t.1 ∷ entry.Last ∷ x ∷ []) (sym (freed-so t.0 m e u f i t.3))) (λ before r. tt) said)
 
   -- ---- another processor's state
 
   -- with the same log and side
   pub tied-as : (since : Log) (start : W) (m k : Processor W) → log_of k ≡ log_of m → k.side ≡ m.side → TiedAt since start m → TiedAt since start k
-  tied-as since start m k e f t = subst (λ o. TiedBy (polled knows since start) (DoesHere knows) since start 0 [] [] o k.side) (sym e) (subst (λ w. TiedBy (polled knows since start) (DoesHere knows) since start 0 [] [] (log_of m) w) (sym f) t)
+  tied-as since start m k e f t = subst (λ o. TiedBy (polled knows false since start) (DoesHere knows) since start 0 [] [] o k.side) (sym e) (subst (λ w. TiedBy (polled knows false since start) (DoesHere knows) since start 0 [] [] (log_of m) w) (sym f) t)
 
   -- the side did something, and an entry tells of it
   pub tied-told : (since : Log) (start : W) (l : ℕ) (m k : Processor W) (done : List Act) (e : Entry) → Shows done (e ∷ []) → DoesHere knows done m.side k.side → Appends (log_of m) l e (log_of k) → TiedAt since start m → TiedAt since start k
   tied-told since start l m k done e s d a t =
-      let did = law-done (polled knows since start) (unpolled knows since start) (DoesHere knows) (here-same knows) (here-join knows) since start l [] done [] (log_of m) m.side k.side d (tied-open since start l m t) in
-      tied-closed since start l done (e ∷ []) k s (law-said (polled knows since start) (unpolled knows since start) (DoesHere knows) (here-same knows) (here-join knows) since start l done [] e (log_of m) (log_of k) k.side a did)
+      let did = law-done (polled knows false since start) (unpolled knows false since start) (DoesHere knows) (here-same knows) (here-join knows) since start l [] done [] (log_of m) m.side k.side d (tied-open since start l m t) in
+      tied-closed since start l done (e ∷ []) k s (law-said (polled knows false since start) (unpolled knows false since start) (DoesHere knows) (here-same knows) (here-join knows) since start l done [] e (log_of m) (log_of k) k.side a did)
 
   -- the side did what no entry tells of
   pub tied-did : (since : Log) (start : W) (m k : Processor W) → log_of k ≡ log_of m → DoesHere knows [] m.side k.side → TiedAt since start m → TiedAt since start k
   tied-did since start m k e d t =
-      subst (λ o. TiedBy (polled knows since start) (DoesHere knows) since start 0 [] [] o k.side) (sym e) (law-done (polled knows since start) (unpolled knows since start) (DoesHere knows) (here-same knows) (here-join knows) since start 0 [] [] [] (log_of m) m.side k.side d t)
+      subst (λ o. TiedBy (polled knows false since start) (DoesHere knows) since start 0 [] [] o k.side) (sym e) (law-done (polled knows false since start) (unpolled knows false since start) (DoesHere knows) (here-same knows) (here-join knows) since start 0 [] [] [] (log_of m) m.side k.side d t)
 
-  pub seal-recorded : (since : Log) (start : W) (l u life : ℕ) (seal told : Option (ℕ × ℕ)) (xs : List Entry) (before : Option Log) (log : Log) (w : W) → Records l (xs ++ given u life seal ∷ []) before (Some log) → Tied (polled knows since start) (DoesHere knows) since start l [] (given u life told ∷ []) log w → seal ≡ told
+  pub seal-recorded : (since : Log) (start : W) (l u life : ℕ) (seal told : Option (ℕ × ℕ)) (xs : List Entry) (before : Option Log) (log : Log) (w : W) → Records l (xs ++ given u life seal ∷ []) before (Some log) → Tied (polled knows false since start) (DoesHere knows) since start l [] (given u life told ∷ []) log w → seal ≡ told
   seal-recorded since start l u life seal told xs before log w r t =
       let mine : last_of (own_entries l log) ≡ Some (given u life seal) =
       ap (λ z. last_of (own_entries l z)) r.now_is ∙ (ap last_of (own-append l r.log r.added ∙ ap (λ z. own_entries l r.log ++ z) r.owned ∙ sym (append_assoc (own_entries l r.log) xs (given u life seal ∷ []))) ∙ last-is (own_entries l r.log ++ xs) (given u life seal)) in
@@ -153,36 +175,36 @@ module _ {W : Type 0} (knows : Knows W) where
   -- the unit that was given has begun its life
   pub tied-begun : (since : Log) (start : W) (l u life : ℕ) (seal : Option Seal) (xs : List Entry) (before : Option Log) (m k : Processor W) → Records l (xs ++ given u life (seal_told seal) ∷ []) before (log_of m) → log_of k ≡ log_of m → DoesHere knows (act.Makes u life seal ∷ []) m.side k.side → GaveAt since start l u life m → TiedAt since start k
   tied-begun since start l u life seal xs before m k r e d t =
-      let G : Option Log → Type 0 = λ o. TiedBy (polled knows since start) (DoesHere knows) since start 0 [] [] o k.side in
+      let G : Option Log → Type 0 = λ o. TiedBy (polled knows false since start) (DoesHere knows) since start 0 [] [] o k.side in
       subst G (sym e) (begun (log_of m) r t.1)
     where
-      begun : (o : Option Log) → Records l (xs ++ given u life (seal_told seal) ∷ []) before o → TiedBy (polled knows since start) (DoesHere knows) since start l [] (given u life t.0 ∷ []) o m.side → TiedBy (polled knows since start) (DoesHere knows) since start 0 [] [] o k.side
+      begun : (o : Option Log) → Records l (xs ++ given u life (seal_told seal) ∷ []) before o → TiedBy (polled knows false since start) (DoesHere knows) since start l [] (given u life t.0 ∷ []) o m.side → TiedBy (polled knows false since start) (DoesHere knows) since start 0 [] [] o k.side
       begun None r t = tt
       begun (Some log) r q =
           let same : seal_told seal ≡ t.0 = seal-recorded since start l u life (seal_told seal) t.0 xs before log m.side r q in
-          let now : TiedBy (polled knows since start) (DoesHere knows) since start l [] (given u life (seal_told seal) ∷ []) (Some log) m.side = subst (λ s. TiedBy (polled knows since start) (DoesHere knows) since start l [] (given u life s ∷ []) (Some log) m.side) (sym same) q in
-          let did = law-done (polled knows since start) (unpolled knows since start) (DoesHere knows) (here-same knows) (here-join knows) since start l [] (act.Makes u life seal ∷ []) (given u life (seal_told seal) ∷ []) (Some log) m.side k.side d now in
-          by-level since start l 0 (Some log) k.side (as-judged since start l (act.Makes u life seal ∷ []) (given u life (seal_told seal) ∷ []) (Some log) k.side (chunk.Making u life seal) refl refl (λ before q. tt) did)
+          let now : TiedBy (polled knows false since start) (DoesHere knows) since start l [] (given u life (seal_told seal) ∷ []) (Some log) m.side = subst (λ s. TiedBy (polled knows false since start) (DoesHere knows) since start l [] (given u life s ∷ []) (Some log) m.side) (sym same) q in
+          let did = law-done (polled knows false since start) (unpolled knows false since start) (DoesHere knows) (here-same knows) (here-join knows) since start l [] (act.Makes u life seal ∷ []) (given u life (seal_told seal) ∷ []) (Some log) m.side k.side d now in
+          by-level since start l 0 (Some log) k.side (as-judged false since start l (act.Makes u life seal ∷ []) (given u life (seal_told seal) ∷ []) (Some log) k.side (chunk.Making u life seal) refl refl (λ before q. tt) did)
 
   -- the life of a unit ended, behind its drop and the reply
-  pub tied-freeing : (since : Log) (start : W) (l u life home : ℕ) (m k : Processor W) (mid : Option Log) → Appends (log_of m) l (entry.Drop u life) mid → Appends mid l entry.Last (log_of k) → DoesHere knows (act.Ends u life home false ∷ []) m.side k.side → ((n : ℕ) (seal : Option Seal) → (knows.rights k.side).due u n seal ≡ false) → TiedAt since start m → FreesAt since start l u home k
-  tied-freeing since start l u life home m k mid a b d undue t =
-      let one = law-said (polled knows since start) (unpolled knows since start) (DoesHere knows) (here-same knows) (here-join knows) since start l [] [] (entry.Drop u life) (log_of m) mid m.side a (tied-open since start l m t) in
-      let two = law-said (polled knows since start) (unpolled knows since start) (DoesHere knows) (here-same knows) (here-join knows) since start l [] (entry.Drop u life ∷ []) entry.Last mid (log_of k) m.side b one in
-      (life, law-done (polled knows since start) (unpolled knows since start) (DoesHere knows) (here-same knows) (here-join knows) since start l [] (act.Ends u life home false ∷ []) (entry.Drop u life ∷ entry.Last ∷ []) (log_of k) m.side k.side d two, undue)
+  pub tied-freeing : (since : Log) (start : W) (delayed : Bool) (l u life home : ℕ) (m k : Processor W) (mid : Option Log) → Appends (log_of m) l (entry.Drop u life) mid → Appends mid l entry.Last (log_of k) → DoesHere knows (act.Ends u life home delayed ∷ []) m.side k.side → Awaits delayed u k → TiedAt since start m → FreesAt since start l u home k
+  tied-freeing since start delayed l u life home m k mid a b d awaits t =
+      let one = law-said (polled knows false since start) (unpolled knows false since start) (DoesHere knows) (here-same knows) (here-join knows) since start l [] [] (entry.Drop u life) (log_of m) mid m.side a (tied-open since start l m t) in
+      let two = law-said (polled knows false since start) (unpolled knows false since start) (DoesHere knows) (here-same knows) (here-join knows) since start l [] (entry.Drop u life ∷ []) entry.Last mid (log_of k) m.side b one in
+      (delayed, life, law-done (polled knows false since start) (unpolled knows false since start) (DoesHere knows) (here-same knows) (here-join knows) since start l [] (act.Ends u life home delayed ∷ []) (entry.Drop u life ∷ entry.Last ∷ []) (log_of k) m.side k.side d two, awaits)
 
   -- ---- as a desk's laws need it
 
   pub owes-did : (since : Log) (start : W) (l : ℕ) (done more : List Act) (es : List Entry) (m : Processor W) (w : W) → DoesHere knows more m.side w → OwesAt since start l done es m → OwesAt since start l (done ++ more) es (with_side m w)
-  owes-did since start l done more es m w d o = law-done (polled knows since start) (unpolled knows since start) (DoesHere knows) (here-same knows) (here-join knows) since start l done more es (log_of m) m.side w d o
+  owes-did since start l done more es m w d o = law-done (polled knows false since start) (unpolled knows false since start) (DoesHere knows) (here-same knows) (here-join knows) since start l done more es (log_of m) m.side w d o
 
   pub owes-said : (since : Log) (start : W) (l : ℕ) (done : List Act) (es : List Entry) (e : Entry) (m : Processor W) (c : Caches Recorded) → Appends (log_of m) l e c.recorder.told → OwesAt since start l done es m → OwesAt since start l done (es ++ e ∷ []) (with_caches m c)
-  owes-said since start l done es e m c a o = law-said (polled knows since start) (unpolled knows since start) (DoesHere knows) (here-same knows) (here-join knows) since start l done es e (log_of m) c.recorder.told m.side a o
+  owes-said since start l done es e m c a o = law-said (polled knows false since start) (unpolled knows false since start) (DoesHere knows) (here-same knows) (here-join knows) since start l done es e (log_of m) c.recorder.told m.side a o
 
   -- the entry of a step, where it stands for what was done if the log is told
   pub tied-paid : (since : Log) (start : W) (l : ℕ) (done : List Act) (e : Entry) (m : Processor W) (c : Caches Recorded) → (IsSome c.recorder.told → Shows done (e ∷ [])) → Appends (log_of m) l e c.recorder.told → OwesAt since start l done [] m → TiedAt since start (with_caches m c)
   tied-paid since start l done e m c x a o = by-level since start l 0 c.recorder.told m.side (paid c.recorder.told x a)
     where
-      paid : (now : Option Log) → (IsSome now → Shows done (e ∷ [])) → Appends (log_of m) l e now → TiedBy (polled knows since start) (DoesHere knows) since start l [] [] now m.side
+      paid : (now : Option Log) → (IsSome now → Shows done (e ∷ [])) → Appends (log_of m) l e now → TiedBy (polled knows false since start) (DoesHere knows) since start l [] [] now m.side
       paid None x a = tt
-      paid (Some now) x a = law-stepped (polled knows since start) (unpolled knows since start) (DoesHere knows) (here-same knows) (here-join knows) since start l done e (log_of m) (Some now) m.side (x refl) a o
+      paid (Some now) x a = law-stepped (polled knows false since start) (unpolled knows false since start) (DoesHere knows) (here-same knows) (here-join knows) since start l done e (log_of m) (Some now) m.side (x refl) a o

@@ -7,6 +7,7 @@ pub mod AtProcessor
 pub mod Growing
 pub mod Hosting
 pub mod AtPolls
+pub mod Freeing
 pub mod AtTie
 pub mod AtRests
 pub mod RunsOn

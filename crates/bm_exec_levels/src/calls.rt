@@ -1,14 +1,14 @@
 //! Objects that the code of a level asks for and gives up.
 
-ghost use Rattle.std.specs.Prelude.{◌≡◌, ◌+◌, ◌-◌, ◌<◌, ◌^◌, ℕ, length};
-ghost use Rattle.bm_journal.specs.declared.entry.Entry.TheVariants as entry;
+ghost use Rattle.std.specs.Prelude.{◌≡◌, ◌+◌, ◌-◌, ◌<◌, ◌^◌, ℕ, is_some, length};
 ghost use Rattle.bm_law.specs.Stands.{stands};
-ghost use Rattle.bm_cache.specs.Answers.{Allocated, Freed, Gone, IsOfClass, RestFreed, SoundBy};
+ghost use Rattle.bm_cache.specs.Answers.{Allocated, Freed, Gone, IsOfClass, SoundBy};
 ghost use Rattle.bm_cache.specs.Shown.{shown};
-ghost use Rattle.bm_cache.specs.Tests.{Reusable};
+ghost use Rattle.bm_cache.specs.Tests.{SuitsFree};
 ghost use Rattle.bm_exec.specs.Living.{Created, Disposed, LivesAs};
 ghost use Rattle.bm_exec_levels.specs.AtProcessor.{Between, FineAt, IsAt, SameLives, lists_of, log_of, tests_of};
 ghost use Rattle.bm_exec_levels.specs.AtTie.{FreesAt, GaveAt, TiedAt};
+ghost use Rattle.bm_exec_levels.specs.Freeing.{FreeRest, free_entry};
 ghost use Rattle.bm_exec_levels.specs.Ready.{asked_of, known_of, left_of};
 ghost use Rattle.bm_exec_levels.specs.declared.processor.Processor.{Processor as ProcessorValue};
 ghost use Rattle.bm_plan.specs.Position.{StandsAt};
@@ -17,7 +17,7 @@ use crate::host::At;
 use crate::processor::Processor;
 use crate::program::Program;
 use crate::ranks::Rank;
-use bm_cache::{Given, alloc, free};
+use bm_cache::{Given, alloc, free, free_delayed};
 use bm_class::Class;
 use bm_journal::{Entry, ObjId, Values};
 use bm_page::Unit;
@@ -57,11 +57,12 @@ fn allocate<'s, W: Lives, B: Since<W>, L: Rank>(
     given
 }
 
-// Frees a unit at a level.
+// Frees a unit at a level, plainly or with delay.
 fn release<'s, W: Lives, B: Since<W>, L: Rank>(
     own: &mut Processor<W>,
     program: &'s Program<'s>,
     unit: Unit,
+    delayed: bool,
 )
     requires at { IsAt W.Knows StandsAt L.number program.now own.old }
     requires tied { FreesAt W.Knows B.since B.start L.number unit.number unit.home own.old }
@@ -69,8 +70,10 @@ fn release<'s, W: Lives, B: Since<W>, L: Rank>(
     requires fresh { stands unit.number (lists_of own.old) ≡ 0 }
     requires lives { unit.life + 1 < 2 ^ 32 }
     requires home { unit.home < (known_of W.Knows own.old).grace.processors }
-    requires suits { Reusable (tests_of W.Knows own.old) unit }
-    ensures freed { Freed L.number unit (entry.Free unit.number unit.home) (RestFreed (length (left_of own.old) - length (left_of own.new)) unit.class unit.number) (log_of own.old) (log_of own.new) (shown own.old.caches) (shown own.new.caches) }
+    requires suits { SuitsFree (tests_of W.Knows own.old) unit (free_entry delayed unit.number unit.home) }
+    ensures freed { Freed L.number unit (free_entry delayed unit.number unit.home)
+        (FreeRest delayed (length (left_of own.old) - length (left_of own.new)) unit.class unit.number (is_some ((lists_of own.old).rows unit.class).deferred.plain))
+        (log_of own.old) (log_of own.new) (shown own.old.caches) (shown own.new.caches) }
     ensures at { IsAt W.Knows StandsAt L.number program.now own.new }
     ensures tied { TiedAt W.Knows B.since B.start own.new }
     ensures between { Between W.Knows 0 0 L.number program.now own.old own.new }
@@ -82,7 +85,11 @@ fn release<'s, W: Lives, B: Since<W>, L: Rank>(
         of: PhantomData,
         since: PhantomData,
     };
-    free(&mut at, unit);
+    if delayed {
+        free_delayed(&mut at, unit);
+    } else {
+        free(&mut at, unit);
+    }
     let At {
         own: _,
         program: _,
@@ -123,18 +130,20 @@ pub(crate) fn make<'s, W: Lives, B: Since<W>, L: Rank>(
     }
 }
 
-/// Gives up the one reference to an object that lives, at a level. It takes no memory but the recorder's.
+/// Gives up the one reference to an object that lives, at a level: its unit is freed with delay where objects of its type are counted,
+/// else plainly. It takes no memory but the recorder's.
 pub(crate) fn give_up<'s, W: Lives, B: Since<W>, L: Rank>(
     own: &mut Processor<W>,
     program: &'s Program<'s>,
     object: ObjId,
+    counted: bool,
 )
     requires at { IsAt W.Knows StandsAt L.number program.now own.old }
     requires tied { TiedAt W.Knows B.since B.start own.old }
     requires fine { FineAt W.Knows L.number own.old }
     requires living { (c : ℕ) × LivesAs (known_of W.Knows own.old).objects.lives c object.unit object.life }
     ensures disposed { (c : ℕ) → LivesAs (known_of W.Knows own.old).objects.lives c object.unit object.life →
-        Disposed L.number c object (log_of own.old) (log_of own.new) (known_of W.Knows own.old).objects.lives (known_of W.Knows own.new).objects.lives }
+        Disposed L.number counted c object (lists_of own.old) (log_of own.old) (log_of own.new) (known_of W.Knows own.old).objects.lives (known_of W.Knows own.new).objects.lives }
     ensures at { IsAt W.Knows StandsAt L.number program.now own.new }
     ensures tied { TiedAt W.Knows B.since B.start own.new }
     ensures between { Between W.Knows 0 0 L.number program.now own.old own.new }
@@ -143,6 +152,6 @@ pub(crate) fn give_up<'s, W: Lives, B: Since<W>, L: Rank>(
     own.caches
         .note(level, Entry::Drop(object.unit, object.life));
     own.caches.note(level, Entry::Last);
-    let unit = own.side.end_life(object.unit, false);
-    release::<W, B, L>(own, program, unit);
+    let unit = own.side.end_life(object.unit, counted);
+    release::<W, B, L>(own, program, unit, counted);
 }

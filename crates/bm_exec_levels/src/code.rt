@@ -45,8 +45,8 @@ impl<'a, 's, W: Lives, B: Since<W>, L: Rank> Machine for At<'a, 's, W, B, L> {
         make::<W, B, L>(self.own, self.program, class, name, values)
     }
 
-    fn dispose(&mut self, object: ObjId) {
-        give_up::<W, B, L>(self.own, self.program, object);
+    fn dispose(&mut self, object: ObjId, counted: bool) {
+        give_up::<W, B, L>(self.own, self.program, object, counted);
     }
 
     fn is_inside(&self) -> bool {

@@ -151,8 +151,8 @@ impl<'a, 's, W: Lives, B: Since<W>> Machine for Ground<'a, 's, W, B> {
         make::<W, B, Ordinary>(self.own, self.program, class, name, values)
     }
 
-    fn dispose(&mut self, object: ObjId) {
-        give_up::<W, B, Ordinary>(self.own, self.program, object);
+    fn dispose(&mut self, object: ObjId, counted: bool) {
+        give_up::<W, B, Ordinary>(self.own, self.program, object, counted);
     }
 
     fn is_inside(&self) -> bool {

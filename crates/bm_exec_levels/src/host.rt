@@ -97,12 +97,13 @@ impl<'a, 's, W: Lives, B: Since<W>, L: Rank> Desk<Keep> for At<'a, 's, W, B, L> 
     ghost use Rattle.std.proofs.Common.{◌∙◌, ap};
     ghost use Rattle.bm_cache.specs.Span.{Face};
     ghost use Rattle.bm_plan.specs.Position.{AskedAt, StandsAt};
-    ghost use Rattle.std.specs.Prelude.{[]};
+    ghost use Rattle.std.specs.Prelude.{[], false};
     ghost use Rattle.std.proofs.Common.{subst, sym};
     ghost use Rattle.bm_journal.specs.declared.entry.Entry.TheVariants as entry;
+    ghost use Rattle.bm_journal.specs.declared.units.Units.TheVariants.{Whole};
     ghost use Rattle.bm_exec_levels.specs.AtProcessor.{IsAt, SameLives, Stays, log_of};
     ghost use Rattle.bm_exec_levels.specs.AtTie.{OwesAt, owes-did, owes-said, tied-closed, tied-open, tied-paid, tied-shut};
-    ghost use Rattle.bm_exec_levels.specs.AtRests.{RestedBy, RestsBy, law-kept, law-passed, law-rested_done, rests-begun, rests-looked, rests-missed, rests-read, rests-tied, rests-whole, waits-in};
+    ghost use Rattle.bm_exec_levels.specs.AtRests.{RestedBy, RestsBy, goes-in, law-kept, law-passed, law-released, law-rested_done, rests-begun, rests-looked, rests-missed, rests-read, rests-tied, rests-whole, waits-in};
     ghost use Rattle.bm_law_order.specs.Act as act;
     ghost use Rattle.std.specs.Prelude.{◌∷◌};
     ghost use Rattle.bm_grace.specs.Known.{Objects};
@@ -122,9 +123,9 @@ impl<'a, 's, W: Lives, B: Since<W>, L: Rank> Desk<Keep> for At<'a, 's, W, B, L> 
 
     ghost minds = { Unit {0} };
 
-    ghost rested = { λ d x m. IsAt W.Knows StandsAt L.number m.program.now m.own.now × RestsBy W.Knows B.since B.start L.number d x (log_of m.own.now) m.own.now.side };
+    ghost rested = { λ d x m. IsAt W.Knows StandsAt L.number m.program.now m.own.now × RestsBy W.Knows false B.since B.start L.number d x (log_of m.own.now) m.own.now.side };
 
-    ghost asked_rested = { λ d x done m. IsAt W.Knows AskedAt L.number m.program.now m.own.now × RestedBy W.Knows B.since B.start L.number d x done (log_of m.own.now) m.own.now.side };
+    ghost asked_rested = { λ d x done m. IsAt W.Knows AskedAt L.number m.program.now m.own.now × RestedBy W.Knows false B.since B.start L.number d x done (log_of m.own.now) m.own.now.side };
 
     fn world(&mut self) -> &mut W {
         let own = &mut *self.own;
@@ -171,23 +172,25 @@ impl<'a, 's, W: Lives, B: Since<W>, L: Rank> Desk<Keep> for At<'a, 's, W, B, L> 
 
     ghost asked_stepped = { λ h c done e i x p a o. (at-stepped W.Knows L.number h.program.now h.own.now c e i p a o.0, tied-paid W.Knows B.since B.start L.number done e h.own.now c x a o.1) };
 
-    ghost rested_looked = { λ h d x f o. (o.0, rests-looked W.Knows B.since B.start L.number d x (log_of h.own.now) h.own.now.side f o.1) };
+    ghost asked_released = { λ h c i to us x n m p a o. (at-stepped W.Knows L.number h.program.now h.own.now c (entry.Send i to (Whole us)) refl p a o.0, tied-shut W.Knows B.since B.start L.number (with_caches h.own.now c) (law-released W.Knows false B.since B.start L.number i to us x n (log_of h.own.now) c.recorder.told h.own.now.side (goes-in _ L.number i x n _ h.own.now.caches o.0.ready.here m) a o.1)) };
 
-    ghost rested_begun = { λ h d x n b a f o. (o.0, rests-begun W.Knows B.since B.start L.number d x n _ h.own.now.caches h.own.now.side b o.0.ready.here (a tt) f o.1) };
+    ghost rested_looked = { λ h d x f o. (o.0, rests-looked W.Knows false B.since B.start L.number d x (log_of h.own.now) h.own.now.side f o.1) };
 
-    ghost rested_read = { λ h d x n i z o. (o.0, rests-read W.Knows B.since B.start L.number d x n (log_of h.own.now) h.own.now.side i z o.1) };
+    ghost rested_begun = { λ h d x n b a f o. (o.0, rests-begun W.Knows false B.since B.start L.number d x n _ h.own.now.caches h.own.now.side b o.0.ready.here (a tt) f o.1) };
 
-    ghost rested_missed = { λ h d x even n o. (o.0, rests-missed W.Knows B.since B.start L.number d x even n (log_of h.own.now) h.own.now.side o.1) };
+    ghost rested_read = { λ h d x n i z o. (o.0, rests-read W.Knows false B.since B.start L.number d x n (log_of h.own.now) h.own.now.side i z o.1) };
 
-    ghost rested_whole = { λ h d x n ws p q b a o. (o.0, rests-whole W.Knows B.since B.start L.number d x n _ ws p h.own.now.caches h.own.now.side q b o.0.ready.here (a tt) o.1) };
+    ghost rested_missed = { λ h d x even n o. (o.0, rests-missed W.Knows false B.since B.start L.number d x even n (log_of h.own.now) h.own.now.side o.1) };
 
-    ghost rested_sound = { λ h d x r. (r.0, tied-shut W.Knows B.since B.start L.number h.own.now (rests-tied W.Knows B.since B.start L.number d x (log_of h.own.now) h.own.now.side r.1)) };
+    ghost rested_whole = { λ h d x n ws p q b a o. (o.0, rests-whole W.Knows false B.since B.start L.number d x n _ ws p h.own.now.caches h.own.now.side q b o.0.ready.here (a tt) o.1) };
 
-    ghost rested_lent = { λ h w d x e r. subst (λ v. IsAt W.Knows StandsAt L.number h.program.now (with_side h.own.now v) × RestsBy W.Knows B.since B.start L.number d x (log_of h.own.now) v) (sym e) r };
+    ghost rested_sound = { λ h d x r. (r.0, tied-shut W.Knows B.since B.start L.number h.own.now (rests-tied W.Knows false B.since B.start L.number d x (log_of h.own.now) h.own.now.side r.1)) };
 
-    ghost rested_kept = { λ a b d x k m s r. (s.0, law-kept W.Knows B.since B.start L.number d x (log_of a.own.now) (log_of b.own.now) a.own.now.side b.own.now.side m (tied-open W.Knows B.since B.start L.number b.own.now s.1) r.1) };
+    ghost rested_lent = { λ h w d x e r. subst (λ v. IsAt W.Knows StandsAt L.number h.program.now (with_side h.own.now v) × RestsBy W.Knows false B.since B.start L.number d x (log_of h.own.now) v) (sym e) r };
 
-    ghost rested_done = { λ h w d x done more a m r. (at-sided W.Knows AskedAt L.number h.program.now h.own.now w a r.0, law-rested_done W.Knows B.since B.start L.number d x done more (log_of h.own.now) h.own.now.side w (m, a.processor) r.1) };
+    ghost rested_kept = { λ a b d x k m s r. (s.0, law-kept W.Knows false B.since B.start L.number d x (log_of a.own.now) (log_of b.own.now) a.own.now.side b.own.now.side m (tied-open W.Knows B.since B.start L.number b.own.now s.1) r.1) };
 
-    ghost rested_passed = { λ h c i d x n b p a r. (at-stepped W.Knows L.number h.program.now h.own.now c (entry.Pass i d n) refl p a r.0, tied-shut W.Knows B.since B.start L.number (with_caches h.own.now c) (law-passed W.Knows B.since B.start L.number i d x n (log_of h.own.now) c.recorder.told h.own.now.side (waits-in _ i d x _ h.own.now.caches r.0.ready.here (b tt)) a r.1)) };
+    ghost rested_done = { λ h w d x done more a m r. (at-sided W.Knows AskedAt L.number h.program.now h.own.now w a r.0, law-rested_done W.Knows false B.since B.start L.number d x done more (log_of h.own.now) h.own.now.side w (m, a.processor) r.1) };
+
+    ghost rested_passed = { λ h c i d x n b p a r. (at-stepped W.Knows L.number h.program.now h.own.now c (entry.Pass i d n) refl p a r.0, tied-shut W.Knows B.since B.start L.number (with_caches h.own.now c) (law-passed W.Knows false B.since B.start L.number i d x n (log_of h.own.now) c.recorder.told h.own.now.side (waits-in _ i d x _ h.own.now.caches r.0.ready.here (b tt)) a r.1)) };
 }

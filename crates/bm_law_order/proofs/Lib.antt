@@ -5,5 +5,5 @@ pub mod Stories
 pub mod Ties
 pub mod BarePool
 pub mod TiesLead
-pub mod Unwaited
+pub mod WaitsJoin
 pub mod Waited

@@ -92,8 +92,8 @@ entries_of (Making u life seal) = given u life (seal_told seal) ∷ []
 entries_of (Ending u life home delayed) = entry.Drop u life ∷ entry.Last ∷ (if delayed then entry.Delay u home else entry.Free u home) ∷ []
 entries_of _ = []
 
--- What a pass, a period that begins, a given unit, the end of a life and a batch that goes away say is judged by the log before them; what
--- other chunks say, by themselves.
+-- What a pass, a period that begins, a given unit, the end of a life and a batch that goes away say is judged by the log before them, and
+-- so is what is sent or returned where nobody tells what it waits for; what other chunks say, by themselves.
 abbrev pub is_judged : Chunk → Bool
 is_judged (Passing c d x n) = true
 is_judged (Beginning d n ws) = true
@@ -101,6 +101,8 @@ is_judged (WholePeriod n ws p) = true
 is_judged (Making u life seal) = true
 is_judged (Ending u life home delayed) = true
 is_judged (Releasing c to us stamp seen) = true
+is_judged (Returning c us) = true
+is_judged (Sending c to us) = true
 is_judged _ = false
 
 -- these entries stand for these acts, whatever the log before

@@ -138,27 +138,6 @@ abbrev pub WaitLeads : List Act → (before now : ℕ → Wait) → Type 0
 WaitLeads [] before now = now ≡ before
 WaitLeads (a ∷ more) before now = (mid : ℕ → Wait) × (WaitsBy a before mid × WaitLeads more mid now)
 
--- no life ends by a delayed free
-abbrev pub IsPlainEnd : Act → Type 0
-IsPlainEnd (act.Ends u life home delayed) = delayed ≡ false
-IsPlainEnd _ = Unit {0}
-
-abbrev pub ArePlainEnds : List Act → Type 0
-ArePlainEnds [] = Unit {0}
-ArePlainEnds (a ∷ more) = IsPlainEnd a × ArePlainEnds more
-
--- ---- where nothing waits
-
--- No unit begins its life with a seal, and no life ends by a delayed free.
-abbrev pub WaitsNot : Act → Type 0
-WaitsNot (act.Makes u life seal) = seal ≡ None
-WaitsNot (act.Ends u life home delayed) = delayed ≡ false
-WaitsNot _ = Unit {0}
-
-abbrev pub NothingWaits : List Act → Type 0
-NothingWaits [] = Unit {0}
-NothingWaits (a ∷ more) = WaitsNot a × NothingWaits more
-
 -- ---- where units wait
 
 -- A batch goes away at level 0, behind a plain pass of its class, with its stamp and the number that was seen there. Where it isn't told what

@@ -4,7 +4,7 @@ ghost use Rattle.std.specs.Prelude.{◌++◌, ℕ, List, []};
 ghost use Rattle.bm_law.specs.Lists.{Log};
 ghost use Rattle.bm_law_order.specs.Acts.{ActsFit, ActsLead, acts_over};
 ghost use Rattle.bm_law_order.specs.Orders.{Leads, by};
-ghost use Rattle.bm_law_order.specs.Seals.{GivesNone, IsSealed, Nothing, NothingWaits, ReleasesFit, Wait, WaitLeads, nobody_waits};
+ghost use Rattle.bm_law_order.specs.Seals.{GivesNone, IsSealed, Nothing, ReleasesFit, Wait, WaitLeads, nobody_waits};
 ghost use Rattle.bm_law_order.specs.Shared.{Shared};
 ghost use Rattle.bm_law_order.specs.Story.{Steady, Story, deeds, lines, plainly};
 ghost use Rattle.bm_law_order.specs.Tie.{HasLed, Tied, whatever};
@@ -24,11 +24,6 @@ pub fn tie_law()
     ensures { (p l : ℕ) (since log : Log) (start now : Shared) →
         Tied whatever (ActsLead p) since start l [] [] log now → Steady start →
         HasLed p since start log now }
-{}
-
-/// Where by the acts of a story nothing waits, each unit is given with what it has waited for: nothing.
-pub fn seal_law()
-    ensures { (p : ℕ) (story : Story) → NothingWaits (deeds story) → IsSealed (by p (lines story)) }
 {}
 
 /// Where the acts of a story tell what each unit waits for, and each batch goes away behind the pass of its class, with its stamp and the

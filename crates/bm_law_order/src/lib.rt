@@ -19,4 +19,4 @@
 
 mod laws;
 
-pub use laws::{seal_law, story_law, tie_law, wait_law};
+pub use laws::{story_law, tie_law, wait_law};

@@ -35,12 +35,15 @@ use Rattle.bm_closing.specs.EndsBegun.{EndsBegun}
 
 -- ---- behind its begin
 
--- it is of ordinary code, which has ended: it neither begins a handler nor ends one, and begins and ends no section
+-- it is of ordinary code, which has ended: it neither begins a handler nor ends one, begins and ends no section, frees nothing with delay
+-- and sends nothing
 abbrev pub IsLate : Entry → Type 0
 IsLate (entry.Handler name) = ⊥
 IsLate entry.Ended = ⊥
 IsLate (entry.Given u life) = ⊥
 IsLate (entry.GivenAfter u life stamp seen) = ⊥
+IsLate (entry.Delay u home) = ⊥
+IsLate (entry.Send c to us) = ⊥
 IsLate e = IsInner e
 
 finish-late : (d : Domain) (own : List Entry) → MayFinish d own → AllOf IsLate own
@@ -89,6 +92,8 @@ late-inner (entry.Handler name) h = absurd h
 late-inner entry.Ended h = absurd h
 late-inner (entry.Given u life) h = absurd h
 late-inner (entry.GivenAfter u life stamp seen) h = absurd h
+late-inner (entry.Delay u home) h = absurd h
+late-inner (entry.Send c to us) h = absurd h
 late-inner e h = h
 
 by-count : (n : ℕ) → (step_or_not n ≡ Steps) ⊎ (step_or_not n ≡ Stays)

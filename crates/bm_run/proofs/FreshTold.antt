@@ -84,7 +84,7 @@ fill-lines : (cs : List ℕ) (pool : Stock) → lines (fill_story cs pool) ≡ f
 fill-lines [] pool = refl
 fill-lines (c ∷ cs) pool = let f = fetched c (prefill c) pool in ap (λ es. (0, entry.Fill c (named f.units)) ∷ es) (fill-lines cs f.pool)
 
-fill-judged : (start : LivingState) (log : Log) (cs : List ℕ) (pool : Stock) → AllJudged (polled knows_living [] start) log (fill_story cs pool)
+fill-judged : (start : LivingState) (log : Log) (cs : List ℕ) (pool : Stock) → AllJudged (polled knows_living false [] start) log (fill_story cs pool)
 fill-judged start log [] pool = tt
 fill-judged start log (c ∷ cs) pool = let f = fetched c (prefill c) pool in (tt, fill-judged start (log ++ (0, entry.Fill c (named f.units)) ∷ []) cs f.pool)
 
@@ -119,7 +119,7 @@ fill-does cs pages pool slots begun standings q e z n = record {
 }
 
 pub opened-tied : (cs : List ℕ) (pages : ℕ) (pool : Stock) (slots : List (Option UnitState)) (begun : List ℕ) (standings : List Standing) (told : Option Log) → pool ≡ (filling cs (fresh_stock pages)).pool → AllEmpty slots → ((n : ℕ) → begun_at begun n ≡ 0) → ((n : ℕ) → standing_at standings n ≡ Nothing) → IfSome told (λ es. es ≡ fill_log (filling cs (fresh_stock pages)).fills) →
-    TiedBy (polled knows_living [] (outset pages)) (DoesHere knows_living) [] (outset pages) 0 [] [] told (living_side pool slots begun standings)
+    TiedBy (polled knows_living false [] (outset pages)) (DoesHere knows_living) [] (outset pages) 0 [] [] told (living_side pool slots begun standings)
 opened-tied cs pages pool slots begun standings None q e z n t = tt
 opened-tied cs pages pool slots begun standings (Some log) q e z n t =
     let story = fill_story cs (fresh_stock pages) in

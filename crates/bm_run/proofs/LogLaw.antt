@@ -1,6 +1,6 @@
 -- The log of a run is lawful.
 use Rattle.std.proofs.Common.{◌≡◌, ℕ, Bool, true, false, List, [], ◌∷◌, ◌++◌, map, refl, sym, ap, subst, ◌∙◌, append_assoc, Option, Some, None, IfSome, IsSome, arith}
-use Rattle.bm_world.specs.ToldLiving.{knows_living}
+use Rattle.bm_world.specs.ToldLiving.{LivingDoes, knows_living}
 use Rattle.std.specs.Prelude.{◌||◌, nat_eq, not}
 use Rattle.std.specs.List.{list_any}
 use Rattle.std.proofs.lemmas.List.{append_cancel_left}
@@ -60,7 +60,7 @@ use Rattle.bm_run.specs.Filling.{filling}
 use Rattle.bm_run.specs.Opened.{IsOpen, outset}
 use Rattle.bm_run.specs.Closed.{Closed}
 use Rattle.bm_run.specs.Lines.{Wrote}
-use Rattle.bm_law_order.specs.Tie.{TiedBy}
+use Rattle.bm_law_order.specs.Tie.{Tied, TiedBy}
 use Rattle.bm_exec_levels.specs.AtPolls.{DoesHere, tied-bare, polled}
 use Rattle.bm_run.proofs.Laid.{tied-led}
 use Rattle.bm_run.proofs.ParcelsTold.{tied-parcels}
@@ -109,6 +109,9 @@ pub record Told (s : Parts) (final : Log) : Type 0 where
   pub ended_own : own_entries 0 ended ≡ entry.Ended ∷ entry.Close ∷ []
   pub late_at : AllAt 0 late
   pub late_own : AllOf IsLate (own_entries 0 late)
+  -- the world there
+  pub world : LivingState
+  pub tied : Tied (polled knows_living false [] (outset s.pages)) LivingDoes [] (outset s.pages) 0 [] [] ((fills ++ scripts) ++ ended) world
 
 same-some : {x y : Log} → Some x ≡ Some y → x ≡ y
 same-some q = cc
@@ -157,6 +160,7 @@ pub record RunLeft (s : Parts) (p : Program) (m0 m2 m3 : Processor LivingState) 
   pub lives : (u : ℕ) → lives_of m2.side.slots u ≡ None
   pub sound : Sound knows_living p m2
   pub tied : TiedAt knows_living [] (outset s.pages) m2
+  pub tied_ended : TiedAt knows_living [] (outset s.pages) m3
   pub ends : Wrote (Stand 0 (entry.Ended ∷ entry.Close ∷ [])) m2 m3
   pub ended : m3.handlers.planned.ended ≡ true
   pub same : m3.side ≡ m2.side
@@ -194,9 +198,11 @@ told-run s p m0 m2 m3 final r =
     let goes : LawfulSoFar (here p m3) p.scenario.now (z.log ++ rest) = late-goes-on (here p m3) p.scenario.now z.log rest (runs-none p m3 r.sound_ended) r.ended at_rest late here3 in
     let front_stands : HandlersStand s 0 front = subst (λ x. HandlersStand x 0 front) r.program (stands-here p m2 front first2 r.sound here2.stands) in
     let front_done : HandlersDone s front = subst (λ x. HandlersDone x front) r.program here2.done in
-    let here = subst (λ (o : Option Log). TiedBy (polled knows_living [] (outset s.pages)) (DoesHere knows_living) [] (outset s.pages) 0 [] [] o m2.side) told2 r.tied in
-    let tied = tied-bare knows_living (polled knows_living [] (outset s.pages)) [] (outset s.pages) 0 [] [] front m2.side here in
-    let begun : (d : Domain) → begun_by (side d (known_of knows_living m2)).number ≡ in_progress d None front = led-progress s.pages front m2.side first2 (tied-led (polled knows_living [] (outset s.pages)) s.pages front m2.side tied) in
+    let here = subst (λ (o : Option Log). TiedBy (polled knows_living false [] (outset s.pages)) (DoesHere knows_living) [] (outset s.pages) 0 [] [] o m2.side) told2 r.tied in
+    let tied = tied-bare knows_living (polled knows_living false [] (outset s.pages)) [] (outset s.pages) 0 [] [] front m2.side here in
+    let ended = subst (λ (o : Option Log). TiedBy (polled knows_living false [] (outset s.pages)) (DoesHere knows_living) [] (outset s.pages) 0 [] [] o m3.side) (z.told ∙ ap Some middle) r.tied_ended in
+    let tied_ended = tied-bare knows_living (polled knows_living false [] (outset s.pages)) [] (outset s.pages) 0 [] [] (front ++ e'.added) m3.side ended in
+    let begun : (d : Domain) → begun_by (side d (known_of knows_living m2)).number ≡ in_progress d None front = led-progress s.pages front m2.side first2 (tied-led (polled knows_living false [] (outset s.pages)) s.pages front m2.side tied) in
     let ends : EndsBegun (known_of knows_living m3) ≡ EndsPeriods front = ends-are (known_of knows_living m3) front (λ d. rw r.same (begun d)) in
     let leaves : Leaves 0 z.log (lists_of m3) = subst (λ (x : Option Log). IfSome x (λ es. Leaves 0 es (lists_of m3))) z.told (told-of p m3 first3 r.sound_ended) in
     let state : lists_of m3 ≡ after (after (opening 0) front) e'.added = sym leaves.lists ∙ ap (after (opening 0)) middle ∙ after-append (opening 0) front e'.added in
@@ -217,7 +223,7 @@ told-run s p m0 m2 m3 final r =
         front_done = front_done;
         are_fills = fills-said classes (fresh_stock s.pages) fills logged;
         are_scripts = subst (λ (t : State ℕ). Scripts t scripts) (fills-leave p m0 fills o.first o.sound told0) w'.is_part;
-        mail = tied-parcels (polled knows_living [] (outset s.pages)) s.pages front m2.side tied;
+        mail = tied-parcels (polled knows_living false [] (outset s.pages)) s.pages front m2.side tied;
         closes = closes;
         before = lists_of m2;
         leaves = front2;
@@ -227,6 +233,8 @@ told-run s p m0 m2 m3 final r =
         ended_own = e'.is_part.own_is;
         late_at = at_rest;
         late_own = late;
+        world = m3.side;
+        tied = tied_ended;
       },
       refl,
     )

@@ -1,7 +1,7 @@
 -- The polls of a log that is tied since the outset have rested, and its periods were begun for a batch that waited.
 use Rattle.std.specs.Prelude.{◌≢◌, ◌⊎◌, ◌≤◌, ◌+◌, ◌%◌, eqb, length}
 use Rattle.bm_world.specs.ToldLiving.{knows_living}
-use Rattle.std.proofs.Common.{◌≡◌, ℕ, zero, suc, true, false, List, [], ◌∷◌, ◌++◌, Option, None, Some, refl, sym, ◌∙◌, ap, subst, append-nil, arith, inl, inr}
+use Rattle.std.proofs.Common.{◌≡◌, ℕ, zero, suc, Bool, true, false, List, [], ◌∷◌, ◌++◌, Option, None, Some, refl, sym, ◌∙◌, ap, subst, append-nil, arith, inl, inr}
 use Rattle.std.proofs.lemmas.Bool.Decides.{eqb_tells}
 use Rattle.bm_journal.specs.declared.ids.Domain.{Domain}
 use Rattle.bm_journal.specs.declared.ids.Domain.TheVariants.{Plain, Tracing}
@@ -262,45 +262,45 @@ made-fits : (l u life : ℕ) (seal : Option Seal) (m : Polling) → FitsAt (at_l
 made-fits l u life None m = (tt, tt)
 made-fits l u life (Some x) m = (tt, tt)
 
-chunk-fits : (pages l : ℕ) (log : Log) (c : Chunk) → polled knows_living [] (outset pages) l log c → FitsAt (at_level l (entries_of c)) (polls_over log (no_polls 1 pages))
-chunk-fits pages l log (chunk.Quiet e q) h = (quiet-fits l e (polls_over log (no_polls 1 pages)) q, tt)
-chunk-fits pages l log (chunk.Looking d ws) h = tt
-chunk-fits pages l log (chunk.Asking d x n) h = tt
-chunk-fits pages l log (chunk.Missing d even n) h = tt
-chunk-fits pages l log (chunk.FindingNone c) h = tt
-chunk-fits pages l log (chunk.Passing c d x n) h = (pass-fits pages l c d x n log h, tt)
-chunk-fits pages l log (chunk.Beginning d n ws) h = (begin-fits pages l d n log h, tt)
-chunk-fits pages l log (chunk.WholePeriod n ws p) h = (begin-fits pages l p.domain n log h, (tt, tt))
-chunk-fits pages l log (chunk.Making u life seal) h = made-fits l u life seal (polls_over log (no_polls 1 pages))
-chunk-fits pages l log (chunk.Ending u life home true) h = (tt, (tt, (tt, tt)))
-chunk-fits pages l log (chunk.Ending u life home false) h = (tt, (tt, (tt, tt)))
-chunk-fits pages l log (chunk.Entering d w) h = (tt, tt)
-chunk-fits pages l log (chunk.Leaving d w) h = (tt, tt)
-chunk-fits pages l log (chunk.Stamping c d x) h = (tt, tt)
-chunk-fits pages l log (chunk.Finishing ws p) h = (tt, tt)
-chunk-fits pages l log (chunk.Filling c us) h = (tt, tt)
-chunk-fits pages l log (chunk.Fetching c want us) h = (tt, tt)
-chunk-fits pages l log (chunk.Returning c us) h = (tt, tt)
-chunk-fits pages l log (chunk.Sending c to us) h = (tt, tt)
-chunk-fits pages l log (chunk.Draining c to us) h = (tt, tt)
-chunk-fits pages l log (chunk.Releasing c to us x n) h = (tt, tt)
-chunk-fits pages l log (chunk.GivingBack c us) h = (tt, tt)
-chunk-fits pages l log (chunk.Receiving c us) h = (tt, tt)
-chunk-fits pages l log (chunk.Sweeping c us parcels) h = (tt, tt)
+chunk-fits : (closing : Bool) (pages l : ℕ) (log : Log) (c : Chunk) → polled knows_living closing [] (outset pages) l log c → FitsAt (at_level l (entries_of c)) (polls_over log (no_polls 1 pages))
+chunk-fits closing pages l log (chunk.Quiet e q) h = (quiet-fits l e (polls_over log (no_polls 1 pages)) q, tt)
+chunk-fits closing pages l log (chunk.Looking d ws) h = tt
+chunk-fits closing pages l log (chunk.Asking d x n) h = tt
+chunk-fits closing pages l log (chunk.Missing d even n) h = tt
+chunk-fits closing pages l log (chunk.FindingNone c) h = tt
+chunk-fits closing pages l log (chunk.Passing c d x n) h = (pass-fits pages l c d x n log h, tt)
+chunk-fits closing pages l log (chunk.Beginning d n ws) h = (begin-fits pages l d n log h, tt)
+chunk-fits closing pages l log (chunk.WholePeriod n ws p) h = (begin-fits pages l p.domain n log h, (tt, tt))
+chunk-fits closing pages l log (chunk.Making u life seal) h = made-fits l u life seal (polls_over log (no_polls 1 pages))
+chunk-fits closing pages l log (chunk.Ending u life home true) h = (tt, (tt, (tt, tt)))
+chunk-fits closing pages l log (chunk.Ending u life home false) h = (tt, (tt, (tt, tt)))
+chunk-fits closing pages l log (chunk.Entering d w) h = (tt, tt)
+chunk-fits closing pages l log (chunk.Leaving d w) h = (tt, tt)
+chunk-fits closing pages l log (chunk.Stamping c d x) h = (tt, tt)
+chunk-fits closing pages l log (chunk.Finishing ws p) h = (tt, tt)
+chunk-fits closing pages l log (chunk.Filling c us) h = (tt, tt)
+chunk-fits closing pages l log (chunk.Fetching c want us) h = (tt, tt)
+chunk-fits closing pages l log (chunk.Returning c us) h = (tt, tt)
+chunk-fits closing pages l log (chunk.Sending c to us) h = (tt, tt)
+chunk-fits closing pages l log (chunk.Draining c to us) h = (tt, tt)
+chunk-fits closing pages l log (chunk.Releasing c to us x n) h = (tt, tt)
+chunk-fits closing pages l log (chunk.GivingBack c us) h = (tt, tt)
+chunk-fits closing pages l log (chunk.Receiving c us) h = (tt, tt)
+chunk-fits closing pages l log (chunk.Sweeping c us parcels) h = (tt, tt)
 
-story-fits : (pages : ℕ) (log : Log) (ts : Story) → AllJudged (polled knows_living [] (outset pages)) log ts → FitsAt (lines ts) (polls_over log (no_polls 1 pages))
-story-fits pages log [] j = tt
-story-fits pages log (t ∷ ts) j =
+story-fits : (closing : Bool) (pages : ℕ) (log : Log) (ts : Story) → AllJudged (polled knows_living closing [] (outset pages)) log ts → FitsAt (lines ts) (polls_over log (no_polls 1 pages))
+story-fits closing pages log [] j = tt
+story-fits closing pages log (t ∷ ts) j =
     let m = no_polls 1 pages in
     let first = lines_of t in
-    let rest = subst (FitsAt (lines ts)) (over-apart log first m) (story-fits pages (log ++ first) ts j.1) in
+    let rest = subst (FitsAt (lines ts)) (over-apart log first m) (story-fits closing pages (log ++ first) ts j.1) in
     subst (λ o. AllFit polling_after PollFits o (polls_over log m)) (sym (by-append 0 first (lines ts)))
-    (fit-append polling_after PollFits (by 0 first) (by 0 (lines ts)) (polls_over log m) (chunk-fits pages t.level log t.chunk j.0) rest)
+    (fit-append polling_after PollFits (by 0 first) (by 0 (lines ts)) (polls_over log m) (chunk-fits closing pages t.level log t.chunk j.0) rest)
 
-pub tied-polled : (pages : ℕ) (log : Log) (world : LivingState) → Tied (polled knows_living [] (outset pages)) LivingDoes [] (outset pages) 0 [] [] log world → IsPolled 1 pages (by 0 log)
-tied-polled pages log world t =
+pub tied-polled : (closing : Bool) (pages : ℕ) (log : Log) (world : LivingState) → Tied (polled knows_living closing [] (outset pages)) LivingDoes [] (outset pages) 0 [] [] log world → IsPolled 1 pages (by 0 log)
+tied-polled closing pages log world t =
     let log_is : log ≡ lines t.story = t.log_is ∙ append-nil (lines t.story) in
-    subst (λ z. IsPolled 1 pages (by 0 z)) (sym log_is) (story-fits pages [] t.story t.judged)
+    subst (λ z. IsPolled 1 pages (by 0 z)) (sym log_is) (story-fits closing pages [] t.story t.judged)
 
 pub polled-whole : (turns : List ℕ) (pages : ℕ) (log : Log) → IsPolled 1 pages (by 0 log) → IsPolled 1 pages (whole turns (log ∷ []))
 polled-whole turns pages log = subst (λ (o : Order). IsPolled 1 pages o) (sym (whole-one turns log))

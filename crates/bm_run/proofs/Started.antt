@@ -99,7 +99,7 @@ nothing-there [] i x e h = absurd cc
 nothing-there (y ∷ ys) i x e h = absurd (omega (arith, e))
 
 no-types : (types : List TypeDeclaration) (classes : List ℕ) → length types ≡ 0 → classes ≡ [] → Classes types classes
-no-types [] classes e f = rw f (record { each = refl; plain = refl })
+no-types [] classes e f = rw f (record { each = refl })
 no-types (t ∷ ts) classes e f = absurd (omega (arith, e))
 
 pub idle_program : (p : Program) → p.types.declared.now ≡ p.scenario.now.types → p.types.classes.now ≡ [] → length p.scenario.now.types ≡ 0 → length p.scenario.now.scripts ≡ 0 → IsProgram p

@@ -1,5 +1,5 @@
 -- The log and the side of a processor that has ended, tied since a time.
-use Rattle.std.specs.Prelude.{◌≡◌, ◌≤◌, ℕ, List, [], ◌∷◌, ◌++◌, Option, Some, None, IfSome, IsSome, true}
+use Rattle.std.specs.Prelude.{◌≡◌, ◌≤◌, ℕ, List, [], ◌∷◌, ◌++◌, Option, Some, None, IfSome, IsSome, false, true}
 use Rattle.bm_world.specs.ToldLiving.{knows_living}
 use Rattle.std.proofs.Common.{◌∙◌, ap, append_assoc, append-nil, refl, subst, sym}
 use Rattle.std.proofs.lemmas.List.{append_cancel_right}
@@ -7,27 +7,28 @@ use Rattle.bm_journal.specs.declared.ids.Domain.{Domain}
 use Rattle.bm_journal.specs.declared.period.Period.{Period}
 use Rattle.bm_journal.specs.declared.entry.Entry.{Entry}
 use Rattle.bm_journal.specs.declared.entry.Entry.TheVariants as entry
+use Rattle.bm_journal.specs.declared.units.Units.TheVariants.{Whole}
 use Rattle.bm_journal.specs.Recording.{Appends}
 use Rattle.bm_law.specs.Alone.{Adds}
 use Rattle.bm_law.specs.Alone as alone
 use Rattle.bm_law.specs.Lists.{Log, stamp_of}
 use Rattle.bm_law.specs.State.{State, opening}
 use Rattle.bm_law.proofs.Folds.{after-append}
-use Rattle.bm_law_order.specs.Act.{Act}
+use Rattle.bm_law_order.specs.Act.{Act, Sealed, units_of}
 use Rattle.bm_law_order.specs.Act as act
 use Rattle.bm_law_order.specs.Chunk.{Shows}
 use Rattle.bm_law_order.specs.Chunk as chunk
 use Rattle.bm_law_order.specs.Quiet.{is_quiet}
-use Rattle.bm_law_order.specs.Story.{at_level, deeds, lines}
+use Rattle.bm_law_order.specs.Story.{AllJudged, Story, at_level, deeds, lines, lines_of}
 use Rattle.bm_law_order.specs.Tie.{Tied, TiedBy, whatever}
 use Rattle.bm_law_order.proofs.ActsJoin.{acts-append, acts-before}
-use Rattle.bm_law_order.proofs.Unwaited.{go-unread}
+use Rattle.bm_law_order.proofs.WaitsJoin.{go-unread}
 use Rattle.bm_law_order.proofs.Ties.{law-closed, law-done, law-quiet, law-said, law-stepped, tie-first, tie-unjudged}
 use Rattle.bm_grace.specs.PlainState.{domain_in}
 use Rattle.bm_closing.specs.Told.{at_once, passed_at_once}
 use Rattle.bm_cache.specs.declared.caches.Caches.{Caches}
 use Rattle.bm_journal.specs.Recording.{Kept as Recorded}
-use Rattle.bm_exec_levels.specs.AtPolls.{DoesHere, IsDue, here-join, here-same, home, WaitsIn, WasIdle, polled, unpolled}
+use Rattle.bm_exec_levels.specs.AtPolls.{DoesHere, IsDue, here-join, here-same, home, WaitsIn, WasIdle, later, polled, unpolled}
 use Rattle.bm_exec_levels.specs.AtPolls as idle
 use Rattle.bm_exec_levels.specs.AtTie.{as-judged}
 use Rattle.bm_exec_levels.specs.declared.processor.Processor.{Processor}
@@ -37,7 +38,7 @@ use Rattle.bm_world.specs.ToldLiving.{LivingDoes, told_living}
 
 -- tied since then, with these acts and entries that aren't told of yet
 abbrev pub Ends : Log → LivingState → List Act → List Entry → Option Log → LivingState → Type 0
-Ends since start done es told side = TiedBy (polled knows_living since start) (DoesHere knows_living) since start 0 done es told side
+Ends since start done es told side = TiedBy (polled knows_living true since start) (DoesHere knows_living) since start 0 done es told side
 
 -- these caches are those of the side's processor, and they end there
 abbrev pub IsHere : Caches Recorded → LivingState → Type 0
@@ -53,7 +54,7 @@ IsIdle world = (d : Domain) → (domain_in d world.side.grace).driver ≡ None
 -- A log that is tied since then to some world: no period is in progress there, and those objects live that lived on the processor.
 pub record IsTiedLog (since : Log) (start : LivingState) (own : Processor LivingState) (log : Log) : Type 0 where
   pub world : LivingState
-  pub tied : Tied (polled knows_living since start) (DoesHere knows_living) since start 0 [] [] log world
+  pub tied : Tied (polled knows_living true since start) (DoesHere knows_living) since start 0 [] [] log world
   pub idle : IsIdle world
   pub objects : (known_living world).objects ≡ (known_living own.side).objects
 
@@ -61,21 +62,34 @@ pub ends-back : (since : Log) (start : LivingState) (now before : Option Log) (s
 ends-back since start now before side e t = subst (λ o. Ends since start [] [] o side) (sym e) t
 
 pub ends-quiet : (since : Log) (start : LivingState) (e : Entry) (before now : Option Log) (side : LivingState) → is_quiet e ≡ true → Appends before 0 e now → Ends since start [] [] before side → Ends since start [] [] now side
-ends-quiet since start e before now side q a t = law-quiet (polled knows_living since start) (unpolled knows_living since start) (DoesHere knows_living) (here-same knows_living) (here-join knows_living) since start 0 e before now side q a t
+ends-quiet since start e before now side q a t = law-quiet (polled knows_living true since start) (unpolled knows_living true since start) (DoesHere knows_living) (here-same knows_living) (here-join knows_living) since start 0 e before now side q a t
 
 pub ends-did : (since : Log) (start : LivingState) (done more : List Act) (es : List Entry) (told : Option Log) (side now : LivingState) → DoesHere knows_living more side now → Ends since start done es told side → Ends since start (done ++ more) es told now
-ends-did since start done more es told side now d t = law-done (polled knows_living since start) (unpolled knows_living since start) (DoesHere knows_living) (here-same knows_living) (here-join knows_living) since start 0 done more es told side now d t
+ends-did since start done more es told side now d t = law-done (polled knows_living true since start) (unpolled knows_living true since start) (DoesHere knows_living) (here-same knows_living) (here-join knows_living) since start 0 done more es told side now d t
 
 pub ends-said : (since : Log) (start : LivingState) (done : List Act) (es : List Entry) (e : Entry) (before now : Option Log) (side : LivingState) → Appends before 0 e now → Ends since start done es before side → Ends since start done (es ++ e ∷ []) now side
-ends-said since start done es e before now side a t = law-said (polled knows_living since start) (unpolled knows_living since start) (DoesHere knows_living) (here-same knows_living) (here-join knows_living) since start 0 done es e before now side a t
+ends-said since start done es e before now side a t = law-said (polled knows_living true since start) (unpolled knows_living true since start) (DoesHere knows_living) (here-same knows_living) (here-join knows_living) since start 0 done es e before now side a t
 
 pub ends-closed : (since : Log) (start : LivingState) (done : List Act) (es : List Entry) (told : Option Log) (side : LivingState) → Shows done es → Ends since start done es told side → Ends since start [] [] told side
-ends-closed since start done es told side s t = law-closed (polled knows_living since start) (unpolled knows_living since start) (DoesHere knows_living) (here-same knows_living) (here-join knows_living) since start 0 done es told side s t
+ends-closed since start done es told side s t = law-closed (polled knows_living true since start) (unpolled knows_living true since start) (DoesHere knows_living) (here-same knows_living) (here-join knows_living) since start 0 done es told side s t
+
+-- what was tied before the closing
+later-all : (since before : Log) (start : LivingState) (ts : Story) → AllJudged (polled knows_living false since start) before ts → AllJudged (polled knows_living true since start) before ts
+later-all since before start [] j = tt
+later-all since before start (t ∷ ts) j = (later knows_living since start t.level before t.chunk j.0, later-all since (before ++ lines_of t) start ts j.1)
+
+pub ends-begun : (since : Log) (start : LivingState) (told : Option Log) (side : LivingState) → TiedBy (polled knows_living false since start) (DoesHere knows_living) since start 0 [] [] told side → Ends since start [] [] told side
+ends-begun since start None side t = tt
+ends-begun since start (Some log) side t = record { story = t.story; judged = later-all since since start t.story t.judged; log_is = t.log_is; done_is = t.done_is }
+
+-- units go back in the closing, whatever they wait for
+pub ends-returned : (since : Log) (start : LivingState) (i : ℕ) (us : List Sealed) (told : Option Log) (side : LivingState) → Ends since start (act.Returns us ∷ []) (entry.Return i (Whole (units_of us)) ∷ []) told side → Ends since start [] [] told side
+ends-returned since start i us told side t = as-judged knows_living true since start 0 (act.Returns us ∷ []) (entry.Return i (Whole (units_of us)) ∷ []) told side (chunk.Returning i us) refl refl (λ before q. refl) t
 
 -- the entry of a step, where it stands for what was done if the log is told
 pub ends-stepped : (since : Log) (start : LivingState) (done : List Act) (e : Entry) (before now : Option Log) (side : LivingState) → (IsSome now → Shows done (e ∷ [])) → Appends before 0 e now → Ends since start done [] before side → Ends since start [] [] now side
 ends-stepped since start done e before None side s a t = tt
-ends-stepped since start done e before (Some now) side s a t = law-stepped (polled knows_living since start) (unpolled knows_living since start) (DoesHere knows_living) (here-same knows_living) (here-join knows_living) since start 0 done e before (Some now) side (s refl) a t
+ends-stepped since start done e before (Some now) side s a t = law-stepped (polled knows_living true since start) (unpolled knows_living true since start) (DoesHere knows_living) (here-same knows_living) (here-join knows_living) since start 0 done e before (Some now) side (s refl) a t
 
 -- ---- several at once
 
@@ -87,7 +101,7 @@ levels-append : (es fs : List Entry) → at_level 0 (es ++ fs) ≡ at_level 0 es
 levels-append [] fs = refl
 levels-append (e ∷ es) fs = ap (λ z. (0, e) ∷ z) (levels-append es fs)
 
-added : (since : Log) (start : LivingState) (done : List Act) (es more : List Entry) (log : Log) (side : LivingState) → Tied (polled knows_living since start) (DoesHere knows_living) since start 0 done es log side → Tied (polled knows_living since start) (DoesHere knows_living) since start 0 done (es ++ more) (log ++ alone.at_level 0 more) side
+added : (since : Log) (start : LivingState) (done : List Act) (es more : List Entry) (log : Log) (side : LivingState) → Tied (polled knows_living true since start) (DoesHere knows_living) since start 0 done es log side → Tied (polled knows_living true since start) (DoesHere knows_living) since start 0 done (es ++ more) (log ++ alone.at_level 0 more) side
 added since start done es more log side t = record {
   story = t.story;
   judged = t.judged;
@@ -103,12 +117,12 @@ ends-noted since start done es more before None side a t = tt
 ends-noted since start done es more None (Some now) side a t = absurd (let q = a.told in cc)
 ends-noted since start done es more (Some log) (Some now) side a t =
     let same : log ≡ a.log = (let q = a.told in cc) in
-    subst (λ z. Tied (polled knows_living since start) (DoesHere knows_living) since start 0 done (es ++ more) z side) (ap (λ z. z ++ alone.at_level 0 more) same ∙ sym a.now_is) (added since start done es more log side t)
+    subst (λ z. Tied (polled knows_living true since start) (DoesHere knows_living) since start 0 done (es ++ more) z side) (ap (λ z. z ++ alone.at_level 0 more) same ∙ sym a.now_is) (added since start done es more log side t)
 
 -- the first acts and entries are told
 pub ends-told : (since : Log) (start : LivingState) (done more : List Act) (es others : List Entry) (told : Option Log) (side : LivingState) → Shows done es → Ends since start (done ++ more) (es ++ others) told side → Ends since start more others told side
 ends-told since start done more es others None side s t = tt
-ends-told since start done more es others (Some log) side s t = tie-first (polled knows_living since start) (unpolled knows_living since start) (DoesHere knows_living) (here-same knows_living) (here-join knows_living) since start 0 done more es others log side s.chunk s.acts_are s.entries_are (λ before q. unpolled knows_living since start 0 before s.chunk s.free) t
+ends-told since start done more es others (Some log) side s t = tie-first (polled knows_living true since start) (unpolled knows_living true since start) (DoesHere knows_living) (here-same knows_living) (here-join knows_living) since start 0 done more es others log side s.chunk s.acts_are s.entries_are (λ before q. unpolled knows_living true since start 0 before s.chunk s.free) t
 
 -- ---- a period that was waited for
 
@@ -137,10 +151,10 @@ waits-ended : (q c : ℕ) (d : Domain) (x m : ℕ) (log before : Log) → log �
 waits-ended q c d x m log before e w = ap (λ (s : State ℕ). stamp_of d (s.rows c).deferred) (sym (after-append (opening q) before ((0, entry.Pass c d m) ∷ []))) ∙ subst (WaitsIn q c d x) e w
 
 -- a period that began for the batch of a class, below its stamp, and ended at once; and its number was read and recorded
-waited : (since : Log) (start : LivingState) (d : Domain) (x n m c : ℕ) (ws : List ℕ) (p : Period) (log : Log) (side : LivingState) → p.domain ≡ d → n ≤ x → WaitsIn (home knows_living side) c d x log → Tied (polled knows_living since start) (DoesHere knows_living) since start 0 (at_once d x n m ws p) (passed_at_once d n m c p) log side → TiedBy (polled knows_living since start) (DoesHere knows_living) since start 0 [] [] (Some log) side
+waited : (since : Log) (start : LivingState) (d : Domain) (x n m c : ℕ) (ws : List ℕ) (p : Period) (log : Log) (side : LivingState) → p.domain ≡ d → n ≤ x → WaitsIn (home knows_living side) c d x log → Tied (polled knows_living true since start) (DoesHere knows_living) since start 0 (at_once d x n m ws p) (passed_at_once d n m c p) log side → TiedBy (polled knows_living true since start) (DoesHere knows_living) since start 0 [] [] (Some log) side
 waited since start d x n m c ws p log side q b w t =
-    as-judged knows_living since start 0 (act.Reads d x m ∷ []) (entry.Pass c d m ∷ []) (Some log) side (chunk.Passing c d x m) refl refl was
-    (tie-first (polled knows_living since start) (unpolled knows_living since start) (DoesHere knows_living) (here-same knows_living) (here-join knows_living) since start 0 begun (act.Reads d x m ∷ []) said (entry.Pass c d m ∷ []) log side (chunk.WholePeriod n ws p) (ap (λ k. act.Begins k n ∷ act.Looks k ws ∷ act.Finishes p ∷ []) q) (ap (λ k. entry.Begin k n ∷ entry.Finish p ∷ []) q) due t)
+    as-judged knows_living true since start 0 (act.Reads d x m ∷ []) (entry.Pass c d m ∷ []) (Some log) side (chunk.Passing c d x m) refl refl was
+    (tie-first (polled knows_living true since start) (unpolled knows_living true since start) (DoesHere knows_living) (here-same knows_living) (here-join knows_living) since start 0 begun (act.Reads d x m ∷ []) said (entry.Pass c d m ∷ []) log side (chunk.WholePeriod n ws p) (ap (λ k. act.Begins k n ∷ act.Looks k ws ∷ act.Finishes p ∷ []) q) (ap (λ k. entry.Begin k n ∷ entry.Finish p ∷ []) q) due t)
   where
     begun : List Act
     begun = act.Begins d n ∷ act.Looks d ws ∷ act.Finishes p ∷ []
@@ -160,7 +174,7 @@ waited since start d x n m c ws p log side q b w t =
         t.log_is ∙ ap (λ z. since ++ z) (sym (append_assoc ls (at_level 0 said) ((0, entry.Pass c d m) ∷ []))) ∙ sym (append_assoc since (ls ++ at_level 0 said) ((0, entry.Pass c d m) ∷ [])) in
         let same : before ≡ since ++ (ls ++ at_level 0 said) = append_cancel_right before (since ++ (ls ++ at_level 0 said)) ((0, entry.Pass c d m) ∷ []) (sym e ∙ there) in
         let did = unread (deeds t.story ++ begun) d x m start side (subst (λ z. DoesHere knows_living z start side) (sym (append_assoc (deeds t.story) begun (act.Reads d x m ∷ []))) t.done_is) in
-        let tied : Tied whatever (DoesHere knows_living) since start 0 begun said before side = tie-unjudged (polled knows_living since start) (DoesHere knows_living) since start 0 begun said before side (record { story = t.story; judged = t.judged; log_is = same; done_is = did }) in
+        let tied : Tied whatever (DoesHere knows_living) since start 0 begun said before side = tie-unjudged (polled knows_living true since start) (DoesHere knows_living) since start 0 begun said before side (record { story = t.story; judged = t.judged; log_is = same; done_is = did }) in
         record {
           waits = subst (λ r. WaitsIn r c d x before) t.done_is.1 here;
           before = before;

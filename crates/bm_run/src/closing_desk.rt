@@ -1,6 +1,6 @@
 //! The desk of the processor that a run closes.
 
-ghost use Rattle.std.specs.Prelude.{◌≡◌, [], refl};
+ghost use Rattle.std.specs.Prelude.{◌≡◌, [], refl, true};
 ghost use Rattle.bm_world.specs.ToldLiving.{knows_living};
 ghost use Rattle.std.proofs.Common.{◌∙◌, ap, subst, sym};
 ghost use Rattle.std.proofs.lemmas.Bool.{and_parts};
@@ -11,8 +11,8 @@ ghost use Rattle.bm_work.specs.Goes.{Alike};
 ghost use Rattle.bm_work.specs.Still.{alike-joined, alike-still, goes-still};
 ghost use Rattle.bm_law_order.specs.Quiet.{is_quiet};
 ghost use Rattle.bm_world.specs.LivingState.{known_living, rights_living};
-ghost use Rattle.bm_exec_levels.specs.AtRests.{RestedBy, RestsBy, law-kept, law-passed, law-rested_done, rests-begun, rests-looked, rests-missed, rests-read, rests-tied, rests-whole, waits-in};
-ghost use Rattle.bm_run.specs.ClosingTie.{EndsHere, IsHere, ends-back, ends-closed, ends-did, ends-noted, ends-quiet, ends-said, ends-stepped, ends-told, ends-waited};
+ghost use Rattle.bm_exec_levels.specs.AtRests.{RestedBy, RestsBy, goes-in, law-kept, law-passed, law-released, law-rested_done, rests-begun, rests-looked, rests-missed, rests-read, rests-tied, rests-whole, waits-in};
+ghost use Rattle.bm_run.specs.ClosingTie.{EndsHere, IsHere, ends-back, ends-closed, ends-did, ends-noted, ends-quiet, ends-returned, ends-said, ends-stepped, ends-told, ends-waited};
 
 use bm_cache::{Caches, Host};
 use bm_closing::Ended;
@@ -103,9 +103,9 @@ impl<B: Since<LivingSide>> Desk<Keep> for ClosingDesk<B> {
 
     ghost minds = { Unit {0} };
 
-    ghost rested = { λ d x m. IsHere m.caches m.side × RestsBy knows_living B.since B.start 0 d x m.caches.recorder.told m.side };
+    ghost rested = { λ d x m. IsHere m.caches m.side × RestsBy knows_living true B.since B.start 0 d x m.caches.recorder.told m.side };
 
-    ghost asked_rested = { λ d x done m. IsHere m.caches m.side × RestedBy knows_living B.since B.start 0 d x done m.caches.recorder.told m.side };
+    ghost asked_rested = { λ d x done m. IsHere m.caches m.side × RestedBy knows_living true B.since B.start 0 d x done m.caches.recorder.told m.side };
 
     fn world(&mut self) -> &mut LivingSide {
         &mut self.side
@@ -151,28 +151,32 @@ impl<B: Since<LivingSide>> Desk<Keep> for ClosingDesk<B> {
 
     ghost asked_stepped = { λ h c done e i x p a o. (p ∙ o.0, ends-stepped B.since B.start done e h.caches.recorder.told c.recorder.told h.side x a o.1) };
 
-    ghost rested_looked = { λ h d x f o. (o.0, rests-looked knows_living B.since B.start 0 d x h.caches.recorder.told h.side f o.1) };
+    ghost asked_released = { λ h c i to us x n m p a o. (p ∙ o.0, law-released knows_living true B.since B.start 0 i to us x n h.caches.recorder.told c.recorder.told h.side (goes-in _ 0 i x n _ h.caches o.0 m) a o.1) };
 
-    ghost rested_begun = { λ h d x n b a f o. (o.0, rests-begun knows_living B.since B.start 0 d x n _ h.caches h.side b o.0 (a tt) f o.1) };
+    ghost rested_looked = { λ h d x f o. (o.0, rests-looked knows_living true B.since B.start 0 d x h.caches.recorder.told h.side f o.1) };
 
-    ghost rested_read = { λ h d x n i z o. (o.0, rests-read knows_living B.since B.start 0 d x n h.caches.recorder.told h.side i z o.1) };
+    ghost rested_begun = { λ h d x n b a f o. (o.0, rests-begun knows_living true B.since B.start 0 d x n _ h.caches h.side b o.0 (a tt) f o.1) };
 
-    ghost rested_missed = { λ h d x even n o. (o.0, rests-missed knows_living B.since B.start 0 d x even n h.caches.recorder.told h.side o.1) };
+    ghost rested_read = { λ h d x n i z o. (o.0, rests-read knows_living true B.since B.start 0 d x n h.caches.recorder.told h.side i z o.1) };
 
-    ghost rested_whole = { λ h d x n ws p q b a o. (o.0, rests-whole knows_living B.since B.start 0 d x n _ ws p h.caches h.side q b o.0 (a tt) o.1) };
+    ghost rested_missed = { λ h d x even n o. (o.0, rests-missed knows_living true B.since B.start 0 d x even n h.caches.recorder.told h.side o.1) };
 
-    ghost rested_sound = { λ h d x r. (r.0, rests-tied knows_living B.since B.start 0 d x h.caches.recorder.told h.side r.1) };
+    ghost rested_whole = { λ h d x n ws p q b a o. (o.0, rests-whole knows_living true B.since B.start 0 d x n _ ws p h.caches h.side q b o.0 (a tt) o.1) };
 
-    ghost rested_lent = { λ h w d x e r. subst (λ v. IsHere h.caches v × RestsBy knows_living B.since B.start 0 d x h.caches.recorder.told v) (sym e) r };
+    ghost rested_sound = { λ h d x r. (r.0, rests-tied knows_living true B.since B.start 0 d x h.caches.recorder.told h.side r.1) };
 
-    ghost rested_kept = { λ a b d x k m s r. (s.0, law-kept knows_living B.since B.start 0 d x a.caches.recorder.told b.caches.recorder.told a.side b.side m s.1 r.1) };
+    ghost rested_lent = { λ h w d x e r. subst (λ v. IsHere h.caches v × RestsBy knows_living true B.since B.start 0 d x h.caches.recorder.told v) (sym e) r };
 
-    ghost rested_done = { λ h w d x done more a m r. (r.0 ∙ sym a.processor, law-rested_done knows_living B.since B.start 0 d x done more h.caches.recorder.told h.side w (m, a.processor) r.1) };
+    ghost rested_kept = { λ a b d x k m s r. (s.0, law-kept knows_living true B.since B.start 0 d x a.caches.recorder.told b.caches.recorder.told a.side b.side m s.1 r.1) };
 
-    ghost rested_passed = { λ h c i d x n b p a r. (p ∙ r.0, law-passed knows_living B.since B.start 0 i d x n h.caches.recorder.told c.recorder.told h.side (waits-in _ i d x _ h.caches r.0 (b tt)) a r.1) };
+    ghost rested_done = { λ h w d x done more a m r. (r.0 ∙ sym a.processor, law-rested_done knows_living true B.since B.start 0 d x done more h.caches.recorder.told h.side w (m, a.processor) r.1) };
+
+    ghost rested_passed = { λ h c i d x n b p a r. (p ∙ r.0, law-passed knows_living true B.since B.start 0 i d x n h.caches.recorder.told c.recorder.told h.side (waits-in _ i d x _ h.caches r.0 (b tt)) a r.1) };
 }
 
 impl<B: Since<LivingSide>> Ended<Keep> for ClosingDesk<B> {
+    ghost owes_returned = { λ h i us o. (o.0, ends-returned B.since B.start i us h.caches.recorder.told h.side o.1) };
+
     ghost owes_noted = { λ h c done es more p a o. (p ∙ o.0, ends-noted B.since B.start done es more h.caches.recorder.told c.recorder.told h.side a o.1) };
 
     ghost owes_told = { λ h done more es others s o. (o.0, ends-told B.since B.start done more es others h.caches.recorder.told h.side s o.1) };

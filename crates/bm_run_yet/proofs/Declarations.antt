@@ -1,6 +1,6 @@
 -- A scenario in whose words no form begins that can't be run yet runs so far.
 use Rattle.std.proofs.Common.{◌≡◌, ℕ, zero, suc, Bool, true, false, not, ◌&&◌, ◌==◌, if◌then◌else◌, List, [], ◌∷◌, ◌++◌, map, length, nat_lt, Option, Some, None, slice_get, refl, subst, arith}
-use Rattle.std.specs.List.{list_all, flat_map}
+use Rattle.std.specs.List.{flat_map}
 use Rattle.std.proofs.lemmas.Bool.Decides.{nat_tests}
 use Rattle.bm_lang.specs.declared.bounds.Limit.{Limit}
 use Rattle.bm_lang.specs.declared.scenario.Parts.{Parts}
@@ -22,7 +22,7 @@ use Rattle.bm_lang.specs.Spelling.{Word, any, name, reserved, declared, type_for
 use Rattle.bm_exec.specs.Runnable.{can_run_block}
 use Rattle.bm_run_yet.specs.Unbuilt.{is_unbuilt_word, unbuilt_before}
 use Rattle.bm_run_yet.specs.Yet.{RunsYet}
-use Rattle.bm_run_yet.proofs.Words.{built, spelled, both}
+use Rattle.bm_run_yet.proofs.Words.{built, spelled}
 use Rattle.bm_run_yet.proofs.Statements.{has_many, along, block_runs}
 
 pad_built : (pad : Option ℕ) (rest : List Word) → built false ((pad_words pad ++ any Close ∷ []) ++ rest) ≡ true → built false rest ≡ true
@@ -33,18 +33,18 @@ fields_built : (fields : List (List ℕ)) (pad : Option ℕ) (rest : List Word) 
 fields_built [] pad rest b = pad_built pad rest b
 fields_built (f ∷ fs) pad rest b = fields_built fs pad rest b
 
-type_built : (counted : Bool) (n : Option Node) (fields : List (List ℕ)) (pad : Option ℕ) (rest : List Word) → built false ((counted_words counted ++ (node_words n ++ any Open ∷ (map name fields ++ (pad_words pad ++ any Close ∷ [])))) ++ rest) ≡ true → (not counted ≡ true) × (built false rest ≡ true)
-type_built true n fields pad rest b = cc
-type_built false (Some node.List) fields pad rest b = cc
-type_built false (Some node.Tree) fields pad rest b = cc
-type_built false None fields pad rest b = (refl, fields_built fields pad rest b)
+node_built : (n : Option Node) (fields : List (List ℕ)) (pad : Option ℕ) (rest : List Word) → built false ((node_words n ++ any Open ∷ (map name fields ++ (pad_words pad ++ any Close ∷ []))) ++ rest) ≡ true → built false rest ≡ true
+node_built (Some node.List) fields pad rest b = cc
+node_built (Some node.Tree) fields pad rest b = cc
+node_built None fields pad rest b = fields_built fields pad rest b
 
-types_built : (types : List TypeDeclaration) (rest : List Word) → built false (flat_map spell_type types ++ rest) ≡ true → (list_all (λ (t : TypeDeclaration). not t.counted) types ≡ true) × (built false rest ≡ true)
-types_built [] rest b = (refl, b)
-types_built (t ∷ ts) rest b =
-    let first = type_built t.counted t.node t.fields t.pad (flat_map spell_type ts ++ rest) (along (spell_type t) (flat_map spell_type ts) rest b) in
-    let others = types_built ts rest first.1 in
-    (both (not t.counted) (list_all (λ (t : TypeDeclaration). not t.counted) ts) first.0 others.0, others.1)
+type_built : (counted : Bool) (n : Option Node) (fields : List (List ℕ)) (pad : Option ℕ) (rest : List Word) → built false ((counted_words counted ++ (node_words n ++ any Open ∷ (map name fields ++ (pad_words pad ++ any Close ∷ [])))) ++ rest) ≡ true → built false rest ≡ true
+type_built true n fields pad rest b = node_built n fields pad rest b
+type_built false n fields pad rest b = node_built n fields pad rest b
+
+types_built : (types : List TypeDeclaration) (rest : List Word) → built false (flat_map spell_type types ++ rest) ≡ true → built false rest ≡ true
+types_built [] rest b = b
+types_built (t ∷ ts) rest b = types_built ts rest (type_built t.counted t.node t.fields t.pad (flat_map spell_type ts ++ rest) (along (spell_type t) (flat_map spell_type ts) rest b))
 
 map_begins : (k : MapKind) → is_unbuilt_word (map_word k) ≡ true
 map_begins kind.Slot = refl
@@ -111,13 +111,12 @@ words_run s fine limits b =
     let few = few_fields (nat_lt 8 s.processors) (nat_lt 256 s.pages) (nat_lt 32 (length s.types)) (has_many s.types) _ _ _ _ _ limits in
     let alone = one s.processors _ b in
     let switched = switch_built s.deferred ((types ++ (maps ++ (scripts ++ (runs ++ (ats ++ last))))) ++ end) alone.1 in
-    let uncounted = types_built s.types ((maps ++ (scripts ++ (runs ++ (ats ++ last)))) ++ end) (along types (maps ++ (scripts ++ (runs ++ (ats ++ last)))) end switched) in
-    let unmapped = maps_built d.types s.maps ((scripts ++ (runs ++ (ats ++ last))) ++ end) (along maps (scripts ++ (runs ++ (ats ++ last))) end uncounted.1) in
+    let typed = types_built s.types ((maps ++ (scripts ++ (runs ++ (ats ++ last)))) ++ end) (along types (maps ++ (scripts ++ (runs ++ (ats ++ last)))) end switched) in
+    let unmapped = maps_built d.types s.maps ((scripts ++ (runs ++ (ats ++ last))) ++ end) (along maps (scripts ++ (runs ++ (ats ++ last))) end typed) in
     let running = script_built s.types d.maps [] s.scripts ((runs ++ (ats ++ last)) ++ end) few fine.scripts (along scripts (runs ++ (ats ++ last)) end unmapped.1) in
     record {
       one = alone.0;
       no_maps = unmapped.0;
-      uncounted = uncounted.0;
       scripts = running.0;
     }
 

@@ -10,7 +10,6 @@ use Rattle.bm_lang.specs.Tokens.{Sort, Number, Reserved, End, Mark}
 
 -- the words that begin such a form
 abbrev pub is_unbuilt_word : Keyword → Bool
-is_unbuilt_word word.Counted = true
 is_unbuilt_word word.List = true
 is_unbuilt_word word.Tree = true
 is_unbuilt_word word.Slot = true

@@ -1,14 +1,11 @@
 -- Which scenarios run so far. (The table is this project's own. It gets shorter as forms are built.)
-use Rattle.std.specs.Prelude.{◌≡◌, ℕ, true, not, [], Some, slice_get}
-use Rattle.std.specs.List.{list_all}
+use Rattle.std.specs.Prelude.{◌≡◌, ℕ, true, [], Some, slice_get}
 use Rattle.bm_lang.specs.declared.scenario.Parts.{Parts}
 use Rattle.bm_lang.specs.declared.scenario.Script.{Script}
 use Rattle.bm_exec.specs.Runnable.{can_run_block}
 
--- One processor, without shared maps; types without a reference count; and scripts of `new`, `drop`, `if`, `repeat`, `section` and
--- `yield`.
+-- One processor, without shared maps; and scripts of `new`, `drop`, `if`, `repeat`, `section` and `yield`.
 pub record RunsYet (s : Parts) : Type 0 where
   pub one : s.processors ≡ 1
   pub no_maps : s.maps ≡ []
-  pub uncounted : list_all (λ t. not t.counted) s.types ≡ true
   pub scripts : (i : ℕ) (x : Script) → slice_get s.scripts i ≡ Some x → can_run_block s.types x.body ≡ true

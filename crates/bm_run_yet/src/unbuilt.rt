@@ -12,8 +12,7 @@ fn is_unbuilt_word(word: Keyword) -> bool
 {
     matches!(
         word,
-        Keyword::Counted
-            | Keyword::List
+        Keyword::List
             | Keyword::Tree
             | Keyword::Slot
             | Keyword::Acquire

@@ -172,6 +172,8 @@ impl<R: Recorder, S: World> Desk<R> for Ground<R, S> {
 
     ghost asked_stepped = { λ h c A e i x p a o. o };
 
+    ghost asked_released = { λ h c i to us x n m p a o. o };
+
     ghost rested_looked = { λ h d x f o. o };
 
     ghost rested_begun = { λ h d x n b w f o. o };

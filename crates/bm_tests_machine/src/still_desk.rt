@@ -150,6 +150,8 @@ impl<R: Recorder, S: World> Desk<R> for StillDesk<R, S> {
 
     ghost asked_stepped = { λ h c A e i x p a o. o };
 
+    ghost asked_released = { λ h c i to us x n m p a o. o };
+
     ghost rested_looked = { λ h d x f o. o };
 
     ghost rested_begun = { λ h d x n b w f o. o };
@@ -175,6 +177,8 @@ impl<R: Recorder, S: World> Ended<R> for StillDesk<R, S> {
     ghost owes_noted = { λ h c A es more p a o. o };
 
     ghost owes_told = { λ h A B es others s o. o };
+
+    ghost owes_returned = { λ h i us o. o };
 
     ghost owes_passed = { λ h d x n m c ws p e b w o. o };
 }

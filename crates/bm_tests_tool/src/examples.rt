@@ -2,6 +2,7 @@
 //! told in examples/README.md.
 
 pub(crate) mod busy_handler;
+pub(crate) mod counted_object;
 pub(crate) mod deferred_block;
 pub(crate) mod empty_stock;
 pub(crate) mod nested_blocks;
@@ -16,6 +17,7 @@ pub(crate) mod two_scripts;
 /// Each scenario with its journal.
 pub(crate) const EXAMPLES: &[(&str, &str)] = &[
     (busy_handler::SCENARIO, busy_handler::JOURNAL),
+    (counted_object::SCENARIO, counted_object::JOURNAL),
     (deferred_block::SCENARIO, deferred_block::JOURNAL),
     (empty_stock::SCENARIO, empty_stock::JOURNAL),
     (nested_blocks::SCENARIO, nested_blocks::JOURNAL),

@@ -66,7 +66,8 @@ fn texts_with_the_place_of_their_first_form(rt: HostRuntime) -> Result<(), Fail>
             None,
         ),
         // types
-        ("type item counted { a }", None, Some((1, 11))),
+        ("type item counted { a }", None, None),
+        ("type item counted list { a }", None, Some((1, 19))),
         ("type item list { a }", None, Some((1, 11))),
         ("type item\ttree { a }", None, Some((1, 11))),
         // maps

@@ -301,7 +301,7 @@ const CAUSES: &[(&str, u8, &str, u8, &str)] = &[
         "limit processors",
     ),
     (
-        "scenario { processors 1\npages 257 deferred on type t counted { a } }",
+        "scenario { processors 1\npages 257 deferred on type t list { a } }",
         5,
         "line 2 column 30: not_yet",
         7,
@@ -309,7 +309,7 @@ const CAUSES: &[(&str, u8, &str, u8, &str)] = &[
     ),
     // such a form and a script that isn't accepted
     (
-        "scenario { processors 1 pages 1 deferred on type t counted { a }\nscript m plain { drop x } }",
+        "scenario { processors 1 pages 1 deferred on type t list { a }\nscript m plain { drop x } }",
         5,
         "line 1 column 52: not_yet",
         6,

@@ -10,6 +10,7 @@ pub mod Batches
 pub mod Came
 pub mod Moved
 pub mod Gone
+mod Going
 pub mod Sealed
 pub mod Passings
 pub mod Thens

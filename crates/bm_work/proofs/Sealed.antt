@@ -19,7 +19,7 @@ use Rattle.bm_law.specs.State.{Row, State, seen, seen_row, with_row}
 use Rattle.bm_cache.proofs.Lent.{twice-row}
 use Rattle.bm_law.proofs.Waiting.{agree-still}
 use Rattle.bm_post.specs.Calls.{IsOf}
-use Rattle.bm_post.specs.Rights.{MayLeave}
+use Rattle.bm_post.specs.Rights.{MayLeave, WaitedBy}
 use Rattle.bm_cache.specs.Each.{Numbered, Sits}
 use Rattle.bm_cache.specs.Lent.{with_first}
 use Rattle.bm_cache.specs.Placed.{PlacedAs}
@@ -59,6 +59,14 @@ sealed-leave r x (u ∷ us) h =
     let P : Token → Type 0 = Passes (tests_by r) (ripe_test Plain x.stamp x.seen) in
     let p : (r.mine u.number && r.ripe u.number u.life (seal_by Plain x.stamp x.seen)) ≡ true = sym (ripe-is r Plain x.stamp x.seen u.number u.life u.seal) ∙ All-head P u us h in
     All-cons (MayLeave r) (sealed x u) (map (sealed x) us) (inr (split (r.mine u.number) (r.ripe u.number u.life (seal_by Plain x.stamp x.seen)) p).1) (sealed-leave r x us (All-tail P u us h))
+
+-- .. have waited for that period
+pub sealed-waited : (r : Rights) (x : Seal) (us : List Token) → All (Passes (tests_by r) (ripe_test Plain x.stamp x.seen)) us → All (WaitedBy r x) (map (sealed x) us)
+sealed-waited r x [] h = All-nil (WaitedBy r x)
+sealed-waited r x (u ∷ us) h =
+    let P : Token → Type 0 = Passes (tests_by r) (ripe_test Plain x.stamp x.seen) in
+    let p : (r.mine u.number && r.ripe u.number u.life (seal_by Plain x.stamp x.seen)) ≡ true = sym (ripe-is r Plain x.stamp x.seen u.number u.life u.seal) ∙ All-head P u us h in
+    All-cons (WaitedBy r x) (sealed x u) (map (sealed x) us) (record { sealed = refl; ripe = (split (r.mine u.number) (r.ripe u.number u.life (seal_by Plain x.stamp x.seen)) p).1 }) (sealed-waited r x us (All-tail P u us h))
 
 pub sits-class : (i : ℕ) (us : List Token) → All (Sits i) us → All (IsOf i) us
 sits-class i us h j u n = (h j u n).class

@@ -1,11 +1,13 @@
 -- When a poll has nothing to do. (This project's own.)
-use Rattle.std.specs.Prelude.{◌≡◌, ◌⊎◌, ◌<◌, ◌≤◌, ℕ, ◌%◌, IfSome, Option, Some, List, [], ◌∷◌, ◌++◌, length}
+use Rattle.std.specs.Prelude.{◌≡◌, ◌⊎◌, ◌<◌, ◌≤◌, ℕ, ◌+◌, ◌%◌, IfSome, Option, Some, List, [], ◌∷◌, ◌++◌, length}
 use Rattle.bm_journal.specs.declared.ids.Domain.{Domain}
+use Rattle.bm_journal.specs.declared.ids.Domain.TheVariants.{Plain}
 use Rattle.bm_journal.specs.declared.period.Period.{Period}
 use Rattle.bm_journal.specs.declared.entry.Entry.{Entry}
 use Rattle.bm_journal.specs.declared.entry.Entry.TheVariants as entry
 use Rattle.bm_law.specs.State.{opening}
 use Rattle.bm_law.specs.Lists.{Log, after, stamp_of}
+use Rattle.bm_law.specs.Spans.{AllFrom}
 use Rattle.bm_law_order.specs.Act.{Act}
 use Rattle.bm_law_order.specs.Act as act
 use Rattle.bm_cache.specs.Shown.{shown}
@@ -38,3 +40,29 @@ PollsForSome minds d x c = minds → (i : ℕ) × (stamp_of d ((shown c).rows i)
 pub record HasStamp {R : Type 0} (log : R → Option Log) (processors i : ℕ) (d : Domain) (x : ℕ) (c : Caches R) : Type 0 where
   pub processor : c.processor < processors
   pub told : IfSome (log c.recorder) (λ es. stamp_of d ((after (opening c.processor) es).rows i).deferred ≡ Some x)
+
+-- ---- a batch that goes away
+
+-- The last entry of level l in a log is this one: after it only entries of higher levels come.
+pub record EndsWith (l : ℕ) (e : Entry) (log : Log) : Type 0 where
+  pub front : Log
+  pub rest : Log
+  pub above : AllFrom (l + 1) rest
+  pub log_is : log ≡ front ++ (l, e) ∷ rest
+
+-- the same of the log of caches, where it is told
+abbrev pub LastIs : {R : Type 0} → (R → Option Log) → ℕ → Entry → Caches R → Type 0
+LastIs log l e c = IfSome (log c.recorder) (EndsWith l e)
+
+-- By the log of processor p a batch of the first stage goes away from level l with this stamp and this number: nothing is in hand, the
+-- batch has taken the stamp, and the last entry of the level is the pass of the class that saw the number.
+pub record GoesFrom (p l i stamp seen : ℕ) (log : Log) : Type 0 where
+  pub hand : ((after (opening p) log).sides l).hand ≡ []
+  pub stamped : ((after (opening p) log).rows i).deferred.plain ≡ Some stamp
+  pub taken : 0 < stamp
+  pub passed : EndsWith l (entry.Pass i Plain seen) log
+
+-- So it is by the log of these caches, which are those of one of so many processors.
+pub record MayGo {R : Type 0} (log : R → Option Log) (processors l i stamp seen : ℕ) (c : Caches R) : Type 0 where
+  pub processor : c.processor < processors
+  pub told : IfSome (log c.recorder) (GoesFrom c.processor l i stamp seen)

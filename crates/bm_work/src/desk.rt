@@ -5,7 +5,8 @@ ghost use Rattle.std.specs.Prelude.{◌≡◌, ◌≤◌, ◌+◌, ◌∷◌, �
 ghost use Rattle.bm_law_order.specs.Act.{Act};
 ghost use Rattle.bm_law_order.specs.Act as act;
 ghost use Rattle.bm_grace.specs.Known.{side};
-ghost use Rattle.bm_work.specs.Rested.{Fails, IsIdle, HasStamp};
+ghost use Rattle.bm_journal.specs.declared.units.Units.TheVariants.{Whole};
+ghost use Rattle.bm_work.specs.Rested.{Fails, HasStamp, IsIdle, MayGo};
 ghost use Rattle.bm_journal.specs.declared.ids.Domain.{Domain as DomainValue};
 ghost use Rattle.bm_journal.specs.declared.period.Period.{Period as PeriodValue};
 ghost use Rattle.bm_journal.specs.declared.entry.Entry.TheVariants as entry;
@@ -104,6 +105,9 @@ pub trait Desk<R: Recorder>: Host<R> {
     ghost asked_closed: { (h : Self) (done : List Act) → Shows done [] → asked_owes done h → Self.Host.asked h };
 
     ghost asked_stepped: { (h : Self) (c : Caches R) (done : List Act) (e : EntryValue) → is_step e ≡ true → (IsSome (R.log c.recorder) → Shows done (e ∷ [])) → c.processor ≡ (Self.Host.held h).processor → Appends (R.log (Self.Host.held h).recorder) (Self.Host.face h).level e (R.log c.recorder) → asked_owes done h → Self.Host.sound (Self.Host.with_held h c) };
+
+    // What has waited goes as one parcel, directly after the pass of its stamp.
+    ghost asked_released: { (h : Self) (c : Caches R) (i to : ℕ) (us : List ℕ) (stamp seen : ℕ) → MayGo R.log (Self.Host.face h).processors (Self.Host.face h).level i stamp seen (Self.Host.held h) → c.processor ≡ (Self.Host.held h).processor → Appends (R.log (Self.Host.held h).recorder) (Self.Host.face h).level (entry.Send i to (Whole us)) (R.log c.recorder) → asked_owes (act.Releases i to us stamp seen ∷ []) h → Self.Host.sound (Self.Host.with_held h c) };
 
     // A look in vain, also at a period that began just now for a batch that waits for the stamp, below it; a number that needs no
     // begin; a begin that was too late for the number that was read; and such a period that ended at once.

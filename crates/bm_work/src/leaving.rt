@@ -2,6 +2,7 @@
 
 ghost use Rattle.std.specs.Prelude.{◌≡◌, ◌≢◌, ◌≤◌, ◌<◌, ◌+◌, ℕ, List, [], Some, None, IsTrue, is_some, true, false, length, vec_capacity, vec_len, IfOk, OnOk, OnErr};
 ghost use Rattle.std.specs.List.{All};
+ghost use Rattle.bm_journal.specs.declared.entry.Entry.TheVariants as entry;
 ghost use Rattle.bm_journal.specs.declared.ids.Domain.TheVariants.{Plain, Tracing};
 ghost use Rattle.bm_law.specs.declared.mark.Mark.TheVariants as mark;
 ghost use Rattle.bm_law.specs.State.{seen, idle_side};
@@ -12,6 +13,7 @@ ghost use Rattle.bm_law_work.specs.Parts.{Say};
 ghost use Rattle.bm_law_work.specs.WorkPhrases.{IsReturn, IsSend};
 ghost use Rattle.bm_work_lists.specs.Fit.{Fit};
 ghost use Rattle.bm_work.specs.DeskTests.{ripe_test};
+ghost use Rattle.bm_work.specs.Rested.{LastIs};
 ghost use Rattle.bm_work.specs.Stops.{Missing};
 ghost use Rattle.bm_work.specs.Works.{Handled, Posted, Stands, Stopped, Works};
 
@@ -112,6 +114,9 @@ pub fn send_first<R: Recorder, H: Desk<R>>(
     requires stands { Stands R.log R.counts H.Host.sound H.Host.tests H.Host.face H.Host.held host.old }
     requires idle { (shown (H.Host.held host.old)).sides (H.Host.face host.old).level ≡ idle_side }
     requires ripe { All (Passes (H.Host.tests host.old) (ripe_test Plain seal.stamp seal.seen)) ((shown (H.Host.held host.old)).rows class).deferred.first }
+    requires stamped { ((shown (H.Host.held host.old)).rows class).deferred.plain ≡ Some seal.stamp }
+    requires taken { 0 < seal.stamp }
+    requires passed { LastIs R.log (H.Host.face host.old).level (entry.Pass class Plain seal.seen) (H.Host.held host.old) }
     requires some { 0 < length ((shown (H.Host.held host.old)).rows class).deferred.first }
     ensures ok { OnOk result (Works R.log H.Host.face H.Host.pending H.stays H.Host.held (λ h. H.W.Knows.known (H.shared h)) 0 0 (λ l. Say l (IsSend class)) host.old host.new) }
     ensures err { OnErr result (Stopped R.log R.counts H.Host.face H.Host.held (λ l. Missing l) host.old host.new) }

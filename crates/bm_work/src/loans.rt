@@ -1,6 +1,6 @@
 //! Loans of units that leave the caches, and how they end.
 
-ghost use Rattle.bm_law_order.specs.Act.{Act, Sealed, sealed, units_of};
+ghost use Rattle.bm_law_order.specs.Act.{Act};
 ghost use Rattle.bm_law_order.specs.Act as act;
 ghost use Rattle.bm_work.specs.Owed.{Whatever};
 ghost use Rattle.std.specs.Prelude.{◌≡◌, ◌+◌, ◌≤◌, ◌<◌, ℕ, [], false, true, map, length, vec_capacity, vec_len, IfOk, IfErr, OnOk, OnErr, ◌∷◌, ◌++◌, List};
@@ -12,11 +12,13 @@ ghost use Rattle.bm_law.specs.Stands.{Known};
 ghost use Rattle.bm_law.specs.State.{State};
 ghost use Rattle.bm_law.specs.Waiting.{is_waiting};
 ghost use Rattle.bm_post.specs.Calls.{IsOf};
-ghost use Rattle.bm_post.specs.Rights.{Holds, IsSettled, MayLeave, numbers};
+ghost use Rattle.bm_page.specs.declared.units.Seal.{Seal as SealValue};
+ghost use Rattle.bm_post.specs.Rights.{Holds, IsSettled, MayLeave, WaitedBy, numbers};
 ghost use Rattle.bm_cache.specs.Lent.{FirstIsLent, HandIsLent, Lends, PutBack, Recorded, SendIsLent, with_first, with_hand};
 ghost use Rattle.bm_cache.specs.Placed.{Placed};
 ghost use Rattle.bm_cache.specs.Shown.{shown};
 ghost use Rattle.bm_cache.specs.Tokens.{Token, number_of};
+ghost use Rattle.bm_work.specs.Rested.{MayGo};
 ghost use Rattle.bm_work.specs.Works.{Handled, Posted};
 
 use crate::Desk;
@@ -89,9 +91,10 @@ pub fn give_parcel<R: Recorder, H: Desk<R>>(
     requires fit { All (MayLeave (H.W.Knows.rights (H.shared host.old))) units.items }
     ensures posted { Posted H.Host.face H.Host.pending H.stays H.Host.held (λ h. H.W.Knows.known (H.shared h)) H.Host.tests (numbers units.items) host.old host.new }
     ensures refused { IfErr result (λ back. back.items ≡ units.items) }
-    ensures owes { OnOk result ((done : List Act) → H.asked_owes done host.old → H.asked_owes (done ++ act.Sends class to (sealed units.items) ∷ []) host.new) }
     ensures drains { OnOk result (All (IsSettled (H.W.Knows.rights (H.shared host.old))) units.items → (done : List Act)
         → H.asked_owes done host.old → H.asked_owes (done ++ act.Drains class to (numbers units.items) ∷ []) host.new) }
+    ensures releases { OnOk result ((seal : SealValue) → All (WaitedBy (H.W.Knows.rights (H.shared host.old)) seal) units.items → (done : List Act)
+        → H.asked_owes done host.old → H.asked_owes (done ++ act.Releases class to (numbers units.items) seal.stamp seal.seen ∷ []) host.new) }
 {
     host.world().send(to, class, units)
 }
@@ -105,9 +108,9 @@ pub fn end_send<R: Recorder, H: Desk<R>>(host: &mut H, class: Class, to: u8, num
     ensures step { Recorded R.log (H.Host.face host.old).level (entry.Send class to (Whole numbers.items)) (H.Host.held host.old) (H.Host.held host.new) }
     ensures placed { Placed R.log R.counts (H.Host.held host.new) }
     ensures handled { Handled H.Host.face H.Host.pending H.stays H.shared H.Host.tests host.old host.new }
-    ensures sound { (us : List Sealed) → units_of us ≡ numbers.items
-        → H.asked_owes (act.Sends class to us ∷ []) host.old → H.Host.sound host.new }
     ensures drained { H.asked_owes (act.Drains class to numbers.items ∷ []) host.old → H.Host.sound host.new }
+    ensures released { (stamp seen : ℕ) → MayGo R.log (H.Host.face host.old).processors (H.Host.face host.old).level class stamp seen (H.Host.held host.old)
+        → H.asked_owes (act.Releases class to numbers.items stamp seen ∷ []) host.old → H.Host.sound host.new }
 {
     let level = host.level();
     host.caches().sent(level, class, to, numbers);

@@ -6,6 +6,7 @@ ghost use Rattle.std.specs.List.{All};
 ghost use Rattle.bm_journal.specs.declared.entry.Entry.TheVariants as entry;
 ghost use Rattle.bm_grace.specs.Answers.{Answers, number_in};
 ghost use Rattle.bm_grace.specs.Known.{side};
+ghost use Rattle.bm_journal.specs.declared.entry.Entry.{Entry as EntryValue};
 ghost use Rattle.bm_journal.specs.declared.ids.Domain.{Domain as DomainValue};
 ghost use Rattle.bm_grace.specs.Rights.{Ages};
 ghost use Rattle.bm_cache.specs.Shown.{shown};
@@ -15,7 +16,7 @@ ghost use Rattle.bm_law_work.specs.WorkPhrases.{IsOne};
 ghost use Rattle.bm_work.specs.DeskTests.{Ripened};
 ghost use Rattle.bm_work.specs.Goes.{GoesOn};
 ghost use Rattle.bm_work.specs.Periods.{Sees};
-ghost use Rattle.bm_work.specs.Rested.{PollsFor};
+ghost use Rattle.bm_work.specs.Rested.{LastIs, PollsFor};
 ghost use Rattle.bm_work.specs.Owed.{Whatever};
 ghost use Rattle.bm_work.specs.Works.{Stands, Works, plain_of, tracing_of};
 
@@ -35,6 +36,7 @@ pub fn pause<R: Recorder, H: Desk<R>>(host: &mut H)
     ensures quiet { H.Host.pending host.new ≡ H.Host.pending host.old → host.new ≡ host.old }
     ensures stands { Stands R.log R.counts H.Host.asked H.Host.tests H.Host.face H.Host.held host.new }
     ensures rested { (d : DomainValue) (x : ℕ) → H.rested d x host.old → H.asked_rested d x [] host.new }
+    ensures last { (e : EntryValue) → LastIs R.log (H.Host.face host.old).level e (H.Host.held host.old) → LastIs R.log (H.Host.face host.old).level e (H.Host.held host.new) }
 {
     host.point();
 }
@@ -47,6 +49,7 @@ fn note_passed<R: Recorder, H: Desk<R>>(host: &mut H, class: Class, domain: Doma
     ensures ages { Ages (H.W.Knows.rights (H.shared host.old)) (H.W.Knows.rights (H.shared host.new)) }
     ensures stands { Stands R.log R.counts Whatever H.Host.tests H.Host.face H.Host.held host.new }
     ensures sound { (stamp : ℕ) → PollsFor H.minds class domain stamp (H.Host.held host.old) → H.asked_rested domain stamp (act.Reads domain stamp number ∷ []) host.old → H.Host.sound host.new }
+    ensures last { LastIs R.log (H.Host.face host.old).level (entry.Pass class domain number) (H.Host.held host.new) }
 {
     let level = host.level();
     host.caches().passed(level, class, domain, number);
@@ -72,6 +75,7 @@ fn see<R: Recorder, H: Desk<R>>(host: &mut H, class: Class, domain: Domain, stam
     ensures deferred { (k : ℕ) → ((shown (H.Host.held host.new)).rows k).deferred ≡ ((shown (H.Host.held host.old)).rows k).deferred }
     ensures side { (shown (H.Host.held host.new)).sides (H.Host.face host.old).level ≡ (shown (H.Host.held host.old)).sides (H.Host.face host.old).level }
     ensures stands { Stands R.log R.counts H.Host.sound H.Host.tests H.Host.face H.Host.held host.new }
+    ensures last { LastIs R.log (H.Host.face host.old).level (entry.Pass class domain (number_in result)) (H.Host.held host.new) }
 {
     pause(host);
     let seen = ask_now(host, domain, stamp);
@@ -82,7 +86,8 @@ fn see<R: Recorder, H: Desk<R>>(host: &mut H, class: Class, domain: Domain, stam
 /// Polls a domain for a class's batch with this stamp, and answers the number that it sees. A period that this side has in
 /// progress is looked at first, and ended if it has passed. Then, where none is in progress and the number is even and below
 /// the stamp, one is begun, and looked at. From `poll_state_synchronize_rcu` of kernel/rcu/tree.c, which begins nothing;
-/// there a kernel thread drives the periods. On a desk that minds, the stamp is that of the class's batch.
+/// there a kernel thread drives the periods. On a desk that minds, the stamp is that of the class's batch. Its last entry is the
+/// pass, which names the number.
 pub fn poll<R: Recorder, H: Desk<R>>(host: &mut H, class: Class, domain: Domain, stamp: u32) -> Done
     requires stands { Stands R.log R.counts H.Host.sound H.Host.tests H.Host.face H.Host.held host.old }
     requires room { 0 < (side domain (H.W.Knows.known (H.shared host.old))).begins }
@@ -93,6 +98,7 @@ pub fn poll<R: Recorder, H: Desk<R>>(host: &mut H, class: Class, domain: Domain,
     ensures deferred { (k : ℕ) → ((shown (H.Host.held host.new)).rows k).deferred ≡ ((shown (H.Host.held host.old)).rows k).deferred }
     ensures side { (shown (H.Host.held host.new)).sides (H.Host.face host.old).level ≡ (shown (H.Host.held host.old)).sides (H.Host.face host.old).level }
     ensures stands { Stands R.log R.counts H.Host.sound H.Host.tests H.Host.face H.Host.held host.new }
+    ensures last { LastIs R.log (H.Host.face host.old).level (entry.Pass class domain (number_in result)) (H.Host.held host.new) }
 {
     finish_if_passed(host, domain);
     begin_if_due(host, domain, stamp);

@@ -2,6 +2,7 @@
 
 ghost use Rattle.std.specs.Prelude.{◌≡◌, ◌≢◌, ◌+◌, ◌≤◌, ◌<◌, ℕ, [], None, Some, length, map, vec_capacity, vec_len, OnOk, OnErr};
 ghost use Rattle.std.specs.List.{All};
+ghost use Rattle.bm_journal.specs.declared.entry.Entry.TheVariants as entry;
 ghost use Rattle.bm_journal.specs.declared.ids.Domain.TheVariants.{Plain};
 ghost use Rattle.bm_law.specs.declared.mark.Mark.TheVariants as mark;
 ghost use Rattle.bm_law.specs.State.{idle_side};
@@ -12,6 +13,7 @@ ghost use Rattle.bm_law_work.specs.WorkPhrases.{IsSend};
 ghost use Rattle.bm_work_lists.specs.Fit.{Fit};
 ghost use Rattle.bm_work.specs.DeskTests.{ripe_test};
 ghost use Rattle.bm_work.specs.Periods.{sealed};
+ghost use Rattle.bm_work.specs.Rested.{LastIs};
 ghost use Rattle.bm_work.specs.Works.{Posted, Stands, Stopped, Works};
 
 use crate::Desk;
@@ -83,6 +85,9 @@ pub fn send_first_now<R: Recorder, H: Desk<R>>(
     requires stands { Stands R.log R.counts H.Host.asked H.Host.tests H.Host.face H.Host.held host.old }
     requires idle { (shown (H.Host.held host.old)).sides (H.Host.face host.old).level ≡ idle_side }
     requires ripe { All (Passes (H.Host.tests host.old) (ripe_test Plain seal.stamp seal.seen)) ((shown (H.Host.held host.old)).rows class).deferred.first }
+    requires stamped { ((shown (H.Host.held host.old)).rows class).deferred.plain ≡ Some seal.stamp }
+    requires taken { 0 < seal.stamp }
+    requires passed { LastIs R.log (H.Host.face host.old).level (entry.Pass class Plain seal.seen) (H.Host.held host.old) }
     requires some { 0 < length ((shown (H.Host.held host.old)).rows class).deferred.first }
     requires empty { vec_len numbers ≡ 0 }
     requires room { length ((shown (H.Host.held host.old)).rows class).deferred.first ≤ vec_capacity numbers }

@@ -533,3 +533,17 @@ after-undue true post grace slots begun standings asked n u e there k = absurd (
 pub after-due : (delayed : Bool) (post : PostState) (grace : PlainState) (slots : Slotted) (begun : List ℕ) (standings : Standings) (asked n : ℕ) (u : UnitState) → delayed ≡ true → unit_at slots n ≡ Some u → AreLiving post grace.plain.number grace.tracing.number slots begun standings asked → (may_live begun n u.life && is_waiting (standing_at (standings_after delayed n grace standings) n)) ≡ true
 after-due true post grace slots begun standings asked n u e there k = ended-due post grace.plain.number grace.tracing.number slots begun standings asked n u (wait_now grace) there k
 after-due false post grace slots begun standings asked n u e there k = absurd (false≢true e)
+
+-- .. and may not be used again, with whatever seal
+pub after-unsettled : (delayed : Bool) (post : PostState) (grace : PlainState) (slots : Slotted) (begun : List ℕ) (standings : Standings) (asked n : ℕ) (u : UnitState) → delayed ≡ true → unit_at slots n ≡ Some u → AreLiving post grace.plain.number grace.tracing.number slots begun standings asked → (life : ℕ) (seal : Option Seal) → may_be_used begun (standings_after delayed n grace standings) n life seal ≡ false
+after-unsettled false post grace slots begun standings asked n u e there k life seal = absurd (false≢true e)
+after-unsettled true post grace slots begun standings asked n u e there k life seal =
+    let inside = within slots n u there in
+    let size = k.size in
+    let stands = k.standing.size in
+    ap (λ x. may_live begun n life && has_waited x seal) (standing-same standings n (Waits (wait_now grace)) (omega (arith, inside, size, stands))) ∙ (ap (λ b. may_live begun n life && b) (unwaited (wait_now grace) seal) ∙ and-false (may_live begun n life))
+  where
+    -- who waits has no seal of it
+    unwaited : (wait : Wait) (seal : Option Seal) → has_waited (Waits wait) seal ≡ false
+    unwaited wait None = refl
+    unwaited wait (Some s) = refl

@@ -7,7 +7,7 @@ use Rattle.bm_law_order.specs.Lives.{Life, Lives}
 use Rattle.bm_law_order.specs.Seals.{WaitLeads}
 use Rattle.bm_law_order.specs.Shared.{Shared}
 use Rattle.bm_law_order.proofs.ActsJoin.{acts-join, acts-same}
-use Rattle.bm_law_order.proofs.Unwaited.{go-join, go-same}
+use Rattle.bm_law_order.proofs.WaitsJoin.{go-join, go-same}
 use Rattle.bm_grace.specs.declared.grace.Knows.{Ghosts as Knows}
 use Rattle.bm_world.specs.LivingState.{LivingAtRest, LivingState, begun_at, known_living, rights_living}
 use Rattle.bm_world.specs.Slots.{unit_at}

@@ -42,8 +42,9 @@ pub trait Lives: World {
         ensures does { unit.home ≡ (Self.known self.old).grace.processor
             → Self.does (act.Makes unit.number (unit.life + 1) unit.seal ∷ []) self.old self.new };
 
-    /// The life of a unit ends, by a drop whose free is a plain one, or one with delay: the unit is mine again, and has no seal. Behind a
-    /// plain free it may be used again, and isn't due; behind one with delay it is due. Of all other units everything is as before.
+    /// The life of a unit ends, by a drop whose free is a plain one, or one with delay: the unit is mine again, has no seal, and has room
+    /// for one life more. After a plain free it may be used again, and isn't due; after one with delay it is due, and may not be used
+    /// again. Of all other units everything is as before.
     fn end_life(&mut self, number: u16, delayed: bool) -> Unit
         requires lives { is_some ((Self.known self.old).objects.lives number) ≡ true }
         ensures lived { (Self.known self.old).objects.lives number ≡ Some (life_of_unit result) }
@@ -53,9 +54,11 @@ pub trait Lives: World {
         ensures mine { Gains (number ∷ []) (Self.rights self.old) (Self.rights self.new) }
         ensures others { OthersAsBefore number (Self.rights self.old) (Self.rights self.new) }
         ensures unsealed { result.seal ≡ None }
+        ensures room { result.life + 1 < 2 ^ 32 }
         ensures settled { delayed ≡ false → IsSettled (Self.rights self.new) result }
         ensures undue { delayed ≡ false → (life : ℕ) (seal : Option SealValue) → (Self.rights self.new).due number life seal ≡ false }
         ensures due { delayed ≡ true → (Self.rights self.new).due number result.life None ≡ true }
+        ensures unsettled { delayed ≡ true → (life : ℕ) (seal : Option SealValue) → (Self.rights self.new).settled number life seal ≡ false }
         ensures home { result.home < (Self.known self.old).grace.processors }
         ensures rest { StaysAtRest Self.rest self.old self.new }
         ensures does { Self.does (act.Ends number result.life result.home delayed ∷ []) self.old self.new };

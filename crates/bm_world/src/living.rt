@@ -500,9 +500,11 @@ impl Lives for LivingSide {
         ensures mine { Gains (number ∷ []) (rights_living self.old) (rights_living self.new) }
         ensures others { OthersAsBefore number (rights_living self.old) (rights_living self.new) }
         ensures unsealed { result.seal ≡ None }
+        ensures room { result.life + 1 < 2 ^ 32 }
         ensures settled { delayed ≡ false → IsSettled (rights_living self.new) result }
         ensures undue { delayed ≡ false → (life : ℕ) (seal : Option SealValue) → (rights_living self.new).due number life seal ≡ false }
         ensures due { delayed ≡ true → (rights_living self.new).due number result.life None ≡ true }
+        ensures unsettled { delayed ≡ true → (life : ℕ) (seal : Option SealValue) → (rights_living self.new).settled number life seal ≡ false }
         ensures home { result.home < self.old.side.grace.processors }
         ensures rest { StaysAtRest LivingAtRest self.old self.new }
         ensures does { LivingDoes (act.Ends number result.life result.home delayed ∷ []) self.old self.new }

@@ -6,8 +6,6 @@ use Rattle.bm_law.specs.Stands.{Known}
 use Rattle.bm_law.proofs.Alone.{Adds-one}
 use Rattle.bm_law_order.specs.Act.{Act, Sealed, sealed, units_of}
 use Rattle.bm_law_order.specs.Act as act
-use Rattle.bm_law_order.specs.Chunk.{Shows}
-use Rattle.bm_law_order.specs.Chunk as chunk
 use Rattle.bm_post.specs.Rights.{Holds, numbers}
 use Rattle.bm_cache.specs.Lent.{Ended, Lends, with_second}
 use Rattle.bm_cache.specs.Placed.{Placed}
@@ -23,7 +21,7 @@ use Rattle.bm_work.specs.Owed.{Whatever}
 use Rattle.bm_work.proofs.Alike.{alike-posts}
 use Rattle.bm_work.proofs.Came.{lasting-onward}
 use Rattle.bm_work.proofs.Gone.{returned-apart, returned-once}
-use Rattle.bm_work.proofs.Owing.{owes-called, shows, units-sealed}
+use Rattle.bm_work.proofs.Owing.{owes-called, units-sealed}
 use Rattle.bm_work.proofs.Sides.{tests-shared}
 use Rattle.bm_closing.specs.SentBack.{SentBack}
 use Rattle.bm_closing.proofs.Returning.{at-end-returned, second-held, sent-back}
@@ -94,8 +92,7 @@ returns-clause-at_end g c =
     let a1 : G (g.H.Host.face h2).level (g.H.Host.held h2) = subst (λ n. G n (g.H.Host.held h2)) fx (subst (G c.level-level.result) c.caches-2.ensures.held a0) in
     let o3 = g.met.H.Ended.owes_noted h2 y (act.Returns given ∷ []) [] (x ∷ []) (c.returned.ensures.step.processor ∙ ap (λ (q : Caches g.row.R.Denot). q.processor) c.caches-2.ensures.held) a1 o2 in
     let names : units_of given ≡ ns = units-sealed c.in_ok-units.units.items ∙ sym c.in-Ok.ensures in
-    let told : Shows (act.Returns given ∷ []) (x ∷ []) = subst (λ (q : List ℕ). Shows (act.Returns given ∷ []) (entry.Return i (Whole q) ∷ [])) names (shows (chunk.Returning i given) refl) in
-    let sound = g.met.H.Desk.owes_closed h3 (act.Returns given ∷ []) (x ∷ []) told o3 in
+    let sound = g.met.H.Ended.owes_returned h3 i given (subst (λ (q : List ℕ). g.H.Desk.owes (act.Returns given ∷ []) (entry.Return i (Whole q) ∷ []) h3) (sym names) o3) in
     at-end-returned L C g.H.Host.sound T g.H.Host.face g.H.Host.held h h3 i ms
     (g.met.H.Host.face_back h2 y ∙ g.met.H.Desk.face_apart h1 w alike ∙ g.met.H.Host.face_back h z)
     sound

@@ -1,4 +1,4 @@
-use Rattle.std.proofs.Common.{◌≡◌, [], ap, sym, ◌∙◌, subst, Some, Option, IfSome}
+use Rattle.std.proofs.Common.{◌≡◌, [], ap, refl, sym, ◌∙◌, subst, Some, Option, IfSome}
 use Rattle.bm_world.specs.ToldLiving.{knows_living}
 use Rattle.bm_journal.specs.Recording.{Kept as Recorded}
 use Rattle.bm_law.specs.Alone.{Alone}
@@ -13,13 +13,23 @@ use Rattle.bm_law_logs.specs.SweepsTold.{SweepsTold}
 use Rattle.bm_closing.specs.EndsBegun.{EndsBegun}
 use Rattle.bm_exec_levels.specs.AtProcessor.{lists_of, log_of}
 use Rattle.bm_exec_levels.specs.Ready.{known_of}
-use Rattle.bm_run.specs.ClosingTie.{Ends}
+use Rattle.bm_run.specs.ClosingTie.{Ends, ends-begun}
 use Rattle.bm_run.proofs.Results.{not-err, if-told}
 use Rattle.bm_run.proofs.Sections.{ends-even}
 use Rattle.bm_run.proofs.journals.close.Goals as goal
 
 pub close-swept-requires-clause-rest : goal.close-swept-requires-clause-rest
 close-swept-requires-clause-rest g c d = (_, (c.one_at_rest.ensures.rest d, ends-even _ _ (c.one_at_rest.ensures.sole d)))
+
+pub close-swept-requires-clause-at_end : goal.close-swept-requires-clause-at_end
+close-swept-requires-clause-at_end g c =
+    let m = c.args.own in
+    let s = c.requires.sound.1 in
+    record {
+      sound = (s.at.ready.here, ends-begun g.B.Since.since g.B.Since.start m.caches.recorder.told m.side c.requires.tied);
+      ordinary = refl;
+      fine = s.fine;
+    }
 
 pub returns-clause-closed : goal.returns-clause-closed
 returns-clause-closed g c =

@@ -32,13 +32,12 @@ use Rattle.bm_run.proofs.Lines.{down-when, few-when}
 use Rattle.bm_run.proofs.Nesting.{all-nest}
 use Rattle.bm_run.proofs.LivesTold.{lived_in, tied-lives}
 use Rattle.bm_run.proofs.Laid.{laid-whole, led-idle, tied-led}
-use Rattle.bm_run.proofs.LogLaw.{RunLeft, alone-sends, lawful-run, lived-run, told-run, unused-rows}
+use Rattle.bm_run.proofs.LogLaw.{RunLeft, Told, alone-sends, lawful-run, lived-run, told-run, unused-rows}
 use Rattle.bm_run.proofs.OpenedList.{opened-ascend, opened-few}
 use Rattle.bm_run.proofs.Results.{both-if-ok, if-ok, not-err}
 use Rattle.bm_run.proofs.journals.log_of.Given.{Over}
 use Rattle.bm_run.proofs.PollsTold.{tied-polled}
-use Rattle.bm_run.proofs.BatchesTold.{told-batched}
-use Rattle.bm_run.proofs.SealsTold.{tied-sealed}
+use Rattle.bm_run.proofs.BatchesTold.{told-batched, told-sealed}
 use Rattle.bm_run.proofs.journals.log_of.Goals as goal
 
 some-processors : (n : ℕ) → n ≡ 1 → 1 ≤ n
@@ -49,7 +48,7 @@ open-requires-clause-fits g c =
     let s = c.args.scenario.now in
     let same = c.parts-parts.ensures.value in
     let types : c.as_slice.result.now ≡ s.types = c.as_slice.ensures ∙ ap (λ (p : Parts). p.types) same in
-    let classes : Classes s.types c.args.classes.now = record { each = c.requires.classes; plain = c.requires.yet.uncounted } in
+    let classes : Classes s.types c.args.classes.now = record { each = c.requires.classes } in
     record {
       types = c.as_slice.ensures;
       classes = subst (λ (ts : List TypeDeclaration). Classes ts c.args.classes.now) (sym types) classes;
@@ -134,6 +133,7 @@ run-left g c final x =
         lives = λ u. ap (λ (f : Lives). f u) lives ∙ o.none u;
         sound = sound;
         tied = subst (λ l. TiedAt knows_living l (outset c.args.scenario.now.pages) c.run_lines.new.own) c.requires.since (subst (λ w. TiedAt knows_living g.B.Since.since w c.run_lines.new.own) c.requires.start tied);
+        tied_ended = subst (λ l. TiedAt knows_living l (outset c.args.scenario.now.pages) m3) c.requires.since (subst (λ w. TiedAt knows_living g.B.Since.since w m3) c.requires.start (c.begin_closing.ensures.tied g.B.Since.since g.B.Since.start tied));
         ends = c.begin_closing.ensures.wrote;
         ended = c.begin_closing.ensures.ended;
         same = c.begin_closing.ensures.side;
@@ -143,21 +143,26 @@ run-left g c final x =
       },
     )
 
+told-left : (g : Over) (c : goal.After-close g) (final : Log) → Closed c.args.opened.now c.begin_closing.new.own final → (t : Told c.args.scenario.now final) × (t.before ≡ lists_of c.run_lines.new.own)
+told-left g c final x =
+    let r = run-left g c final x in
+    told-run c.args.scenario.now r.0 c.in_ok-own.own c.run_lines.new.own c.begin_closing.new.own final r.1
+
 -- the log is tied since the outset, and leads from there to a world in which nobody has a period in progress
 abbrev TiedSince : Log → LivingState → Log → LivingState → Type 0
-TiedSince since start log world = Tied (polled knows_living since start) (DoesHere knows_living) since start 0 [] [] log world
+TiedSince since start log world = Tied (polled knows_living true since start) (DoesHere knows_living) since start 0 [] [] log world
 
 since-outset : (g : Over) (c : goal.After-close g) (final : Log) (world : LivingState) → TiedSince g.B.Since.since g.B.Since.start final world →
-    Tied (polled knows_living [] (outset c.args.scenario.now.pages)) LivingDoes [] (outset c.args.scenario.now.pages) 0 [] [] final world
+    Tied (polled knows_living true [] (outset c.args.scenario.now.pages)) LivingDoes [] (outset c.args.scenario.now.pages) 0 [] [] final world
 since-outset g c final world t =
     let start = outset c.args.scenario.now.pages in
-    tied-bare knows_living (polled knows_living [] start) [] start 0 [] [] final world
+    tied-bare knows_living (polled knows_living true [] start) [] start 0 [] [] final world
     (subst (λ l. TiedSince l start final world) c.requires.since (subst (λ w. TiedSince g.B.Since.since w final world) c.requires.start t))
 
 led-log : (g : Over) (c : goal.After-close g) → IfOk c.close.result (λ final. IsLaid 1 c.args.scenario.now.pages (by 0 final) × IsIdleAfter c.args.scenario.now.pages final)
 led-log g c = if-ok c.close.result _ _ c.close.ensures.tied (λ final t.
     let pages = c.args.scenario.now.pages in
-    let led = tied-led (polled knows_living [] (outset pages)) pages final t.world (since-outset g c final t.world t.tied) in (led.fit, led-idle pages final t.world led t.idle))
+    let led = tied-led (polled knows_living true [] (outset pages)) pages final t.world (since-outset g c final t.world t.tied) in (led.fit, led-idle pages final t.world led t.idle))
 
 pub returns-clause-lawful : goal.returns-clause-lawful
 returns-clause-lawful g c = both-if-ok c.close.result _ _ _ c.close.ensures.closed (led-log g c) (λ final x h.
@@ -172,7 +177,7 @@ lived-log g c = both-if-ok c.close.result _ _ _ c.close.ensures.closed c.close.e
     let objects = (known_living t.world).objects in
     let none : (u : ℕ) → objects.lives u ≡ None = λ u. ap (λ (o : Objects). o.lives u) t.objects ∙ (ap (λ (w : LivingState). lives_of w.slots u) r.1.same ∙ r.1.lives u) in
     let law = c.lives_law.ensures in
-    lived-run final (lived_in objects) law.one law.whole law.freed (tied-lives (polled knows_living [] (outset c.args.scenario.now.pages)) c.args.scenario.now.pages final t.world (since-outset g c final t.world t.tied)) (λ u. ap home_of (none u)))
+    lived-run final (lived_in objects) law.one law.whole law.freed (tied-lives (polled knows_living true [] (outset c.args.scenario.now.pages)) c.args.scenario.now.pages final t.world (since-outset g c final t.world t.tied)) (λ u. ap home_of (none u)))
 
 pub returns-clause-lives : goal.returns-clause-lives
 returns-clause-lives g c = if-ok c.close.result _ _ (lived-log g c) (λ final h. h.0)
@@ -197,13 +202,11 @@ pub returns-clause-idle : goal.returns-clause-idle
 returns-clause-idle g c = if-ok c.close.result _ _ (led-log g c) (λ final h. h.1)
 
 pub returns-clause-polled : goal.returns-clause-polled
-returns-clause-polled g c = if-ok c.close.result _ _ c.close.ensures.tied (λ final t. tied-polled c.args.scenario.now.pages final t.world (since-outset g c final t.world t.tied))
+returns-clause-polled g c = if-ok c.close.result _ _ c.close.ensures.tied (λ final t. tied-polled true c.args.scenario.now.pages final t.world (since-outset g c final t.world t.tied))
 
 pub returns-clause-sealed : goal.returns-clause-sealed
-returns-clause-sealed g c = if-ok c.close.result _ _ c.close.ensures.tied (λ final t. tied-sealed c.args.scenario.now.pages final t.world (since-outset g c final t.world t.tied))
+returns-clause-sealed g c = if-ok c.close.result _ _ c.close.ensures.closed (λ final x. told-sealed c.args.scenario.now final (told-left g c final x).0)
 
 pub returns-clause-batched : goal.returns-clause-batched
 returns-clause-batched g c = both-if-ok c.close.result _ _ _ c.close.ensures.closed c.close.ensures.tied (λ final x t.
-    let r = run-left g c final x in
-    let told = told-run c.args.scenario.now r.0 c.in_ok-own.own c.run_lines.new.own c.begin_closing.new.own final r.1 in
-    told-batched c.args.scenario.now c.args.scenario.now.pages final t.world told.0 (since-outset g c final t.world t.tied))
+    told-batched c.args.scenario.now final t.world (told-left g c final x).0 (since-outset g c final t.world t.tied))

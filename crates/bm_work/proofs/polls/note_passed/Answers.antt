@@ -5,6 +5,8 @@ use Rattle.bm_cache.specs.Span.{Goes}
 use Rattle.bm_cache.specs.declared.caches.Caches.{Caches}
 use Rattle.bm_cache.proofs.Moments.{took-at}
 use Rattle.bm_work.proofs.Steps.{stands-noted, works-entry}
+use Rattle.bm_work.specs.Rested.{LastIs}
+use Rattle.bm_work.proofs.Going.{appended-last}
 use Rattle.bm_work.proofs.Owing.{has-stamp}
 use Rattle.bm_work.proofs.polls.note_passed.Goals as goal
 
@@ -35,3 +37,13 @@ returns-clause-sound g c stamp batch o =
     let T : Caches g.row.R.Denot → Type 0 = λ x. Took g.R.Recorder.log l e [] (g.H.Host.held h) x in
     let t : T z = took-at g.R.Recorder.log l c.level-level.result e [] (g.H.Host.held h) c.caches.result.now z c.level-level.ensures.same c.caches.ensures.held c.passed.ensures.step in
     g.met.H.Desk.rested_passed h z c.args.class c.args.domain stamp c.args.number (λ m. has-stamp g.R.Recorder.log g.R.Recorder.counts (g.H.Host.tests h) (g.H.Host.face h).processors (l + 1) (g.H.Host.held h) c.requires.stands.fine c.args.class c.args.domain stamp (batch m)) t.processor t.records o
+
+pub returns-clause-last : goal.returns-clause-last
+returns-clause-last g c =
+    let h = c.args.host.now in
+    let z = c.passed.new.self in
+    let e = entry.Pass c.args.class c.args.domain c.args.number in
+    let l = (g.H.Host.face h).level in
+    let t = took-at g.R.Recorder.log l c.level-level.result e [] (g.H.Host.held h) c.caches.result.now z c.level-level.ensures.same c.caches.ensures.held c.passed.ensures.step in
+    let T : Caches g.row.R.Denot → Type 0 = LastIs g.R.Recorder.log l e in
+    subst T (sym (g.met.H.Host.held_back h z)) (appended-last g.R.Recorder.log l e (g.R.Recorder.log (g.H.Host.held h).recorder) z t.records)

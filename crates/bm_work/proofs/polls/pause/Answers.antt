@@ -1,3 +1,4 @@
+use Rattle.bm_work.proofs.Going.{last-kept}
 use Rattle.bm_work.proofs.Points.{stands-point, works-point}
 use Rattle.bm_work.proofs.polls.pause.Goals as goal
 
@@ -9,3 +10,8 @@ returns-clause-stands g c = stands-point g.R.Recorder.log g.R.Recorder.counts g.
 
 pub returns-clause-rested : goal.returns-clause-rested
 returns-clause-rested g c d x r = g.met.H.Desk.rested_kept c.args.host.now c.point.new.self d x c.point.ensures.goes.keeps c.point.ensures.came.above c.point.ensures.asked r
+
+pub returns-clause-last : goal.returns-clause-last
+returns-clause-last g c e h =
+    let log = g.R.Recorder.log in
+    last-kept (g.H.Host.face c.args.host.now).level e (log (g.H.Host.held c.args.host.now).recorder) (log (g.H.Host.held c.point.new.self).recorder) c.point.ensures.came.above h

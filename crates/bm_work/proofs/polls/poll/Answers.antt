@@ -1,4 +1,4 @@
-use Rattle.std.proofs.Common.{◌≡◌, ◌+◌, ◌++◌, ◌∷◌, ◌∙◌, [], ℕ, List, refl, ap, arith}
+use Rattle.std.proofs.Common.{◌≡◌, ◌+◌, ◌++◌, ◌∷◌, ◌∙◌, [], ℕ, List, refl, ap, arith, subst}
 use Rattle.bm_journal.specs.declared.entry.Entry.{Entry}
 use Rattle.bm_journal.specs.declared.entry.Entry.TheVariants as entry
 use Rattle.bm_law.specs.Lists.{after, stamp_of}
@@ -11,6 +11,8 @@ use Rattle.bm_law_work.specs.WorkPhrases.{IsOne}
 use Rattle.bm_grace.specs.Answers.{number_in}
 use Rattle.bm_work.specs.Onward.{Onward}
 use Rattle.bm_work.specs.Periods.{Sees}
+use Rattle.bm_work.specs.Rested.{LastIs}
+use Rattle.bm_cache.specs.Span.{Face}
 use Rattle.bm_work.specs.Works.{plain_of, tracing_of}
 use Rattle.bm_work.proofs.Sides.{aged-tests, say-join, works-at-most, works-join}
 use Rattle.bm_work.proofs.Tests.{ripened-before}
@@ -55,3 +57,8 @@ begin_if_due-requires-clause-batch g c m = (c.args.class, ap (λ (s : State Toke
 
 pub see-requires-clause-batch : goal.see-requires-clause-batch
 see-requires-clause-batch g c m = ap (λ (s : State Token). stamp_of c.args.domain (s.rows c.args.class).deferred) (c.begin_if_due.ensures.lists ∙ c.finish_if_passed.ensures.lists) ∙ c.requires.batch m
+
+pub returns-clause-last : goal.returns-clause-last
+returns-clause-last g c =
+    let face : (g.H.Host.face c.begin_if_due.new.host).level ≡ (g.H.Host.face c.args.host.now).level = ap (λ (f : Face). f.level) (c.begin_if_due.ensures.works.goes.face ∙ c.finish_if_passed.ensures.works.goes.face) in
+    subst (λ l. LastIs g.R.Recorder.log l (entry.Pass c.args.class c.args.domain (number_in c.see.result)) (g.H.Host.held c.see.new.host)) face c.see.ensures.last

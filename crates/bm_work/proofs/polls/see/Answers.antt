@@ -1,4 +1,4 @@
-use Rattle.std.proofs.Common.{[], ◌∷◌, ◌∙◌, ℕ, ap, subst, sym}
+use Rattle.std.proofs.Common.{◌≡◌, [], ◌∷◌, ◌∙◌, ℕ, ap, subst, sym}
 use Rattle.bm_law_order.specs.Act as act
 use Rattle.bm_work.proofs.Owing.{stands-with}
 use Rattle.bm_journal.specs.declared.entry.Entry.TheVariants as entry
@@ -10,7 +10,8 @@ use Rattle.bm_grace.specs.Answers.{number_in}
 use Rattle.bm_work_lists.proofs.Grown.{say-after}
 use Rattle.bm_cache.specs.declared.caches.Caches.{Caches}
 use Rattle.bm_work.specs.Onward.{Onward}
-use Rattle.bm_work.specs.Rested.{PollsFor}
+use Rattle.bm_work.specs.Rested.{LastIs, PollsFor}
+use Rattle.bm_cache.specs.Span.{Face}
 use Rattle.bm_work.specs.Works.{Works}
 use Rattle.bm_work.proofs.Sides.{aged-tests, called-works, works-join}
 use Rattle.bm_work.proofs.Tests.{ripened-all}
@@ -45,3 +46,10 @@ returns-clause-stands g c =
     let deferred = ap (λ (k : Caches g.row.R.Denot). ((shown k).rows i).deferred) c.ask_now-seen.ensures.called.held ∙ (c.pause.ensures.came.kept.rows i).deferred in
     let batch : PollsFor g.H.Desk.minds i d x (g.H.Host.held z) = λ m. ap (stamp_of d) deferred ∙ c.requires.batch m in
     stands-with g.R.Recorder.log g.R.Recorder.counts (λ _. Unit {0}) g.H.Host.sound g.H.Host.tests g.H.Host.face g.H.Host.held y (c.note_passed.ensures.sound x batch (subst F (sym c.seen_number.ensures) o)) c.note_passed.ensures.stands
+
+pub returns-clause-last : goal.returns-clause-last
+returns-clause-last g c =
+    let y = c.note_passed.new.host in
+    let face : (g.H.Host.face c.ask_now-seen.new.host).level ≡ (g.H.Host.face c.args.host.now).level = ap (λ (f : Face). f.level) (c.ask_now-seen.ensures.called.face ∙ c.pause.ensures.works.goes.face) in
+    let F : ℕ → ℕ → Type 0 = λ l n. LastIs g.R.Recorder.log l (entry.Pass c.args.class c.args.domain n) (g.H.Host.held y) in
+    subst (λ l. F l (number_in c.ask_now-seen.result)) face (subst (F (g.H.Host.face c.ask_now-seen.new.host).level) c.seen_number.ensures c.note_passed.ensures.last)

@@ -1,4 +1,4 @@
-use Rattle.std.proofs.Common.{◌≡◌, ◌≤◌, ◌∙◌, [], ℕ, List, map, length, refl, sym, subst, ap, arith, eq-eqb}
+use Rattle.std.proofs.Common.{◌≡◌, ◌≤◌, ◌+◌, ◌∙◌, [], ◌∷◌, ℕ, List, map, length, refl, sym, subst, ap, arith, eq-eqb}
 use Rattle.std.specs.List.{All}
 use Rattle.bm_grace.specs.Known.{Sides}
 use Rattle.bm_journal.specs.Recording.{Appends}
@@ -29,14 +29,15 @@ use Rattle.bm_cache.specs.Tests.{Passes}
 use Rattle.bm_journal.specs.declared.ids.Domain.TheVariants.{Plain}
 use Rattle.bm_law.specs.Places.{First}
 use Rattle.bm_post.specs.Calls.{IsOf}
-use Rattle.bm_post.specs.Rights.{MayLeave}
+use Rattle.bm_post.specs.Rights.{MayLeave, WaitedBy}
 use Rattle.bm_work.specs.DeskTests.{ripe_test}
 use Rattle.bm_work.specs.Periods.{sealed}
-use Rattle.bm_work.proofs.Sealed.{placed-sealed, sealed-leave, sealed-length, sealed-mine, sealed-named, sealed-sit, sits-class, twice-first}
+use Rattle.bm_work.proofs.Sealed.{placed-sealed, sealed-leave, sealed-length, sealed-mine, sealed-named, sealed-sit, sealed-waited, sits-class, twice-first}
 use Rattle.bm_work.proofs.Sides.{works-map}
 use Rattle.bm_work.proofs.Steps.{works-entry}
 use Rattle.bm_law_order.specs.Act as act
-use Rattle.bm_work.proofs.Owing.{units-sealed}
+use Rattle.bm_work.specs.Rested.{MayGo}
+use Rattle.bm_work.proofs.Going.{may-go, may-go-as}
 use Rattle.bm_work.proofs.sends.send_first_now.Goals as goal
 
 pub give_parcel-requires-clause-class : goal.give_parcel-requires-clause-class
@@ -184,5 +185,17 @@ returns-in-Ok-clause-back g c =
     let o1 : Onward (numbers c.seal_all.new.units.items) (T a) (T x) = subst (λ t. Onward (numbers c.seal_all.new.units.items) t (T x)) t0 p.onward in
     let o2 : Onward (numbers c.seal_all.new.units.items) (T a) (T y) = subst (λ t. Onward (numbers c.seal_all.new.units.items) (T a) t) (sym c.end_send.ensures.handled.tests_are) o1 in
     let n : numbers c.seal_all.new.units.items ≡ ns = ap (map number_of) c.seal_all.ensures.items ∙ sealed-named c.args.seal c.in_ok-units.units.items ∙ sym c.write_numbers.ensures.items in
+    let q = c.args.seal in
+    let log = g.R.Recorder.log in
+    let r = g.H.W.Knows.rights (g.H.Desk.shared a) in
+    let FF : Tests → Type 0 = λ t. All (Passes t (ripe_test Plain q.stamp q.seen)) (s.rows i).deferred.first in
+    let GG : List Token → Type 0 = λ z. All (WaitedBy r q) z in
+    let shared = c.target_of-to.ensures.handled.shared_is ∙ c.lend_first.ensures.handled.shared_is in
+    let waited = subst (λ w. All (WaitedBy (g.H.W.Knows.rights w) q) c.seal_all.new.units.items) (sym shared) (subst GG (sym (c.seal_all.ensures.items ∙ ap (map (sealed q)) c.in_ok-units.ensures.units)) (sealed-waited r q (s.rows i).deferred.first (subst FF (g.met.H.Desk.tests_are a) c.requires.ripe))) in
+    let owed = subst (λ (z : List ℕ). g.H.Desk.asked_owes (act.Releases i to z q.stamp q.seen ∷ []) x) n (c.in-Ok.ensures.releases q waited [] (g.met.H.Desk.asked_open c.target_of-to.new.host c.target_of-to.ensures.asked)) in
+    let fx : g.H.Host.face x ≡ g.H.Host.face a = p.face ∙ c.target_of-to.ensures.handled.face ∙ c.lend_first.ensures.handled.face in
+    let here = may-go log g.R.Recorder.counts (T a) (g.H.Host.face a).processors (l + 1) (g.H.Host.held a) c.requires.stands.fine l i q.stamp q.seen c.requires.idle c.requires.stamped c.requires.taken c.requires.passed in
+    let there = may-go-as log (g.H.Host.face a).processors l i q.stamp q.seen (g.H.Host.held a) (g.H.Host.held x) (ap (λ (z : Caches g.row.R.Denot). z.processor) d ∙ c.in_ok-units.ensures.lent.processor) (ap (λ (z : Caches g.row.R.Denot). z.recorder) d ∙ c.in_ok-units.ensures.lent.recorder) here in
+    let may = subst (λ (k : Face). MayGo log k.processors k.level i q.stamp q.seen (g.H.Host.held x)) (sym fx) there in
     let D : Dated (T a) (effect l (entry.Send i to (Whole ns)) [] s) = first-dated (T a) l i to ns s hand c.requires.stands.dated in
-    stands-sent g.R.Recorder.log g.R.Recorder.counts g.H.Host.sound T g.H.Host.face g.H.Host.held a y i to ns f (c.end_send.ensures.sound (act.sealed c.seal_all.new.units.items) (units-sealed c.seal_all.new.units.items ∙ n) ((c.in-Ok.ensures.owes [] (g.met.H.Desk.asked_open c.target_of-to.new.host c.target_of-to.ensures.asked)))) c.end_send.ensures.placed (lists-sent g c) (c.end_send.ensures.step.processor ∙ ap (λ (z : Caches g.row.R.Denot). z.processor) d ∙ c.in_ok-units.ensures.lent.processor) (sent-apart l i to ns s k c.requires.stands.fine.placed.once e) (subst O n o2) D c.requires.stands
+    stands-sent g.R.Recorder.log g.R.Recorder.counts g.H.Host.sound T g.H.Host.face g.H.Host.held a y i to ns f (c.end_send.ensures.released c.args.seal.stamp c.args.seal.seen may owed) c.end_send.ensures.placed (lists-sent g c) (c.end_send.ensures.step.processor ∙ ap (λ (z : Caches g.row.R.Denot). z.processor) d ∙ c.in_ok-units.ensures.lent.processor) (sent-apart l i to ns s k c.requires.stands.fine.placed.once e) (subst O n o2) D c.requires.stands

@@ -1,4 +1,4 @@
-use Rattle.std.proofs.Common.{◌≡◌, ◌≤◌, ◌<◌, ◌-◌, ◌∙◌, [], ℕ, suc, List, Some, length, sym, subst, ap}
+use Rattle.std.proofs.Common.{◌≡◌, ◌≤◌, ◌<◌, ◌-◌, ◌∙◌, [], ℕ, suc, List, Some, length, sym, subst, ap, arith}
 use Rattle.std.specs.List.{All}
 use Rattle.bm_journal.specs.declared.ids.Domain.TheVariants.{Plain}
 use Rattle.bm_grace.specs.Answers.{Answers, number_in}
@@ -13,6 +13,9 @@ use Rattle.bm_law_work.specs.Parts.{Part, Say}
 use Rattle.bm_law_work.specs.WorkPhrases.{IsSend}
 use Rattle.bm_work.specs.DeskTests.{Ripened, ripe_test}
 use Rattle.bm_work.specs.Periods.{Sees}
+use Rattle.bm_work.specs.Rested.{LastIs}
+use Rattle.bm_journal.specs.declared.entry.Entry.TheVariants as entry
+use Rattle.bm_cache.specs.Span.{Face}
 use Rattle.bm_work.specs.Stops.{FirstStop, Missing, PassFirst}
 use Rattle.bm_work.specs.Works.{Works}
 use Rattle.bm_work.proofs.Passings.{batch-ripe, pass-not, pass-stop, pass-yes, stamp-some}
@@ -55,6 +58,25 @@ send_first-requires-clause-some g c =
     let qb : ((shown (g.H.Host.held b)).rows i).deferred.plain ≡ Some m = ap (λ (z : Caches g.row.R.Denot). ((shown z).rows i).deferred.plain) c.batch_stamp.ensures.same ∙ qa in
     let F : List Token → Type 0 = λ z. 0 < length z in
     subst F (sym (ap (λ (z : Deferred Token). z.first) (c.poll.ensures.deferred i))) ((c.batch_stamp.ensures.stands.dated i).some m qb)
+
+pub send_first-requires-clause-stamped : goal.send_first-requires-clause-stamped
+send_first-requires-clause-stamped g c =
+    ap (λ (z : Deferred Token). z.plain) (c.poll.ensures.deferred c.args.class) ∙ ap (λ (z : Caches g.row.R.Denot). ((shown z).rows c.args.class).deferred.plain) c.batch_stamp.ensures.same ∙ sym c.batch_stamp.ensures.stamp ∙ c.in-Some.is
+
+pub send_first-requires-clause-taken : goal.send_first-requires-clause-taken
+send_first-requires-clause-taken g c =
+    let m = c.in-Some.stamp in
+    let k : ℕ = m - 1 in
+    let e : m ≡ suc k = stamp-some ((shown (g.H.Host.held c.args.host.now)).rows c.args.class).deferred.plain m (sym c.batch_stamp.ensures.stamp ∙ c.in-Some.is) c.requires.stamped in
+    omega (arith, e)
+
+pub send_first-requires-clause-passed : goal.send_first-requires-clause-passed
+send_first-requires-clause-passed g c =
+    let x = c.poll.new.host in
+    let i = c.args.class in
+    let face : (g.H.Host.face c.batch_stamp.new.host).level ≡ (g.H.Host.face x).level = sym (ap (λ (f : Face). f.level) c.poll.ensures.works.goes.face) in
+    let F : ℕ → Done → Type 0 = λ l o. LastIs g.R.Recorder.log l (entry.Pass i Plain (number_in o)) (g.H.Host.held x) in
+    subst (λ l. F l (Passed c.in-Passed.seen)) face (subst (F (g.H.Host.face c.batch_stamp.new.host).level) c.in-Passed.is c.poll.ensures.last)
 
 pub returns-in-Passed-clause-ok : goal.returns-in-Passed-clause-ok
 returns-in-Passed-clause-ok g c =

@@ -1,6 +1,6 @@
 use Rattle.std.proofs.Common.{◌<◌, ◌∙◌, None, ap, arith, length, refl, subst}
 use Rattle.bm_world.specs.LivingState.{LivingState, living_of, standings_after, with_ended}
-use Rattle.bm_world.proofs.Alive.{after-due, after-settled, after-undue, ended-mine, living-ended}
+use Rattle.bm_world.proofs.Alive.{after-due, after-settled, after-undue, after-unsettled, ended-mine, living-ended}
 use Rattle.bm_world.proofs.LivingDid.{does-end}
 use Rattle.bm_world.proofs.KnownLiving.{ended-others, known-ended}
 use Rattle.bm_world.proofs.SlotLemmas.{at-same, within}
@@ -25,6 +25,14 @@ returns-clause-home c =
 pub returns-clause-unsealed : goal.returns-clause-unsealed
 returns-clause-unsealed c = c.self.invariant.0.unsealed c.args.number c.take.result c.take.ensures.unit
 
+pub returns-clause-room : goal.returns-clause-room
+returns-clause-room c =
+    let k = c.self.invariant.0 in
+    let life = k.life c.args.number c.take.result c.take.ensures.unit in
+    let most = k.most c.args.number in
+    let few = k.few in
+    omega (arith, life, most, few)
+
 pub returns-clause-settled : goal.returns-clause-settled
 returns-clause-settled c h =
     let i = c.self.inside in
@@ -39,6 +47,11 @@ pub returns-clause-due : goal.returns-clause-due
 returns-clause-due c h =
     let i = c.self.inside in
     rw (c.end_standing.ensures.standings) (after-due c.args.delayed i.side.post i.side.grace i.slots.slots.items i.begun.counts.items i.standings.standings.items i.asked c.args.number c.take.result h c.take.ensures.unit c.self.invariant.0)
+
+pub returns-clause-unsettled : goal.returns-clause-unsettled
+returns-clause-unsettled c h life seal =
+    let i = c.self.inside in
+    rw (c.end_standing.ensures.standings) (after-unsettled c.args.delayed i.side.post i.side.grace i.slots.slots.items i.begun.counts.items i.standings.standings.items i.asked c.args.number c.take.result h c.take.ensures.unit c.self.invariant.0 life seal)
 
 pub returns-clause-last : goal.returns-clause-last
 returns-clause-last c = rw (← c.self.view_is) (c.self.invariant.0.life c.args.number c.take.result c.take.ensures.unit)
