@@ -34,8 +34,11 @@ class Maker:
 
     def object_type(self, number: int) -> ObjectType:
         size = self.draw.choice(GREAT if self.drains else SMALL + GREAT)
-        fields = min(self.draw.randint(0, 2), size // 8)
-        return ObjectType(f"t{number}", fields=[f"f{place}" for place in range(fields)], pad=size - 8 * fields)
+        # two of five types have a reference count, of 8 bytes
+        counted = self.draw.random() < 0.4
+        fields = min(self.draw.randint(0, 2), size // 8 - counted)
+        pad = size - 8 * fields - 8 * counted
+        return ObjectType(f"t{number}", counted=counted, fields=[f"f{place}" for place in range(fields)], pad=pad)
 
     def fresh(self) -> str:
         self.names += 1

@@ -2,9 +2,8 @@
 
 It was written from the rules alone, which docs/caches.md, docs/deferred-work.md, docs/grace-periods.md, docs/handlers.md
 and docs/journals.md restate, and shares no code with the program. It knows what runs so far: one processor, types without a
-count or a node, plain and sleepable scripts and handlers of `new`, `drop`, `if`, `repeat`, `section` and `yield`, with deferred
-work or without. It knows counted types as well, which the program refuses so far; since nothing acquires a reference, each `drop`
-is the last one. Nothing of it is proved.
+node, plain and sleepable scripts and handlers of `new`, `drop`, `if`, `repeat`, `section` and `yield`, with deferred work or
+without. Since nothing acquires a reference so far, each `drop` of a counted object is the last one. Nothing of it is proved.
 """
 
 from collections import Counter
