@@ -100,3 +100,21 @@ went-end types l z z1 v e s0 s1 n0 n1 b0 b1 lives lives' a0 a1 log0 log1 w d s =
   grew = w.grew n1 log1 (grew-none (RunsStack types l z1 v b1 n1 n1) s1 log1 (d.runs types l z1 v n1 s1 w.down));
   owns_nothing = λ x. owns-none (n1 x) ((d.safe e n1 (w.safe e s)).values x);
 }
+
+-- some statements, and then others
+pub went-join : (types : List TypeDeclaration) (l : ℕ) (z z1 z2 : Around) (v : Option (List ℕ)) (s0 s1 s2 : State ℕ) (n0 n1 n2 : Names) (b0 b1 b2 : List Open) (lives lives' lives'' : Lives) (a0 a1 a2 : ℕ) (log0 log1 log2 : Option Log) →
+    Went types l z z1 v s0 s1 n0 n1 b0 b1 lives lives' a0 a1 log0 log1 → Went types l z1 z2 v s1 s2 n1 n2 b1 b2 lives' lives'' a1 a2 log1 log2 → Went types l z z2 v s0 s2 n0 n2 b0 b2 lives lives'' a0 a2 log0 log2
+went-join types l z z1 z2 v s0 s1 s2 n0 n1 n2 b0 b1 b2 lives lives' lives'' a0 a1 a2 log0 log1 log2 x y = record {
+  grew = λ last final q. x.grew last final (y.grew last final q);
+  safe = λ e h. y.safe e (x.safe e h);
+  holds = λ base h. y.holds base (x.holds base h);
+  meets = λ q h k. y.meets q h (x.meets q h k);
+  sections = λ base h. y.sections base (x.sections base h);
+  cost = omega (arith, x.cost, y.cost);
+  down = y.down;
+}
+
+-- .. and then all the others
+pub went-ran : (types : List TypeDeclaration) (l : ℕ) (z z1 : Around) (v : Option (List ℕ)) (s0 s1 : State ℕ) (n0 n1 n2 : Names) (b0 b1 : List Open) (lives lives' : Lives) (a0 a1 : ℕ) (log0 log1 log2 : Option Log) →
+    Went types l z z1 v s0 s1 n0 n1 b0 b1 lives lives' a0 a1 log0 log1 → Ran types l z1 v s1 n1 n2 b1 log1 log2 → Ran types l z v s0 n0 n2 b0 log0 log2
+went-ran types l z z1 v s0 s1 n0 n1 n2 b0 b1 lives lives' a0 a1 log0 log1 log2 x r = record { grew = x.grew n2 log2 r.grew; owns_nothing = r.owns_nothing }

@@ -11,4 +11,5 @@ mod Performing
 mod Going
 pub mod Sounds
 pub mod Lives
+pub mod Yields
 mod Starting

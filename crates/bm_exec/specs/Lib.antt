@@ -9,5 +9,6 @@ pub mod Runnable
 pub mod Living
 pub mod Steps
 pub mod Running
+pub mod Yields
 pub mod Depth
 pub mod Meets

@@ -5,9 +5,9 @@
 //!   leaves as it was.
 //! - `Frame` is where a running script stands: a position over the scenario's own blocks, with those that are open (`Open`), in
 //!   place. Beside it stands the table of its names (`NameTable`). `Holding` is what a name holds.
-//! - `resume` runs the script of a frame to its end; `run_script` makes the names and the frame first; `run_handler` runs a
-//!   handler's script the same way, with names that were made beforehand, so with no memory but the recorder's. `Stopped` says why a
-//!   script stopped.
+//! - `resume` runs the script of a frame to its next `yield` or its end, and `Stopped` says why it stopped; `run_script` makes the
+//!   names and the frame first and runs the script whole, on from each `yield`; `run_handler` runs a handler's script the same way,
+//!   with names that were made beforehand, so with no memory but the recorder's.
 //!
 //! `bm_exec_levels` has the machines; `bm_run_yet` says which forms have no statement here so far.
 //!

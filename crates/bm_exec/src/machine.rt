@@ -9,6 +9,7 @@ ghost use Rattle.bm_law_work.specs.Grown.{GrewBy};
 ghost use Rattle.bm_exec.specs.Around.{Around, Entered, HasLeft, is_inside};
 ghost use Rattle.bm_exec.specs.Lists.{Behind};
 ghost use Rattle.bm_exec.specs.Living.{Lives, Created, Disposed, LivesAs};
+ghost use Rattle.bm_exec.specs.Yields.{Unyielding};
 
 use bm_class::Class;
 use bm_journal::{ObjId, Values};
@@ -135,13 +136,14 @@ pub trait Machine {
         ensures keeps { keeps self.old self.new };
 
     /// Runs the deferred work that stands after a statement, if any runs: the work of the first of its classes whose flag is up,
-    /// and again, until no flag is up. Want of memory is the only refusal, and where no work runs there is none. In
+    /// and again, until no flag is up. None of it yields. Want of memory is the only refusal, and where no work runs there is none. In
     /// kernel/bpf/memalloc.c the work runs behind the code that asked for it, by irq_work_raise.
     fn settle(&mut self) -> Result<(), NoMemory>
         requires sound { sound self.old }
         requires room { asked self.old + 1 < 2 ^ 22 }
         ensures settled { OnOk result (GrewBy (Behind (behind self.old)) (lists self.old) (log self.old) (log self.new)) }
         ensures down { OnOk result (Behind (behind self.old) (lists self.new) []) }
+        ensures yields { OnOk result (Unyielding (level self.old) (log self.old) (log self.new)) }
         ensures sound { OnOk result (sound self.new) }
         ensures lives { OnOk result (lives self.new ≡ lives self.old) }
         ensures asked { OnOk result (asked self.new ≤ asked self.old + 1) }

@@ -21,7 +21,9 @@ ghost use Rattle.bm_exec.specs.Runnable.{Classes, can_run_action, can_run_block}
 ghost use Rattle.bm_exec.specs.Lists.{Behind};
 ghost use Rattle.bm_exec.specs.Living.{Holds, Lives};
 ghost use Rattle.bm_exec.specs.declared.frame.Open.{Open};
-ghost use Rattle.bm_exec.specs.Running.{Performed, Ran, RanScript};
+ghost use Rattle.bm_exec.specs.Running.{Performed, Ran, RanScript, Went};
+ghost use Rattle.bm_exec.specs.Steps.{weight};
+ghost use Rattle.bm_exec.specs.Yields.{HasWent, IfWent, IsTurn, Unyielding, YieldsBy, is_yield};
 ghost use Rattle.bm_exec.specs.declared.running.Stopped.TheVariants as stopped;
 
 use crate::frame::{Frame, Next, next_statement, open_block, repeat_block};
@@ -47,6 +49,8 @@ pub struct Types<'s> {
 pub enum Stopped {
     /// Its block has ended.
     Ended,
+    /// Its last statement so far is a `yield`.
+    Yielded,
     /// Memory ran out.
     NoMemory,
 }
@@ -76,6 +80,7 @@ fn perform_new<'s, M: Machine>(
     ensures asked { OnOk result (M.asked machine.new ≤ M.asked machine.old + 2) }
     ensures around { OnOk result (M.around machine.new ≡ M.around machine.old) }
     ensures keeps { OnOk result (M.keeps machine.old machine.new) }
+    ensures yields { OnOk result (Unyielding (M.level machine.old) (M.log machine.old) (M.log machine.new)) }
     ensures known { names.new.names.keys ≡ names.old.names.keys }
     ensures bare { M.behind machine.old ≡ None → IsOk result }
 {
@@ -116,6 +121,7 @@ fn perform_drop<'s, M: Machine>(
     ensures asked { OnOk result (M.asked machine.new ≤ M.asked machine.old + 2) }
     ensures around { OnOk result (M.around machine.new ≡ M.around machine.old) }
     ensures keeps { OnOk result (M.keeps machine.old machine.new) }
+    ensures yields { OnOk result (Unyielding (M.level machine.old) (M.log machine.old) (M.log machine.new)) }
     ensures known { names.new.names.keys ≡ names.old.names.keys }
     ensures bare { M.behind machine.old ≡ None → IsOk result }
 {
@@ -147,6 +153,7 @@ fn perform_section<'s, M: Machine>(frame: &mut Frame<'s>, machine: &mut M, body:
     ensures through { M.through machine.new ≡ M.through machine.old }
     ensures asked { M.asked machine.new ≤ M.asked machine.old + 2 }
     ensures keeps { M.keeps machine.old machine.new }
+    ensures yields { Unyielding (M.level machine.old) (M.log machine.old) (M.log machine.new) }
 {
     if machine.is_inside() {
         open_block(&mut frame.blocks, body, false);
@@ -154,6 +161,13 @@ fn perform_section<'s, M: Machine>(frame: &mut Frame<'s>, machine: &mut M, body:
         machine.enter();
         open_block(&mut frame.blocks, body, true);
     }
+}
+
+// Whether a statement is a `yield`.
+fn is_yield(action: &Action) -> bool
+    ensures { result ≡ is_yield action.now }
+{
+    matches!(action, Action::Yield)
 }
 
 // Performs a statement that was taken off the open blocks, where no work is left to run. Deferred work runs behind a call, and is
@@ -181,6 +195,7 @@ fn perform<'s, M: Machine>(
     ensures through { M.through machine.new ≡ M.through machine.old }
     ensures asked { OnOk result (M.asked machine.new ≤ M.asked machine.old + 2) }
     ensures keeps { OnOk result (M.keeps machine.old machine.new) }
+    ensures yields { OnOk result (YieldsBy (is_yield statement.now.action) (M.level machine.old) (M.log machine.old) (M.log machine.new)) }
     ensures known { names.new.names.keys ≡ names.old.names.keys }
     ensures bare { M.behind machine.old ≡ None → IsOk result }
 {
@@ -225,11 +240,12 @@ fn perform<'s, M: Machine>(
     }
 }
 
-/// Runs a script from where its frame stands to its end: one statement after the other, each with the deferred work behind
-/// it. No work is left to run before it, nor at its end. A script that the checker accepts is never stuck, whatever the machine
-/// replies, and owns nothing at its end: those objects live then that lived before the script began. The names that it binds are
-/// in the table already. So out of memory in the deferred work is the only other way to stop, and where no work runs there is
-/// none; the machine is of no further use then.
+/// Runs a script from where its frame stands up to and with its next `yield`, or without one to its end: one statement after the
+/// other, each with the deferred work behind it. No work is left to run before it, nor after it. A script that the checker accepts is
+/// never stuck, whatever the machine replies. Where it yields, the frame stands behind the `yield`, and what was needed of it, its names
+/// and the machine still holds. At its end it owns nothing: those objects live then that lived before the script began. The names
+/// that it binds are in the table already. So out of memory in the deferred work is the only other way to stop, and where no work runs
+/// there is none; the machine is of no further use then.
 pub fn resume<'s, M: Machine>(
     frame: &mut Frame<'s>,
     names: &mut NameTable,
@@ -244,19 +260,22 @@ pub fn resume<'s, M: Machine>(
     requires down { Behind (M.behind machine.old) (M.lists machine.old) [] }
     requires accepted { (e : Setting) × SafeStack e (store_of (names_of names.old)) (reverse frame.old.blocks.items) }
     requires sections { (base : Around) × Sectioned base (M.around machine.old) (reverse frame.old.blocks.items) }
+    ensures turn { IsTurn result (M.level machine.old) (M.log machine.old) (M.log machine.new) }
     ensures ended { result ≡ stopped.Ended → Ran types.now.declared.now (M.level machine.old) (M.around machine.old) (M.behind machine.old) (M.lists machine.old) (names_of names.old) (names_of names.new) (reverse frame.old.blocks.items) (M.log machine.old) (M.log machine.new) }
+    ensures yielded { result ≡ stopped.Yielded → Went types.now.declared.now (M.level machine.old) (M.around machine.old) (M.around machine.new) (M.behind machine.old) (M.lists machine.old) (M.lists machine.new) (names_of names.old) (names_of names.new) (reverse frame.old.blocks.items) (reverse frame.new.blocks.items) (M.lives machine.old) (M.lives machine.new) (M.asked machine.old) (M.asked machine.new) (M.log machine.old) (M.log machine.new) }
+    ensures less { result ≡ stopped.Yielded → weight (reverse frame.new.blocks.items) < weight (reverse frame.old.blocks.items) }
     ensures lives { result ≡ stopped.Ended → (base : Lives) → Holds types.now.declared.now base (M.lives machine.old) (names_of names.old) → M.lives machine.new ≡ base }
     ensures asked { result ≡ stopped.Ended → M.asked machine.new ≤ M.asked machine.old + 2 * stack_cost (reverse frame.old.blocks.items) }
-    ensures down { result ≡ stopped.Ended → Behind (M.behind machine.old) (M.lists machine.new) [] }
-    ensures sound { result ≡ stopped.Ended → M.sound machine.new }
-    ensures level { result ≡ stopped.Ended → M.level machine.new ≡ M.level machine.old }
-    ensures processor { result ≡ stopped.Ended → M.processor machine.new ≡ M.processor machine.old }
-    ensures behind { result ≡ stopped.Ended → M.behind machine.new ≡ M.behind machine.old }
+    ensures down { IfWent result (Behind (M.behind machine.old) (M.lists machine.new) []) }
+    ensures sound { IfWent result (M.sound machine.new) }
+    ensures level { IfWent result (M.level machine.new ≡ M.level machine.old) }
+    ensures processor { IfWent result (M.processor machine.new ≡ M.processor machine.old) }
+    ensures behind { IfWent result (M.behind machine.new ≡ M.behind machine.old) }
     ensures through { M.through machine.new ≡ M.through machine.old }
     ensures around { result ≡ stopped.Ended → (base : Around) → Sectioned base (M.around machine.old) (reverse frame.old.blocks.items) → M.around machine.new ≡ base }
-    ensures keeps { result ≡ stopped.Ended → M.keeps machine.old machine.new }
+    ensures keeps { IfWent result (M.keeps machine.old machine.new) }
     ensures known { names.new.names.keys ≡ names.old.names.keys }
-    ensures bare { M.behind machine.old ≡ None → result ≡ stopped.Ended }
+    ensures bare { M.behind machine.old ≡ None → HasWent result }
 {
     loop {
         match next_statement(&mut frame.blocks) {
@@ -264,9 +283,50 @@ pub fn resume<'s, M: Machine>(
                 if perform(frame, names, machine, types, statement).is_err() {
                     return Stopped::NoMemory;
                 }
+                if is_yield(&statement.action) {
+                    return Stopped::Yielded;
+                }
             }
             Next::Leave => machine.leave(),
             Next::End => return Stopped::Ended,
+        }
+    }
+}
+
+// Runs a script from where its frame stands to its end, on from each `yield`.
+fn run_on<'s, M: Machine>(
+    frame: &mut Frame<'s>,
+    names: &mut NameTable,
+    machine: &mut M,
+    types: &Types<'s>,
+) -> Result<(), NoMemory>
+    requires sound { M.sound machine.old }
+    requires classes { Classes types.now.declared.now types.now.classes.now }
+    requires room { M.asked machine.old + 2 * stack_cost (reverse frame.old.blocks.items) < 2 ^ 22 }
+    requires holds { (base : Lives) × Holds types.now.declared.now base (M.lives machine.old) (names_of names.old) }
+    requires may { stack_meets (may_run types.now.declared.now (has_name names.old)) (reverse frame.old.blocks.items) ≡ true }
+    requires down { Behind (M.behind machine.old) (M.lists machine.old) [] }
+    requires accepted { (e : Setting) × SafeStack e (store_of (names_of names.old)) (reverse frame.old.blocks.items) }
+    requires sections { (base : Around) × Sectioned base (M.around machine.old) (reverse frame.old.blocks.items) }
+    ensures ended { OnOk result (Ran types.now.declared.now (M.level machine.old) (M.around machine.old) (M.behind machine.old) (M.lists machine.old) (names_of names.old) (names_of names.new) (reverse frame.old.blocks.items) (M.log machine.old) (M.log machine.new)) }
+    ensures lives { OnOk result ((base : Lives) → Holds types.now.declared.now base (M.lives machine.old) (names_of names.old) → M.lives machine.new ≡ base) }
+    ensures asked { OnOk result (M.asked machine.new ≤ M.asked machine.old + 2 * stack_cost (reverse frame.old.blocks.items)) }
+    ensures down { OnOk result (Behind (M.behind machine.old) (M.lists machine.new) []) }
+    ensures sound { OnOk result (M.sound machine.new) }
+    ensures level { OnOk result (M.level machine.new ≡ M.level machine.old) }
+    ensures processor { OnOk result (M.processor machine.new ≡ M.processor machine.old) }
+    ensures behind { OnOk result (M.behind machine.new ≡ M.behind machine.old) }
+    ensures through { M.through machine.new ≡ M.through machine.old }
+    ensures around { OnOk result ((base : Around) → Sectioned base (M.around machine.old) (reverse frame.old.blocks.items) → M.around machine.new ≡ base) }
+    ensures keeps { OnOk result (M.keeps machine.old machine.new) }
+    ensures known { names.new.names.keys ≡ names.old.names.keys }
+    ensures bare { M.behind machine.old ≡ None → IsOk result }
+{
+    'turns: loop {
+        match resume(frame, names, machine, types) {
+            Stopped::Ended => return Ok(()),
+            Stopped::Yielded => {}
+            Stopped::NoMemory => return Err(NoMemory),
         }
     }
 }
@@ -281,7 +341,7 @@ pub fn run_script<'s, M: Machine>(
     types: &Types<'s>,
     scenario: &Parts,
     script: &'s Script,
-) -> Stopped
+) -> Result<(), NoMemory>
     requires sound { M.sound machine.old }
     requires classes { Classes types.now.declared.now types.now.classes.now }
     requires room { M.asked machine.old + 2 * block_cost script.now.body < 2 ^ 22 }
@@ -289,24 +349,24 @@ pub fn run_script<'s, M: Machine>(
     requires fits { block_fits 16 script.now.body ≡ true }
     requires down { Behind (M.behind machine.old) (M.lists machine.old) [] }
     requires accepted { Accepted scenario.now script.now }
-    ensures ended { result ≡ stopped.Ended → RanScript types.now.declared.now (M.level machine.old) (is_inside (M.around machine.old)) (M.behind machine.old) (M.lists machine.old) script.now (M.log machine.old) (M.log machine.new) }
-    ensures lives { result ≡ stopped.Ended → M.lives machine.new ≡ M.lives machine.old }
-    ensures asked { result ≡ stopped.Ended → M.asked machine.new ≤ M.asked machine.old + 2 * block_cost script.now.body }
-    ensures down { result ≡ stopped.Ended → Behind (M.behind machine.old) (M.lists machine.new) [] }
-    ensures sound { result ≡ stopped.Ended → M.sound machine.new }
-    ensures level { result ≡ stopped.Ended → M.level machine.new ≡ M.level machine.old }
-    ensures processor { result ≡ stopped.Ended → M.processor machine.new ≡ M.processor machine.old }
-    ensures behind { result ≡ stopped.Ended → M.behind machine.new ≡ M.behind machine.old }
+    ensures ended { OnOk result (RanScript types.now.declared.now (M.level machine.old) (is_inside (M.around machine.old)) (M.behind machine.old) (M.lists machine.old) script.now (M.log machine.old) (M.log machine.new)) }
+    ensures lives { OnOk result (M.lives machine.new ≡ M.lives machine.old) }
+    ensures asked { OnOk result (M.asked machine.new ≤ M.asked machine.old + 2 * block_cost script.now.body) }
+    ensures down { OnOk result (Behind (M.behind machine.old) (M.lists machine.new) []) }
+    ensures sound { OnOk result (M.sound machine.new) }
+    ensures level { OnOk result (M.level machine.new ≡ M.level machine.old) }
+    ensures processor { OnOk result (M.processor machine.new ≡ M.processor machine.old) }
+    ensures behind { OnOk result (M.behind machine.new ≡ M.behind machine.old) }
     ensures through { M.through machine.new ≡ M.through machine.old }
-    ensures around { result ≡ stopped.Ended → M.around machine.new ≡ M.around machine.old }
-    ensures keeps { result ≡ stopped.Ended → M.keeps machine.old machine.new }
+    ensures around { OnOk result (M.around machine.new ≡ M.around machine.old) }
+    ensures keeps { OnOk result (M.keeps machine.old machine.new) }
 {
     accepted_scripts_are_safe();
     let Ok(mut names) = NameTable::for_script(alloc, script) else {
-        return Stopped::NoMemory;
+        return Err(NoMemory);
     };
     let mut frame = Frame::start(script);
-    resume(&mut frame, &mut names, machine, types)
+    run_on(&mut frame, &mut names, machine, types)
 }
 
 /// Runs a handler's script that the checker accepted, whole, on a machine behind whose statements no deferred work runs. The
@@ -343,8 +403,8 @@ pub fn run_handler<'s, M: Machine>(
     accepted_scripts_are_safe();
     names.clear();
     let mut frame = Frame::start(script);
-    match resume(&mut frame, names, machine, types) {
-        Stopped::Ended => {}
-        Stopped::NoMemory => unreachable!(),
+    match run_on(&mut frame, names, machine, types) {
+        Ok(()) => {}
+        Err(NoMemory) => unreachable!(),
     }
 }

@@ -17,3 +17,4 @@ pub mod Begun
 pub mod Grounds
 pub mod Moved
 pub mod Scripts
+pub mod Yields

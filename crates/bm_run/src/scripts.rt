@@ -7,7 +7,6 @@ ghost use Rattle.bm_journal.specs.declared.ids.Domain.TheVariants.{Tracing};
 ghost use Rattle.bm_lang.specs.Limits.{block_cost};
 ghost use Rattle.bm_exec.specs.Lists.{Behind, behind_of};
 ghost use Rattle.bm_exec.specs.Running.{RanScript};
-ghost use Rattle.bm_exec.specs.declared.running.Stopped.TheVariants as stopped;
 ghost use Rattle.bm_law_scenario.specs.Grammar.{AreScripts, IsScript, lines_of, section_of};
 ghost use Rattle.bm_exec_levels.specs.AtProcessor.{SameLives, lists_of, log_of};
 ghost use Rattle.bm_exec_levels.specs.AtTie.{TiedAt};
@@ -17,7 +16,7 @@ ghost use Rattle.bm_exec_levels.specs.Sound.{Sound};
 ghost use Rattle.bm_run.specs.Lines.{asks_in, lines_cost, works_for, AllDeclared, Wrote};
 
 use crate::stretches::{begin_script, end_script, settle_behind};
-use bm_exec::{Stopped, run_script};
+use bm_exec::run_script;
 use bm_exec_levels::{Deferred, Ground, Processor, Program, Since};
 use bm_journal::Domain;
 use bm_lang::{Script, ScriptKind};
@@ -36,28 +35,29 @@ fn section_of(kind: ScriptKind) -> Domain
     }
 }
 
-// Runs the statements of a script, as ordinary code, in a plain section as a whole if the processor is in one.
+// Runs the statements of a script, as ordinary code, in a plain section as a whole if the processor is in one. Out of memory is the
+// only refusal.
 fn run_body<'s, B: Since<LivingSide>>(
     alloc: Global,
     own: &mut Processor<LivingSide>,
     program: &'s Program<'s>,
     deferred: &'s Deferred<'s>,
     script: &'s Script,
-) -> Stopped
+) -> Result<(), NoMemory>
     requires sound { Sound knows_living program.now own.old }
     requires tied { TiedAt knows_living B.since B.start own.old }
     requires few { IfSome deferred.now.behind (λ classes. length classes.now ≤ 11) }
     requires room { asks_in program.now.scenario.now own.old + 2 * block_cost script.now.body < 2 ^ 22 }
     requires found { (i : ℕ) × (slice_get program.now.scenario.now.scripts i ≡ Some script.now) }
     requires down { Behind (behind_of deferred.now.behind) (lists_of own.old) [] }
-    ensures ended { result ≡ stopped.Ended → RanScript program.now.scenario.now.types 0 own.old.inside (behind_of deferred.now.behind) (lists_of own.old) script.now (log_of own.old) (log_of own.new) }
-    ensures lives { result ≡ stopped.Ended → SameLives knows_living own.old own.new }
-    ensures asked { result ≡ stopped.Ended → asks_in program.now.scenario.now own.new ≤ asks_in program.now.scenario.now own.old + 2 * block_cost script.now.body }
-    ensures down { result ≡ stopped.Ended → Behind (behind_of deferred.now.behind) (lists_of own.new) [] }
-    ensures scripted { result ≡ stopped.Ended → Scripted knows_living own.old.inside own.old own.new }
-    ensures inside { result ≡ stopped.Ended → own.new.inside ≡ own.old.inside }
-    ensures sound { result ≡ stopped.Ended → Sound knows_living program.now own.new }
-    ensures tied { result ≡ stopped.Ended → TiedAt knows_living B.since B.start own.new }
+    ensures ended { OnOk result (RanScript program.now.scenario.now.types 0 own.old.inside (behind_of deferred.now.behind) (lists_of own.old) script.now (log_of own.old) (log_of own.new)) }
+    ensures lives { OnOk result (SameLives knows_living own.old own.new) }
+    ensures asked { OnOk result (asks_in program.now.scenario.now own.new ≤ asks_in program.now.scenario.now own.old + 2 * block_cost script.now.body) }
+    ensures down { OnOk result (Behind (behind_of deferred.now.behind) (lists_of own.new) []) }
+    ensures scripted { OnOk result (Scripted knows_living own.old.inside own.old own.new) }
+    ensures inside { OnOk result (own.new.inside ≡ own.old.inside) }
+    ensures sound { OnOk result (Sound knows_living program.now own.new) }
+    ensures tied { OnOk result (TiedAt knows_living B.since B.start own.new) }
 {
     let within = own.inside;
     let mut code = Ground::<LivingSide, B> {
@@ -67,7 +67,7 @@ fn run_body<'s, B: Since<LivingSide>>(
         within,
         since: PhantomData,
     };
-    let stopped = run_script(alloc, &mut code, &program.types, program.scenario, script);
+    let ended = run_script(alloc, &mut code, &program.types, program.scenario, script);
     let Ground {
         own: _,
         program: _,
@@ -75,7 +75,7 @@ fn run_body<'s, B: Since<LivingSide>>(
         within: _,
         since: _,
     } = code;
-    stopped
+    ended
 }
 
 // Runs a script in its section, and the deferred work after it.
@@ -106,13 +106,9 @@ fn run_line<'s, B: Since<LivingSide>>(
 {
     let domain = section_of(script.kind);
     begin_script(own, &script.name, domain);
-    match run_body::<B>(alloc, own, program, deferred, script) {
-        Stopped::NoMemory => Err(NoMemory),
-        Stopped::Ended => {
-            end_script(own, &script.name, domain);
-            settle_behind::<B>(own, program, deferred)
-        }
-    }
+    run_body::<B>(alloc, own, program, deferred, script)?;
+    end_script(own, &script.name, domain);
+    settle_behind::<B>(own, program, deferred)
 }
 
 /// Runs the scripts of the `run` lines of processor 0, in order, each in its section and with the deferred work after it; and

@@ -4,6 +4,7 @@ use Rattle.bm_lang.specs.declared.scenario.Action.{New, None', Some'}
 use Rattle.bm_exec.specs.Seen.{has_name, names_of}
 use Rattle.bm_exec.proofs.Meeting.{block-room, new-known, opens-again, opens-if, opens-other, opens-section}
 use Rattle.bm_exec.proofs.Performing.{first-performed, other-performed, skip-performed, repeat-performed, yield-performed}
+use Rattle.bm_exec.proofs.Yields.{unyielding-none, yields-one}
 use Rattle.bm_exec.proofs.running.perform.Goals as goal
 
 -- ---- room for a block
@@ -102,3 +103,23 @@ returns-in-Yield-clause-performed g c =
     let e = c.pause.ensures in
     rw c.in-Yield.is (rw e.around (yield-performed c.args.types.now.declared.now (g.M.Machine.level m) (g.M.Machine.around m) (g.M.Machine.behind m) (g.M.Machine.processor m) (g.M.Machine.lists m) (g.M.Machine.lists n) (names_of c.args.names.now) _ (g.M.Machine.lives m) (g.M.Machine.lives n) (g.M.Machine.asked m) (g.M.Machine.asked n) (g.M.Machine.log m) (g.M.Machine.log n)
     (g.met.M.Machine.told m c.requires.sound) (rw e.processor at (g.met.M.Machine.told n e.sound)) e.paused e.lists e.lives e.asked c.requires.down))
+
+-- ---- what yields
+
+pub returns-in-Object-clause-yields : goal.returns-in-Object-clause-yields
+returns-in-Object-clause-yields g c = rw c.in-If.is (unyielding-none (g.M.Machine.level c.args.machine.now) (g.M.Machine.log c.args.machine.now))
+
+pub returns-in-Some-clause-yields : goal.returns-in-Some-clause-yields
+returns-in-Some-clause-yields g c = rw c.in-If.is (unyielding-none (g.M.Machine.level c.args.machine.now) (g.M.Machine.log c.args.machine.now))
+
+pub returns-in-None-clause-yields : goal.returns-in-None-clause-yields
+returns-in-None-clause-yields g c = rw c.in-If.is (unyielding-none (g.M.Machine.level c.args.machine.now) (g.M.Machine.log c.args.machine.now))
+
+pub returns-in-Repeat-clause-yields : goal.returns-in-Repeat-clause-yields
+returns-in-Repeat-clause-yields g c = rw c.in-Repeat.is (unyielding-none (g.M.Machine.level c.args.machine.now) (g.M.Machine.log c.args.machine.now))
+
+pub returns-in-Section-clause-yields : goal.returns-in-Section-clause-yields
+returns-in-Section-clause-yields g c = rw c.in-Section.is c.perform_section.ensures.yields
+
+pub returns-in-Yield-clause-yields : goal.returns-in-Yield-clause-yields
+returns-in-Yield-clause-yields g c = rw c.in-Yield.is (yields-one _ _ _ c.pause.ensures.paused)

@@ -1,6 +1,8 @@
 use Rattle.std.proofs.Common.{◌≡◌, ℕ, List, Some, slice_get, arith, ◌∙◌, sym, subst}
 use Rattle.bm_lang.specs.declared.scenario.TypeDeclaration.{TypeDeclaration}
 use Rattle.bm_exec.specs.Living.{Disposed}
+use Rattle.bm_exec.specs.Yields.{Unyielding}
+use Rattle.bm_exec.proofs.Yields.{disposed-unyielding, unyielding-join}
 use Rattle.bm_exec.specs.Seen.{names_of}
 use Rattle.bm_exec.proofs.Performing.{drop-performed}
 use Rattle.bm_exec.proofs.Results.{on-ok, both-ok, get-is}
@@ -45,3 +47,14 @@ pub returns-clause-known : goal.returns-clause-known
 returns-clause-known g c =
     let there = owning-there c.args.names.now c.args.name.now c.requires.owned in
     c.put.ensures.same (rw c.as_bytes-2.ensures.value there)
+
+pub returns-clause-yields : goal.returns-clause-yields
+returns-clause-yields g c =
+    let m0 = c.args.machine.now in
+    let m1 = c.dispose.new.self in
+    let m2 = c.settle.new.self in
+    let held = rw c.as_bytes.ensures.value at (rw c.in-Object.is at c.holding.ensures) in
+    let living = c.requires.holds.1.living c.args.name.now _ _ _ (sym held) in
+    on-ok c.settle.result _ _ c.settle.ensures.yields (λ y.
+    unyielding-join (g.M.Machine.level m0) (g.M.Machine.log m0) (g.M.Machine.log m1) (g.M.Machine.log m2) (disposed-unyielding _ _ _ _ _ _ _ _ _ (c.dispose.ensures.disposed living.0 living.3))
+    (subst (λ l. Unyielding l (g.M.Machine.log m1) (g.M.Machine.log m2)) c.dispose.ensures.level y))

@@ -1,4 +1,6 @@
-use Rattle.std.proofs.Common.{arith, ◌∙◌}
+use Rattle.std.proofs.Common.{arith, ◌∙◌, subst}
+use Rattle.bm_exec.specs.Yields.{Unyielding}
+use Rattle.bm_exec.proofs.Yields.{created-unyielding, unyielding-join}
 use Rattle.bm_exec.specs.Seen.{names_of}
 use Rattle.bm_exec.proofs.Performing.{new-performed}
 use Rattle.bm_exec.proofs.Results.{on-ok, both-ok, get-is}
@@ -22,3 +24,12 @@ returns-clause-performed g c =
 
 pub returns-clause-keeps : goal.returns-clause-keeps
 returns-clause-keeps g c = on-ok c.settle.result _ _ c.settle.ensures.keeps (λ k. g.met.M.Machine.keeps_join c.args.machine.now c.create-reply.new.self c.settle.new.self c.create-reply.ensures.keeps k)
+
+pub returns-clause-yields : goal.returns-clause-yields
+returns-clause-yields g c =
+    let m0 = c.args.machine.now in
+    let m1 = c.create-reply.new.self in
+    let m2 = c.settle.new.self in
+    on-ok c.settle.result _ _ c.settle.ensures.yields (λ y.
+    unyielding-join (g.M.Machine.level m0) (g.M.Machine.log m0) (g.M.Machine.log m1) (g.M.Machine.log m2) (created-unyielding _ _ _ _ _ _ _ _ _ c.create-reply.ensures.created)
+    (subst (λ l. Unyielding l (g.M.Machine.log m1) (g.M.Machine.log m2)) c.create-reply.ensures.level y))

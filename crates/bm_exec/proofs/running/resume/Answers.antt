@@ -1,5 +1,7 @@
-use Rattle.std.proofs.Common.{arith, refl, ◌∙◌}
+use Rattle.std.proofs.Common.{arith, refl, ◌∙◌, subst}
+use Rattle.bm_exec.specs.Yields.{Unyielding, YieldsLast}
 use Rattle.bm_exec.proofs.Results.{not-err}
+use Rattle.bm_exec.proofs.Yields.{left-unyielding, unyielding-join, unyielding-none, yields-join}
 use Rattle.bm_exec.proofs.Going.{went-none, went-step, went-left, went-end, some-cost}
 use Rattle.bm_exec.specs.Meets.{may_run}
 use Rattle.bm_exec.specs.Seen.{has_name}
@@ -18,10 +20,15 @@ loop-statement-init g c = record {
   behind = refl;
   through = refl;
   keeps = g.met.M.Machine.keeps_same c.args.machine.now;
+  yields = unyielding-none (g.M.Machine.level c.args.machine.now) (g.M.Machine.log c.args.machine.now);
+  lighter = omega (arith);
 }
 
 pub returns-in-End-clause-ended : goal.returns-in-End-clause-ended
 returns-in-End-clause-ended g c = λ _. went-end _ _ _ _ _ c.requires.accepted.0 _ _ _ _ _ _ _ _ _ _ _ _ c.loop-statement.invariant.went (rw c.in-End.is at c.next_statement.ensures.stepped) c.requires.accepted.1
+
+pub returns-in-End-clause-turn : goal.returns-in-End-clause-turn
+returns-in-End-clause-turn g c = c.loop-statement.invariant.yields
 
 pub returns-in-End-clause-lives : goal.returns-in-End-clause-lives
 returns-in-End-clause-lives g c = λ _ base h.
@@ -32,7 +39,7 @@ pub returns-in-End-clause-asked : goal.returns-in-End-clause-asked
 returns-in-End-clause-asked g c = λ _. omega (arith, c.loop-statement.invariant.went.cost)
 
 pub returns-in-End-clause-down : goal.returns-in-End-clause-down
-returns-in-End-clause-down g c = λ _. c.loop-statement.invariant.went.down
+returns-in-End-clause-down g c = c.loop-statement.invariant.went.down
 
 pub perform-requires-clause-room : goal.perform-requires-clause-room
 perform-requires-clause-room g c = let t = rw c.in-Statement.is at c.next_statement.ensures.stepped in omega (arith, c.requires.room, c.loop-statement.invariant.went.cost, t.cost, some-cost c.in-Statement.statement.now.action)
@@ -57,14 +64,14 @@ perform-requires-clause-open g c = let t = rw c.in-Statement.is at c.next_statem
 pub perform-requires-clause-needed : goal.perform-requires-clause-needed
 perform-requires-clause-needed g c = let t = rw c.in-Statement.is at c.next_statement.ensures.stepped in (c.requires.accepted.0, t.safe _ _ (c.loop-statement.invariant.went.safe _ c.requires.accepted.1))
 
-pub loop-statement-smaller-else-is_err : goal.loop-statement-smaller-else-is_err
-loop-statement-smaller-else-is_err g c =
+pub loop-statement-smaller-else-is_yield : goal.loop-statement-smaller-else-is_yield
+loop-statement-smaller-else-is_yield g c =
     let t = rw c.in-Statement.is at c.next_statement.ensures.stepped in
     let p = not-err c.perform.result _ c.if-is_err.ensures.value c.perform.ensures.performed in
     omega (arith, t.weight, p.weight)
 
-pub loop-statement-preserved-else-is_err : goal.loop-statement-preserved-else-is_err
-loop-statement-preserved-else-is_err g c =
+pub loop-statement-preserved-else-is_yield : goal.loop-statement-preserved-else-is_yield
+loop-statement-preserved-else-is_yield g c =
     let t = rw c.in-Statement.is at c.next_statement.ensures.stepped in
     let i = c.loop-statement.invariant in
     let e = c.if-is_err.ensures.value in
@@ -78,7 +85,40 @@ loop-statement-preserved-else-is_err g c =
       behind = not-err c.perform.result _ e c.perform.ensures.behind ∙ i.behind;
       through = c.perform.ensures.through ∙ i.through;
       keeps = g.met.M.Machine.keeps_join c.args.machine.now c.loop-statement.machine c.perform.new.machine i.keeps (not-err c.perform.result _ e c.perform.ensures.keeps);
+      yields =
+          (let m = c.args.machine.now in
+          let n = c.loop-statement.machine in
+          let o = c.perform.new.machine in
+          let y = not-err c.perform.result _ e c.perform.ensures.yields in
+          unyielding-join (g.M.Machine.level m) (g.M.Machine.log m) (g.M.Machine.log n) (g.M.Machine.log o) i.yields
+          (subst (λ l. Unyielding l (g.M.Machine.log n) (g.M.Machine.log o)) i.level (rw (← c.if-is_yield.ensures) at y)));
+      lighter = omega (arith, t.weight, p.weight, i.lighter);
     }
+
+-- ---- a yield
+
+pub returns-then-is_yield-clause-turn : goal.returns-then-is_yield-clause-turn
+returns-then-is_yield-clause-turn g c =
+    let m = c.args.machine.now in
+    let n = c.loop-statement.machine in
+    let o = c.perform.new.machine in
+    let i = c.loop-statement.invariant in
+    let y = not-err c.perform.result _ c.if-is_err.ensures.value c.perform.ensures.yields in
+    yields-join (g.M.Machine.level m) (g.M.Machine.log m) (g.M.Machine.log n) (g.M.Machine.log o) i.yields
+    (subst (λ l. YieldsLast l (g.M.Machine.log n) (g.M.Machine.log o)) i.level (rw (← c.if-is_yield.ensures) at y))
+
+pub returns-then-is_yield-clause-yielded : goal.returns-then-is_yield-clause-yielded
+returns-then-is_yield-clause-yielded g c = λ _.
+    let t = rw c.in-Statement.is at c.next_statement.ensures.stepped in
+    let i = c.loop-statement.invariant in
+    let p = not-err c.perform.result _ c.if-is_err.ensures.value c.perform.ensures.performed in
+    went-step _ _ _ _ _ _ _ _ _ _ _ _ _ _ _ _ _ _ _ _ _ _ _ _ _ _ i.went t (rw (i.level, i.behind) at p)
+
+pub returns-then-is_yield-clause-less : goal.returns-then-is_yield-clause-less
+returns-then-is_yield-clause-less g c = λ _.
+    let t = rw c.in-Statement.is at c.next_statement.ensures.stepped in
+    let p = not-err c.perform.result _ c.if-is_err.ensures.value c.perform.ensures.performed in
+    omega (arith, t.weight, p.weight, c.loop-statement.invariant.lighter)
 
 -- ---- the end of a section
 
@@ -105,6 +145,8 @@ loop-statement-preserved g c =
       behind = e.behind ∙ i.behind;
       through = e.through ∙ i.through;
       keeps = g.met.M.Machine.keeps_join c.args.machine.now m n i.keeps e.keeps;
+      yields = unyielding-join (g.M.Machine.level c.args.machine.now) (g.M.Machine.log c.args.machine.now) (g.M.Machine.log m) (g.M.Machine.log n) i.yields (left-unyielding _ _ _ _ _ (rw i.level at (e.left b.0 b.1)));
+      lighter = omega (arith, t.weight, i.lighter);
     }
 
 -- ---- the end

@@ -1,7 +1,8 @@
-use Rattle.std.proofs.Common.{◌≡◌, reverse}
+use Rattle.std.proofs.Common.{◌≡◌, ◌≤◌, reverse}
 use Rattle.bm_exec.specs.Seen.{names_of}
 use Rattle.bm_exec.specs.Running.{Went}
 use Rattle.bm_exec.specs.Steps.{weight}
+use Rattle.bm_exec.specs.Yields.{Unyielding}
 use Rattle.bm_exec.proofs.running.resume.Given as goal
 
 abbrev pub invariant-loop-statement : goal.invariant-loop-statement
@@ -14,6 +15,8 @@ invariant-loop-statement g l = record {
   behind : g.M.Machine.behind l.machine ≡ g.M.Machine.behind l.initial.machine;
   through : g.M.Machine.through l.machine ≡ g.M.Machine.through l.initial.machine;
   keeps : g.M.Machine.keeps l.initial.machine l.machine;
+  yields : Unyielding (g.M.Machine.level l.initial.machine) (g.M.Machine.log l.initial.machine) (g.M.Machine.log l.machine);
+  lighter : weight (reverse l.frame.blocks.items) ≤ weight (reverse l.initial.frame.blocks.items);
 }
 
 abbrev pub decreases-loop-statement : goal.decreases-loop-statement
