@@ -3,14 +3,14 @@
 
 For each seed a scenario is made, replayed by both, and the journals are compared byte by byte; one that differs is told, and
 its scenario kept in the folder for temporary files. Scenarios that exceed the limit of statements are left out. The last line
-counts. The status is 0 where no journal differs.
+counts. The status is 0 where no journal differs. With `--processors` the scenarios are of two to eight processors.
 """
 
 import random
 import subprocess
 import sys
 
-from comparing import keep, words
+from comparing import keep, words_with_processors
 from language import AtLine, Block, ObjectType, RunLine, Scenario, Script, Statement, text_of
 from second_simulator import Simulator
 
@@ -23,8 +23,9 @@ LIMIT = 7
 class Maker:
     """Makes a random scenario that the checker accepts: what an `if` finds is dropped in its first block, at the latest."""
 
-    def __init__(self, seed: int):
+    def __init__(self, seed: int, has_several: bool = False):
         self.draw = random.Random(seed)
+        self.processors = random.Random(f"processors {seed}").randint(2, 8) if has_several else 1
         # whether what is made may yield, as ordinary code may
         self.may_yield = False
         # every second scenario has great units, many held at once, and pages enough, so that caches are drained
@@ -34,8 +35,8 @@ class Maker:
 
     def object_type(self, number: int) -> ObjectType:
         size = self.draw.choice(GREAT if self.drains else SMALL + GREAT)
-        # two of five types have a reference count, of 8 bytes
-        counted = self.draw.random() < 0.4
+        # two of five types have a reference count, of 8 bytes; of several processors more, so that more periods are waited for
+        counted = self.draw.random() < (0.4 if self.processors == 1 else 0.7)
         fields = min(self.draw.randint(0, 2), size // 8 - counted)
         pad = size - 8 * fields - 8 * counted
         return ObjectType(f"t{number}", counted=counted, fields=[f"f{place}" for place in range(fields)], pad=pad)
@@ -69,7 +70,7 @@ class Maker:
         made = []
         if depth < DEEPEST and self.draw.random() < 0.12:
             made.append(Statement("section", blocks=[Block(self.block(depth + 1, length // 2))]))
-        if self.may_yield and self.draw.random() < 0.08:
+        if self.may_yield and self.draw.random() < (0.08 if self.processors == 1 else 0.3):
             made.append(Statement("yield"))
         return made
 
@@ -104,22 +105,38 @@ class Maker:
             ordinary.append(Script("many", draw.choice(["plain", "sleepable"]), Block(self.many())))
         handlers = [self.script(f"h{number}", "handler", [0, 1, 3, 6]) for number in range(draw.randint(0, 3))]
         return Scenario(
-            pages=draw.choice([3, 5, 8, 12, 20, 30] if self.drains else [0, 1, 1, 2, 3, 5, 20]),
+            processors=self.processors,
+            pages=self.processors * draw.choice([3, 5, 8, 12, 20, 30] if self.drains else [0, 1, 1, 2, 3, 5, 20]),
             deferred=draw.random() < 0.8,
             types={each.name: each for each in self.types},
             scripts={each.name: each for each in ordinary + handlers},
-            runs=[RunLine(0, draw.choice(ordinary)) for _ in range(draw.randint(0, 3))],
+            runs=self.run_lines(ordinary),
             ats=self.planned(handlers),
-            turns=draw.choice([None, None, [], [0], [0, 0, 0]]),
+            turns=self.turns(),
         )
+
+    def processor(self) -> int:
+        return 0 if self.processors == 1 else self.draw.randrange(self.processors)
+
+    def run_lines(self, ordinary: list[Script]) -> list[RunLine]:
+        most = 3 if self.processors == 1 else 2 * self.processors
+        return [RunLine(self.processor(), self.draw.choice(ordinary)) for _ in range(self.draw.randint(0, most))]
+
+    def turns(self) -> list[int] | None:
+        if self.processors == 1:
+            return self.draw.choice([None, None, [], [0], [0, 0, 0]])
+        in_turn = list(range(self.processors)) * self.draw.choice([1, 5, 20])
+        by_lot = [self.processor() for _ in range(self.draw.choice([3, 10, 40, 200]))]
+        return self.draw.choice([None, [], in_turn, by_lot, by_lot, by_lot])
 
     def planned(self, handlers: list[Script]) -> list[AtLine]:
         if not handlers:
             return []
         last_step = self.draw.choice([20, 100, 400])
+        count = self.draw.choice([1, 3, 8, 20, 40])
         return [
-            AtLine(0, self.draw.randint(0, last_step), self.draw.randint(1, 3), self.draw.choice(handlers))
-            for _ in range(self.draw.choice([1, 3, 8, 20, 40]))
+            AtLine(self.processor(), self.draw.randint(0, last_step), self.draw.randint(1, 3), self.draw.choice(handlers))
+            for _ in range(count)
         ]
 
 
@@ -130,9 +147,9 @@ def first_difference(got: list[str], wanted: list[str]) -> str:
     return f"{len(got)} lines, wanted {len(wanted)}"
 
 
-def compare(program: str, seed: int) -> bool | None:
+def compare(program: str, seed: int, has_several: bool) -> bool | None:
     """Whether both journals are the same; None where the scenario exceeds a limit."""
-    scenario = Maker(seed).scenario()
+    scenario = Maker(seed, has_several).scenario()
     text = text_of(scenario)
     ran = subprocess.run([program, "replay"], input=text.encode(), capture_output=True, check=False)
     if ran.returncode == LIMIT:
@@ -147,8 +164,8 @@ def compare(program: str, seed: int) -> bool | None:
 
 
 def main() -> int:
-    program, seeds = words(__doc__)
-    told = [compare(program, seed) for seed in seeds]
+    program, seeds, has_several = words_with_processors(__doc__)
+    told = [compare(program, seed, has_several) for seed in seeds]
     print(f"{told.count(True)} the same, {told.count(False)} differ, {told.count(None)} left out")
     return 1 if False in told else 0
 

@@ -1,4 +1,4 @@
-"""What both comparisons need: their words, and a place for what differs."""
+"""What the comparisons need: their words, and a place for what differs."""
 
 import argparse
 import tempfile
@@ -7,11 +7,26 @@ from pathlib import Path
 
 def words(about: str) -> tuple[str, range]:
     """The program, a built bpfmem, and the seeds."""
+    return program_and_seeds(parser_of(about).parse_args())
+
+
+def words_with_processors(about: str) -> tuple[str, range, bool]:
+    """The same, and whether the scenarios are of several processors."""
+    parser = parser_of(about)
+    parser.add_argument("--processors", action="store_true", help="scenarios of two to eight processors, not of one")
+    given = parser.parse_args()
+    return *program_and_seeds(given), given.processors
+
+
+def parser_of(about: str) -> argparse.ArgumentParser:
     parser = argparse.ArgumentParser(description=about, formatter_class=argparse.RawDescriptionHelpFormatter)
     parser.add_argument("program", help="a built bpfmem")
     parser.add_argument("first", type=int, help="the first seed")
     parser.add_argument("last", type=int, help="the last seed")
-    given = parser.parse_args()
+    return parser
+
+
+def program_and_seeds(given: argparse.Namespace) -> tuple[str, range]:
     return given.program, range(given.first, given.last + 1)
 
 

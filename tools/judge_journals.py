@@ -3,7 +3,8 @@
 
 For each seed a scenario is made and replayed, and its journal judged by laid.py; one that doesn't fit is told, and its scenario kept
 in the folder for temporary files. Then one entry of the journal is turned to a wrong one, which has to be refused. Scenarios that exceed
-the limit of statements are left out. The last line counts. The status is 0 where each journal fits and each turned one doesn't.
+the limit of statements are left out. The last line counts. The status is 0 where each journal fits and each turned one doesn't. With
+`--processors` the scenarios are of two to eight processors.
 """
 
 import random
@@ -12,12 +13,15 @@ import subprocess
 import sys
 
 from compare_journals import LIMIT, Maker
-from comparing import keep, words
+from comparing import keep, words_with_processors
 from laid import judge
 from language import text_of
 
 # an entry of which kind is turned, and the place of the number that becomes another one
-TURNS = {"in": 2, "out": 2, "begin": 2, "stamp": 3, "pass": 3, "given": 2, "drop": 2, "free": 1, "delay": 1, "fill": 2, "fetch": 3, "return": 2}
+TURNS = {
+    **{"in": 2, "out": 2, "begin": 2, "stamp": 3, "pass": 3, "given": 2, "drop": 2},
+    **{"free": 1, "delay": 1, "fill": 2, "fetch": 3, "send": 2, "return": 2},
+}
 
 
 def turned(journal: str, seed: int) -> str | None:
@@ -38,23 +42,24 @@ def turned(journal: str, seed: int) -> str | None:
 
 
 def main() -> int:
-    program, seeds = words(__doc__)
+    program, seeds, has_several = words_with_processors(__doc__)
     fit = left = wrong = refused = let_through = 0
     for seed in seeds:
-        text = text_of(Maker(seed).scenario()).encode()
+        scenario = Maker(seed, has_several).scenario()
+        text, turns = text_of(scenario).encode(), scenario.turns or []
         run = subprocess.run([program, "replay"], input=text, capture_output=True)
         if run.returncode == LIMIT:
             left += 1
             continue
         journal = run.stdout.decode()
-        misfit = judge(journal) if run.returncode == 0 else f"status {run.returncode}"
+        misfit = judge(journal, turns) if run.returncode == 0 else f"status {run.returncode}"
         if misfit:
             wrong += 1
             print(f"seed {seed}: {misfit}; the scenario is in {keep(f'judged-{seed}', text)}")
             continue
         fit += 1
         other = turned(journal, seed)
-        if other and judge(other):
+        if other and judge(other, turns):
             refused += 1
         elif other:
             let_through += 1

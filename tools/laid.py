@@ -1,16 +1,23 @@
 #!/usr/bin/env python3
 """Judges a journal by what all processors share, entry by entry: whether its order is laid, its polls have rested and its units waited.
 
-    tools/laid.py < JOURNAL
+    tools/laid.py [SCENARIO] < JOURNAL
 
 It is written from the definitions of bm_law_order (specs/Words, Numbers, Looks, Lives, Pages, Parcels, Polls, Seals), of which nothing
-is proved of a run so far: it tries them on what the program prints. Journals of one processor are their own order. It prints `laid`
-and ends with 0, or the first entry that doesn't fit, with what it doesn't fit, and ends with 1. Nothing of it is part of the gate.
+is proved of a run so far: it tries them on what the program prints. Beside them it follows the target of each cache, to which parcels go
+(`Lists` of bm_law). A journal of one processor is its own order. The logs of several are put into one order by the scenario's turns, so
+its file is named; without one no turns are listed, and each processor goes on to its end. It prints `laid` and ends with 0, or the first
+entry that doesn't fit, with what it doesn't fit, and ends with 1. Nothing of it is part of the gate.
 """
 
 import copy
 import sys
+from collections.abc import Iterable, Iterator
 from dataclasses import dataclass, field
+from itertools import takewhile
+from pathlib import Path
+
+from second_checker import Reader
 
 SIZES = [16, 32, 64, 96, 128, 192, 256, 512, 1024, 2048, 4096]
 PAGE = 256
@@ -85,6 +92,9 @@ class Shared:
         self.passed: dict[int, tuple[int, int] | None] = {}
         self.stamps: dict[tuple[int, int, str], int] = {}
         self.waits: dict[int, object] = {}
+        # the target of each cache, and by processor and level the home of the unit that is being freed
+        self.targets: dict[tuple[int, int], int] = {}
+        self.homes: dict[tuple[int, int], int] = {}
 
     def found(self, domain: str, courses: dict[str, Course]) -> list[int]:
         plain, tracing = courses["plain"].words, courses["tracing"].words
@@ -193,9 +203,15 @@ class Shared:
 
     def on_free(self, p: int, level: int, words: list[str]) -> None:
         self.waits.pop(self.end(p, level, words), None)
+        self.homes[p, level] = int(words[1])
 
     def on_delay(self, p: int, level: int, words: list[str]) -> None:
         self.waits[self.end(p, level, words)] = "batch"
+        self.homes[p, level] = int(words[1])
+
+    def on_enter(self, p: int, level: int, words: list[str]) -> None:
+        if (p, level) in self.homes:
+            self.targets[p, int(words[0])] = self.homes.pop((p, level))
 
     # ---- pages and parcels
 
@@ -216,6 +232,7 @@ class Shared:
     def on_send(self, p: int, level: int, words: list[str]) -> None:
         size, to, units = int(words[0]), int(words[1]), [int(word) for word in words[2:]]
         needs(to < self.processors and units != [], "a parcel to one of the processors")
+        needs(to == self.targets.get((p, size), p), "the target of the cache")
         self.box(to, size).append(units)
         passed, stamp = self.passed.get(p), self.stamps.get((p, size, "plain"))
         if passed and passed[0] == size and stamp is not None:
@@ -239,25 +256,95 @@ def passes(first: list[int], later: list[int]) -> bool:
     return len(first) == len(later) and all(a % 2 == 0 or a < b for a, b in zip(first, later))
 
 
-def judge(journal: str) -> str | None:
+@dataclass
+class Entry:
+    """A line of a log, with its processor and its place in the journal."""
+
+    number: int
+    line: str
+    processor: int
+
+    def __post_init__(self):
+        level, *self.words = self.line.split(" ")
+        self.level = int(level)
+
+    def is_one_of(self, *names: str) -> bool:
+        return self.words[0] in names
+
+
+def turns_of(log: list[Entry]) -> Iterator[list[Entry]]:
+    """A log between its fills and its closing, cut directly behind each `yield`."""
+    piece: list[Entry] = []
+    for entry in log:
+        piece.append(entry)
+        if entry.is_one_of("yield", "ended"):
+            yield piece
+            piece = []
+
+
+def whole(logs: list[list[Entry]], turns: Iterable[int]) -> Iterator[Entry]:
+    """All entries in one order: the fills; the turns, then those of the lowest processor that hasn't ended; the closing.
+
+    In the closing processor 0 comes up to its first `finish` or `sweep`, then each one's `finish` entries before its first `sweep`.
+    """
+    fills = [list(takewhile(lambda entry: entry.is_one_of("fill"), log)) for log in logs]
+    ends = [[place for place, entry in enumerate(log, 1) if entry.is_one_of("ended")] for log in logs]
+    needs(all(len(places) == 1 for places in ends), "each processor ends once")
+    for each in fills:
+        yield from each
+    left = [turns_of(log[len(fill) : end]) for fill, log, (end,) in zip(fills, logs, ends)]
+    for p in turns:
+        yield from next(left[p], [])
+    for pieces in left:
+        for piece in pieces:
+            yield from piece
+    closings = [log[end:] for log, (end,) in zip(logs, ends)]
+    front = list(takewhile(lambda entry: not entry.is_one_of("finish", "sweep"), closings[0]))
+    yield from front
+    closings[0] = closings[0][len(front) :]
+    finishes = [list(takewhile(lambda entry: entry.is_one_of("finish"), closing)) for closing in closings]
+    for each in finishes:
+        yield from each
+    for each, closing in zip(finishes, closings):
+        yield from closing[len(each) :]
+
+
+def read(journal: str) -> tuple[Shared, list[list[Entry]]]:
+    """The state at the beginning, and the log of each processor."""
+    lines = journal.splitlines()
+    heading = lines[0].split(" ")
+    shared, logs = Shared(int(heading[1]), int(heading[3])), []
+    for number, line in enumerate(lines, 1):
+        if line.startswith("processor "):
+            logs.append([])
+        elif logs and line[:1].isdigit():
+            logs[-1].append(Entry(number, line, len(logs) - 1))
+    return shared, logs
+
+
+def judge(journal: str, turns: Iterable[int] = ()) -> str | None:
     """What the first entry that doesn't fit misses, with its line; None where the journal's order is laid."""
-    shared, p = None, 0
-    for number, line in enumerate(journal.splitlines(), 1):
-        words = line.split(" ")
-        if words[0] == "processors":
-            shared = Shared(int(words[1]), int(words[3]))
-            needs(shared.processors == 1, "a journal of one processor")
-        elif words[0] == "processor":
-            p = int(words[1])
-        elif words[0].isdigit():
-            try:
-                shared.entry(p, int(words[0]), words[1:])
-            except Misfit as misfit:
-                return f"line {number}: {line}: {misfit}"
-    return None if shared and not shared.stock.out and not shared.holds else "units are out or live at the end"
+    shared, logs = read(journal)
+    place = "the whole"
+    try:
+        needs(len(logs) == shared.processors, "a log of each processor")
+        for entry in whole(logs, turns):
+            place = f"line {entry.number}: {entry.line}"
+            shared.entry(entry.processor, entry.level, entry.words)
+        place = "at the end"
+        needs(not shared.stock.out and not shared.holds, "no unit is out or lives")
+        needs(all(course.driver is None for course in shared.courses.values()), "no period is in progress")
+    except Misfit as misfit:
+        return f"{place}: {misfit}"
+    return None
+
+
+def main() -> int:
+    scenario = Reader(Path(sys.argv[1]).read_bytes()).read() if len(sys.argv) > 1 else None
+    said = judge(sys.stdin.read(), scenario.turns or () if scenario else ())
+    print(said or "laid")
+    return 1 if said else 0
 
 
 if __name__ == "__main__":
-    answer = judge(sys.stdin.read())
-    print(answer or "laid")
-    sys.exit(1 if answer else 0)
+    sys.exit(main())

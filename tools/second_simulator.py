@@ -1,20 +1,29 @@
-"""A second simulator of one processor, to compare the program's journals with.
+#!/usr/bin/env python3
+"""A second simulator, of up to eight processors that take turns, to compare the program's journals with.
+
+    tools/second_simulator.py replay [--totals] < SCENARIO
 
 It was written from the rules alone, which docs/caches.md, docs/deferred-work.md, docs/grace-periods.md, docs/handlers.md
-and docs/journals.md restate, and shares no code with the program. It knows what runs so far: one processor, types without a
-node, plain and sleepable scripts and handlers of `new`, `drop`, `if`, `repeat`, `section` and `yield`, with deferred work or
-without. Since nothing acquires a reference so far, each `drop` of a counted object is the last one. Nothing of it is proved.
+and docs/journals.md restate, and shares no code with the program. It knows types without a graph, plain and sleepable scripts and
+handlers of `new`, `drop`, `if`, `repeat`, `section` and `yield`, with deferred work or without. Since nothing acquires a reference, each
+`drop` of a counted object is the last one; since nothing hands objects on, a unit is freed by the processor that gave it. Nothing of it is
+proved. It answers as the program does, but for a scenario with another form: there it ends with status 70.
 """
 
-from collections import Counter
+import sys
+from collections import Counter, defaultdict
+from collections.abc import Iterator
 from dataclasses import dataclass, field
 
 from language import AtLine, Block, ObjectType, Scenario, Script, Statement
+from second_checker import Reader, answer
 
 SIZES = [16, 32, 64, 96, 128, 192, 256, 512, 1024, 2048, 4096]
 PAGE_UNITS = 256
 MOST_RECEIVES = 64
 DOMAINS = ("plain", "tracing")
+KNOWN = {"new", "drop", "if", "repeat", "section", "yield"}
+UNKNOWN_FORM = 70
 TOTALS = (
     "steps given empty busy last still acquired exchanged pushed already taken none raised worked fetched returned "
     "plain tracing handlers"
@@ -79,31 +88,74 @@ class Cache:
     plain_stamp: int = 0
     ready: list[int] = field(default_factory=list)
     second: list[int] = field(default_factory=list)
-    inbox: list[list[int]] = field(default_factory=list)
     active: int = 0
     count: int = 0
     raised: bool = False
+    # to whom parcels go, at first its own processor
     target: int = 0
     # the tracing stamp of the second stage's batch, while one is in progress
     stamp: int | None = None
 
 
-class Simulator:
-    def __init__(self, scenario: Scenario):
-        self.scenario = scenario
-        self.stock = Stock(scenario.pages)
-        self.caches = {number: Cache() for number in sorted({class_of(each.size()) for each in scenario.types.values()})}
+@dataclass
+class Period:
+    """A grace period in progress: who began it, and the words at its begin."""
+
+    driver: int
+    first: list[int]
+
+
+class Shared:
+    """What all processors share."""
+
+    def __init__(self, processors: int, pages: int):
+        self.stock = Stock(pages)
+        # by processor and class the parcels that wait, oldest first
+        self.inboxes: defaultdict[tuple[int, int], list[list[int]]] = defaultdict(list)
         self.lives: Counter[int] = Counter()
-        # the stamp and the number seen by which a unit that was freed with delay may be given again
+        # by unit the processor that gave it last
+        self.homes: dict[int, int] = {}
+        # by unit the stamp and the number seen by which one that was freed with delay may be given again
         self.seals: dict[int, tuple[int, int]] = {}
-        self.words = dict.fromkeys(DOMAINS, 0)
+        # by domain a word for each processor
+        self.words = {domain: [0] * processors for domain in DOMAINS}
         self.numbers = dict.fromkeys(DOMAINS, 0)
-        # the words at the begin of each period in progress
-        self.first_words: dict[str, list[int]] = {}
-        self.planned = list(scenario.ats)
+        self.periods: dict[str, Period] = {}
+        self.totals: Counter[str] = Counter()
+
+    def words_of(self, domain: str) -> list[int]:
+        """All words that a period of the domain looks at: of each processor the plain one, and then its tracing one."""
+        plain, tracing = (self.words[each] for each in DOMAINS)
+        return [word for pair in zip(plain, tracing) for word in pair] if domain == "tracing" else list(plain)
+
+
+class Processor:
+    """A processor, with its caches, its handlers and its log."""
+
+    def __init__(self, number: int, scenario: Scenario, shared: Shared, classes: list[int]):
+        self.number = number
+        self.scenario = scenario
+        self.shared = shared
+        self.totals = shared.totals
+        self.caches = {each: Cache(target=number) for each in classes}
+        self.steps = 0
+        self.planned = [at for at in scenario.ats if at.processor == number]
         self.has_ended = False
         self.lines: list[str] = []
-        self.totals: Counter[str] = Counter()
+        self.rest = self.whole_run()
+
+    # ---- turns
+
+    def turn(self) -> None:
+        """Goes on up to the next `yield`, or to the end; once it has ended it does nothing."""
+        next(self.rest, None)
+
+    def whole_run(self) -> Iterator[None]:
+        for run in self.scenario.runs:
+            if run.processor == self.number:
+                yield from self.script(run.script)
+        self.note(0, "ended")
+        self.has_ended = True
 
     # ---- the log
 
@@ -111,13 +163,14 @@ class Simulator:
         self.lines.append(" ".join(map(str, (level, *words))))
 
     def step(self, level: int, *words: object) -> None:
+        self.steps += 1
         self.totals["steps"] += 1
         self.note(level, *words)
 
     def point(self, level: int) -> None:
         """Before each step those handlers run that are due: the highest level first, then in the order of the text."""
         while not self.has_ended:
-            due = [at for at in self.planned if at.step <= self.totals["steps"] + 1 and at.level > level]
+            due = [at for at in self.planned if at.step <= self.steps + 1 and at.level > level]
             if not due:
                 return
             chosen = max(due, key=lambda at: at.level)
@@ -138,6 +191,14 @@ class Simulator:
         cache.active += 1
         self.step(level, "enter", SIZES[number], cache.active)
         return cache.active
+
+    def enter_home(self, level: int, line: str, number: int, unit: int) -> int:
+        """A free begins. The unit's home becomes the target in the very step that enters."""
+        home = self.shared.homes[unit]
+        self.note(level, line, unit, home)
+        depth = self.enter(level, number)
+        self.caches[number].target = home
+        return depth
 
     def count(self, level: int, number: int, change: int) -> int:
         cache = self.caches[number]
@@ -193,10 +254,7 @@ class Simulator:
 
     def release(self, level: int, number: int, unit: int) -> None:
         _, high, _ = marks(SIZES[number])
-        self.note(level, "free", unit, 0)
-        depth = self.enter(level, number)
-        # (the unit's home is the one processor that there is)
-        self.caches[number].target = 0
+        depth = self.enter_home(level, "free", number, unit)
         seen = 0
         if depth == 1:
             self.push(level, number, unit)
@@ -209,9 +267,7 @@ class Simulator:
 
     def release_later(self, level: int, number: int, unit: int) -> None:
         cache = self.caches[number]
-        self.note(level, "delay", unit, 0)
-        depth = self.enter(level, number)
-        cache.target = 0
+        depth = self.enter_home(level, "delay", number, unit)
         if depth == 1:
             self.point(level)
             cache.delayed.insert(0, unit)
@@ -224,13 +280,13 @@ class Simulator:
 
     # ---- scripts
 
-    def block(self, level: int, block: Block, names: dict) -> None:
+    def block(self, level: int, block: Block, names: dict) -> Iterator[None]:
         for statement in block.statements:
-            self.statement(level, statement, names)
+            yield from self.statement(level, statement, names)
             if level == 0 and self.scenario.deferred:
                 self.work_until_down()
 
-    def statement(self, level: int, statement: Statement, names: dict) -> None:
+    def statement(self, level: int, statement: Statement, names: dict) -> Iterator[None]:
         match statement.word:
             case "new":
                 names[statement.names[0]] = self.make(level, statement.type, statement.values)
@@ -240,22 +296,23 @@ class Simulator:
                 # (the second block, if there is one, is run at null)
                 chosen = 1 if names.get(statement.names[0]) is None else 0
                 for block in statement.blocks[chosen : chosen + 1]:
-                    self.block(level, block, names)
+                    yield from self.block(level, block, names)
             case "repeat":
                 for _ in range(statement.times):
-                    self.block(level, statement.blocks[0], names)
+                    yield from self.block(level, statement.blocks[0], names)
             case "section":
-                self.in_plain(level, statement.blocks[0], names)
+                yield from self.in_plain(level, statement.blocks[0], names)
             case "yield":
-                # (with one processor the next turn is its own again)
+                # (the turn ends, and whatever section is open stays open)
                 self.note(level, "yield")
+                yield
 
-    def in_plain(self, level: int, block: Block, names: dict) -> None:
+    def in_plain(self, level: int, block: Block, names: dict) -> Iterator[None]:
         """Runs it in a plain section: a new one, where none is open."""
-        is_outermost = self.words["plain"] % 2 == 0
+        is_outermost = self.shared.words["plain"][self.number] % 2 == 0
         if is_outermost:
             self.move_word(level, "in", "plain")
-        self.block(level, block, names)
+        yield from self.block(level, block, names)
         if is_outermost:
             self.move_word(level, "out", "plain")
 
@@ -274,11 +331,7 @@ class Simulator:
         self.note(level, "new", made.name, *values)
         depth, unit = self.allocate(level, number)
         if unit is not None:
-            self.lives[unit] += 1
-            self.totals["given"] += 1
-            seal = self.seals.pop(unit, None)
-            self.note(level, "given", unit, self.lives[unit], *(("after", *seal) if seal else ()))
-            return made, unit, self.lives[unit]
+            return made, unit, self.begin_life(level, unit)
         if depth > 1:
             self.totals["busy"] += 1
             self.note(level, "busy", depth)
@@ -287,21 +340,33 @@ class Simulator:
             self.note(level, "empty")
         return None
 
+    def begin_life(self, level: int, unit: int) -> int:
+        shared = self.shared
+        shared.lives[unit] += 1
+        shared.homes[unit] = self.number
+        self.totals["given"] += 1
+        seal = shared.seals.pop(unit, None)
+        self.note(level, "given", unit, shared.lives[unit], *(("after", *seal) if seal else ()))
+        return shared.lives[unit]
+
     def move_word(self, level: int, line: str, domain: str) -> None:
-        self.words[domain] += 1
-        self.note(level, line, domain, self.words[domain])
+        words = self.shared.words[domain]
+        words[self.number] += 1
+        self.note(level, line, domain, words[self.number])
 
     def handler(self, at: AtLine) -> None:
         self.totals["handlers"] += 1
         self.note(at.level, "handler", at.script.name)
-        self.in_plain(at.level, at.script.body, {})
+        # (in a handler nothing yields, so it runs as a whole)
+        for _ in self.in_plain(at.level, at.script.body, {}):
+            raise AssertionError("a handler that yields")
         self.note(at.level, "back", at.script.name)
 
-    def script(self, script: Script) -> None:
+    def script(self, script: Script) -> Iterator[None]:
         domain = "tracing" if script.kind == "sleepable" else "plain"
         self.note(0, "script", script.name)
         self.move_word(0, "in", domain)
-        self.block(0, script.body, {})
+        yield from self.block(0, script.body, {})
         self.move_word(0, "out", domain)
         self.note(0, "done", script.name)
         if self.scenario.deferred:
@@ -311,33 +376,41 @@ class Simulator:
 
     # ---- grace periods
 
-    def words_of(self, domain: str) -> list[int]:
-        return [self.words[each] for each in (DOMAINS if domain == "tracing" else ("plain",))]
+    def drives(self, domain: str) -> bool:
+        """Whether this processor has a period of the domain in progress."""
+        period = self.shared.periods.get(domain)
+        return period is not None and period.driver == self.number
 
     def look(self, domain: str) -> None:
         """The period ends where each word was even at its begin, or is greater now."""
-        first, later = self.first_words[domain], self.words_of(domain)
+        shared = self.shared
+        first, later = shared.periods[domain].first, shared.words_of(domain)
         if all(was % 2 == 0 or now > was for was, now in zip(first, later)):
-            del self.first_words[domain]
-            self.numbers[domain] += 1
+            del shared.periods[domain]
+            shared.numbers[domain] += 1
             self.totals[domain] += 1
-            self.note(0, "finish", domain, self.numbers[domain], "first", *first, "later", *later)
+            self.note(0, "finish", domain, shared.numbers[domain], "first", *first, "later", *later)
+
+    def look_at_own(self, domain: str) -> None:
+        """Only who began a period looks for it."""
+        if self.drives(domain):
+            self.look(domain)
 
     def poll(self, number: int, domain: str, stamp: int) -> int:
-        if domain in self.first_words:
-            self.look(domain)
-        if domain not in self.first_words and self.numbers[domain] % 2 == 0 and self.numbers[domain] < stamp:
-            self.numbers[domain] += 1
-            self.first_words[domain] = self.words_of(domain)
-            self.note(0, "begin", domain, self.numbers[domain])
+        shared = self.shared
+        self.look_at_own(domain)
+        if not self.drives(domain) and shared.numbers[domain] % 2 == 0 and shared.numbers[domain] < stamp:
+            shared.numbers[domain] += 1
+            shared.periods[domain] = Period(self.number, shared.words_of(domain))
+            self.note(0, "begin", domain, shared.numbers[domain])
             self.look(domain)
         self.point(0)
-        self.step(0, "pass", SIZES[number], domain, self.numbers[domain])
-        return self.numbers[domain]
+        self.step(0, "pass", SIZES[number], domain, shared.numbers[domain])
+        return shared.numbers[domain]
 
     def take_stamp(self, number: int, domain: str) -> int:
         self.point(0)
-        seen = self.numbers[domain]
+        seen = self.shared.numbers[domain]
         stamp = seen + 3 if seen % 2 else seen + 2
         self.step(0, "stamp", SIZES[number], domain, stamp)
         return stamp
@@ -365,10 +438,10 @@ class Simulator:
         self.second_stage(number)
 
     def receive(self, number: int) -> None:
-        cache = self.caches[number]
+        cache, inbox = self.caches[number], self.shared.inboxes[self.number, number]
         for _ in range(MOST_RECEIVES):
             self.point(0)
-            parcel = cache.inbox.pop(0) if cache.inbox else []
+            parcel = inbox.pop(0) if inbox else []
             cache.ready = parcel + cache.ready
             self.step(0, "receive", SIZES[number], *parcel)
             if not parcel:
@@ -391,7 +464,7 @@ class Simulator:
             left -= 1
         if left:
             self.point(0)
-            units = self.stock.fetch(number, left)
+            units = self.shared.stock.fetch(number, left)
             self.totals["fetched"] += len(units)
             self.step(0, "fetch", SIZES[number], left, *units)
             for unit in units:
@@ -418,16 +491,16 @@ class Simulator:
             self.send(number, hand)
 
     def send(self, number: int, units: list[int]) -> None:
-        cache = self.caches[number]
-        cache.inbox.append(units)
-        self.step(0, "send", SIZES[number], cache.target, *units)
+        target = self.caches[number].target
+        self.shared.inboxes[target, number].append(units)
+        self.step(0, "send", SIZES[number], target, *units)
 
     def first_stage(self, number: int) -> None:
         cache = self.caches[number]
         if cache.first and (seen := self.poll(number, "plain", cache.plain_stamp)) >= cache.plain_stamp:
             self.point(0)
             units, cache.first = cache.first, []
-            self.seals.update(dict.fromkeys(units, (cache.plain_stamp, seen)))
+            self.shared.seals.update(dict.fromkeys(units, (cache.plain_stamp, seen)))
             self.send(number, units)
         self.enter(0, number)
         self.point(0)
@@ -458,58 +531,118 @@ class Simulator:
     def give_back(self, number: int) -> None:
         cache = self.caches[number]
         units, cache.second = cache.second, []
-        self.stock.put_back(number, units)
+        self.shared.stock.put_back(number, units)
         self.totals["returned"] += len(units)
         self.step(0, "return", SIZES[number], *units)
 
-    # ---- the whole run
+    # ---- opening and closing
 
     def fill(self, number: int) -> None:
-        units = self.stock.fetch(number, 4 if SIZES[number] <= 256 else 1)
+        units = self.shared.stock.fetch(number, 4 if SIZES[number] <= 256 else 1)
         self.totals["fetched"] += len(units)
         self.caches[number].free = units[::-1]
         self.caches[number].count = len(units)
         self.note(0, "fill", SIZES[number], *units)
 
     def sweep(self, number: int) -> None:
-        cache = self.caches[number]
-        lists = [cache.free, cache.extra, cache.delayed, cache.extra_delayed, cache.first, cache.ready, cache.second, *cache.inbox]
+        cache, inbox = self.caches[number], self.shared.inboxes[self.number, number]
+        lists = [cache.free, cache.extra, cache.delayed, cache.extra_delayed, cache.first, cache.ready, cache.second, *inbox]
         units = [unit for each in lists for unit in each]
         if not units:
             return
-        for each in [*lists, cache.inbox]:
+        for each in [*lists, inbox]:
             each.clear()
         cache.second = units
         self.step(0, "sweep", SIZES[number], *units)
         self.poll(number, "tracing", self.take_stamp(number, "tracing"))
         self.give_back(number)
 
+
+class Simulator:
+    """All processors of a scenario, one at a time."""
+
+    def __init__(self, scenario: Scenario):
+        self.scenario = scenario
+        self.classes = sorted({class_of(each.size()) for each in scenario.types.values()})
+        self.shared = Shared(scenario.processors, scenario.pages)
+        self.processors = [Processor(number, scenario, self.shared, self.classes) for number in range(scenario.processors)]
+
     def journal(self) -> str:
         """Runs the scenario, once, and gives its journal's text."""
-        for number in self.caches:
-            self.fill(number)
-        for run in self.scenario.runs:
-            self.script(run.script)
-        self.note(0, "ended")
-        self.has_ended = True
-        self.note(0, "close")
-        for domain in DOMAINS:
-            if domain in self.first_words:
-                self.look(domain)
-        for number in self.caches:
-            self.sweep(number)
-        return "".join(f"{line}\n" for line in [*self.heading(), *self.lines, *self.ending()])
+        for processor in self.processors:
+            for number in self.classes:
+                processor.fill(number)
+        self.take_turns()
+        self.close()
+        logs = [line for processor in self.processors for line in (f"processor {processor.number}", *processor.lines)]
+        return "".join(f"{line}\n" for line in [*self.heading(), *logs, *self.ending()])
+
+    def take_turns(self) -> None:
+        """As the scenario has them; afterwards the lowest one that hasn't ended, until all have."""
+        for number in self.scenario.turns or []:
+            self.processors[number].turn()
+        while left := [processor for processor in self.processors if not processor.has_ended]:
+            left[0].turn()
+
+    def close(self) -> None:
+        """All periods in progress end before the first sweep."""
+        self.processors[0].note(0, "close")
+        for processor in self.processors:
+            for domain in DOMAINS:
+                processor.look_at_own(domain)
+        for processor in self.processors:
+            for number in self.classes:
+                processor.sweep(number)
 
     def heading(self) -> list[str]:
         scenario = self.scenario
         return [
-            f"processors 1 pages {scenario.pages}",
+            f"processors {scenario.processors} pages {scenario.pages}",
             " ".join(["types", *scenario.types]),
             "maps",
             " ".join(["scripts", *scenario.scripts]),
-            *("class {} marks {} {} {}".format(SIZES[number], *marks(SIZES[number])) for number in self.caches),
-            "processor 0",
+            *("class {} marks {} {} {}".format(SIZES[number], *marks(SIZES[number])) for number in self.classes),
         ]
 
     def ending(self) -> list[str]:
-        return [f"total {name} {self.totals[name]}" for name in TOTALS]
+        return [f"total {name} {self.shared.totals[name]}" for name in TOTALS]
+
+
+# ---- the command
+
+
+def statements(block: Block) -> Iterator[Statement]:
+    """All of the block, those of inner blocks too."""
+    for statement in block.statements:
+        yield statement
+        for inner in statement.blocks:
+            yield from statements(inner)
+
+
+def unknown_forms(scenario: Scenario) -> list[str]:
+    """The forms that this simulator can't run."""
+    words = {statement.word for script in scenario.scripts.values() for statement in statements(script.body)}
+    return sorted({each.kind for each in scenario.maps.values()} | words - KNOWN)
+
+
+def main() -> int:
+    if sys.argv[1:] not in (["replay"], ["replay", "--totals"]):
+        print("bpfmem: usage", file=sys.stderr)
+        return 1
+    text = sys.stdin.buffer.read()
+    status, said = answer(text)
+    if status:
+        print(f"bpfmem: {said}", file=sys.stderr)
+        return status
+    scenario = Reader(text).read()
+    if unknown := unknown_forms(scenario):
+        print("not known:", *unknown, file=sys.stderr)
+        return UNKNOWN_FORM
+    simulator = Simulator(scenario)
+    journal = simulator.journal()
+    sys.stdout.write("".join(f"{line}\n" for line in simulator.ending()) if "--totals" in sys.argv else journal)
+    return 0
+
+
+if __name__ == "__main__":
+    sys.exit(main())
