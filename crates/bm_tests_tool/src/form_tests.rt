@@ -32,7 +32,7 @@ fn found(text: &[u8], fault: At) -> Result<At, Fail> {
 // Texts with the place of their fault, where they have one, and the place of their first form that can't be run yet.
 #[test]
 fn texts_with_the_place_of_their_first_form(rt: HostRuntime) -> Result<(), Fail> {
-    let table: [(&str, At, At); 31] = [
+    let table: [(&str, At, At); 32] = [
         // none
         ("", None, None),
         (
