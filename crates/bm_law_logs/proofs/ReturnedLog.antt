@@ -14,7 +14,7 @@ use Rattle.bm_law_work.proofs.Each.{AllOf, of-map, part-say, part-stand}
 use Rattle.bm_law_scenario.specs.CallEntries.{IsOfStatement, IsOfHandler}
 use Rattle.bm_law_scenario.specs.Calls.{RunsDrop, RunsNew, any_batch}
 use Rattle.bm_law_scenario.specs.Closing.{AreSweeps, Closing, EndsOne, EndsPeriods, IsEnd, SweepWhere, close_of, in_progress}
-use Rattle.bm_law_scenario.specs.Fills.{AreFills, fresh_stock, prefill}
+use Rattle.bm_law_scenario.specs.Fills.{AreFills, prefill}
 use Rattle.bm_law_scenario.specs.Grammar.{Front, IsLog}
 use Rattle.bm_law_scenario.specs.Handlers.{HandlersDone}
 use Rattle.bm_law_scenario.specs.Opened.{opened_classes}
@@ -65,7 +65,7 @@ front-by s =
         leaves = λ w. stands (entry.Out Plain w ∷ []) (tt, tt);
         yields = stands (entry.Yield ∷ []) (tt, tt);
       };
-      fills = says (AreFills (opened_classes s.types) (fresh_stock s.pages)) (λ own h. fills-keep (opened_classes s.types) (fresh_stock s.pages) own h);
+      fills = λ pool. says (AreFills (opened_classes s.types) pool) (λ own h. fills-keep (opened_classes s.types) pool own h);
       begins = λ d name w. stands (entry.Script name ∷ entry.In d w ∷ []) (tt, (tt, tt));
       ends = λ d name w. stands (entry.Out d w ∷ entry.Done name ∷ []) (tt, (tt, tt));
       work = λ c m. work-by c;

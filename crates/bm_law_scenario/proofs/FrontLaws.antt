@@ -11,13 +11,13 @@ use Rattle.bm_lang.specs.declared.scenario.Script.{Script}
 use Rattle.bm_page.specs.Stock.{Stock, fetched}
 use Rattle.bm_law_work.specs.Parts.{Part, Nothing, Say, Stand, Then}
 use Rattle.bm_law_work.specs.WorkPhrases.{Work}
-use Rattle.bm_law_scenario.specs.Fills.{AreFills, fresh_stock, numbers_of, prefill}
+use Rattle.bm_law_scenario.specs.Fills.{AreFills, numbers_of, prefill}
 use Rattle.bm_law_scenario.specs.Calls.{RunsDrop, RunsNew, any_batch}
 use Rattle.bm_law_scenario.specs.Held.{Names, no_names}
 use Rattle.bm_law_scenario.specs.Runs.{RunsBlock}
 use Rattle.bm_law_scenario.specs.Opened.{opened_classes}
 use Rattle.bm_law_scenario.specs.Works.{UntilDown, WorkBehind}
-use Rattle.bm_law_scenario.specs.Grammar.{AreScripts, Front, IsBody, IsScript, behind_script, behind_statement, lines_of, section_of, starts_inside}
+use Rattle.bm_law_scenario.specs.Grammar.{AreScripts, Front, IsBody, IsScript, behind_script, behind_statement, lines_of, section_of, starts_inside, stock_for}
 use Rattle.bm_law_scenario.proofs.RunsAll.{Closed}
 use Rattle.bm_law_scenario.proofs.PartLaws.{among, first-among, later-among}
 use Rattle.bm_law_scenario.proofs.PartLaws.{Has, Laws, has-laws, has-say, has-stand, law-as, law-behind, law-if, law-until}
@@ -26,7 +26,7 @@ use Rattle.bm_law_scenario.proofs.BlockLaws.{Called, law-block}
 -- what the parts of a front of a scenario have
 pub record Fronted (s : Parts) (L : Part → Type 0) : Type 0 where
   pub calls : Called s.types L
-  pub fills : L (Say 0 (AreFills (opened_classes s.types) (fresh_stock s.pages)))
+  pub fills : (pool : Stock) → L (Say 0 (AreFills (opened_classes s.types) pool))
   pub begins : (d : Domain) (name : List ℕ) (w : ℕ) → L (Stand 0 (entry.Script name ∷ entry.In d w ∷ []))
   pub ends : (d : Domain) (name : List ℕ) (w : ℕ) → L (Stand 0 (entry.Out d w ∷ entry.Done name ∷ []))
   pub work : (c : ℕ) → among c (opened_classes s.types) ≡ true → L (Work 0 c)
@@ -57,8 +57,8 @@ module _ (s : Parts) (L : Part → Type 0) (k : Laws L) (f : Fronted s L) where
 
   pub front-law : (p : ℕ) → L (Front s p)
   front-law p =
-      law-as L k (Then (Say 0 (AreFills (opened_classes s.types) (fresh_stock s.pages))) (AreScripts s (lines_of p s.runs))) (Front s p)
-      (k.both (Say 0 (AreFills (opened_classes s.types) (fresh_stock s.pages))) (AreScripts s (lines_of p s.runs)) f.fills (scripts (lines_of p s.runs))) (λ t part h. h)
+      law-as L k (Then (Say 0 (AreFills (opened_classes s.types) (stock_for s p))) (AreScripts s (lines_of p s.runs))) (Front s p)
+      (k.both (Say 0 (AreFills (opened_classes s.types) (stock_for s p))) (AreScripts s (lines_of p s.runs)) (f.fills (stock_for s p)) (scripts (lines_of p s.runs))) (λ t part h. h)
 
 -- ---- what the entries of ordinary code in a front have
 
@@ -87,7 +87,7 @@ module _ (s : Parts) (P : List Entry → Type 0) (k : Written s P) where
           leaves = λ w. has-stand P (entry.Out Plain w ∷ []) (k.closed.leaves w);
           yields = has-stand P (entry.Yield ∷ []) k.closed.yields;
         };
-        fills = has-say P (AreFills classes (fresh_stock s.pages)) (λ own h. fills-have classes (fresh_stock s.pages) own (λ c e. e) h);
+        fills = λ pool. has-say P (AreFills classes pool) (λ own h. fills-have classes pool own (λ c e. e) h);
         begins = λ d name w. has-stand P (entry.Script name ∷ entry.In d w ∷ []) (k.begins d name w);
         ends = λ d name w. has-stand P (entry.Out d w ∷ entry.Done name ∷ []) (k.ends d name w);
         work = k.work;

@@ -12,12 +12,12 @@ use Rattle.bm_law.specs.Lists.{Log, Leaves}
 use Rattle.bm_law.specs.Null.{NullLaw}
 use Rattle.bm_law.specs.Worked.{Emptied}
 use Rattle.bm_law_scenario.specs.Held.{Names, no_names, OwnsNothing}
-use Rattle.bm_law_scenario.specs.Fills.{AreFills, fresh_stock}
+use Rattle.bm_law_scenario.specs.Fills.{AreFills}
 use Rattle.bm_law_scenario.specs.Opened.{opened_classes}
 use Rattle.bm_law_scenario.specs.SectionWords.{SectionWords}
 use Rattle.bm_law_scenario.proofs.OwnRuns.{RunsBlock}
 use Rattle.bm_law_scenario.specs.Closing.{close_of, SweepOf}
-use Rattle.bm_law_scenario.specs.Grammar.{lines_of, section_of, starts_inside}
+use Rattle.bm_law_scenario.specs.Grammar.{lines_of, section_of, starts_inside, stock_for}
 
 -- entries of ordinary code, which is level 0
 abbrev pub ordinary : List Entry → Log
@@ -49,14 +49,14 @@ abbrev pub AreSweeps : State ℕ → List ℕ → List Entry → Type 0
 AreSweeps s [] own = own ≡ []
 AreSweeps s (c ∷ cs) own = Swept c (seven_lists (s.rows c)) (AreSweeps s cs) own
 
--- The log of processor p, while there is one: the opening from a fresh stock, its scripts, and the closing, which sweeps what
+-- The log of processor p, while there is one: the opening, its scripts, and the closing, which sweeps what
 -- stands in the lists by then.
 pub record IsLog (s : Parts) (p : ℕ) (own : List Entry) : Type 0 where
   pub fills : List Entry
   pub scripts : List Entry
   pub sweeps : List Entry
   pub own_is : own ≡ fills ++ (scripts ++ (entry.Ended ∷ close_of p ++ sweeps))
-  pub are_fills : AreFills (opened_classes s.types) (fresh_stock s.pages) fills
+  pub are_fills : AreFills (opened_classes s.types) (stock_for s p) fills
   pub are_scripts : AreScripts s (lines_of p s.runs) scripts
   pub before : State ℕ
   pub before_is : Leaves p (ordinary (fills ++ scripts)) before

@@ -19,7 +19,7 @@ use Rattle.bm_law.proofs.Folds.{Leaves-append}
 use Rattle.bm_law_work.specs.Parts.{Part, Stand, Then, If}
 use Rattle.bm_law_work.specs.Parts as part
 use Rattle.bm_law_scenario.specs.Held.{Names, no_names}
-use Rattle.bm_law_scenario.specs.Fills.{AreFills, fresh_stock}
+use Rattle.bm_law_scenario.specs.Fills.{AreFills}
 use Rattle.bm_law_scenario.specs.Opened.{opened_classes, uses_class}
 use Rattle.bm_law_scenario.specs.Works.{UntilDown, WorkBehind}
 use Rattle.bm_law_scenario.specs.Runs.{RunsBlock}
@@ -28,7 +28,7 @@ use Rattle.bm_law.specs.Inboxes.{Inboxes, inboxes_after}
 use Rattle.bm_law_scenario.specs.Parcels.{no_parcels, ParcelsFit, sends_alone}
 use Rattle.bm_due.specs.Due.{planned_for}
 use Rattle.bm_law_scenario.proofs.Unplanned.{unplanned-at}
-use Rattle.bm_law_scenario.specs.Grammar.{behind_statement, behind_script, section_of, starts_inside, IsBody, IsScript, AreScripts, lines_of, Front}
+use Rattle.bm_law_scenario.specs.Grammar.{behind_statement, behind_script, section_of, starts_inside, IsBody, IsScript, AreScripts, lines_of, Front, stock_for}
 use Rattle.bm_law.specs.Ordinary.{ordinary}
 use Rattle.bm_law_scenario.proofs.OwnGrammar as own
 use Rattle.bm_law_scenario.specs.Lawful.{LawfulLog}
@@ -219,10 +219,10 @@ owned-log s e p none log h =
     let all : log ≡ ordinary es = at-own 0 log (unplanned-at s p log none h.handlers) in
     let x = cut-of es i.front i.closing (sym all ∙ i.log_is) in
     let F : Log → Type 0 = λ v. Front s p start v in
-    let t = parted (part.Say 0 (AreFills classes (fresh_stock s.pages))) (AreScripts s (lines_of p s.runs)) start x.left (subst F x.one_is i.is_front) in
-    let fills : AreFills classes (fresh_stock s.pages) t.left = said (AreFills classes (fresh_stock s.pages)) start t.left t.is_first in
+    let t = parted (part.Say 0 (AreFills classes (stock_for s p))) (AreScripts s (lines_of p s.runs)) start x.left (subst F x.one_is i.is_front) in
+    let fills : AreFills classes (stock_for s p) t.left = said (AreFills classes (stock_for s p)) start t.left t.is_first in
     let scripts = scripts-owned s e (lines_of p s.runs) (after start (ordinary t.left)) t.right t.is_second in
-    let calm : AllCalm x.left = subst AllCalm (sym t.whole) (calm-join t.left t.right (calm-fills classes (fresh_stock s.pages) t.left fills) (calm-scripts s (lines_of p s.runs) t.right scripts)) in
+    let calm : AllCalm x.left = subst AllCalm (sym t.whole) (calm-join t.left t.right (calm-fills classes (stock_for s p) t.left fills) (calm-scripts s (lines_of p s.runs) t.right scripts)) in
     let G : Log → Log → Type 0 = λ v w. Closing p classes v (after start v) w in
     let close : G (ordinary x.left) (ordinary x.right) = subst (λ w. G (ordinary x.left) w) x.two_is (subst (λ v. G v i.closing) x.one_is i.is_closing) in
     let whole : log ≡ ordinary x.left ++ ordinary x.right = all ∙ ap ordinary x.whole ∙ level-append 0 x.left x.right in

@@ -13,7 +13,8 @@ use Rattle.bm_law.specs.State.{opening}
 use Rattle.bm_law.specs.Lists.{Log, after}
 use Rattle.bm_law_work.specs.Parts.{Part, Nothing, Stand, Say, Then, If}
 use Rattle.bm_law_scenario.specs.Held.{Names, no_names, OwnsNothing}
-use Rattle.bm_law_scenario.specs.Fills.{AreFills, fresh_stock}
+use Rattle.bm_page.specs.Stock.{Stock}
+use Rattle.bm_law_scenario.specs.Fills.{AreFills, opening_stock}
 use Rattle.bm_law_scenario.specs.Opened.{opened_classes}
 use Rattle.bm_law_scenario.specs.Works.{UntilDown, WorkBehind}
 use Rattle.bm_law_scenario.specs.Runs.{RunsBlock}
@@ -61,9 +62,13 @@ AreScripts s (r ∷ rs) l part = (script : Script) × (slice_get s.scripts r.scr
 abbrev pub lines_of : ℕ → List RunLine → List RunLine
 lines_of p runs = filter (λ r. nat_eq r.processor p) runs
 
--- the opening of a cache for each class from a fresh stock, and the scripts of processor p
+-- the stock that processor p opens with
+abbrev pub stock_for : Parts → ℕ → Stock
+stock_for s p = opening_stock (opened_classes s.types) s.pages p
+
+-- the opening of a cache for each class, and the scripts of processor p
 abbrev pub Front : Parts → ℕ → Part
-Front s p = Then (Say 0 (AreFills (opened_classes s.types) (fresh_stock s.pages))) (AreScripts s (lines_of p s.runs))
+Front s p = Then (Say 0 (AreFills (opened_classes s.types) (stock_for s p))) (AreScripts s (lines_of p s.runs))
 
 -- The log of processor p, while there is one: the opening, its scripts, and the closing.
 pub record IsLog (s : Parts) (p : ℕ) (log : Log) : Type 0 where

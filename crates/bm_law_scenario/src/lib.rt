@@ -22,6 +22,7 @@ mod deferred;
 mod drops;
 mod handlers;
 mod interrupted;
+mod openings;
 mod sections;
 mod worked;
 mod worked_journal;
@@ -30,6 +31,7 @@ pub use deferred::{worked_deferred, worked_flags, worked_parcels, worked_periods
 pub use drops::worked_drops;
 pub use handlers::{handlers_law, unplanned_law};
 pub use interrupted::{worked_handlers, wrong_handlers, wrong_words};
+pub use openings::worked_openings;
 pub use sections::{worked_sections, wrong_sections};
 pub use worked::{worked_classes, worked_names};
 pub use worked_journal::{worked_journals, wrong_journals};

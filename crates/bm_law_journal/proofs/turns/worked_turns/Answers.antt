@@ -14,6 +14,7 @@ use Rattle.bm_law_places.specs.Placed.{IsPlaced}
 use Rattle.bm_law_journal.specs.Lawful.{named_turns, order_of}
 use Rattle.bm_law_journal.specs.WorkedTurns.{HasTurns, ended_by_other, ended_in_section, freed_to_itself, given_unsealed, lent, opened_twice, other_turns, sent_in_period, sent_to_itself, turns}
 use Rattle.bm_law_journal.proofs.Lent.{lent-laid, lent-placed, lent-polled, lent-sealed, one-waits}
+use Rattle.bm_law_journal.proofs.LentLaws.{lent-grace, lent-lives, lent-returns, lent-stamps}
 use Rattle.bm_law_journal.proofs.turns.worked_turns.Goals as goal
 
 order-is : (ts : List ℕ) (logs : List Log) (s : Parts) (j : Journal) → HasTurns ts logs s j → order_of s j ≡ whole ts logs
@@ -103,3 +104,15 @@ not-turned h = (let d = first-same 1 3 (2 ∷ []) (2 ∷ []) h.1.1.1.1.1.1.1.1.1
 
 pub returns-clause-turned : goal.returns-clause-turned
 returns-clause-turned c s j x h = not-turned (of-journal IsLaid other_turns lent s j x h.laid)
+
+pub returns-clause-lives : goal.returns-clause-lives
+returns-clause-lives c = lent-lives
+
+pub returns-clause-returns : goal.returns-clause-returns
+returns-clause-returns c = lent-returns
+
+pub returns-clause-grace : goal.returns-clause-grace
+returns-clause-grace c = lent-grace
+
+pub returns-clause-stamps : goal.returns-clause-stamps
+returns-clause-stamps c = lent-stamps
