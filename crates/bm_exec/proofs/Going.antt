@@ -18,6 +18,12 @@ use Rattle.bm_check.specs.Statements.{Setting}
 use Rattle.bm_check.specs.Values as safe
 use Rattle.bm_exec.specs.Around.{Around, HasLeft, is_inside, with_begun}
 use Rattle.bm_exec.specs.declared.frame.Open.{Open}
+use Rattle.bm_exec.specs.declared.names.NameTable.{NameTable}
+use Rattle.bm_exec.proofs.KnownNames.{same-names}
+use Rattle.bm_exec.proofs.Meeting.{may-inherits}
+use Rattle.bm_exec.specs.Going.{CanGoOn}
+use Rattle.bm_exec.specs.Meets.{may_run}
+use Rattle.bm_exec.specs.Seen.{has_name, names_of}
 use Rattle.bm_exec.specs.Stores.{store_of, value_of}
 use Rattle.bm_exec.specs.Lists.{Behind, RunsStatement}
 use Rattle.bm_exec.specs.Stack.{RunsStack, SafeStack}
@@ -118,3 +124,14 @@ went-join types l z z1 z2 v s0 s1 s2 n0 n1 n2 b0 b1 b2 lives lives' lives'' a0 a
 pub went-ran : (types : List TypeDeclaration) (l : ℕ) (z z1 : Around) (v : Option (List ℕ)) (s0 s1 : State ℕ) (n0 n1 n2 : Names) (b0 b1 : List Open) (lives lives' : Lives) (a0 a1 : ℕ) (log0 log1 log2 : Option Log) →
     Went types l z z1 v s0 s1 n0 n1 b0 b1 lives lives' a0 a1 log0 log1 → Ran types l z1 v s1 n1 n2 b1 log1 log2 → Ran types l z v s0 n0 n2 b0 log0 log2
 went-ran types l z z1 v s0 s1 n0 n1 n2 b0 b1 lives lives' a0 a1 log0 log1 log2 x r = record { grew = x.grew n2 log2 r.grew; owns_nothing = r.owns_nothing }
+
+-- what can go on can do so after some statements
+pub went-can : (types : List TypeDeclaration) (l : ℕ) (z z1 : Around) (v w : Option (List ℕ)) (s0 s1 : State ℕ) (t0 t1 : NameTable) (b0 b1 : List Open) (lives lives' : Lives) (a0 a1 : ℕ) (log0 log1 : Option Log) → t1.names.keys ≡ t0.names.keys → w ≡ v →
+    CanGoOn types z v s0 lives t0 b0 → Went types l z z1 v s0 s1 (names_of t0) (names_of t1) b0 b1 lives lives' a0 a1 log0 log1 → CanGoOn types z1 w s1 lives' t1 b1
+went-can types l z z1 v w s0 s1 t0 t1 b0 b1 lives lives' a0 a1 log0 log1 k e c x = record {
+  holds = (c.holds.0, x.holds c.holds.0 c.holds.1);
+  may = rw (same-names t0 t1 k) (x.meets (may_run types (has_name t0)) (may-inherits types (has_name t0)) c.may);
+  accepted = (c.accepted.0, x.safe c.accepted.0 c.accepted.1);
+  sections = (c.sections.0, x.sections c.sections.0 c.sections.1);
+  down = rw e x.down;
+}

@@ -1,5 +1,5 @@
 -- A frame at a script's beginning.
-use Rattle.std.proofs.Common.{◌≡◌, true, false, ◌&&◌, List, [], refl, arith, ℕ, Option, inl}
+use Rattle.std.proofs.Common.{◌≡◌, true, false, ◌&&◌, List, [], length, refl, arith, ℕ, Option, inl, subst}
 use Rattle.bm_lang.specs.declared.scenario.Block.{Block}
 use Rattle.bm_lang.specs.declared.scenario.TypeDeclaration.{TypeDeclaration}
 use Rattle.bm_lang.specs.Limits.{block_cost}
@@ -11,13 +11,21 @@ use Rattle.bm_check.specs.Statements.{Setting}
 use Rattle.bm_check.specs.Values as safe
 use Rattle.bm_exec.specs.Around.{Around, is_inside}
 use Rattle.bm_exec.specs.declared.frame.Open.{Open}
+use Rattle.bm_exec.specs.declared.names.NameTable.{NameTable}
 use Rattle.bm_exec.specs.Stores.{store_of}
 use Rattle.bm_exec.specs.Lists.{block_list, Behind}
+use Rattle.bm_exec.specs.Bindings.{binds_among}
 use Rattle.bm_exec.specs.Cost.{stack_cost}
+use Rattle.bm_exec.specs.Depth.{block_fits}
+use Rattle.bm_exec.specs.Runnable.{can_run_block}
 use Rattle.bm_exec.specs.Stack.{RunsOpen, RunsStack, SafeStack, Sectioned}
-use Rattle.bm_exec.specs.Meets.{Test, body_meets, list_meets, stack_meets}
+use Rattle.bm_exec.specs.Going.{IsAtStart}
+use Rattle.bm_exec.specs.Meets.{Test, body_meets, list_meets, may_run, stack_meets}
+use Rattle.bm_exec.specs.Seen.{has_name, names_of}
 use Rattle.bm_exec.specs.Living.{Lives, Holds}
 use Rattle.bm_exec.specs.Steps.{Pushed}
+use Rattle.bm_exec.proofs.KnownNames.{same-names}
+use Rattle.bm_exec.proofs.Meeting.{block-meets}
 use Rattle.bm_exec.proofs.Objects.{nothing-is-none}
 use Rattle.bm_exec.proofs.Then.{undone-last}
 use Rattle.bm_exec.proofs.Performing.{block-once, once-safe, once-cost, both, sections-inner}
@@ -48,3 +56,27 @@ start-holds types lives names e = rw e (record {
   before = λ u l f. f;
   reached = λ u l f. inl f;
 })
+
+-- all of it
+at-start : (types : List TypeDeclaration) (e : Setting) (b : Block) (names : NameTable) (now : List Open) → names_of names ≡ no_names → Pushed [] now (block_list b) 0 false b → list_meets (may_run types (has_name names) 1) (block_list b) ≡ true → safe.SafeBlock e safe.empty_store b safe.OwnsNothing → IsAtStart types b names now
+at-start types e b names now none p meets safe = record {
+  can = λ z w s lives d. record {
+    holds = (lives, start-holds types lives (names_of names) none);
+    may = start-meets (may_run types (has_name names)) b now p meets;
+    accepted = (e, start-safe e b now (names_of names) none p safe);
+    sections = (z, start-sections z b now p);
+    down = d;
+  };
+  runs = λ l z w last s part x. start-runs types l z w b now p no_names last s part (subst (λ n. RunsStack types l z w now n last s part) none x);
+  holds = λ lives. start-holds types lives (names_of names) none;
+  sections = λ z. start-sections z b now p;
+  cost = start-cost types b now p;
+  light = (let c = start-cost types b now p in let one : length now ≡ 1 = rw p.now_is refl in omega (arith, c, one));
+}
+
+pub start-bound : (types : List TypeDeclaration) (e : Setting) (b : Block) (names : NameTable) (now : List Open) → names_of names ≡ no_names → Pushed [] now (block_list b) 0 false b → can_run_block types b ≡ true → block_fits 16 b ≡ true → binds_among (has_name names) b ≡ true → safe.SafeBlock e safe.empty_store b safe.OwnsNothing → IsAtStart types b names now
+start-bound types e b names now none p can fits bound safe = at-start types e b names now none p (block-meets types (has_name names) 0 b can fits bound) safe
+
+-- also with a table whose names were cleared
+pub start-cleared : (types : List TypeDeclaration) (e : Setting) (b : Block) (before names : NameTable) (now : List Open) → names.names.keys ≡ before.names.keys → names_of names ≡ no_names → Pushed [] now (block_list b) 0 false b → can_run_block types b ≡ true → block_fits 16 b ≡ true → binds_among (has_name before) b ≡ true → safe.SafeBlock e safe.empty_store b safe.OwnsNothing → IsAtStart types b names now
+start-cleared types e b before names now k none p can fits bound safe = start-bound types e b names now none p can fits (rw (same-names before names k) bound) safe

@@ -9,6 +9,8 @@ pub mod Runnable
 pub mod Living
 pub mod Steps
 pub mod Running
+pub mod Going
 pub mod Yields
+pub mod WorkedTurns
 pub mod Depth
 pub mod Meets

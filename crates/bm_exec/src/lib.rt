@@ -5,9 +5,11 @@
 //!   leaves as it was.
 //! - `Frame` is where a running script stands: a position over the scenario's own blocks, with those that are open (`Open`), in
 //!   place. Beside it stands the table of its names (`NameTable`). `Holding` is what a name holds.
-//! - `resume` runs the script of a frame to its next `yield` or its end, and `Stopped` says why it stopped; `run_script` makes the
-//!   names and the frame first and runs the script whole, on from each `yield`; `run_handler` runs a handler's script the same way,
+//! - `Activation` is a script that has begun: its frame and its names. `resume` runs the script of a frame to its next `yield` or
+//!   its end, and `Stopped` says why it stopped; `run_script` begins a script and runs it whole, on from each `yield`; `run_handler` runs a handler's script the same way,
 //!   with names that were made beforehand, so with no memory but the recorder's.
+//!
+//! `worked_turns` computes what a turn leaves in a log.
 //!
 //! `bm_exec_levels` has the machines; `bm_run_yet` says which forms have no statement here so far.
 //!
@@ -18,15 +20,19 @@
 //! slots and graphs aren't here so far.
 #![tactic(auto)]
 
+mod activation;
 mod binding;
 mod frame;
 mod holding;
 mod machine;
 mod names;
 mod running;
+mod turns;
 
+pub use activation::Activation;
 pub use frame::{Frame, Next, Open};
 pub use holding::Holding;
 pub use machine::Machine;
 pub use names::NameTable;
 pub use running::{Stopped, Types, resume, run_handler, run_script};
+pub use turns::worked_turns;

@@ -18,6 +18,7 @@ ghost use Rattle.bm_exec.specs.Bindings.{binds_among};
 ghost use Rattle.bm_exec.specs.Depth.{block_fits};
 ghost use Rattle.bm_exec.specs.Meets.{may_run, stack_meets};
 ghost use Rattle.bm_exec.specs.Runnable.{Classes, can_run_action, can_run_block};
+ghost use Rattle.bm_exec.specs.Going.{CanGoOn};
 ghost use Rattle.bm_exec.specs.Lists.{Behind};
 ghost use Rattle.bm_exec.specs.Living.{Holds, Lives};
 ghost use Rattle.bm_exec.specs.declared.frame.Open.{Open};
@@ -26,6 +27,7 @@ ghost use Rattle.bm_exec.specs.Steps.{weight};
 ghost use Rattle.bm_exec.specs.Yields.{HasWent, IfWent, IsTurn, Unyielding, YieldsBy, is_yield};
 ghost use Rattle.bm_exec.specs.declared.running.Stopped.TheVariants as stopped;
 
+use crate::activation::Activation;
 use crate::frame::{Frame, Next, next_statement, open_block, repeat_block};
 use crate::holding::{Holding, holding_of};
 use crate::machine::Machine;
@@ -255,14 +257,14 @@ pub fn resume<'s, M: Machine>(
     requires sound { M.sound machine.old }
     requires classes { Classes types.now.declared.now types.now.classes.now }
     requires room { M.asked machine.old + 2 * stack_cost (reverse frame.old.blocks.items) < 2 ^ 22 }
-    requires holds { (base : Lives) × Holds types.now.declared.now base (M.lives machine.old) (names_of names.old) }
-    requires may { stack_meets (may_run types.now.declared.now (has_name names.old)) (reverse frame.old.blocks.items) ≡ true }
-    requires down { Behind (M.behind machine.old) (M.lists machine.old) [] }
-    requires accepted { (e : Setting) × SafeStack e (store_of (names_of names.old)) (reverse frame.old.blocks.items) }
-    requires sections { (base : Around) × Sectioned base (M.around machine.old) (reverse frame.old.blocks.items) }
+    requires can { CanGoOn types.now.declared.now (M.around machine.old) (M.behind machine.old)
+        (M.lists machine.old) (M.lives machine.old) names.old (reverse frame.old.blocks.items) }
     ensures turn { IsTurn result (M.level machine.old) (M.log machine.old) (M.log machine.new) }
     ensures ended { result ≡ stopped.Ended → Ran types.now.declared.now (M.level machine.old) (M.around machine.old) (M.behind machine.old) (M.lists machine.old) (names_of names.old) (names_of names.new) (reverse frame.old.blocks.items) (M.log machine.old) (M.log machine.new) }
     ensures yielded { result ≡ stopped.Yielded → Went types.now.declared.now (M.level machine.old) (M.around machine.old) (M.around machine.new) (M.behind machine.old) (M.lists machine.old) (M.lists machine.new) (names_of names.old) (names_of names.new) (reverse frame.old.blocks.items) (reverse frame.new.blocks.items) (M.lives machine.old) (M.lives machine.new) (M.asked machine.old) (M.asked machine.new) (M.log machine.old) (M.log machine.new) }
+    ensures can { result ≡ stopped.Yielded
+        → CanGoOn types.now.declared.now (M.around machine.new) (M.behind machine.new)
+        (M.lists machine.new) (M.lives machine.new) names.new (reverse frame.new.blocks.items) }
     ensures less { result ≡ stopped.Yielded → weight (reverse frame.new.blocks.items) < weight (reverse frame.old.blocks.items) }
     ensures lives { result ≡ stopped.Ended → (base : Lives) → Holds types.now.declared.now base (M.lives machine.old) (names_of names.old) → M.lives machine.new ≡ base }
     ensures asked { result ≡ stopped.Ended → M.asked machine.new ≤ M.asked machine.old + 2 * stack_cost (reverse frame.old.blocks.items) }
@@ -303,11 +305,8 @@ fn run_on<'s, M: Machine>(
     requires sound { M.sound machine.old }
     requires classes { Classes types.now.declared.now types.now.classes.now }
     requires room { M.asked machine.old + 2 * stack_cost (reverse frame.old.blocks.items) < 2 ^ 22 }
-    requires holds { (base : Lives) × Holds types.now.declared.now base (M.lives machine.old) (names_of names.old) }
-    requires may { stack_meets (may_run types.now.declared.now (has_name names.old)) (reverse frame.old.blocks.items) ≡ true }
-    requires down { Behind (M.behind machine.old) (M.lists machine.old) [] }
-    requires accepted { (e : Setting) × SafeStack e (store_of (names_of names.old)) (reverse frame.old.blocks.items) }
-    requires sections { (base : Around) × Sectioned base (M.around machine.old) (reverse frame.old.blocks.items) }
+    requires can { CanGoOn types.now.declared.now (M.around machine.old) (M.behind machine.old)
+        (M.lists machine.old) (M.lives machine.old) names.old (reverse frame.old.blocks.items) }
     ensures ended { OnOk result (Ran types.now.declared.now (M.level machine.old) (M.around machine.old) (M.behind machine.old) (M.lists machine.old) (names_of names.old) (names_of names.new) (reverse frame.old.blocks.items) (M.log machine.old) (M.log machine.new)) }
     ensures lives { OnOk result ((base : Lives) → Holds types.now.declared.now base (M.lives machine.old) (names_of names.old) → M.lives machine.new ≡ base) }
     ensures asked { OnOk result (M.asked machine.new ≤ M.asked machine.old + 2 * stack_cost (reverse frame.old.blocks.items)) }
@@ -361,11 +360,11 @@ pub fn run_script<'s, M: Machine>(
     ensures around { OnOk result (M.around machine.new ≡ M.around machine.old) }
     ensures keeps { OnOk result (M.keeps machine.old machine.new) }
 {
-    accepted_scripts_are_safe();
-    let Ok(mut names) = NameTable::for_script(alloc, script) else {
-        return Err(NoMemory);
-    };
-    let mut frame = Frame::start(script);
+    let begun = Activation::begin(alloc, types, scenario, script)?;
+    let Activation {
+        mut frame,
+        mut names,
+    } = begun;
     run_on(&mut frame, &mut names, machine, types)
 }
 

@@ -2,7 +2,7 @@ use Rattle.std.proofs.Common.{arith, refl, ◌∙◌, subst}
 use Rattle.bm_exec.specs.Yields.{Unyielding, YieldsLast}
 use Rattle.bm_exec.proofs.Results.{not-err}
 use Rattle.bm_exec.proofs.Yields.{left-unyielding, unyielding-join, unyielding-none, yields-join}
-use Rattle.bm_exec.proofs.Going.{went-none, went-step, went-left, went-end, some-cost}
+use Rattle.bm_exec.proofs.Going.{went-can, went-none, went-step, went-left, went-end, some-cost}
 use Rattle.bm_exec.specs.Meets.{may_run}
 use Rattle.bm_exec.specs.Seen.{has_name}
 use Rattle.bm_exec.proofs.KnownNames.{same-names}
@@ -12,7 +12,7 @@ use Rattle.bm_exec.proofs.running.resume.Goals as goal
 
 pub loop-statement-init : goal.loop-statement-init
 loop-statement-init g c = record {
-  went = went-none _ _ _ _ _ _ _ _ _ _ c.requires.down;
+  went = went-none _ _ _ _ _ _ _ _ _ _ c.requires.can.down;
   known = refl;
   sound = c.requires.sound;
   level = refl;
@@ -25,14 +25,14 @@ loop-statement-init g c = record {
 }
 
 pub returns-in-End-clause-ended : goal.returns-in-End-clause-ended
-returns-in-End-clause-ended g c = λ _. went-end _ _ _ _ _ c.requires.accepted.0 _ _ _ _ _ _ _ _ _ _ _ _ c.loop-statement.invariant.went (rw c.in-End.is at c.next_statement.ensures.stepped) c.requires.accepted.1
+returns-in-End-clause-ended g c = λ _. went-end _ _ _ _ _ c.requires.can.accepted.0 _ _ _ _ _ _ _ _ _ _ _ _ c.loop-statement.invariant.went (rw c.in-End.is at c.next_statement.ensures.stepped) c.requires.can.accepted.1
 
 pub returns-in-End-clause-turn : goal.returns-in-End-clause-turn
 returns-in-End-clause-turn g c = c.loop-statement.invariant.yields
 
 pub returns-in-End-clause-lives : goal.returns-in-End-clause-lives
 returns-in-End-clause-lives g c = λ _ base h.
-    (let r = went-end _ _ _ _ _ c.requires.accepted.0 _ _ _ _ _ _ _ _ _ _ _ _ c.loop-statement.invariant.went (rw c.in-End.is at c.next_statement.ensures.stepped) c.requires.accepted.1 in
+    (let r = went-end _ _ _ _ _ c.requires.can.accepted.0 _ _ _ _ _ _ _ _ _ _ _ _ c.loop-statement.invariant.went (rw c.in-End.is at c.next_statement.ensures.stepped) c.requires.can.accepted.1 in
     only-base _ base _ _ (c.loop-statement.invariant.went.holds base h) r.owns_nothing)
 
 pub returns-in-End-clause-asked : goal.returns-in-End-clause-asked
@@ -45,14 +45,14 @@ pub perform-requires-clause-room : goal.perform-requires-clause-room
 perform-requires-clause-room g c = let t = rw c.in-Statement.is at c.next_statement.ensures.stepped in omega (arith, c.requires.room, c.loop-statement.invariant.went.cost, t.cost, some-cost c.in-Statement.statement.now.action)
 
 pub perform-requires-clause-holds : goal.perform-requires-clause-holds
-perform-requires-clause-holds g c = (c.requires.holds.0, c.loop-statement.invariant.went.holds c.requires.holds.0 c.requires.holds.1)
+perform-requires-clause-holds g c = (c.requires.can.holds.0, c.loop-statement.invariant.went.holds c.requires.can.holds.0 c.requires.can.holds.1)
 
 pub perform-requires-clause-may : goal.perform-requires-clause-may
 perform-requires-clause-may g c =
     let t = rw c.in-Statement.is at c.next_statement.ensures.stepped in
     let types = c.args.types.now.declared.now in
     let known = has_name c.args.names.now in
-    let all = c.loop-statement.invariant.went.meets (may_run types known) (may-inherits types known) c.requires.may in
+    let all = c.loop-statement.invariant.went.meets (may_run types known) (may-inherits types known) c.requires.can.may in
     rw (same-names c.args.names.now c.loop-statement.names c.loop-statement.invariant.known) (t.meets_action (may_run types known) all)
 
 pub perform-requires-clause-down : goal.perform-requires-clause-down
@@ -62,7 +62,7 @@ pub perform-requires-clause-open : goal.perform-requires-clause-open
 perform-requires-clause-open g c = let t = rw c.in-Statement.is at c.next_statement.ensures.stepped in t.some
 
 pub perform-requires-clause-needed : goal.perform-requires-clause-needed
-perform-requires-clause-needed g c = let t = rw c.in-Statement.is at c.next_statement.ensures.stepped in (c.requires.accepted.0, t.safe _ _ (c.loop-statement.invariant.went.safe _ c.requires.accepted.1))
+perform-requires-clause-needed g c = let t = rw c.in-Statement.is at c.next_statement.ensures.stepped in (c.requires.can.accepted.0, t.safe _ _ (c.loop-statement.invariant.went.safe _ c.requires.can.accepted.1))
 
 pub loop-statement-smaller-else-is_yield : goal.loop-statement-smaller-else-is_yield
 loop-statement-smaller-else-is_yield g c =
@@ -114,6 +114,16 @@ returns-then-is_yield-clause-yielded g c = λ _.
     let p = not-err c.perform.result _ c.if-is_err.ensures.value c.perform.ensures.performed in
     went-step _ _ _ _ _ _ _ _ _ _ _ _ _ _ _ _ _ _ _ _ _ _ _ _ _ _ i.went t (rw (i.level, i.behind) at p)
 
+pub returns-then-is_yield-clause-can : goal.returns-then-is_yield-clause-can
+returns-then-is_yield-clause-can g c = λ _.
+    let t = rw c.in-Statement.is at c.next_statement.ensures.stepped in
+    let i = c.loop-statement.invariant in
+    let e = c.if-is_err.ensures.value in
+    let p = not-err c.perform.result _ e c.perform.ensures.performed in
+    let behind = not-err c.perform.result _ e c.perform.ensures.behind ∙ i.behind in
+    went-can _ _ _ _ _ _ _ _ c.args.names.now c.perform.new.names _ _ _ _ _ _ _ _ (c.perform.ensures.known ∙ i.known) behind c.requires.can
+    (went-step _ _ _ _ _ _ _ _ _ _ _ _ _ _ _ _ _ _ _ _ _ _ _ _ _ _ i.went t (rw (i.level, i.behind) at p))
+
 pub returns-then-is_yield-clause-less : goal.returns-then-is_yield-clause-less
 returns-then-is_yield-clause-less g c = λ _.
     let t = rw c.in-Statement.is at c.next_statement.ensures.stepped in
@@ -135,7 +145,7 @@ loop-statement-preserved g c =
     let m = c.loop-statement.machine in
     let n = c.leave.new.self in
     let e = c.leave.ensures in
-    let b = (t.sections c.requires.sections.0 (g.M.Machine.around m) (i.went.sections c.requires.sections.0 c.requires.sections.1)).0 in
+    let b = (t.sections c.requires.can.sections.0 (g.M.Machine.around m) (i.went.sections c.requires.can.sections.0 c.requires.can.sections.1)).0 in
     record {
       went = went-left _ _ _ _ _ _ (g.M.Machine.processor m) _ _ _ _ _ _ _ _ _ _ _ _ _ _ _ _ _ (g.met.M.Machine.told m i.sound) (rw e.processor at (g.met.M.Machine.told n e.sound)) i.went t (rw i.level at (e.left b.0 b.1)) e.lists e.lives e.asked;
       known = i.known;

@@ -1,14 +1,11 @@
 use Rattle.std.proofs.Common.{arith, refl, ◌∙◌}
 use Rattle.bm_exec.proofs.Going.{went-join, went-none, went-ran}
-use Rattle.bm_exec.specs.Meets.{may_run}
-use Rattle.bm_exec.specs.Seen.{has_name}
-use Rattle.bm_exec.proofs.KnownNames.{same-names}
-use Rattle.bm_exec.proofs.Meeting.{may-inherits}
 use Rattle.bm_exec.proofs.running.run_on.Goals as goal
 
 pub turns-init : goal.turns-init
 turns-init g c = record {
-  went = went-none _ _ _ _ _ _ _ _ _ _ c.requires.down;
+  went = went-none _ _ _ _ _ _ _ _ _ _ c.requires.can.down;
+  can = c.requires.can;
   known = refl;
   sound = c.requires.sound;
   level = refl;
@@ -23,25 +20,6 @@ turns-init g c = record {
 pub resume-requires-clause-room : goal.resume-requires-clause-room
 resume-requires-clause-room g c = omega (arith, c.requires.room, c.turns.invariant.went.cost)
 
-pub resume-requires-clause-holds : goal.resume-requires-clause-holds
-resume-requires-clause-holds g c = (c.requires.holds.0, c.turns.invariant.went.holds c.requires.holds.0 c.requires.holds.1)
-
-pub resume-requires-clause-may : goal.resume-requires-clause-may
-resume-requires-clause-may g c =
-    let types = c.args.types.now.declared.now in
-    let known = has_name c.args.names.now in
-    let all = c.turns.invariant.went.meets (may_run types known) (may-inherits types known) c.requires.may in
-    rw (same-names c.args.names.now c.turns.names c.turns.invariant.known) all
-
-pub resume-requires-clause-down : goal.resume-requires-clause-down
-resume-requires-clause-down g c = rw c.turns.invariant.behind c.turns.invariant.went.down
-
-pub resume-requires-clause-accepted : goal.resume-requires-clause-accepted
-resume-requires-clause-accepted g c = (c.requires.accepted.0, c.turns.invariant.went.safe c.requires.accepted.0 c.requires.accepted.1)
-
-pub resume-requires-clause-sections : goal.resume-requires-clause-sections
-resume-requires-clause-sections g c = (c.requires.sections.0, c.turns.invariant.went.sections c.requires.sections.0 c.requires.sections.1)
-
 -- ---- it yields
 
 pub turns-smaller : goal.turns-smaller
@@ -54,6 +32,7 @@ turns-preserved g c =
     let y = c.in-Yielded.is in
     record {
       went = went-join _ _ _ _ _ _ _ _ _ _ _ _ _ _ _ _ _ _ _ _ _ _ _ _ i.went (rw (i.level, i.behind) at (e.yielded y));
+      can = e.can y;
       known = e.known ∙ i.known;
       sound = rw y at e.sound;
       level = (rw y at e.level) ∙ i.level;
