@@ -1,6 +1,6 @@
 -- What each call of the world on one thread does.
 use Rattle.std.proofs.Common.{◌≡◌, ◌≢◌, ◌⊎◌, ℕ, zero, suc, ◌+◌, ◌*◌, ◌%◌, ◌<◌, ◌≤◌, Bool, true, List, [], ◌∷◌, ◌++◌, length, map, get_or, set, drop, Option, None, Some, Result, Ok, Err, OnOk, refl, sym, ◌∙◌, ap, subst, arith, inl, inr, length-set, eq-eqb, ne_eqb}
-use Rattle.std.specs.Prelude.{eqb, nat_lt, if◌then◌else◌, reverse, slice_index}
+use Rattle.std.specs.Prelude.{◌-◌, eqb, nat_lt, if◌then◌else◌, reverse, slice_index}
 use Rattle.std.proofs.lemmas.Bool.{cases_eq, cases_lt, lt-ltb, le-ltb, cases_Bool}
 use Rattle.std.proofs.lemmas.List.{get_or-set_same, get_or-set_other, map-append, length-map}
 use Rattle.std.proofs.Math.Seq.{drop-append_seam}
@@ -41,14 +41,15 @@ use Rattle.bm_page.specs.declared.units.Stocked.{Stocked}
 use Rattle.bm_law.specs.Stands.{times}
 use Rattle.bm_post.proofs.Returned.{others-stay, times-reversed}
 use Rattle.bm_world.specs.SideState.{SideState, known_of}
-use Rattle.bm_world.specs.Told.{IsSideOf, SideDoes, does-same, told, told_boxes}
+use Rattle.bm_world.specs.Told.{IsSideOf, OthersBegin, SideDoes, does-same, told, told_boxes}
 
 -- one act, where what is told and the lengths are so
-does-one : (x : Act) (a b c : SideState) → b ≡ c → ((p : ℕ) → IsSideOf p a → (lives : Lives) → ActFits p x (told lives a)) → ((p : ℕ) → IsSideOf p a → (lives : Lives) → act_after p x (told lives a) ≡ told lives c) → ((p : ℕ) → IsSideOf p a → IsSideOf p c) → SideDoes (x ∷ []) a b
-does-one x a b c e fits after stays = record {
+does-one : (x : Act) (a b c : SideState) → b ≡ c → ((p : ℕ) → IsSideOf p a → (lives : Lives) → ActFits p x (told lives a)) → ((p : ℕ) → IsSideOf p a → (lives : Lives) → act_after p x (told lives a) ≡ told lives c) → ((p : ℕ) → IsSideOf p a → IsSideOf p c) → ((p : ℕ) → IsSideOf p a → OthersBegin p a c) → SideDoes (x ∷ []) a b
+does-one x a b c e fits after stays others = record {
   did = λ p s. record {
     leads = λ lives. record { fit = (fits p s lives, tt); now_is = after p s lives ∙ ap (told lives) (sym e) };
     stays = subst (IsSideOf p) (sym e) (stays p s);
+    others = subst (OthersBegin p a) (sym e) (others p s);
   };
 }
 
@@ -87,6 +88,12 @@ stays-moved : (d : Domain) (a : SideState) (p : ℕ) → IsSideOf p a → IsSide
 stays-moved Plain a p s = stays-like p a (moved Plain a) refl refl refl refl refl (length-set a.grace.plain.words a.grace.processor (slice_index a.grace.plain.words a.grace.processor + 1)) refl s
 stays-moved Tracing a p s = stays-like p a (moved Tracing a) refl refl refl refl refl refl (length-set a.grace.tracing.words a.grace.processor (slice_index a.grace.tracing.words a.grace.processor + 1)) s
 
+begins-moved : (d : Domain) (a : SideState) (p : ℕ) → OthersBegin p a (moved d a)
+begins-moved Plain a p Plain q ne = refl
+begins-moved Plain a p Tracing q ne = refl
+begins-moved Tracing a p Plain q ne = refl
+begins-moved Tracing a p Tracing q ne = refl
+
 word-moved : (d : Domain) (w : ℕ) (a : SideState) (p : ℕ) (lives : Lives) → a.grace.processor ≡ p → w ≡ (side d (known_of a)).word + 1 → act_after p (act.Enters d w) (told lives a) ≡ told lives (moved d a)
 word-moved Plain w a p lives s e =
     let F : ℕ → ℕ → Shared = λ q x. act_after q (act.Enters Plain x) (told lives a) in
@@ -104,14 +111,14 @@ now-moved d a b post grace = ap (λ p. with_post_grace p b.grace) post ∙ ap (w
 
 pub does-enter : (d : Domain) (w : ℕ) (a b : SideState) → b.post ≡ a.post → b.grace ≡ with_domain d (word_moved a.grace.processor (domain_in d a.grace)) a.grace → w ≡ (side d (known_of a)).word + 1 → (side d (known_of a)).word % 2 ≡ 0 → SideDoes (act.Enters d w ∷ []) a b
 does-enter d w a b post grace word even =
-    does-one (act.Enters d w) a b (moved d a) (now-moved d a b post grace) (λ p s lives. is-word d w 1 a p lives s.grace_is word (odd (side d (known_of a)).word word even)) (λ p s lives. word-moved d w a p lives s.grace_is word) (λ p s. stays-moved d a p s)
+    does-one (act.Enters d w) a b (moved d a) (now-moved d a b post grace) (λ p s lives. is-word d w 1 a p lives s.grace_is word (odd (side d (known_of a)).word word even)) (λ p s lives. word-moved d w a p lives s.grace_is word) (λ p s. stays-moved d a p s) (λ p s. begins-moved d a p)
   where
     odd : (k : ℕ) → w ≡ k + 1 → k % 2 ≡ 0 → w % 2 ≡ 1
     odd k e h = omega (arith, e, h)
 
 pub does-leave : (d : Domain) (w : ℕ) (a b : SideState) → b.post ≡ a.post → b.grace ≡ with_domain d (word_moved a.grace.processor (domain_in d a.grace)) a.grace → w ≡ (side d (known_of a)).word + 1 → (side d (known_of a)).word % 2 ≡ 1 → SideDoes (act.Leaves d w ∷ []) a b
 does-leave d w a b post grace word odd =
-    does-one (act.Leaves d w) a b (moved d a) (now-moved d a b post grace) (λ p s lives. is-word d w 0 a p lives s.grace_is word (even (side d (known_of a)).word word odd)) (λ p s lives. word-moved d w a p lives s.grace_is word) (λ p s. stays-moved d a p s)
+    does-one (act.Leaves d w) a b (moved d a) (now-moved d a b post grace) (λ p s lives. is-word d w 0 a p lives s.grace_is word (even (side d (known_of a)).word word odd)) (λ p s lives. word-moved d w a p lives s.grace_is word) (λ p s. stays-moved d a p s) (λ p s. begins-moved d a p)
   where
     even : (k : ℕ) → w ≡ k + 1 → k % 2 ≡ 1 → w % 2 ≡ 0
     even k e h = omega (arith, e, h)
@@ -123,14 +130,14 @@ stamp-fits Plain x a lives e = e
 stamp-fits Tracing x a lives e = e
 
 pub does-stamp : (d : Domain) (x : ℕ) (a b : SideState) → b ≡ a → x ≡ next (domain_in d a.grace).number → SideDoes (act.Stamps d x ∷ []) a b
-does-stamp d x a b e h = does-one (act.Stamps d x) a b a e (λ p s lives. stamp-fits d x a lives h) (λ p s lives. refl) (λ p s. s)
+does-stamp d x a b e h = does-one (act.Stamps d x) a b a e (λ p s lives. stamp-fits d x a lives h) (λ p s lives. refl) (λ p s. s) (λ p s d q ne. refl)
 
 number-fits : (d : Domain) (n : ℕ) (a : SideState) (lives : Lives) → n ≡ (domain_in d a.grace).number → n ≡ (of d (told lives a).numbers).number
 number-fits Plain n a lives e = e
 number-fits Tracing n a lives e = e
 
 pub does-read : (d : Domain) (x n : ℕ) (a b : SideState) → b ≡ a → n ≡ (domain_in d a.grace).number → SideDoes (act.Reads d x n ∷ []) a b
-does-read d x n a b e h = does-one (act.Reads d x n) a b a e (λ p s lives. number-fits d n a lives h) (λ p s lives. refl) (λ p s. s)
+does-read d x n a b e h = does-one (act.Reads d x n) a b a e (λ p s lives. number-fits d n a lives h) (λ p s lives. refl) (λ p s. s) (λ p s d q ne. refl)
 
 -- ---- periods
 
@@ -142,6 +149,17 @@ stays-begun Plain Won a p s = stays-like p a (begun Plain Won a) refl refl refl 
 stays-begun Tracing Won a p s = stays-like p a (begun Tracing Won a) refl refl refl refl refl refl refl s
 stays-begun Plain (Moved n) a p s = stays-like p a (begun Plain (Moved n) a) refl refl refl refl refl refl refl s
 stays-begun Tracing (Moved n) a p s = stays-like p a (begun Tracing (Moved n) a) refl refl refl refl refl refl refl s
+
+-- only whose side it is may begin a period less
+begins-begun : (d : Domain) (r : Began) (a : SideState) (p : ℕ) → a.grace.processor ≡ p → OthersBegin p a (begun d r a)
+begins-begun Plain Won a p s Plain q ne = get_or-set_other a.grace.plain.begins a.grace.processor q (slice_index a.grace.plain.begins a.grace.processor - 1) 0 (λ e. ne (e ∙ s))
+begins-begun Tracing Won a p s Tracing q ne = get_or-set_other a.grace.tracing.begins a.grace.processor q (slice_index a.grace.tracing.begins a.grace.processor - 1) 0 (λ e. ne (e ∙ s))
+begins-begun Plain Won a p s Tracing q ne = refl
+begins-begun Tracing Won a p s Plain q ne = refl
+begins-begun Plain (Moved n) a p s Plain q ne = refl
+begins-begun Plain (Moved n) a p s Tracing q ne = refl
+begins-begun Tracing (Moved n) a p s Plain q ne = refl
+begins-begun Tracing (Moved n) a p s Tracing q ne = refl
 
 begin-fits : (d : Domain) (even : ℕ) (r : Began) (a : SideState) (p : ℕ) (lives : Lives) → even % 2 ≡ 0 → BeganAt r even → found_at even r ≡ (domain_in d a.grace).number → ActFits p (begin_act d even r) (told lives a)
 begin-fits Plain even Won a p lives h g f = record { even = ap (λ k. k % 2) (sym f) ∙ h; number = ap (λ k. k + 1) f }
@@ -157,7 +175,7 @@ begin-after Tracing even (Moved n) a p lives s = refl
 
 pub does-begin : (d : Domain) (even : ℕ) (r : Began) (a b : SideState) → b.post ≡ a.post → b.grace ≡ with_domain d (period_begun a.grace.processor r (domain_in d a.grace)) a.grace → even % 2 ≡ 0 → BeganAt r even → found_at even r ≡ (domain_in d a.grace).number → SideDoes (begin_act d even r ∷ []) a b
 does-begin d even r a b post grace h g f =
-    does-one (begin_act d even r) a b (begun d r a) (ap (λ p. with_post_grace p b.grace) post ∙ ap (with_post_grace a.post) grace) (λ p s lives. begin-fits d even r a p lives h g f) (λ p s lives. begin-after d even r a p lives s.grace_is) (λ p s. stays-begun d r a p s)
+    does-one (begin_act d even r) a b (begun d r a) (ap (λ p. with_post_grace p b.grace) post ∙ ap (with_post_grace a.post) grace) (λ p s lives. begin-fits d even r a p lives h g f) (λ p s lives. begin-after d even r a p lives s.grace_is) (λ p s. stays-begun d r a p s) (λ p s. begins-begun d r a p s.grace_is)
 
 -- a side whose number of a domain is odd has the period that is in progress
 own-driver : (p : ℕ) (o : Option ℕ) (n : ℕ) → (if is_processor p o then n else 0) % 2 ≡ 1 → is_processor p o ≡ true
@@ -185,6 +203,12 @@ stays-looked : (d : Domain) (a : SideState) (p : ℕ) → IsSideOf p a → IsSid
 stays-looked Plain a p s = stays-like p a (looked Plain a) refl refl refl refl refl refl refl s
 stays-looked Tracing a p s = stays-like p a (looked Tracing a) refl refl refl refl refl refl refl s
 
+begins-looked : (d : Domain) (a : SideState) (p : ℕ) → OthersBegin p a (looked d a)
+begins-looked Plain a p Plain q ne = refl
+begins-looked Plain a p Tracing q ne = refl
+begins-looked Tracing a p Plain q ne = refl
+begins-looked Tracing a p Tracing q ne = refl
+
 later-is : (d : Domain) (a : SideState) (lives : Lives) → is_processor a.grace.processor (domain_in d a.grace).driver ≡ true → (side d (known_of (looked d a))).later ≡ found (told lives a) d
 later-is Plain a lives h = ap (λ b. if b then words_in Plain a.grace else []) h
 later-is Tracing a lives h = ap (λ b. if b then words_in Tracing a.grace else []) h
@@ -204,7 +228,7 @@ does-look d a b post grace odd count =
     let ws : (lives : Lives) (q : ℕ) → a.grace.processor ≡ q → words ≡ found (told lives a) d = λ lives q s. ap (λ z. (side d (known_of z)).later) e ∙ later-is d a lives (driving d a q s odd) in
     does-one (act.Looks d words) a b (looked d a) e
     (λ p s lives. record { driver = drives d a p lives s.grace_is odd; words_are = ws lives p s.grace_is; some = some-words d a.grace.processors p words s.turn count })
-    (λ p s lives. look-after d words a p lives (ws lives p s.grace_is)) (λ p s. stays-looked d a p s)
+    (λ p s lives. look-after d words a p lives (ws lives p s.grace_is)) (λ p s. stays-looked d a p s) (λ p s. begins-looked d a p)
 
 pass-list : (n : ℕ) (xs ys : List ℕ) → length xs ≡ n → length ys ≡ n → ((i : ℕ) → i < n → (slice_index xs i % 2 ≡ 0) ⊎ (slice_index xs i < slice_index ys i)) → Passes xs ys
 pass-list n [] [] e f h = tt
@@ -262,11 +286,17 @@ standing-ended Tracing a h =
     let F : Bool → Period = λ b. record { domain = Tracing; number = (if b then a.grace.tracing.number else 0) + 1; first = if b then a.grace.tracing.first else []; later = if b then a.grace.tracing.later else [] } in
     ap F (sym (driving Tracing a a.grace.processor refl h.driving))
 
+begins-finished : (d : Domain) (a : SideState) (p : ℕ) → OthersBegin p a (finished d a)
+begins-finished Plain a p Plain q ne = refl
+begins-finished Plain a p Tracing q ne = refl
+begins-finished Tracing a p Plain q ne = refl
+begins-finished Tracing a p Tracing q ne = refl
+
 pub does-finish : (d : Domain) (period : Period) (a b : SideState) → b.post ≡ a.post → b.grace ≡ with_domain d (period_ended (domain_in d a.grace)) a.grace → CanFinish d (known_of a) → period ≡ ended d (side d (known_of a)) → SideDoes (act.Finishes period ∷ []) a b
 does-finish d period a b post grace can is =
     let e : b ≡ finished d a = ap (λ p. with_post_grace p b.grace) post ∙ ap (with_post_grace a.post) grace in
     subst (λ x. SideDoes (act.Finishes x ∷ []) a b) (sym is)
-    (does-one (act.Finishes (ended d (side d (known_of a)))) a b (finished d a) e (λ p s lives. finish-fits d a p lives s.grace_is can) (λ p s lives. finish-after d a p lives) (λ p s. stays-finished d a p s))
+    (does-one (act.Finishes (ended d (side d (known_of a)))) a b (finished d a) e (λ p s lives. finish-fits d a p lives s.grace_is can) (λ p s lives. finish-after d a p lives) (λ p s. stays-finished d a p s) (λ p s. begins-finished d a p))
 
 -- ---- the stock
 
@@ -290,7 +320,7 @@ does-fetch (Ok n) class want list longer a b us post grace =
     does-one (act.Fetches class want (numbers (drop (length list) longer))) a b (with_pool pool a) (now-pool pool a b post grace)
     (λ p s lives. came list longer (stock_fetched class want a.post.pool).units us ∙ same.units)
     (λ p s lives. ap (λ z. record (told lives a) { pool = z }) (sym same.pools))
-    (λ p s. stays-pool pool a p s)
+    (λ p s. stays-pool pool a p s) (λ p s d q ne. refl)
 
 all-back : (us : List UnitState) (pool : Stock) → bare_pool (all_returned us pool) ≡ all_back (numbers us) (bare_pool pool)
 all-back [] pool = refl
@@ -304,7 +334,7 @@ not-below : (x y : ℕ) (ys : List ℕ) → times x (y ∷ ys) ≡ 0 → times x
 not-below x y ys t = omega (arith, t)
 
 -- the numbers of units with their seals are the units'
-units-sealed : (us : List UnitState) → units_of (sealed us) ≡ numbers us
+pub units-sealed : (us : List UnitState) → units_of (sealed us) ≡ numbers us
 units-sealed [] = refl
 units-sealed (u ∷ us) = ap (λ ns. u.number ∷ ns) (units-sealed us)
 
@@ -353,7 +383,7 @@ does-return us a b holds post grace =
     does-one (act.Returns (sealed us)) a b (with_pool pool a) (now-pool pool a b post grace)
     (λ p s lives. subst (λ (ns : List ℕ). AllOut ns (bare_pool a.post.pool)) (sym named) out)
     (λ p s lives. ap (λ z. record (told lives a) { pool = z }) (ap (λ ns. all_back ns (bare_pool a.post.pool)) named ∙ sym (all-back (reverse us) a.post.pool)))
-    (λ p s. stays-pool pool a p s)
+    (λ p s. stays-pool pool a p s) (λ p s d q ne. refl)
 
 -- ---- parcels
 
@@ -420,7 +450,7 @@ does-send (Ok n) to class us a b post grace few there some =
     does-one (act.Sends class to (sealed us)) a b c (ap (λ p. with_post_grace p b.grace) post ∙ ap (with_post_grace (sent_to to class us a.post)) grace)
     (λ p s lives. record { there = there; some = subst (λ k. 0 < k) (sym (ap length (units-sealed us) ∙ length-map us number_of)) some })
     (λ p s lives. ap (λ z. record (told lives a) { boxes = z }) (sym (told-box to class (inbox to class a.post ++ us ∷ []) (λ ps. ps ++ units_of (sealed us) ∷ []) a.post (let m = s.most in omega (arith, there, m)) (omega (arith, few)) s.boxes (map-append numbers (inbox to class a.post) (us ∷ []) ∙ ap (λ ns. map numbers (inbox to class a.post) ++ ns ∷ []) (sym (units-sealed us))))))
-    (λ p s. stays-like p a c refl refl (length-set a.post.inboxes (place to class) (inbox to class a.post ++ us ∷ [])) refl refl refl refl s)
+    (λ p s. stays-like p a c refl refl (length-set a.post.inboxes (place to class) (inbox to class a.post ++ us ∷ [])) refl refl refl refl s) (λ p s d q ne. refl)
 
 -- ---- the same, told of what units wait for
 
@@ -429,7 +459,7 @@ pub did-as : (a b : Act) (x y : SideState) → ((p : ℕ) (s : Shared) → ActFi
 did-as a b x y fits same d = record {
   did = λ p s.
       let h = d.did p s in
-      record { leads = λ lives. (let k = h.leads lives in record { fit = (fits p (told lives x) k.fit.0, tt); now_is = same p (told lives x) ∙ k.now_is }); stays = h.stays };
+      record { leads = λ lives. (let k = h.leads lives in record { fit = (fits p (told lives x) k.fit.0, tt); now_is = same p (told lives x) ∙ k.now_is }); stays = h.stays; others = h.others };
 }
 
 pub did-give : (us : List UnitState) (x y : SideState) → SideDoes (act.Returns (sealed us) ∷ []) x y → SideDoes (act.GivesBack (numbers us) ∷ []) x y

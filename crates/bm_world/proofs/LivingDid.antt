@@ -1,6 +1,6 @@
 -- What each call of the world with the units that live in it does.
-use Rattle.std.proofs.Common.{◌≡◌, ◌⊎◌, Bool, ℕ, ◌+◌, ◌<◌, ◌≤◌, true, List, [], ◌∷◌, false, set, length, Option, None, Some, Result, Ok, Err, OnOk, refl, sym, ◌∙◌, ap, subst, inl, inr, eq-eqb, ne_eqb}
-use Rattle.std.specs.Prelude.{eqb, if◌then◌else◌}
+use Rattle.std.proofs.Common.{◌≡◌, ◌≢◌, ◌⊎◌, Bool, ℕ, ◌+◌, ◌<◌, ◌≤◌, true, List, [], ◌∷◌, false, set, length, Option, None, Some, Result, Ok, Err, OnOk, refl, sym, ◌∙◌, ap, subst, inl, inr, eq-eqb, ne_eqb}
+use Rattle.std.specs.Prelude.{eqb, if◌then◌else◌, slice_index}
 use Rattle.std.specs.List.{All}
 use Rattle.std.proofs.lemmas.Bool.{cases_eq}
 use Rattle.std.proofs.lemmas.List.{get_or-set_other, get_or-set_same}
@@ -8,6 +8,7 @@ use mathlib.Core.Path.{fun_ext}
 use Rattle.bm_law_order.specs.Act.{Act}
 use Rattle.bm_law_order.specs.Act as act
 use Rattle.bm_page.specs.UnitState.{UnitState}
+use Rattle.bm_grace.specs.PlainState.{domain_in}
 use Rattle.bm_law_order.specs.Acts.{ActsLead}
 use Rattle.bm_law_order.specs.Lives.{Life, Lives}
 use Rattle.bm_law_order.specs.Seals.{Goes, HasPassed, WaitLeads, WaitsBy, on_unit, seal_among, wait_after, waited_for}
@@ -16,7 +17,8 @@ use Rattle.bm_law_order.specs.Shared.{Shared}
 use Rattle.bm_page.specs.declared.units.Seal.{Seal}
 use Rattle.bm_law.specs.Stands.{times}
 use Rattle.bm_post.specs.Rights.{numbers}
-use Rattle.bm_law_order.specs.Act.{sealed}
+use Rattle.bm_law_order.specs.Act.{sealed, units_of}
+use Rattle.bm_world.specs.Spared.{AllSpare}
 use Rattle.bm_world.specs.LivingState.{LivingState, begun_at, next_life, standings_after, wait_now, with_begun, with_ended}
 use Rattle.bm_world.specs.Standings.{AreStanding, IsTimed, has_waited, is_over, left_by, standing_at, standing_of, told_standing, waits_told}
 use Rattle.bm_world.specs.declared.standing.Standing.{Standing}
@@ -25,7 +27,8 @@ use Rattle.bm_world.specs.SideState.{SideState}
 use Rattle.bm_world.specs.Slots.{unit_at}
 use Rattle.bm_world.specs.Told.{IsSideOf, SideDoes, told}
 use Rattle.bm_world.specs.ToldLiving.{LivingDoes, life_of, lives_told, told_living}
-use Rattle.bm_world.proofs.Left.{goes-left, left-released, left-settled, none-batch}
+use Rattle.bm_world.proofs.Left.{goes-left, left-other, left-released, left-settled, none-batch}
+use Rattle.bm_world.proofs.Did.{units-sealed}
 use Rattle.bm_world.proofs.SlotLemmas.{at-other, at-same}
 
 -- acts by which each unit waits for what it did
@@ -33,22 +36,23 @@ abbrev pub KeepWaits : List Act → Type 0
 KeepWaits acts = (w : ℕ → seals.Wait) → WaitLeads acts w w
 
 -- what the side did, where no unit began or ended a life
-pub lifts-so : (acts : List Act) (a b : LivingState) → b.slots ≡ a.slots → b.begun ≡ a.begun → WaitLeads acts (waits_told a.standings) (waits_told b.standings) → SideDoes acts a.side b.side → LivingDoes acts a b
-lifts-so acts a b slots begun w d = record {
+pub lifts-so : (acts : List Act) (a b : LivingState) → b.slots ≡ a.slots → b.begun ≡ a.begun → WaitLeads acts (waits_told a.standings) (waits_told b.standings) → ((n : ℕ) → AllSpare n acts → standing_at b.standings n ≡ standing_at a.standings n) → SideDoes acts a.side b.side → LivingDoes acts a b
+lifts-so acts a b slots begun w k d = record {
   waits = w;
+  keeps = k;
   did = λ p s.
       let u = d.did p s in
       let same : lives_told b ≡ lives_told a = (let F : List (Option UnitState) → List ℕ → Lives = λ xs ys. record { begun = begun_at ys; holds = λ n. life_of (unit_at xs n); dropping = λ p l. None } in ap (λ xs. F xs b.begun) slots ∙ ap (F a.slots) begun) in
-      record { leads = subst (λ lives. ActsLead p acts (told_living a) (told lives b.side)) (sym same) (u.leads (lives_told a)); stays = u.stays };
+      record { leads = subst (λ lives. ActsLead p acts (told_living a) (told lives b.side)) (sym same) (u.leads (lives_told a)); stays = u.stays; others = u.others };
 }
 
 -- .. and none went away
 pub lifts : (acts : List Act) (a b : LivingState) → b.slots ≡ a.slots → b.begun ≡ a.begun → b.standings ≡ a.standings → KeepWaits acts → SideDoes acts a.side b.side → LivingDoes acts a b
-lifts acts a b slots begun standings k d = lifts-so acts a b slots begun (subst (λ (ss : List Standing). WaitLeads acts (waits_told a.standings) (waits_told ss)) (sym standings) (k (waits_told a.standings))) d
+lifts acts a b slots begun standings k d = lifts-so acts a b slots begun (subst (λ (ss : List Standing). WaitLeads acts (waits_told a.standings) (waits_told ss)) (sym standings) (k (waits_told a.standings))) (λ n s. ap (λ (ss : List Standing). standing_at ss n) standings) d
 
-pub lifts-ok : {A E : Type 0} (r : Result A E) (acts : List Act) (a b : LivingState) → b.slots ≡ a.slots → b.begun ≡ a.begun → OnOk r (WaitLeads acts (waits_told a.standings) (waits_told b.standings)) → OnOk r (SideDoes acts a.side b.side) → OnOk r (LivingDoes acts a b)
-lifts-ok (Ok x) acts a b slots begun w d = lifts-so acts a b slots begun w d
-lifts-ok (Err x) acts a b slots begun w d = tt
+pub lifts-ok : {A E : Type 0} (r : Result A E) (acts : List Act) (a b : LivingState) → b.slots ≡ a.slots → b.begun ≡ a.begun → OnOk r (WaitLeads acts (waits_told a.standings) (waits_told b.standings)) → OnOk r ((n : ℕ) → AllSpare n acts → standing_at b.standings n ≡ standing_at a.standings n) → OnOk r (SideDoes acts a.side b.side) → OnOk r (LivingDoes acts a b)
+lifts-ok (Ok x) acts a b slots begun w k d = lifts-so acts a b slots begun w k d
+lifts-ok (Err x) acts a b slots begun w k d = tt
 
 pub on-ok : {A E P : Type 0} (r : Result A E) → P → OnOk r P
 on-ok (Ok x) p = p
@@ -57,6 +61,14 @@ on-ok (Err x) p = tt
 -- what an act that says nothing of units leaves
 pub keep-one : (a : Act) → ((w : ℕ → seals.Wait) → WaitsBy a w w) → KeepWaits (a ∷ [])
 keep-one a h w = (w, (h w, refl))
+
+-- standings that didn't change
+pub kept-none : (acts : List Act) (ss : List Standing) (n : ℕ) → AllSpare n acts → standing_at ss n ≡ standing_at ss n
+kept-none acts ss n s = refl
+
+-- units that went away were named
+pub kept-sealed : (us : List UnitState) (ss : List Standing) (n : ℕ) → times n (units_of (sealed us)) ≡ 0 → standing_at (left_by us ss) n ≡ standing_at ss n
+kept-sealed us ss n h = left-other us ss n (ap (times n) (sym (units-sealed us)) ∙ h)
 
 -- units went away
 pub waits-left : (a : Act) (plain tracing : ℕ) (slots : List (Option UnitState)) (us : List UnitState) (ss : List Standing) → ((before now : ℕ → seals.Wait) → ((n : ℕ) → Goes (seal_among (sealed us) n) (before n) (now n)) → WaitsBy a before now) → AreStanding plain tracing slots ss → ((n : ℕ) → times n (numbers us) ≤ 1) → All (λ (u : UnitState). u.number < length ss) us → All (λ (u : UnitState). (has_waited (standing_at ss u.number) u.seal ≡ true) ⊎ (is_over plain tracing (standing_at ss u.number) u.seal ≡ true)) us → WaitLeads (a ∷ []) (waits_told ss) (waits_told (left_by us ss))
@@ -99,6 +111,7 @@ told-set ss n m x lt =
 pub does-make : (u : UnitState) (a b : LivingState) → b ≡ with_begun u a → standing_at a.standings u.number ≡ standing_of u.seal → IsTimed a.side.grace.plain.number a.side.grace.tracing.number (standing_at a.standings u.number) → u.number < length a.standings → unit_at a.slots u.number ≡ None → u.life ≡ begun_at a.begun u.number → ((n : ℕ) → begun_at b.begun n ≡ (if eqb u.number n then begun_at a.begun n + 1 else begun_at a.begun n)) → u.number < length a.slots → u.home ≡ a.side.grace.processor → LivingDoes (act.Makes u.number (u.life + 1) u.seal ∷ []) a b
 does-make u a b e stands timed within-standings none next counts there home = record {
   waits = (waits_told b.standings, ((ap told_standing stands ∙ told-is u.seal, (passed-is a.side.grace.plain.number a.side.grace.tracing.number u.seal (subst (IsTimed a.side.grace.plain.number a.side.grace.tracing.number) stands timed), fun_ext (λ n. ap (λ (ss : List Standing). waits_told ss n) (ap (λ (w : LivingState). w.standings) e) ∙ told-set a.standings u.number n Nothing within-standings))), refl));
+  keeps = λ n s. ap (λ (w : LivingState). standing_at w.standings n) e ∙ get_or-set_other a.standings u.number n Nothing Nothing s.0;
   did = λ p s. record {
     leads = record {
       fit = (record { none = ap life_of none; next_is = ap (λ n. n + 1) next }, tt);
@@ -111,6 +124,7 @@ does-make u a b e stands timed within-standings none next counts there home = re
           ∙ ap (F (begun_at b.begun) (λ n. life_of (unit_at b.slots n))) (sym side));
     };
     stays = subst (IsSideOf p) (sym (ap (λ (w : LivingState). w.side) e)) s;
+    others = λ d q ne. ap (λ (w : LivingState). slice_index (domain_in d w.side.grace).begins q) e;
   };
 }
   where
@@ -126,6 +140,7 @@ does-make u a b e stands timed within-standings none next counts there home = re
 pub does-end : (delayed : Bool) (n : ℕ) (u : UnitState) (a b : LivingState) → b ≡ with_ended delayed n a → standing_at a.standings n ≡ Nothing → n < length a.standings → unit_at a.slots n ≡ Some u → u.life ≡ begun_at a.begun n → n < length a.slots → LivingDoes (act.Ends n u.life u.home delayed ∷ []) a b
 does-end delayed n u a b e stands within-standings lives last there = record {
   waits = (waits_told b.standings, (fun_ext (λ m. ap (λ (ss : List Standing). waits_told ss m) (ap (λ (w : LivingState). w.standings) e) ∙ told-ended delayed m), refl));
+  keeps = λ m s. ap (λ (w : LivingState). standing_at w.standings m) e ∙ kept-ended delayed m s.0;
   did = λ p s. record {
     leads = record {
       fit = (record { holds = ap life_of lives; now_is = last }, tt);
@@ -134,9 +149,14 @@ does-end delayed n u a b e stands within-standings lives last there = record {
           ap (λ ys. F ys a) (fun_ext (λ m. gone m)) ∙ sym (ap told_living e);
     };
     stays = subst (IsSideOf p) (sym (ap (λ (w : LivingState). w.side) e)) s;
+    others = λ d q ne. ap (λ (w : LivingState). slice_index (domain_in d w.side.grace).begins q) e;
   };
 }
   where
+    kept-ended : (delayed : Bool) (m : ℕ) → m ≢ n → standing_at (standings_after delayed n a.side.grace a.standings) m ≡ standing_at a.standings m
+    kept-ended true m ne = get_or-set_other a.standings n m (Waits (wait_now a.side.grace)) Nothing ne
+    kept-ended false m ne = refl
+
     told-ended : (delayed : Bool) (m : ℕ) → waits_told (standings_after delayed n a.side.grace a.standings) m ≡ on_unit n (wait_after delayed) (waits_told a.standings) m
     told-ended true m = told-set a.standings n m (Waits (wait_now a.side.grace)) within-standings
     told-ended false m =

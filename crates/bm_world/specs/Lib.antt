@@ -6,3 +6,4 @@ pub mod Standings
 pub mod Told
 pub mod ToldLiving
 pub mod WaitingState
+pub mod Spared

@@ -1,7 +1,9 @@
 -- What the world on one thread tells of what processors share, and what its side did.
-use Rattle.std.specs.Prelude.{◌≡◌, ℕ, ◌<◌, ◌≤◌, ◌&&◌, nat_lt, if◌then◌else◌, List, [], ◌++◌, length, map}
+use Rattle.std.specs.Prelude.{◌≡◌, ◌≢◌, slice_index, ℕ, ◌<◌, ◌≤◌, ◌&&◌, nat_lt, if◌then◌else◌, List, [], ◌++◌, length, map}
 use Rattle.bm_law_order.specs.Act.{Act}
-use Rattle.bm_grace.specs.PlainState.{DomainState}
+use Rattle.std.proofs.Common.{refl, ◌∙◌}
+use Rattle.bm_journal.specs.declared.ids.Domain.{Domain}
+use Rattle.bm_grace.specs.PlainState.{DomainState, domain_in}
 use Rattle.bm_post.specs.PostState.{PostState, inbox}
 use Rattle.bm_post.specs.Rights.{numbers}
 use Rattle.bm_law_order.specs.Lives.{Lives}
@@ -46,21 +48,26 @@ pub record IsSideOf (p : ℕ) (world : SideState) : Type 0 where
   pub plain_words : length world.grace.plain.words ≡ 8
   pub tracing_words : length world.grace.tracing.words ≡ 8
 
+-- of other processors than p, each may begin as many periods as before
+abbrev pub OthersBegin : ℕ → SideState → SideState → Type 0
+OthersBegin p before now = (d : Domain) (q : ℕ) → q ≢ p → slice_index (domain_in d now.grace).begins q ≡ slice_index (domain_in d before.grace).begins q
+
 -- what is told goes from one to the other by these acts, and it stays the side of the same processor
 pub record SideDid (p : ℕ) (acts : List Act) (before now : SideState) : Type 0 where
   pub leads : (lives : Lives) → ActsLead p acts (told lives before) (told lives now)
   pub stays : IsSideOf p now
+  pub others : OthersBegin p before now
 
 pub record SideDoes (acts : List Act) (before now : SideState) : Type 0 where
   pub did : (p : ℕ) → IsSideOf p before → SideDid p acts before now
 
 pub does-same : (a : SideState) → SideDoes [] a a
-does-same a = record { did = λ p s. record { leads = λ lives. acts-same p (told lives a); stays = s } }
+does-same a = record { did = λ p s. record { leads = λ lives. acts-same p (told lives a); stays = s; others = λ d q ne. refl } }
 
 pub does-join : (es fs : List Act) (a b c : SideState) → SideDoes es a b → SideDoes fs b c → SideDoes (es ++ fs) a c
 does-join es fs a b c x y = record {
   did = λ p s.
       let u = x.did p s in
       let v = y.did p u.stays in
-      record { leads = λ lives. acts-join p es fs (told lives a) (told lives b) (told lives c) (u.leads lives) (v.leads lives); stays = v.stays };
+      record { leads = λ lives. acts-join p es fs (told lives a) (told lives b) (told lives c) (u.leads lives) (v.leads lives); stays = v.stays; others = λ d q ne. v.others d q ne ∙ u.others d q ne };
 }

@@ -1,5 +1,6 @@
 -- What the world with the units that live in it tells of what processors share, and what its side did.
-use Rattle.std.specs.Prelude.{ℕ, false, Option, None, Some, List, [], ◌++◌}
+use Rattle.std.proofs.Common.{refl, ◌∙◌}
+use Rattle.std.specs.Prelude.{◌≡◌, ℕ, false, Option, None, Some, List, [], ◌++◌}
 use Rattle.bm_law_order.specs.Act.{Act}
 use Rattle.bm_page.specs.UnitState.{UnitState}
 use Rattle.bm_law_order.specs.Acts.{ActsLead}
@@ -11,8 +12,9 @@ use Rattle.bm_law_order.proofs.WaitsJoin.{go-join, go-same}
 use Rattle.bm_grace.specs.declared.grace.Knows.{Ghosts as Knows}
 use Rattle.bm_world.specs.LivingState.{LivingAtRest, LivingState, begun_at, known_living, rights_living}
 use Rattle.bm_world.specs.Slots.{unit_at}
-use Rattle.bm_world.specs.Standings.{waits_told}
-use Rattle.bm_world.specs.Told.{IsSideOf, told}
+use Rattle.bm_world.specs.Spared.{AllSpare, spare-front, spare-rest}
+use Rattle.bm_world.specs.Standings.{standing_at, waits_told}
+use Rattle.bm_world.specs.Told.{IsSideOf, OthersBegin, told}
 
 -- the life that a unit has: so far no more than one reference is there
 abbrev pub life_of : Option UnitState → Option Life
@@ -29,22 +31,25 @@ told_living world = told (lives_told world) world.side
 pub record LivingDid (p : ℕ) (acts : List Act) (before now : LivingState) : Type 0 where
   pub leads : ActsLead p acts (told_living before) (told_living now)
   pub stays : IsSideOf p now.side
+  pub others : OthersBegin p before.side now.side
 
 -- by these acts units wait for what they do, and from the side of each processor they lead there
 pub record LivingDoes (acts : List Act) (before now : LivingState) : Type 0 where
   pub waits : WaitLeads acts (waits_told before.standings) (waits_told now.standings)
+  pub keeps : (n : ℕ) → AllSpare n acts → standing_at now.standings n ≡ standing_at before.standings n
   pub did : (p : ℕ) → IsSideOf p before.side → LivingDid p acts before now
 
 pub living-same : (a : LivingState) → LivingDoes [] a a
-living-same a = record { waits = go-same (waits_told a.standings); did = λ p s. record { leads = acts-same p (told_living a); stays = s } }
+living-same a = record { waits = go-same (waits_told a.standings); keeps = λ n s. refl; did = λ p s. record { leads = acts-same p (told_living a); stays = s; others = λ d q ne. refl } }
 
 pub living-join : (es fs : List Act) (a b c : LivingState) → LivingDoes es a b → LivingDoes fs b c → LivingDoes (es ++ fs) a c
 living-join es fs a b c x y = record {
   waits = go-join es fs (waits_told a.standings) (waits_told b.standings) (waits_told c.standings) x.waits y.waits;
+  keeps = λ n s. y.keeps n (spare-rest n es fs s) ∙ x.keeps n (spare-front n es fs s);
   did = λ p s.
       let u = x.did p s in
       let v = y.did p u.stays in
-      record { leads = acts-join p es fs (told_living a) (told_living b) (told_living c) u.leads v.leads; stays = v.stays };
+      record { leads = acts-join p es fs (told_living a) (told_living b) (told_living c) u.leads v.leads; stays = v.stays; others = λ d q ne. v.others d q ne ∙ u.others d q ne };
 }
 
 -- all that this world tells
