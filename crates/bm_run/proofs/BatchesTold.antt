@@ -1,5 +1,6 @@
 -- The log of a run waits in batches: the lines of its drops stand together, a delayed free puts its unit where it waits, stamps are taken
--- by ordinary code, what waits goes away as a batch, and nothing is given after a sweep.
+-- by ordinary code, what waits goes away as a batch, and nothing is given after a sweep. What needs no whole log is said of a stretch of
+-- any processor's, or of any order.
 use Rattle.std.specs.Prelude.{◌≡◌, ◌≢◌, ◌<◌, ◌++◌, ℕ, zero, suc, Bool, true, false, if◌then◌else◌, nat_lt, List, [], ◌∷◌, Option, Some, None}
 use Rattle.std.proofs.Common.{◌∙◌, ap, append-nil, arith, eq-eqb, inl, inr, refl, subst, sym}
 use Rattle.std.proofs.lemmas.Bool.Decides.{eqb_tells}
@@ -11,7 +12,7 @@ use Rattle.bm_lang.specs.declared.scenario.Parts.{Parts}
 use Rattle.bm_lang.specs.declared.scenario.TypeDeclaration.{TypeDeclaration}
 use Rattle.bm_page.specs.declared.units.Seal.{Seal}
 use Rattle.bm_law.specs.Alone.{AllAt}
-use Rattle.bm_law.specs.Lists.{Log}
+use Rattle.bm_law.specs.Lists.{Log, after}
 use Rattle.bm_law.specs.Phrases.{DelayPhrase, FreePhrase, given, overtaken, overtaken_delayed, raise_below, raise_unless}
 use Rattle.bm_law.specs.Spans.{own_entries}
 use Rattle.bm_law.specs.State.{State, opening}
@@ -33,12 +34,12 @@ use Rattle.bm_law_scenario.proofs.RunsAll.{Closed}
 use Rattle.bm_law_order.specs.Act.{Act}
 use Rattle.bm_law_order.specs.Chunk.{Chunk, acts_of, entries_of, seal_told}
 use Rattle.bm_law_order.specs.Chunk as chunk
-use Rattle.bm_law_order.specs.Orders.{AllFit, Order, by, part_of}
+use Rattle.bm_law_order.specs.Orders.{AllFit, Order, by, over, part_of}
 use Rattle.bm_law_order.specs.Quiet.{is_quiet}
 use Rattle.bm_law_order.specs.Seals.{GivesNo, GivesNone, IsSealed, Wait, WaitLeads, Waiting, nobody_waits, waiting_after, waiting_over}
 use Rattle.bm_law_order.specs.Story.{AllJudged, Story, at_level, deeds, lines, lines_of}
 use Rattle.bm_law_order.specs.Tie.{Tied}
-use Rattle.bm_law_order.proofs.Along.{by-append, fit-append}
+use Rattle.bm_law_order.proofs.Along.{by-append, fit-append, over-append}
 use Rattle.bm_law_order.proofs.Waited.{story-goes}
 use Rattle.bm_law_places.proofs.Apart.{others-part}
 use Rattle.bm_law_seals.specs.Answered.{AreAnswered, ArePut, IsAnswered, IsPut, PutsDelayed}
@@ -48,9 +49,12 @@ use Rattle.bm_world.specs.Standings.{waits_told}
 use Rattle.bm_world.specs.ToldLiving.{LivingDoes, knows_living}
 use Rattle.bm_exec_levels.specs.AtPolls.{polled}
 use Rattle.bm_run.specs.Opened.{outset}
+use Rattle.bm_run.specs.SoFar.{SealedSoFar}
+use Rattle.bm_run.proofs.AddedParts.{own-log, part-added}
 use Rattle.bm_run.proofs.Closes.{IsLate}
+use Rattle.bm_run.proofs.Laid.{added-lines}
 use Rattle.bm_run.proofs.LogLaw.{Told}
-use Rattle.bm_run.proofs.SealsTold.{LowSend, goes-low, level-zero, lists-waiting, releases-fit, tied-sealed, tied-waits, waits-apart}
+use Rattle.bm_run.proofs.SealsTold.{LowSend, goes-low, level-zero, lists-waiting, outset-sealed, releases-fit, stamped-so, tied-sealed, tied-waits}
 
 -- ---- drops
 
@@ -80,9 +84,24 @@ append-log : (a b c : Log) → (a ++ b) ++ c ≡ a ++ (b ++ c)
 append-log [] b c = refl
 append-log (e ∷ a) b c = ap (λ z. e ∷ z) (append-log a b c)
 
-story-answered : (ts : Story) → AreAnswered (lines ts)
-story-answered [] = tt
-story-answered (t ∷ ts) = chunk-answered t.level t.chunk (lines ts) (story-answered ts)
+-- No drop of a stretch is left without its answers, whatever comes after it.
+abbrev pub AnswersAll : Log → Type 0
+AnswersAll log = (rest : Log) → AreAnswered rest → AreAnswered (log ++ rest)
+
+story-answers : (ts : Story) → AnswersAll (lines ts)
+story-answers [] rest h = h
+story-answers (t ∷ ts) rest h = subst AreAnswered (sym (append-log (lines_of t) (lines ts) rest)) (chunk-answered t.level t.chunk (lines ts ++ rest) (story-answers ts rest h))
+
+pub answers-append : (one two : Log) → AnswersAll one → AnswersAll two → AnswersAll (one ++ two)
+answers-append one two h k rest r = subst AreAnswered (sym (append-log one two rest)) (h (two ++ rest) (k rest r))
+
+-- so it is of what was added to a log that is tied since a time
+pub tied-answers-since : (judge : ℕ → Log → Chunk → Type 0) (since added log : Log) (start now : LivingState) → log ≡ since ++ added → Tied judge LivingDoes since start 0 [] [] log now → AnswersAll added
+tied-answers-since judge since added log start now log_is t = subst AnswersAll (sym (added-lines judge since added log start now log_is t)) (story-answers t.story)
+
+-- a log that is made of such stretches
+pub all-answered : (log : Log) → AnswersAll log → AreAnswered log
+all-answered log h = subst AreAnswered (append-nil log) (h [] tt)
 
 -- ---- delayed frees
 
@@ -222,11 +241,11 @@ late-undelayed _ h = tt
 -- ---- stamps and sends
 
 -- stamps are of ordinary code
-abbrev LowStamp : Entry → Type 0
+abbrev pub LowStamp : Entry → Type 0
 LowStamp (entry.Stamp c d x) = ⊥
 LowStamp _ = Unit {0}
 
-handler-low : (e : Entry) → IsOfHandler e → LowStamp e
+pub handler-low : (e : Entry) → IsOfHandler e → LowStamp e
 handler-low (entry.Stamp c d x) h = absurd h
 handler-low _ h = tt
 
@@ -234,80 +253,98 @@ pub handler-sends : (e : Entry) → IsOfHandler e → LowSend e
 handler-sends (entry.Send c to us) h = absurd h
 handler-sends _ h = tt
 
-quiet-batches : (l : ℕ) (e : Entry) (m : Waiting) → is_quiet e ≡ true → BatchFits 0 l e m
-quiet-batches l (entry.Stamp c d x) m q = absurd (cc)
-quiet-batches l (entry.Send c to us) m q = absurd (cc)
-quiet-batches l _ m q = tt
+quiet-batches : (p l : ℕ) (e : Entry) (m : Waiting) → is_quiet e ≡ true → BatchFits p l e m
+quiet-batches p l (entry.Stamp c d x) m q = absurd (cc)
+quiet-batches p l (entry.Send c to us) m q = absurd (cc)
+quiet-batches p l _ m q = tt
 
-abbrev Batches : Log → Waiting → Type 0
-Batches log m = AllFit waiting_after BatchFits (by 0 log) m
+abbrev Batches : ℕ → Log → Waiting → Type 0
+Batches p log m = AllFit waiting_after BatchFits (by p log) m
 
-made-batches : (l u life : ℕ) (seal : Option Seal) (m : Waiting) → Batches (at_level l (entries_of (chunk.Making u life seal))) m
-made-batches l u life None m = (tt, tt)
-made-batches l u life (Some x) m = (tt, tt)
-
--- a batch goes away as it has to
-chunk-batches : (pages l : ℕ) (log : Log) (c : Chunk) (now : ℕ → Wait) → WaitLeads (acts_of c) (waiting_over 0 log nobody_waits).waits now → polled knows_living false [] (outset pages) l log c → AllAbove LowSend (at_level l (entries_of c)) → AllAbove LowStamp (at_level l (entries_of c)) → Batches (at_level l (entries_of c)) (waiting_over 0 log nobody_waits)
-chunk-batches pages l log (chunk.Releasing c to us stamp n) now w j send low = (
-  inl (record {
-    hand = ap (λ (s : State ℕ). (s.sides l).hand) (lists-waiting log nobody_waits) ∙ j.hand;
-    stamp = stamp;
-    stamped = ap (λ (s : State ℕ). (s.rows c).deferred.plain) (lists-waiting log nobody_waits) ∙ j.stamped;
-    taken = j.taken;
-    seen = n;
-    passed = goes-low l c n stamp log (level-zero l send.0) j;
-  }),
-  tt,
-)
-chunk-batches pages l log (chunk.Draining c to us) now w j send low = (inr w.1.0.0, tt)
-chunk-batches pages l log (chunk.Stamping c d x) now w j send low = (level-zero l low.0, tt)
-chunk-batches pages l log (chunk.Sending c to us) now w j send low = absurd j
-chunk-batches pages l log (chunk.Quiet e q) now w j send low = (quiet-batches l e (waiting_over 0 log nobody_waits) q, tt)
-chunk-batches pages l log (chunk.Looking d ws) now w j send low = tt
-chunk-batches pages l log (chunk.Asking d x n) now w j send low = tt
-chunk-batches pages l log (chunk.Missing d even n) now w j send low = tt
-chunk-batches pages l log (chunk.FindingNone c) now w j send low = tt
-chunk-batches pages l log (chunk.WholePeriod n ws p) now w j send low = (tt, (tt, tt))
-chunk-batches pages l log (chunk.Making u life seal) now w j send low = made-batches l u life seal (waiting_over 0 log nobody_waits)
-chunk-batches pages l log (chunk.Ending u life home true) now w j send low = (tt, (tt, (tt, tt)))
-chunk-batches pages l log (chunk.Ending u life home false) now w j send low = (tt, (tt, (tt, tt)))
-chunk-batches pages l log _ now w j send low = (tt, tt)
+made-batches : (p l u life : ℕ) (seal : Option Seal) (m : Waiting) → Batches p (at_level l (entries_of (chunk.Making u life seal))) m
+made-batches p l u life None m = (tt, tt)
+made-batches p l u life (Some x) m = (tt, tt)
 
 go-split : (es fs : List Act) (a c : ℕ → Wait) → WaitLeads (es ++ fs) a c → (b : ℕ → Wait) × (WaitLeads es a b × WaitLeads fs b c)
 go-split [] fs a c h = (a, (refl, h))
 go-split (e ∷ es) fs a c h = let r = go-split es fs h.0 c h.1.1 in (r.0, ((h.0, (h.1.0, r.1.0)), r.1.1))
 
--- so they do along a story
-story-batches : (pages : ℕ) (log : Log) (ts : Story) (now : ℕ → Wait) → WaitLeads (deeds ts) (waiting_over 0 log nobody_waits).waits now → AllJudged (polled knows_living false [] (outset pages)) log ts → AllAbove LowSend (lines ts) → AllAbove LowStamp (lines ts) → Batches (lines ts) (waiting_over 0 log nobody_waits)
-story-batches pages log [] now w j send low = tt
-story-batches pages log (t ∷ ts) now w j send low =
-    let m = waiting_over 0 log nobody_waits in
-    let first = lines_of t in
-    let q = go-split (acts_of t.chunk) (deeds ts) m.waits now w in
-    let sends = above-front LowSend first (lines ts) send in
-    let here = chunk-batches pages t.level log t.chunk q.0 q.1.0 j.0 sends (above-front LowStamp first (lines ts) low) in
-    let one = story-goes 0 (t ∷ []) m q.0 (subst (λ z. WaitLeads z m.waits q.0) (sym (append-nil (acts_of t.chunk))) q.1.0) (releases-fit pages log (t ∷ []) (j.0, tt) (subst (AllAbove LowSend) (sym (append-nil first)) sends)) in
-    let apart : waiting_over 0 (log ++ first) nobody_waits ≡ waiting_over 0 first m = waits-apart log first nobody_waits in
-    let waits : (waiting_over 0 (log ++ first) nobody_waits).waits ≡ q.0 = ap (λ (z : Waiting). z.waits) apart ∙ (ap (λ z. (waiting_over 0 z m).waits) (sym (append-nil first)) ∙ one.now_is) in
-    let rest = story-batches pages (log ++ first) ts now (subst (λ z. WaitLeads (deeds ts) z now) (sym waits) q.1.1) j.1 (above-back LowSend first (lines ts) send) (above-back LowStamp first (lines ts) low) in
-    subst (λ o. AllFit waiting_after BatchFits o m) (sym (by-append 0 first (lines ts)))
-    (fit-append waiting_after BatchFits (by 0 first) (by 0 (lines ts)) m here (subst (Batches (lines ts)) apart rest))
+-- what an order leaves
+abbrev left_by : Order → Waiting
+left_by o = over waiting_after o nobody_waits
 
-late-batch : (e : Entry) (m : Waiting) → IsLate e → BatchFits 0 0 e m
-late-batch (entry.Stamp c d x) m h = refl
-late-batch (entry.Send c to us) m h = absurd h
-late-batch _ m h = tt
+module _ (p : ℕ) (since : Log) (start : LivingState) (own : start.side.grace.processor ≡ p) where
+  -- a batch goes away as it has to
+  chunk-batches : (l : ℕ) (o : Order) (c : Chunk) (now : ℕ → Wait) → WaitLeads (acts_of c) (left_by o).waits now → polled knows_living false since start l (part_of p o) c → AllAbove LowSend (at_level l (entries_of c)) → AllAbove LowStamp (at_level l (entries_of c)) → Batches p (at_level l (entries_of c)) (left_by o)
+  chunk-batches l o (chunk.Releasing c to us stamp n) now w j send low = (
+    inl (record {
+      hand =
+          ap (λ (s : State ℕ). (s.sides l).hand) (lists-waiting p o nobody_waits)
+          ∙ subst (λ q. ((after (opening q) (part_of p o)).sides l).hand ≡ []) own j.hand;
+      stamp = stamp;
+      stamped = stamped-so p since start own l c n stamp o j;
+      taken = j.taken;
+      seen = n;
+      passed = goes-low p since start own l c n stamp o (level-zero l send.0) j;
+    }),
+    tt,
+  )
+  chunk-batches l o (chunk.Draining c to us) now w j send low = (inr w.1.0.0, tt)
+  chunk-batches l o (chunk.Stamping c d x) now w j send low = (level-zero l low.0, tt)
+  chunk-batches l o (chunk.Sending c to us) now w j send low = absurd j
+  chunk-batches l o (chunk.Quiet e q) now w j send low = (quiet-batches p l e (left_by o) q, tt)
+  chunk-batches l o (chunk.Looking d ws) now w j send low = tt
+  chunk-batches l o (chunk.Asking d x n) now w j send low = tt
+  chunk-batches l o (chunk.Missing d even n) now w j send low = tt
+  chunk-batches l o (chunk.FindingNone c) now w j send low = tt
+  chunk-batches l o (chunk.WholePeriod n ws q) now w j send low = (tt, (tt, tt))
+  chunk-batches l o (chunk.Making u life seal) now w j send low = made-batches p l u life seal (left_by o)
+  chunk-batches l o (chunk.Ending u life home true) now w j send low = (tt, (tt, (tt, tt)))
+  chunk-batches l o (chunk.Ending u life home false) now w j send low = (tt, (tt, (tt, tt)))
+  chunk-batches l o _ now w j send low = (tt, tt)
+
+  -- so they do along a story
+  story-batches : (o : Order) (ts : Story) (now : ℕ → Wait) → WaitLeads (deeds ts) (left_by o).waits now → AllJudged (polled knows_living false since start) (part_of p o) ts → AllAbove LowSend (lines ts) → AllAbove LowStamp (lines ts) → Batches p (lines ts) (left_by o)
+  story-batches o [] now w j send low = tt
+  story-batches o (t ∷ ts) now w j send low =
+      let m = left_by o in
+      let first = lines_of t in
+      let next = o ++ by p first in
+      let q = go-split (acts_of t.chunk) (deeds ts) m.waits now w in
+      let sends = above-front LowSend first (lines ts) send in
+      let here = chunk-batches t.level o t.chunk q.0 q.1.0 j.0 sends (above-front LowStamp first (lines ts) low) in
+      let one = story-goes p (t ∷ []) m q.0 (subst (λ z. WaitLeads z m.waits q.0) (sym (append-nil (acts_of t.chunk))) q.1.0) (releases-fit p since start own o (t ∷ []) (j.0, tt) (subst (AllAbove LowSend) (sym (append-nil first)) sends)) in
+      let apart : left_by next ≡ waiting_over p first m = over-append waiting_after BatchFits o (by p first) nobody_waits in
+      let waits : (left_by next).waits ≡ q.0 = ap (λ (z : Waiting). z.waits) apart ∙ (ap (λ z. (waiting_over p z m).waits) (sym (append-nil first)) ∙ one.now_is) in
+      let judged = subst (λ z. AllJudged (polled knows_living false since start) z ts) (sym (part-added p o first)) j.1 in
+      let rest = story-batches next ts now (subst (λ z. WaitLeads (deeds ts) z now) (sym waits) q.1.1) judged (above-back LowSend first (lines ts) send) (above-back LowStamp first (lines ts) low) in
+      subst (λ z. AllFit waiting_after BatchFits z m) (sym (by-append p first (lines ts)))
+      (fit-append waiting_after BatchFits (by p first) (by p (lines ts)) m here (subst (Batches p (lines ts)) apart rest))
+
+-- Where batches went away as they have to so far, they do so with the entries that were added to a log that is tied since a time.
+pub tied-batches-since : (p : ℕ) (o : Order) (since added log : Log) (start now : LivingState) → start.side.grace.processor ≡ p → part_of p o ≡ since → log ≡ since ++ added →
+    Tied (polled knows_living false since start) LivingDoes since start 0 [] [] log now → AllAbove LowSend added → AllAbove LowStamp added → SealedSoFar o start → AllFit waiting_after BatchFits o nobody_waits → AllFit waiting_after BatchFits (o ++ by p added) nobody_waits
+tied-batches-since p o since added log start now own part log_is t send low h b =
+    let said = added-lines (polled knows_living false since start) since added log start now log_is t in
+    let judged = subst (λ z. AllJudged (polled knows_living false since start) z t.story) (sym part) t.judged in
+    let here = story-batches p since start own o t.story (waits_told now.standings) (tied-waits since log start now o h.waits t) judged (subst (AllAbove LowSend) said send) (subst (AllAbove LowStamp) said low) in
+    fit-append waiting_after BatchFits o (by p added) nobody_waits b (subst (λ (z : Log). Batches p z (left_by o)) (sym said) here)
+
+late-batch : (p : ℕ) (e : Entry) (m : Waiting) → IsLate e → BatchFits p 0 e m
+late-batch p (entry.Stamp c d x) m h = refl
+late-batch p (entry.Send c to us) m h = absurd h
+late-batch p _ m h = tt
 
 -- nothing is sent in the closing
-late-batches : (log : Log) (m : Waiting) → AllAt 0 log → AllOf IsLate (own_entries 0 log) → Batches log m
-late-batches [] m at late = tt
-late-batches (e ∷ es) m at late =
+pub late-batches : (p : ℕ) (log : Log) (m : Waiting) → AllAt 0 log → AllOf IsLate (own_entries 0 log) → AllFit waiting_after BatchFits (by p log) m
+late-batches p [] m at late = tt
+late-batches p (e ∷ es) m at late =
     let own : IsLate e.1 × AllOf IsLate (own_entries 0 es) = rw (eq-eqb e.0 0 at.0) at late in
-    (subst (λ l. BatchFits 0 l e.1 m) (sym at.0) (late-batch e.1 m own.0), late-batches es (waiting_after 0 e.0 e.1 m) at.1 own.1)
+    (subst (λ l. BatchFits p l e.1 m) (sym at.0) (late-batch p e.1 m own.0), late-batches p es (waiting_after p e.0 e.1 m) at.1 own.1)
 
 -- ---- sweeps
 
-abbrev IsUnswept : Entry → Type 0
+abbrev pub IsUnswept : Entry → Type 0
 IsUnswept (entry.Sweep c us) = ⊥
 IsUnswept _ = Unit {0}
 
@@ -342,7 +379,7 @@ unswept s =
       work = λ c m t part h. of-map (IsOfWork c) IsUnswept (work-unswept c) (own_entries 0 part) (work-writes 0 c t part h);
     }
 
-abbrev AllUnswept : Log → Type 0
+abbrev pub AllUnswept : Log → Type 0
 AllUnswept [] = Unit {0}
 AllUnswept (e ∷ es) = IsUnswept e.1 × AllUnswept es
 
@@ -357,14 +394,27 @@ all-unswept (e ∷ es) own above = elim (eqb_tells e.0 0) [
   | inr y ↦ (above.0 (zero-or e.0 y.1), all-unswept es (rw y.0 at own) above.1)
 ]
 
--- nothing is given in the closing
-abbrev GivesAllNo : Log → Type 0
-GivesAllNo [] = Unit {0}
-GivesAllNo (e ∷ es) = GivesNo e.1 × GivesAllNo es
+-- the same of an order
+abbrev pub OrderUnswept : Order → Type 0
+OrderUnswept [] = Unit {0}
+OrderUnswept (e ∷ o) = IsUnswept e.entry × OrderUnswept o
 
-no-more : (p : ℕ) (log : Log) → GivesAllNo log → GivesNoMore (by p log)
+pub unswept-by : (p : ℕ) (log : Log) → AllUnswept log → OrderUnswept (by p log)
+unswept-by p [] h = tt
+unswept-by p (e ∷ log) h = (h.0, unswept-by p log h.1)
+
+pub unswept-append : (a b : Order) → OrderUnswept a → OrderUnswept b → OrderUnswept (a ++ b)
+unswept-append [] b h k = k
+unswept-append (e ∷ a) b h k = (h.0, unswept-append a b h.1 k)
+
+-- nothing is given in the closing
+pub no-more : (p : ℕ) (log : Log) → GivesNone log → GivesNoMore (by p log)
 no-more p [] h = tt
 no-more p (e ∷ es) h = (h.0, no-more p es h.1)
+
+pub no-more-append : (a b : Order) → GivesNoMore a → GivesNoMore b → GivesNoMore (a ++ b)
+no-more-append [] b h k = k
+no-more-append (e ∷ a) b h k = (h.0, no-more-append a b h.1 k)
 
 ends-giving : (e : Entry) (o : Order) → GivesNoMore o → EndsGiving e o
 ends-giving (entry.Sweep c us) o h = h
@@ -374,19 +424,16 @@ unswept-giving : (e : Entry) (o : Order) → IsUnswept e → EndsGiving e o
 unswept-giving (entry.Sweep c us) o h = absurd h
 unswept-giving _ o h = tt
 
-closing-last : (p : ℕ) (log : Log) → GivesAllNo log → SweepsLast (by p log)
-closing-last p [] h = tt
-closing-last p (e ∷ es) h = (ends-giving e.1 (by p es) (no-more p es h.1), closing-last p es h.1)
+closing-last : (o : Order) → GivesNoMore o → SweepsLast o
+closing-last [] h = tt
+closing-last (e ∷ o) h = (ends-giving e.entry o h.1, closing-last o h.1)
 
-sweeps-last : (p : ℕ) (front closing : Log) → AllUnswept front → GivesAllNo closing → SweepsLast (by p (front ++ closing))
-sweeps-last p [] closing u g = closing-last p closing g
-sweeps-last p (e ∷ front) closing u g = (unswept-giving e.1 (by p (front ++ closing)) u.0, sweeps-last p front closing u.1 g)
+-- where entries that sweep nothing come before ones that give nothing
+pub sweeps-last : (front closing : Order) → OrderUnswept front → GivesNoMore closing → SweepsLast (front ++ closing)
+sweeps-last [] closing u g = closing-last closing g
+sweeps-last (e ∷ front) closing u g = (unswept-giving e.entry (front ++ closing) u.0, sweeps-last front closing u.1 g)
 
 -- ---- the log of a run
-
-own-log : (p : ℕ) (log : Log) → part_of p (by p log) ≡ log
-own-log p [] = refl
-own-log p (e ∷ log) = rw (eq-eqb p p refl) (ap (λ (x : Log). e ∷ x) (own-log p log))
 
 -- what holds of the one log, and of none, holds of each part
 each-part : (P : Log → Type 0) (log : Log) → P log → P [] → (p : ℕ) → P (part_of p (by 0 log))
@@ -395,22 +442,14 @@ each-part P log h none p = elim (eqb_tells p 0) [
   | inr y ↦ subst P (sym (others-part 0 p log y.1)) none
 ]
 
-late-gives : (log : Log) → AllAt 0 log → AllOf IsLate (own_entries 0 log) → GivesAllNo log
-late-gives [] at late = tt
-late-gives (e ∷ es) at late = (let own : IsLate e.1 × AllOf IsLate (own_entries 0 es) = rw (eq-eqb e.0 0 at.0) at late in (late-no e.1 own.0, late-gives es at.1 own.1))
+late-none : (log : Log) → AllAt 0 log → AllOf IsLate (own_entries 0 log) → GivesNone log
+late-none [] at late = tt
+late-none (e ∷ es) at late = (let own : IsLate e.1 × AllOf IsLate (own_entries 0 es) = rw (eq-eqb e.0 0 at.0) at late in (late-no e.1 own.0, late-none es at.1 own.1))
   where
     late-no : (e : Entry) → IsLate e → GivesNo e
     late-no (entry.Given u life) h = absurd h
     late-no (entry.GivenAfter u life x n) h = absurd h
     late-no _ h = tt
-
--- nothing is given in it
-gives-none : (log : Log) → GivesAllNo log → GivesNone log
-gives-none [] h = tt
-gives-none (e ∷ es) h = (h.0, gives-none es h.1)
-
-late-none : (log : Log) → AllAt 0 log → AllOf IsLate (own_entries 0 log) → GivesNone log
-late-none log at late = gives-none log (late-gives log at late)
 
 early-is : (s : Parts) (log : Log) (t : Told s log) → log ≡ ((t.fills ++ t.scripts) ++ t.ended) ++ t.late
 early-is s log t =
@@ -441,8 +480,7 @@ told-batched s log world t tied =
     let over = above-front IsUnswept early t.late (subst (AllAbove IsUnswept) parts (told-above s log t IsUnswept handler-unswept)) in
     let is_front : Front s 0 (opening 0) front = record { one = t.fills; two = t.scripts; part_is = refl; is_first = t.are_fills; is_second = t.are_scripts } in
     let own : AllOf IsUnswept (own_entries 0 early) = subst (AllOf IsUnswept) (sym (own-append 0 front t.ended)) (of-append IsUnswept (own_entries 0 front) (own_entries 0 t.ended) (front-has s (AllOf IsUnswept) (unswept s) 0 (opening 0) front is_front) (subst (AllOf IsUnswept) (sym t.ended_own) (tt, (tt, tt)))) in
-    let log_is : log ≡ lines tied.story = tied.log_is ∙ append-nil (lines tied.story) in
-    let early_is : early ≡ lines t.tied.story = t.tied.log_is ∙ append-nil (lines t.tied.story) in
+    let answers = all-answered log (tied-answers-since (polled knows_living true [] (outset s.pages)) [] log log (outset s.pages) world refl tied) in
     let inner : ArePutWithin (own_entries 0 early) = subst ArePutWithin (sym (own-append 0 front t.ended)) (within-append (own_entries 0 front) (own_entries 0 t.ended) (front-has s ArePutWithin (written-within s) 0 (opening 0) front is_front) (subst ArePutWithin (sym t.ended_own) (tt, (tt, tt)))) in
     let outer : ArePutWithin (own_entries 0 t.late) = undelayed-within (own_entries 0 t.late) (of-map IsLate IsUndelayed late-undelayed (own_entries 0 t.late) t.late_own) in
     let ordinary : ArePutWithin (own_entries 0 log) = subst (λ z. ArePutWithin (own_entries 0 z)) (sym parts) (subst ArePutWithin (sym (own-append 0 early t.late)) (within-append (own_entries 0 early) (own_entries 0 t.late) inner outer)) in
@@ -450,13 +488,16 @@ told-batched s log world t tied =
       | inl y ↦ subst (λ k. ArePutWithin (own_entries k log)) (sym y.1) ordinary
       | inr y ↦ handlers-have s ArePutWithin (framed-within s) (own_entries l log) (levels s 0 log stands done l (zero-or l y.1))
     ] in
-    let first = story-batches s.pages [] t.tied.story (waits_told t.world.standings) (tied-waits s.pages early t.world t.tied) t.tied.judged (subst (AllAbove LowSend) early_is sends) (subst (AllAbove LowStamp) early_is low) in
-    let batches : Batches (early ++ t.late) nobody_waits =
+    let first = tied-batches-since 0 [] [] early early (outset s.pages) t.world refl refl refl t.tied sends low (outset-sealed s.pages) tt in
+    let batches : AllFit waiting_after BatchFits (by 0 (early ++ t.late)) nobody_waits =
     subst (λ o. AllFit waiting_after BatchFits o nobody_waits) (sym (by-append 0 early t.late))
-    (fit-append waiting_after BatchFits (by 0 early) (by 0 t.late) nobody_waits (subst (λ z. Batches z nobody_waits) (sym early_is) first) (late-batches t.late (waiting_over 0 early nobody_waits) t.late_at t.late_own)) in
+    (fit-append waiting_after BatchFits (by 0 early) (by 0 t.late) nobody_waits first (late-batches 0 t.late (left_by (by 0 early)) t.late_at t.late_own)) in
+    let swept : SweepsLast (by 0 (early ++ t.late)) =
+    subst SweepsLast (sym (by-append 0 early t.late))
+    (sweeps-last (by 0 early) (by 0 t.late) (unswept-by 0 early (all-unswept early own over)) (no-more 0 t.late (late-none t.late t.late_at t.late_own))) in
     record {
-      answered = each-part AreAnswered log (subst AreAnswered (sym log_is) (story-answered tied.story)) tt;
+      answered = each-part AreAnswered log answers tt;
       put = λ p l. each-part (λ part. ArePut (own_entries l part)) log (puts-put (own_entries l log) (level l)) tt p;
-      batches = subst (λ z. Batches z nobody_waits) (sym parts) batches;
-      swept = subst (λ z. SweepsLast (by 0 z)) (sym parts) (sweeps-last 0 early t.late (all-unswept early own over) (late-gives t.late t.late_at t.late_own));
+      batches = subst (λ z. AllFit waiting_after BatchFits (by 0 z) nobody_waits) (sym parts) batches;
+      swept = subst (λ z. SweepsLast (by 0 z)) (sym parts) swept;
     }

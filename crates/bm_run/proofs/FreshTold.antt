@@ -107,6 +107,7 @@ fill-does : (cs : List ℕ) (pages : ℕ) (pool : Stock) (slots : List (Option U
     LivingDoes (deeds (fill_story cs (fresh_stock pages))) (outset pages) (living_side pool slots begun standings)
 fill-does cs pages pool slots begun standings q e z n = record {
   waits = subst (λ w. WaitLeads (deeds (fill_story cs (fresh_stock pages))) (waits_told []) w) (fun_ext (λ m. ap told_standing (no-standing m ∙ sym (n m)))) (fill-waits cs (fresh_stock pages) (waits_told []));
+  keeps = λ m s. n m ∙ sym (no-standing m);
   did = λ p s.
       let first = fresh-told pages (fresh_stock pages) [] [] [] no-slots no-lives in
       let start : Shared = record (fresh 1 pages) { pool = bare_pool (fresh_stock pages) } in
@@ -115,6 +116,7 @@ fill-does cs pages pool slots begun standings q e z n = record {
       record {
         leads = subst (λ x. ActsLead p (deeds (fill_story cs (fresh_stock pages))) x (told_living (living_side pool slots begun standings))) (sym first) (subst (ActsLead p (deeds (fill_story cs (fresh_stock pages))) start) (sym now) lead);
         stays = record { post_is = s.post_is; grace_is = s.grace_is; agree = s.agree; turn = s.turn; most = s.most; boxes = s.boxes; plain_words = s.plain_words; tracing_words = s.tracing_words };
+        others = λ d q ne. refl;
       };
 }
 

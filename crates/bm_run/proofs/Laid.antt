@@ -1,18 +1,19 @@
 -- The log of a run is laid, and no period is in progress after it.
 use Rattle.std.specs.Prelude.{◌≢◌, ◌⊎◌, None, not}
 use Rattle.std.proofs.Common.{◌≡◌, arith, inl, ◌++◌, ◌∷◌, [], ℕ, zero, suc, Bool, true, false, List, refl, sym, ◌∙◌, ap, subst, append-nil, append_assoc, lit<, lit≤}
+use Rattle.std.proofs.lemmas.List.{append_cancel_left}
 use Rattle.bm_journal.specs.declared.ids.Domain.{Domain}
 use Rattle.bm_journal.specs.declared.ids.Domain.TheVariants.{Plain, Tracing}
 use Rattle.bm_law.specs.Lists.{Log}
 use Rattle.bm_law_order.specs.Acts.{ActsLead}
 use Rattle.bm_law_order.specs.ByDomain.{of}
-use Rattle.bm_law_order.specs.Orders.{IsLaid, Leads, Order, by}
+use Rattle.bm_law_order.specs.Orders.{IsLaid, Leads, Order, by, shared_over}
 use Rattle.bm_law_order.specs.Shared.{Shared, fresh}
-use Rattle.bm_law_order.specs.Story.{Steady, plainly}
+use Rattle.bm_law_order.specs.Story.{Steady, lines, plainly}
 use Rattle.bm_law_order.specs.Chunk.{Chunk}
-use Rattle.bm_law_order.specs.Tie.{Tied}
+use Rattle.bm_law_order.specs.Tie.{HasLed, Tied}
 use Rattle.bm_law_order.specs.Whole.{before_first, behind_first, closing_of, cut_behind, from_first, given_up, in_turns, is_ended, is_fill, is_finish_or_sweep, is_sweep, is_yield, joined, opening_of, periods_ended, run_of, scripts_of, swept, through_first, turns_of, whole, with_front}
-use Rattle.bm_law_order.proofs.Along.{by-append}
+use Rattle.bm_law_order.proofs.Along.{by-append, leads-join}
 use Rattle.bm_law_order.proofs.TiesLead.{tied-leads}
 use Rattle.bm_world.specs.LivingState.{LivingState}
 use Rattle.bm_world.specs.Told.{IsSideOf}
@@ -25,26 +26,51 @@ use Rattle.bm_run.specs.IdleAfter.{IsIdleAfter}
 pub outset-side : (pages : ℕ) → IsSideOf 0 (outset pages).side
 outset-side pages = record { post_is = refl; grace_is = refl; agree = refl; turn = lit< tt; most = lit≤ tt; boxes = refl; plain_words = refl; tracing_words = refl }
 
-fresh-steady : (pages : ℕ) → Steady (fresh 1 pages)
-fresh-steady pages = record { looked = looked; undropped = λ p l. refl; full = λ p c i u lt. absurd (omega (arith, lt)) }
+pub fresh-steady : (n pages : ℕ) → Steady (fresh n pages)
+fresh-steady n pages = record { looked = looked; undropped = λ p l. refl; full = λ p c i u lt. absurd (omega (arith, lt)) }
   where
-    looked : (d : Domain) → ((of d (fresh 1 pages).numbers).driver ≡ None) ⊎ ((of d (fresh 1 pages).looks).first ≢ [])
+    looked : (d : Domain) → ((of d (fresh n pages).numbers).driver ≡ None) ⊎ ((of d (fresh n pages).looks).first ≢ [])
     looked Plain = inl refl
     looked Tracing = inl refl
 
--- a log that is tied since the outset, however its chunks are judged, leads from there to what its world tells
+-- what a log that is tied since a time has added
+pub added-lines : (judge : ℕ → Log → Chunk → Type 0) (since added log : Log) (start now : LivingState) → log ≡ since ++ added → (t : Tied judge LivingDoes since start 0 [] [] log now) → added ≡ lines t.story
+added-lines judge since added log start now log_is t =
+    append_cancel_left since added (lines t.story) (sym log_is ∙ (t.log_is ∙ ap (λ (z : Log). since ++ z) (append-nil (lines t.story))))
+
+-- The log of a processor that is tied since a time, however its chunks are judged, has led from what the world told then, which was
+-- steady, to what it tells now.
+pub tied-led-since : (judge : ℕ → Log → Chunk → Type 0) (p l : ℕ) (since log : Log) (start now : LivingState) → IsSideOf p start.side → Steady (told_living start) → Tied judge LivingDoes since start l [] [] log now →
+    HasLed p since (told_living start) log (told_living now)
+tied-led-since judge p l since log start now side steady t =
+    let did = (t.done_is.did p side).leads in
+    let told : Tied judge (ActsLead p) since (told_living start) l [] [] log (told_living now) = record { story = t.story; judged = t.judged; log_is = t.log_is; done_is = did } in
+    tied-leads judge p l since log (told_living start) (told_living now) told steady
+
+-- no entries lead from the outset to a world that tells it
+pub fresh-leads : (n pages : ℕ) (world : LivingState) → told_living world ≡ fresh n pages → Leads [] (fresh n pages) (plainly (told_living world))
+fresh-leads n pages world e = record { fit = tt; now_is = ap plainly (sym e) }
+
+pub outset-steady : (pages : ℕ) → Steady (told_living (outset pages))
+outset-steady pages = subst Steady (sym (outset-told pages)) (fresh-steady 1 pages)
+
+pub outset-leads : (pages : ℕ) → Leads [] (fresh 1 pages) (plainly (told_living (outset pages)))
+outset-leads pages = fresh-leads 1 pages (outset pages) (outset-told pages)
+
+-- a log that is tied since the outset leads from there to what its world tells
 pub tied-led : (judge : ℕ → Log → Chunk → Type 0) (pages : ℕ) (log : Log) (world : LivingState) → Tied judge LivingDoes [] (outset pages) 0 [] [] log world → Leads (by 0 log) (fresh 1 pages) (plainly (told_living world))
 tied-led judge pages log world t =
-    let first = outset-told pages in
-    let did = (t.done_is.did 0 (outset-side pages)).leads in
-    let told : Tied judge (ActsLead 0) [] (told_living (outset pages)) 0 [] [] log (told_living world) = record { story = t.story; judged = t.judged; log_is = t.log_is; done_is = did } in
-    let r = tied-leads judge 0 0 [] log (told_living (outset pages)) (told_living world) told (subst Steady (sym first) (fresh-steady pages)) in
-    subst (λ z. Leads (by 0 z) (fresh 1 pages) (plainly (told_living world))) (sym r.log_is) (subst (λ (s : Shared). Leads (by 0 r.added) s (plainly (told_living world))) (ap plainly first) r.leads)
+    let start = told_living (outset pages) in
+    let r = tied-led-since judge 0 0 [] log (outset pages) world (outset-side pages) (outset-steady pages) t in
+    subst (λ z. Leads (by 0 z) (fresh 1 pages) (plainly (told_living world))) (sym r.log_is) (leads-join [] (by 0 r.added) (fresh 1 pages) (plainly start) (plainly (told_living world)) (outset-leads pages) r.leads)
 
--- and where nobody has a period in progress in that world, nobody has one after the log
+-- where nobody has a period in progress in the world to which an order leads, nobody has one after it
+pub order-idle : (n pages : ℕ) (o : Order) (world : LivingState) → Leads o (fresh n pages) (plainly (told_living world)) → IsIdle world → (d : Domain) → (of d (shared_over o (fresh n pages)).numbers).driver ≡ None
+order-idle n pages o world l idle Plain = ap (λ (s : Shared). s.numbers.plain.driver) l.now_is ∙ idle Plain
+order-idle n pages o world l idle Tracing = ap (λ (s : Shared). s.numbers.tracing.driver) l.now_is ∙ idle Tracing
+
 pub led-idle : (pages : ℕ) (log : Log) (world : LivingState) → Leads (by 0 log) (fresh 1 pages) (plainly (told_living world)) → IsIdle world → IsIdleAfter pages log
-led-idle pages log world l idle Plain = ap (λ (s : Shared). s.numbers.plain.driver) l.now_is ∙ idle Plain
-led-idle pages log world l idle Tracing = ap (λ (s : Shared). s.numbers.tracing.driver) l.now_is ∙ idle Tracing
+led-idle pages log world l idle = order-idle 1 pages (by 0 log) world l idle
 
 -- ---- the whole order of one log
 

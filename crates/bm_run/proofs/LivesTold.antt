@@ -2,6 +2,7 @@
 use Rattle.std.specs.Prelude.{eqb, if◌then◌else◌}
 use Rattle.std.proofs.Common.{◌≡◌, ◌+◌, ℕ, Bool, true, false, List, [], ◌∷◌, ◌++◌, map, Option, None, Some, refl, sym, ◌∙◌, ap, append-nil, subst, inl, inr}
 use Rattle.std.proofs.lemmas.Bool.Decides.{eqb_tells}
+use mathlib.Core.Path.{fun_ext}
 use Rattle.bm_journal.specs.declared.entry.Entry.{Entry}
 use Rattle.bm_journal.specs.declared.entry.Entry.TheVariants as entry
 use Rattle.bm_law.specs.Lists.{Log}
@@ -22,14 +23,15 @@ use Rattle.bm_law_order.specs.Shared.{Shared}
 use Rattle.bm_law_order.specs.Story.{Story, at_level, deeds, lines, lines_of}
 use Rattle.bm_law_order.specs.Tie.{Tied}
 use Rattle.bm_law_order.proofs.ActsJoin.{acts-append, acts-before, acts-later}
-use Rattle.bm_world.specs.LivingState.{LivingState, known_living, living_of}
+use Rattle.bm_world.specs.LivingState.{LivingState, begun_at, known_living, living_of}
 use Rattle.bm_world.specs.Slots.{unit_at}
+use Rattle.bm_world.specs.Told.{IsSideOf}
 use Rattle.bm_world.specs.ToldLiving.{LivingDoes, life_of, told_living}
 use Rattle.bm_exec.specs.Living.{home_of}
 use Rattle.bm_grace.specs.Known.{Objects}
 use Rattle.bm_run.specs.Opened.{outset}
 use Rattle.bm_run.proofs.FreshTold.{outset-told}
-use Rattle.bm_run.proofs.Laid.{outset-side}
+use Rattle.bm_run.proofs.Laid.{added-lines, outset-side}
 
 -- what is known of lives, of what processors share
 abbrev lived_by : Lives → Lived
@@ -141,20 +143,25 @@ home-is : (o : Option UnitState) → maker_of (life_of o) ≡ home_of (living_of
 home-is None = refl
 home-is (Some u) = refl
 
--- the same, where the same is known of each unit
-known-so : (p : ℕ) (a b c : Lived) (log : Log) → ((v : ℕ) → c.begun v ≡ b.begun v) → ((v : ℕ) → c.homes v ≡ b.homes v) → LivesOn p a b log → LivesOn p a c log
-known-so p a b c log f g h = record { fit = h.fit; begun = λ v. f v ∙ h.begun v; homes = λ v. g v ∙ h.homes v; freed = h.freed }
+-- what a world tells of lives, its side knows
+lived-is : (w : LivingState) → lived_by (told_living w).lives ≡ lived_in (known_living w).objects
+lived-is w = ap (λ (f : ℕ → Option ℕ). let a : Lived = record { begun = begun_at w.begun; homes = f } in a) (fun_ext (λ u. home-is (unit_at w.slots u)))
 
--- a log that is tied since the outset tells which units live
+-- the log of a processor that is tied since a time tells which units live, from those that lived then
+pub tied-lives-since : (judge : ℕ → Log → Chunk → Type 0) (p : ℕ) (since added log : Log) (start now : LivingState) → IsSideOf p start.side → log ≡ since ++ added → Tied judge LivingDoes since start 0 [] [] log now →
+    LivesOn p (lived_in (known_living start).objects) (lived_in (known_living now).objects) added
+tied-lives-since judge p since added log start now own log_is t =
+    let first = told_living start in
+    let did = (t.done_is.did p own).leads in
+    let same : deeds t.story ++ [] ≡ deeds t.story = append-nil (deeds t.story) in
+    let fit : ActsFit p (deeds t.story) first = subst (λ (as' : List Act). ActsFit p as' first) same did.fit in
+    let there : acts_over p (deeds t.story) first ≡ told_living now = ap (λ (as' : List Act). acts_over p as' first) (sym same) ∙ did.now_is in
+    let told = subst (λ (x : Shared). LivesOn p (lived_by first.lives) (lived_by x.lives) (lines t.story)) there (story-tells p t.story first fit) in
+    let known = subst (λ (a : Lived). LivesOn p a (lived_in (known_living now).objects) (lines t.story)) (lived-is start) (subst (λ (b : Lived). LivesOn p (lived_by first.lives) b (lines t.story)) (lived-is now) told) in
+    subst (LivesOn p (lived_in (known_living start).objects) (lived_in (known_living now).objects)) (sym (added-lines judge since added log start now log_is t)) known
+
+-- so does one that is tied since the outset, where none lived
 pub tied-lives : (judge : ℕ → Log → Chunk → Type 0) (pages : ℕ) (log : Log) (world : LivingState) → Tied judge LivingDoes [] (outset pages) 0 [] [] log world → LivesOn 0 no_lives (lived_in (known_living world).objects) log
 tied-lives judge pages log world t =
-    let did = (t.done_is.did 0 (outset-side pages)).leads in
-    let same : deeds t.story ++ [] ≡ deeds t.story = append-nil (deeds t.story) in
-    let fit : ActsFit 0 (deeds t.story) (told_living (outset pages)) = subst (λ (as' : List Act). ActsFit 0 as' (told_living (outset pages))) same did.fit in
-    let now : acts_over 0 (deeds t.story) (told_living (outset pages)) ≡ told_living world = ap (λ (as' : List Act). acts_over 0 as' (told_living (outset pages))) (sym same) ∙ did.now_is in
-    let told = story-tells 0 t.story (told_living (outset pages)) fit in
-    let from : LivesOn 0 no_lives (lived_by (acts_over 0 (deeds t.story) (told_living (outset pages))).lives) (lines t.story) = subst (λ (x : Shared). LivesOn 0 (lived_by x.lives) (lived_by (acts_over 0 (deeds t.story) (told_living (outset pages))).lives) (lines t.story)) (outset-told pages) told in
-    let there = subst (λ (x : Shared). LivesOn 0 no_lives (lived_by x.lives) (lines t.story)) now from in
-    let log_is : log ≡ lines t.story = t.log_is ∙ append-nil (lines t.story) in
-    known-so 0 no_lives (lived_by (told_living world).lives) (lived_in (known_living world).objects) log (λ v. refl) (λ v. sym (home-is (unit_at world.slots v)))
-    (subst (LivesOn 0 no_lives (lived_by (told_living world).lives)) (sym log_is) there)
+    let none : lived_in (known_living (outset pages)).objects ≡ no_lives = sym (lived-is (outset pages)) ∙ ap (λ (x : Shared). lived_by x.lives) (outset-told pages) in
+    subst (λ (a : Lived). LivesOn 0 a (lived_in (known_living world).objects) log) none (tied-lives-since judge 0 [] log log (outset pages) world (outset-side pages) refl t)

@@ -1,30 +1,34 @@
--- Each unit of a log that is tied since the outset was given with what it had waited for.
-use Rattle.std.specs.Prelude.{◌≡◌, ◌<◌, ◌≤◌, ◌++◌, ℕ, zero, suc, false, List, [], ◌∷◌, Some}
-use Rattle.std.proofs.Common.{◌∙◌, ap, append-nil, arith, ne_eqb, refl, subst, sym}
+-- Each unit of a log that is tied since a time was given with what it had waited for.
+use Rattle.std.specs.Prelude.{◌≡◌, ◌≢◌, ◌<◌, ◌≤◌, ◌++◌, ℕ, zero, suc, eqb, false, List, [], ◌∷◌, Some}
+use Rattle.std.proofs.Common.{◌∙◌, ap, append-nil, arith, eq-eqb, inl, inr, ne_eqb, refl, subst, sym}
+use Rattle.std.proofs.lemmas.Bool.{cases_Bool}
+use Rattle.std.proofs.lemmas.Bool.Decides.{eqb_tells}
 use Rattle.std.proofs.Math.Path.{fun_ext}
 use Rattle.bm_journal.specs.declared.ids.Domain.TheVariants.{Plain}
 use Rattle.bm_journal.specs.declared.entry.Entry.{Entry}
 use Rattle.bm_journal.specs.declared.entry.Entry.TheVariants as entry
 use Rattle.bm_law.specs.Lists.{Log, after}
 use Rattle.bm_law.specs.Spans.{AllFrom}
-use Rattle.bm_law.specs.State.{State}
+use Rattle.bm_law.specs.State.{State, opening}
 use Rattle.bm_law_order.specs.Chunk.{Chunk, entries_of}
 use Rattle.bm_law_order.specs.Chunk as chunk
-use Rattle.bm_law_order.specs.Orders.{Order, by, over}
-use Rattle.bm_law_order.specs.Seals.{GivesNone, IsSealed, Nothing, ReleaseFits, ReleasesFit, SealFits, Wait, WaitLeads, Waiting, nobody_waits, waiting_after, waiting_over}
+use Rattle.bm_law_order.specs.Orders.{AllFit, Order, by, over, part_of}
+use Rattle.bm_law_order.specs.Seals.{GivesNo, GivesNone, IsSealed, Nothing, ReleaseFits, ReleasesFit, SealFits, Wait, WaitLeads, Waiting, nobody_waits, waiting_after, waiting_over}
 use Rattle.bm_law_order.specs.Story.{AllJudged, Story, at_level, deeds, lines, lines_of}
 use Rattle.bm_law_order.specs.Tie.{Tied}
 use Rattle.bm_law_order.specs.Whole.{whole}
-use Rattle.bm_law_order.proofs.Along.{by-append, over-append}
-use Rattle.bm_law_order.proofs.Waited.{story-then-sealed}
+use Rattle.bm_law_order.proofs.Along.{by-append, fit-append, over-append}
+use Rattle.bm_law_order.proofs.Waited.{story-goes}
 use Rattle.bm_law_scenario.proofs.EachLevel.{AllAbove, above-back, above-front}
 use Rattle.bm_work.specs.Rested.{EndsWith, GoesFrom}
 use Rattle.bm_world.specs.LivingState.{LivingState}
 use Rattle.bm_world.specs.Standings.{waits_told}
 use Rattle.bm_world.specs.ToldLiving.{LivingDoes, knows_living}
-use Rattle.bm_exec_levels.specs.AtPolls.{polled}
+use Rattle.bm_exec_levels.specs.AtPolls.{home, polled}
 use Rattle.bm_run.specs.Opened.{outset}
-use Rattle.bm_run.proofs.Laid.{whole-one}
+use Rattle.bm_run.specs.SoFar.{SealedSoFar}
+use Rattle.bm_run.proofs.AddedParts.{lists-step, part-added}
+use Rattle.bm_run.proofs.Laid.{added-lines, whole-one}
 
 -- ---- what a log leaves of what units wait for
 
@@ -36,29 +40,43 @@ none-at-first pages = fun_ext none
     none zero = refl
     none (suc n) = refl
 
--- a log and its continuation
-pub waits-apart : (one two : Log) (m : Waiting) → waiting_over 0 (one ++ two) m ≡ waiting_over 0 two (waiting_over 0 one m)
-waits-apart one two m = ap (λ o. over waiting_after o m) (by-append 0 one two) ∙ over-append waiting_after SealFits (by 0 one) (by 0 two) m
+-- the lists that an order leaves
+pub lists-waiting : (q : ℕ) (o : Order) (m : Waiting) → (over waiting_after o m).lists q ≡ after (m.lists q) (part_of q o)
+lists-waiting q [] m = refl
+lists-waiting q (e ∷ o) m = lists-waiting q o (waiting_after e.processor e.level e.entry m) ∙ lists-step q e o m.lists
 
--- the lists that the log leaves
-pub lists-waiting : (log : Log) (m : Waiting) → (waiting_over 0 log m).lists 0 ≡ after (m.lists 0) log
-lists-waiting [] m = refl
-lists-waiting (e ∷ log) m = lists-waiting log (waiting_after 0 e.0 e.1 m)
+-- the last entry of ordinary code is one of the processor's own
+passed-other : (q p l : ℕ) (e : Entry) (m : Waiting) → q ≢ p → (waiting_after p l e m).passed q ≡ m.passed q
+passed-other q p l e m ne = elim (cases_Bool (eqb l 0)) [ inl y ↦ rw (y, ne_eqb q p ne) refl | inr y ↦ rw y refl ]
+
+passed-same : (q l : ℕ) (e : Entry) (m k : Waiting) → m.passed q ≡ k.passed q → (waiting_after q l e m).passed q ≡ (waiting_after q l e k).passed q
+passed-same q l e m k h = elim (cases_Bool (eqb l 0)) [ inl y ↦ rw (y, eq-eqb q q refl) refl | inr y ↦ rw y h ]
+
+passed-own : (q : ℕ) (o : Order) (m k : Waiting) → m.passed q ≡ k.passed q → (over waiting_after o m).passed q ≡ (waiting_over q (part_of q o) k).passed q
+passed-own q [] m k h = h
+passed-own q (e ∷ o) m k h =
+    let now = waiting_after e.processor e.level e.entry m in
+    elim (eqb_tells e.processor q) [
+      | inl y ↦ rw y.0 (passed-own q o now (waiting_after q e.level e.entry k) (ap (λ (p : ℕ). (waiting_after p e.level e.entry m).passed q) y.1 ∙ passed-same q e.level e.entry m k h))
+      | inr y ↦ rw y.0 (passed-own q o now k (passed-other q e.processor e.level e.entry m (λ z. y.1 (sym z)) ∙ h))
+    ]
 
 -- entries of higher levels leave the pass that was the last entry of ordinary code
-passed-kept : (log : Log) (m : Waiting) → AllFrom 1 log → (waiting_over 0 log m).passed 0 ≡ m.passed 0
-passed-kept [] m f = refl
-passed-kept (e ∷ log) m f = passed-kept log (waiting_after 0 e.0 e.1 m) f.1 ∙ above e.0 e.1 f.0
+passed-kept : (q : ℕ) (log : Log) (m : Waiting) → AllFrom 1 log → (waiting_over q log m).passed q ≡ m.passed q
+passed-kept q [] m f = refl
+passed-kept q (e ∷ log) m f = passed-kept q log (waiting_after q e.0 e.1 m) f.1 ∙ above e.0 e.1 f.0
   where
-    above : (l : ℕ) (x : Entry) → 1 ≤ l → (waiting_after 0 l x m).passed 0 ≡ m.passed 0
-    above l x u = rw (ne_eqb l 0 (λ q. omega (arith, u, q))) refl
+    above : (l : ℕ) (x : Entry) → 1 ≤ l → (waiting_after q l x m).passed q ≡ m.passed q
+    above l x u = rw (ne_eqb l 0 (λ z. omega (arith, u, z))) refl
 
-pub passed-last : (c n : ℕ) (log : Log) → EndsWith 0 (entry.Pass c Plain n) log → (waiting_over 0 log nobody_waits).passed 0 ≡ Some (c, n)
-passed-last c n log h =
-    let m = waiting_over 0 h.front nobody_waits in
+passed-last : (q c n : ℕ) (log : Log) → EndsWith 0 (entry.Pass c Plain n) log → (waiting_over q log nobody_waits).passed q ≡ Some (c, n)
+passed-last q c n log h =
+    let m = waiting_over q h.front nobody_waits in
     let e : ℕ × Entry = (0, entry.Pass c Plain n) in
-    let there : waiting_over 0 log nobody_waits ≡ waiting_over 0 h.rest (waiting_after 0 0 (entry.Pass c Plain n) m) = ap (λ z. waiting_over 0 z nobody_waits) h.log_is ∙ waits-apart h.front (e ∷ h.rest) nobody_waits in
-    ap (λ (z : Waiting). z.passed 0) there ∙ passed-kept h.rest (waiting_after 0 0 (entry.Pass c Plain n) m) h.above
+    let now = waiting_after q 0 (entry.Pass c Plain n) m in
+    let apart : waiting_over q log nobody_waits ≡ waiting_over q h.rest now = ap (λ z. waiting_over q z nobody_waits) h.log_is ∙ (ap (λ o. over waiting_after o nobody_waits) (by-append q h.front (e ∷ h.rest)) ∙ over-append waiting_after SealFits (by q h.front) (by q (e ∷ h.rest)) nobody_waits) in
+    let here : now.passed q ≡ Some (c, n) = rw (eq-eqb q q refl) refl in
+    ap (λ (z : Waiting). z.passed q) apart ∙ (passed-kept q h.rest now h.above ∙ here)
 
 -- ---- batches that go away
 
@@ -71,40 +89,84 @@ pub level-zero : (l : ℕ) → (0 < l → ⊥) → l ≡ 0
 level-zero zero h = refl
 level-zero (suc l) h = absurd (h (omega arith))
 
--- what is judged so goes away as a batch
-pub goes-low : (l c n stamp : ℕ) (log : Log) → l ≡ 0 → GoesFrom 0 l c stamp n log → (waiting_over 0 log nobody_waits).passed 0 ≡ Some (c, n)
-goes-low l c n stamp log z g = passed-last c n log (subst (λ k. EndsWith k (entry.Pass c Plain n) log) z g.passed)
+-- A log of a processor goes on, as the part of an order, from the time since when it is tied.
+module _ (p : ℕ) (since : Log) (start : LivingState) (own : start.side.grace.processor ≡ p) where
+  -- what is judged so goes away as a batch
+  pub goes-low : (l c n stamp : ℕ) (o : Order) → l ≡ 0 → GoesFrom (home knows_living start) l c stamp n (part_of p o) → (over waiting_after o nobody_waits).passed p ≡ Some (c, n)
+  goes-low l c n stamp o z g = passed-own p o nobody_waits nobody_waits refl ∙ passed-last p c n (part_of p o) (subst (λ k. EndsWith k (entry.Pass c Plain n) (part_of p o)) z g.passed)
 
-release-fits : (pages l : ℕ) (log : Log) (c : Chunk) → polled knows_living false [] (outset pages) l log c → AllAbove LowSend (at_level l (entries_of c)) → ReleaseFits 0 l c (waiting_over 0 log nobody_waits)
-release-fits pages l log (chunk.Releasing c to us stamp n) j low =
-    let z : l ≡ 0 = level-zero l low.0 in
-    (z, (ap (λ (s : State ℕ). (s.rows c).deferred.plain) (lists-waiting log nobody_waits) ∙ j.stamped, goes-low l c n stamp log z j))
-release-fits pages l log (chunk.Sending c to us) j low = j
-release-fits pages l log (chunk.Returning c us) j low = absurd (cc)
-release-fits pages l log _ j low = tt
+  -- by the lists that are there
+  pub stamped-so : (l c n stamp : ℕ) (o : Order) → GoesFrom (home knows_living start) l c stamp n (part_of p o) → (((over waiting_after o nobody_waits).lists p).rows c).deferred.plain ≡ Some stamp
+  stamped-so l c n stamp o g =
+      ap (λ (s : State ℕ). (s.rows c).deferred.plain) (lists-waiting p o nobody_waits)
+      ∙ subst (λ q. ((after (opening q) (part_of p o)).rows c).deferred.plain ≡ Some stamp) own g.stamped
 
--- so it is of a story
-pub releases-fit : (pages : ℕ) (log : Log) (ts : Story) → AllJudged (polled knows_living false [] (outset pages)) log ts → AllAbove LowSend (lines ts) → ReleasesFit 0 ts (waiting_over 0 log nobody_waits)
-releases-fit pages log [] j low = tt
-releases-fit pages log (t ∷ ts) j low = (
-  release-fits pages t.level log t.chunk j.0 (above-front LowSend (lines_of t) (lines ts) low),
-  subst (ReleasesFit 0 ts) (waits-apart log (lines_of t) nobody_waits) (releases-fit pages (log ++ lines_of t) ts j.1 (above-back LowSend (lines_of t) (lines ts) low)),
-)
+  release-fits : (l : ℕ) (o : Order) (c : Chunk) → polled knows_living false since start l (part_of p o) c → AllAbove LowSend (at_level l (entries_of c)) → ReleaseFits p l c (over waiting_after o nobody_waits)
+  release-fits l o (chunk.Releasing c to us stamp n) j low =
+      let z : l ≡ 0 = level-zero l low.0 in
+      (z, (stamped-so l c n stamp o j, goes-low l c n stamp o z j))
+  release-fits l o (chunk.Sending c to us) j low = j
+  release-fits l o (chunk.Returning c us) j low = absurd (cc)
+  release-fits l o _ j low = tt
+
+  -- so it is of a story
+  pub releases-fit : (o : Order) (ts : Story) → AllJudged (polled knows_living false since start) (part_of p o) ts → AllAbove LowSend (lines ts) → ReleasesFit p ts (over waiting_after o nobody_waits)
+  releases-fit o [] j low = tt
+  releases-fit o (t ∷ ts) j low =
+      let first = lines_of t in
+      let judged = subst (λ z. AllJudged (polled knows_living false since start) z ts) (sym (part-added p o first)) j.1 in
+      let rest = releases-fit (o ++ by p first) ts judged (above-back LowSend first (lines ts) low) in (
+        release-fits t.level o t.chunk j.0 (above-front LowSend first (lines ts) low),
+        subst (ReleasesFit p ts) (over-append waiting_after SealFits o (by p first) nobody_waits) rest,
+      )
 
 -- ---- a log
 
--- how its acts go on from where nothing waits
-pub tied-waits : (pages : ℕ) (log : Log) (world : LivingState) (t : Tied (polled knows_living false [] (outset pages)) LivingDoes [] (outset pages) 0 [] [] log world) → WaitLeads (deeds t.story) (λ u. Nothing) (waits_told world.standings)
-tied-waits pages log world t =
-    let now = waits_told world.standings in
-    subst (λ (w : ℕ → Wait). WaitLeads (deeds t.story) w now) (none-at-first pages) (subst (λ z. WaitLeads z (waits_told (outset pages).standings) now) (append-nil (deeds t.story)) t.done_is.waits)
+-- how its acts go on from what units waited for
+pub tied-waits : (since log : Log) (start now : LivingState) (o : Order) → (over waiting_after o nobody_waits).waits ≡ waits_told start.standings →
+    (t : Tied (polled knows_living false since start) LivingDoes since start 0 [] [] log now) → WaitLeads (deeds t.story) (over waiting_after o nobody_waits).waits (waits_told now.standings)
+tied-waits since log start now o same t =
+    let there = waits_told now.standings in
+    subst (λ (w : ℕ → Wait). WaitLeads (deeds t.story) w there) (sym same) (subst (λ z. WaitLeads z (waits_told start.standings) there) (append-nil (deeds t.story)) t.done_is.waits)
 
--- It is sealed, also where entries come after it that give none.
+-- Where each unit so far was given with what it had waited for, it is so with the entries that were added.
+pub tied-sealed-since : (p : ℕ) (o : Order) (since added log : Log) (start now : LivingState) → start.side.grace.processor ≡ p → part_of p o ≡ since → log ≡ since ++ added →
+    Tied (polled knows_living false since start) LivingDoes since start 0 [] [] log now → AllAbove LowSend added → SealedSoFar o start → SealedSoFar (o ++ by p added) now
+tied-sealed-since p o since added log start now own part log_is t low h =
+    let m = over waiting_after o nobody_waits in
+    let there = waits_told now.standings in
+    let said = added-lines (polled knows_living false since start) since added log start now log_is t in
+    let judged = subst (λ z. AllJudged (polled knows_living false since start) z t.story) (sym part) t.judged in
+    let fit = releases-fit p since start own o t.story judged (subst (AllAbove LowSend) said low) in
+    let g = story-goes p t.story m there (tied-waits since log start now o h.waits t) fit in
+    record {
+      waits =
+          ap (λ (z : Waiting). z.waits) (over-append waiting_after SealFits o (by p added) nobody_waits)
+          ∙ (ap (λ (z : Log). (waiting_over p z m).waits) said ∙ g.now_is);
+      sealed = fit-append waiting_after SealFits o (by p added) nobody_waits h.sealed (subst (λ (z : Log). AllFit waiting_after SealFits (by p z) m) (sym said) g.fit);
+    }
+
+-- so it is, too, with entries that give no unit
+pub none-sealed : (p : ℕ) (o : Order) (added : Log) → GivesNone added → IsSealed o → IsSealed (o ++ by p added)
+none-sealed p o added none h = fit-append waiting_after SealFits o (by p added) nobody_waits h (fit p added (over waiting_after o nobody_waits) none)
+  where
+    no-fits : (p l : ℕ) (e : Entry) (m : Waiting) → GivesNo e → SealFits p l e m
+    no-fits p l (entry.Given u life) m h = absurd h
+    no-fits p l (entry.GivenAfter u life stamp seen) m h = absurd h
+    no-fits p l _ m h = tt
+
+    fit : (p : ℕ) (log : Log) (m : Waiting) → GivesNone log → AllFit waiting_after SealFits (by p log) m
+    fit p [] m h = tt
+    fit p (e ∷ log) m h = (no-fits p e.0 e.1 m h.0, fit p log (waiting_after p e.0 e.1 m) h.1)
+
+pub outset-sealed : (pages : ℕ) → SealedSoFar [] (outset pages)
+outset-sealed pages = record { waits = sym (none-at-first pages); sealed = tt }
+
+-- A log that is tied since the outset is sealed, also where entries come after it that give none.
 pub tied-sealed : (pages : ℕ) (log rest : Log) (world : LivingState) → Tied (polled knows_living false [] (outset pages)) LivingDoes [] (outset pages) 0 [] [] log world → AllAbove LowSend log → GivesNone rest → IsSealed (by 0 (log ++ rest))
 tied-sealed pages log rest world t low none =
-    let log_is : log ≡ lines t.story = t.log_is ∙ append-nil (lines t.story) in
-    let fit = releases-fit pages [] t.story t.judged (subst (AllAbove LowSend) log_is low) in
-    subst (λ z. IsSealed (by 0 (z ++ rest))) (sym log_is) (story-then-sealed 0 t.story rest (waits_told world.standings) (tied-waits pages log world t) fit none)
+    let here = tied-sealed-since 0 [] [] log log (outset pages) world refl refl refl t low (outset-sealed pages) in
+    subst (λ (o : Order). IsSealed o) (sym (by-append 0 log rest)) (none-sealed 0 (by 0 log) rest none here.sealed)
 
 pub sealed-whole : (turns : List ℕ) (log : Log) → IsSealed (by 0 log) → IsSealed (whole turns (log ∷ []))
 sealed-whole turns log = subst (λ (o : Order). IsSealed o) (sym (whole-one turns log))
