@@ -33,6 +33,7 @@ use Rattle.bm_exec_levels.specs.AtPolls as idle
 use Rattle.bm_exec_levels.specs.AtTie.{as-judged}
 use Rattle.bm_exec_levels.specs.declared.processor.Processor.{Processor}
 use Rattle.bm_world.specs.LivingState.{LivingState, known_living}
+use Rattle.bm_world.specs.Spared.{spare-append}
 use Rattle.bm_world.specs.Standings.{waits_told}
 use Rattle.bm_world.specs.ToldLiving.{LivingDoes, told_living}
 
@@ -133,11 +134,13 @@ unread acts d x m a b here = (did-before here.0, here.1)
     did-before : LivingDoes (acts ++ act.Reads d x m ∷ []) a b → LivingDoes acts a b
     did-before did = record {
       waits = go-unread acts d x m (waits_told a.standings) (waits_told b.standings) did.waits;
+      keeps = λ n s. did.keeps n (spare-append n acts (act.Reads d x m ∷ []) s (tt, tt));
       did = λ p s.
           let h = did.did p s in
           record {
             leads = record { fit = acts-before p acts (act.Reads d x m ∷ []) (told_living a) h.leads.fit; now_is = sym (acts-append p acts (act.Reads d x m ∷ []) (told_living a)) ∙ h.leads.now_is };
             stays = h.stays;
+            others = h.others;
           };
     }
 
