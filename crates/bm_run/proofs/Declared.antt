@@ -11,7 +11,7 @@ use Rattle.bm_due.specs.Due.{planned_for}
 use Rattle.bm_lang.specs.declared.scenario.AtLine.{AtLine}
 use Rattle.bm_exec_levels.specs.Ready.{left_cost}
 use Rattle.bm_run.proofs.Bounds.{Within, cost-kept}
-use Rattle.bm_run.specs.Lines.{AllDeclared, lines_cost}
+use Rattle.bm_run.specs.Lines.{AreDeclared, lines_cost}
 
 both : (a b : Bool) → a ≡ true → b ≡ true → (a && b) ≡ true
 both true b e f = f
@@ -26,11 +26,11 @@ found f [] i P h = absurd h
 found f (x ∷ xs) zero P h = refl
 found f (x ∷ xs) (suc i) P h = found f xs i P h
 
-pub all-declared : (s : Parts) → HasConditions s → AllDeclared s
+pub all-declared : (s : Parts) → HasConditions s → AreDeclared s s.runs
 all-declared s h i d lt = found script_form s.scripts (get_or s.runs i d).script.0 (λ x. runs_as false x.kind ≡ true) (h.runs i d lt).script
 
 -- what its `run` lines and its planned handlers ask for
-pub room-all : (s : Parts) → Within s → left_cost s (planned_for 0 s) + 2 * lines_cost s.scripts s.runs ≤ 40000
+pub room-all : (s : Parts) → Within s → left_cost s (planned_for 0 s) + 2 * lines_cost 0 s.scripts s.runs ≤ 40000
 room-all s w =
     let k = cost-kept s s.ats in
     let n = w.statements in

@@ -9,6 +9,10 @@ pub mod ClassLists
 pub mod Closes
 pub mod Declared
 pub mod Lines
+pub mod NextLines
+pub mod GoingOn
+pub mod Beginning
+pub mod Stopping
 pub mod LogLaw
 pub mod OpenedList
 pub mod Results
@@ -23,3 +27,12 @@ pub mod PollsTold
 pub mod SealsTold
 pub mod BatchesTold
 pub mod Nesting
+pub mod AddedParts
+pub mod TurnTaken
+pub mod SweepsTake
+pub mod ParcelsArrive
+pub mod StaysSound
+pub mod Spares
+pub mod LeftAlone
+pub mod Asked
+pub mod TurnsTold

@@ -39,3 +39,7 @@ get-is (y ∷ ys) (suc i) x lt e = get-is ys i x (omega arith) e
 pub both-on-ok : {X E : Type 0} (r : Result X E) (A B C : Type 0) → OnOk r A → OnOk r B → (A → B → C) → OnOk r C
 both-on-ok (Ok x) A B C a b f = f a b
 both-on-ok (Err e) A B C a b f = tt
+
+pub and-ok : {X E : Type 0} (r : Result X E) (A B : Type 0) → OnOk r A → OnOk r B → OnOk r (A × B)
+and-ok (Ok x) A B a b = (a, b)
+and-ok (Err e) A B a b = tt

@@ -1,6 +1,11 @@
 pub mod Filling
 pub mod Opened
 pub mod Lines
+pub mod Turns
 pub mod Closed
 pub mod ClosingTie
 pub mod IdleAfter
+pub mod SoFar
+pub mod LeftAlone
+pub mod Asked
+pub mod Spared

@@ -16,17 +16,17 @@ use Rattle.bm_exec_levels.specs.Ordinary.{Ordinary, words_of}
 use Rattle.bm_exec_levels.specs.Ready.{asked_of}
 use Rattle.bm_exec_levels.specs.declared.processor.Processor.{Processor}
 
--- how many statements some lines run on processor 0 at most
-abbrev pub lines_cost : List Script → List RunLine → ℕ
-lines_cost scripts runs = sum_by (λ (r : RunLine). cost_on 0 r.processor (script_cost (slice_get scripts r.script.0))) runs
+-- how many statements some lines run on processor p at most
+abbrev pub lines_cost : ℕ → List Script → List RunLine → ℕ
+lines_cost p scripts runs = sum_by (λ (r : RunLine). cost_on p r.processor (script_cost (slice_get scripts r.script.0))) runs
 
 -- how many objects, works and words of plain sections were asked for, and how many more handlers that haven't run may ask for
 abbrev pub asks_in : Parts → Processor LivingState → ℕ
 asks_in s m = asked_of knows_living s m + words_of knows_living m
 
--- each line names a declared script
-abbrev pub AllDeclared : Parts → Type 0
-AllDeclared s = All (λ (r : RunLine). IsSome (slice_get s.scripts r.script.0)) s.runs
+-- each of these lines names a declared script
+abbrev pub AreDeclared : Parts → List RunLine → Type 0
+AreDeclared s lines = All (λ (r : RunLine). IsSome (slice_get s.scripts r.script.0)) lines
 
 -- the classes for which deferred work runs, if it runs
 abbrev pub when_on : Bool → List ℕ → Option (List ℕ)

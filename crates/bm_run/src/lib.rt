@@ -2,8 +2,8 @@
 //!
 //! - `replay` is all of it: from a checked scenario to a journal, or out of memory.
 //! - `open` fills a cache for each class that a type uses, from a fresh stock, and takes all memory that handlers will need.
-//! - Between the two, src/scripts.rt runs the `run` lines, each script in its section, with the work after it; src/stretches.rt
-//!   and closing_desk.rt carry a processor to its closing; src/journals.rt puts the journal together.
+//! - Between the two, src/turns.rt runs the `run` lines turn by turn, each script in its section, with the work after it;
+//!   src/stretches.rt and closing_desk.rt carry a processor to its closing; src/journals.rt puts the journal together.
 //!
 //! `bm_tool` calls `replay`; tests call `open` too.
 //!
@@ -12,7 +12,7 @@
 //! itself comes from the tie that the machines keep (`TiedAt` of `bm_exec_levels`), which the opening begins and the closing ends
 //! (specs/ClosingTie).
 //!
-//! Runs on several processors aren't here so far.
+//! Runs on several processors aren't here so far. What a turn of one processor would leave of another is: `others_law`, `asked_law`.
 #![tactic(auto)]
 
 mod classes;
@@ -20,8 +20,10 @@ mod closing_desk;
 mod filling;
 mod journals;
 mod opening;
-mod scripts;
+mod others;
 mod stretches;
+mod turns;
 
 pub use journals::replay;
 pub use opening::open;
+pub use others::{asked_law, others_law};

@@ -71,7 +71,7 @@ run_lines-requires-clause-cost g c =
     let m : Processor LivingState = c.in_ok-own.own in
     let o = c.in_ok-own.ensures in
     let w = within s (some-processors s.processors c.requires.yet.one) c.requires.checked.within_limits in
-    rw c.parts-parts.ensures.value (room-for s (known_of knows_living m).objects.asked m.settled (lines_cost s.scripts s.runs) (left_of m) _ (rw c.parts-parts.ensures.value at o.planned) o.asked (room-all s w))
+    rw c.parts-parts.ensures.value (room-for s (known_of knows_living m).objects.asked m.settled (lines_cost 0 s.scripts s.runs) (left_of m) _ (rw c.parts-parts.ensures.value at o.planned) o.asked (room-all s w))
 
 pub run_lines-requires-clause-handlers : goal.run_lines-requires-clause-handlers
 run_lines-requires-clause-handlers g c =
