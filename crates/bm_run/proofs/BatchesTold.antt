@@ -48,6 +48,7 @@ use Rattle.bm_world.specs.LivingState.{LivingState}
 use Rattle.bm_world.specs.Standings.{waits_told}
 use Rattle.bm_world.specs.ToldLiving.{LivingDoes, knows_living}
 use Rattle.bm_exec_levels.specs.AtPolls.{polled}
+use Rattle.bm_run.specs.LeftAlone.{AllUnswept, IsUnswept}
 use Rattle.bm_run.specs.Opened.{outset}
 use Rattle.bm_run.specs.SoFar.{SealedSoFar}
 use Rattle.bm_run.proofs.AddedParts.{own-log, part-added}
@@ -344,10 +345,6 @@ late-batches p (e ∷ es) m at late =
 
 -- ---- sweeps
 
-abbrev pub IsUnswept : Entry → Type 0
-IsUnswept (entry.Sweep c us) = ⊥
-IsUnswept _ = Unit {0}
-
 statement-unswept : (e : Entry) → IsOfStatement e → IsUnswept e
 statement-unswept (entry.Sweep c us) h = absurd h
 statement-unswept _ h = tt
@@ -378,10 +375,6 @@ unswept s =
       ends = λ d name w. (tt, (tt, tt));
       work = λ c m t part h. of-map (IsOfWork c) IsUnswept (work-unswept c) (own_entries 0 part) (work-writes 0 c t part h);
     }
-
-abbrev pub AllUnswept : Log → Type 0
-AllUnswept [] = Unit {0}
-AllUnswept (e ∷ es) = IsUnswept e.1 × AllUnswept es
 
 zero-or : (l : ℕ) → (l ≢ 0) → 0 < l
 zero-or zero h = absurd (h refl)

@@ -39,7 +39,9 @@ use Rattle.bm_world.specs.Slots.{unit_at}
 use Rattle.bm_world.specs.Standings.{standing_at}
 use Rattle.bm_world.specs.Told.{IsSideOf, told_boxes}
 use Rattle.bm_world.specs.ToldLiving.{life_of, told_living}
-use Rattle.bm_run.specs.LeftAlone.{IsLeftAlone, IsTurnOf, KeepsFor, StaysPut, turned}
+use Rattle.bm_run.specs.LeftAlone.{IsLeftAlone, IsTurnOf, KeepsFor, StaysPut}
+use Rattle.bm_run.specs.SoFar.{at_turn}
+use Rattle.bm_run.proofs.TurnTaken.{side-at}
 use Rattle.bm_run.specs.Spared.{Has}
 use Rattle.bm_run.proofs.Spares.{is-with, story-spares}
 
@@ -217,24 +219,17 @@ left-alone q o before a w s none placed found is then_is lists x y begins standi
 
 -- ---- a turn
 
--- what is told of the world doesn't depend on whose side it is
-pub told-turned : (q : ℕ) (w : LivingState) → told_living (turned q w) ≡ told_living w
-told-turned q w = refl
-
-pub side-turned : (p q : ℕ) (w : LivingState) → q < w.side.grace.processors → IsSideOf p w.side → IsSideOf q (turned q w).side
-side-turned p q w turn s = record { post_is = refl; grace_is = refl; agree = s.agree; turn = turn; most = s.most; boxes = s.boxes; plain_words = s.plain_words; tracing_words = s.tracing_words }
-
 -- A turn of processor p leaves another one alone, for which its acts keep what isn't told.
-pub turn-left : (p q : ℕ) → q ≢ p → (story : Story) (places : World) (a w : LivingState) (s : State Token) → IsTurnOf p story places a w → KeepsFor q (deeds story) a w → places.lists q ≡ seen number_of s → q < a.side.grace.processors → IsLeftAlone s (turned q a) (turned q w)
+pub turn-left : (p q : ℕ) → q ≢ p → (story : Story) (places : World) (a w : LivingState) (s : State Token) → IsTurnOf p story places a w → KeepsFor q (deeds story) a w → places.lists q ≡ seen number_of s → q < a.side.grace.processors → IsLeftAlone s (at_turn q a) (at_turn q w)
 turn-left p q ne story places a w s t k lists turn =
     let o = by p (lines story) in
     let then_is : (world_over o places).shared ≡ plainly (told_living w) = shared-of o places ∙ (ap (shared_over o) t.told ∙ t.leads.now_is) in
     let as_many : w.side.grace.processors ≡ a.side.grace.processors = ap (λ (z : Shared). z.processors) (sym then_is) ∙ (processors-over o places ∙ ap (λ (z : Shared). z.processors) t.told) in
-    left-alone q o places (turned q a) (turned q w) s (others-part p q (lines story) ne) t.placed t.found t.told then_is lists
-    (side-turned p q a turn t.begins_his) (side-turned p q w (subst (λ n. q < n) (sym as_many) turn) t.ends_his)
+    left-alone q o places (at_turn q a) (at_turn q w) s (others-part p q (lines story) ne) t.placed t.found t.told then_is lists
+    (side-at q p a turn t.begins_his) (side-at q p w (subst (λ n. q < n) (sym as_many) turn) t.ends_his)
     (λ d. by-domain d (k.begins d))
     (λ n h. k.standings n (story-spares p q n ne story places t.placed (subst (Has n) (sym lists) h) t.found))
   where
-    by-domain : (d : Domain) → slice_index (domain_in d a.side.grace).begins q ≤ slice_index (domain_in d w.side.grace).begins q → (side d (known_living (turned q a))).begins ≤ (side d (known_living (turned q w))).begins
+    by-domain : (d : Domain) → slice_index (domain_in d a.side.grace).begins q ≤ slice_index (domain_in d w.side.grace).begins q → (side d (known_living (at_turn q a))).begins ≤ (side d (known_living (at_turn q w))).begins
     by-domain Plain h = h
     by-domain Tracing h = h

@@ -37,7 +37,8 @@ use Rattle.bm_exec_levels.specs.declared.kept.Kept.{Kept}
 use Rattle.bm_exec_levels.specs.declared.processor.Processor.{Processor}
 use Rattle.bm_exec_levels.specs.declared.program.Program.{Program}
 use Rattle.bm_run.specs.Asked.{in_its_turn}
-use Rattle.bm_run.specs.LeftAlone.{IsLeftAlone, IsTurnOf, KeepsFor, StaysPut, turned}
+use Rattle.bm_run.specs.LeftAlone.{IsLeftAlone, IsTurnOf, KeepsFor, StaysPut}
+use Rattle.bm_run.specs.SoFar.{at_turn}
 use Rattle.bm_run.proofs.LeftAlone.{turn-left}
 
 -- ---- the tests of one unit
@@ -154,5 +155,5 @@ sound-alone p m w a asks s = record {
 }
 
 -- The turn of another processor leaves it so.
-pub sound-in-turn : (p q : ℕ) → q ≢ p → (story : Story) (places : World) (a w : LivingState) (g : Program) (k : Kept) → IsTurnOf p story places a w → KeepsFor q (deeds story) a w → places.lists q ≡ seen number_of (shown k.caches) → q < a.side.grace.processors → asked_of knows_living g.scenario.now (in_its_turn k (turned q w)) < 2 ^ 22 → Sound knows_living g (in_its_turn k (turned q a)) → Sound knows_living g (in_its_turn k (turned q w))
-sound-in-turn p q ne story places a w g k t keeps lists turn asks s = sound-alone g (in_its_turn k (turned q a)) (turned q w) (turn-left p q ne story places a w (shown k.caches) t keeps lists turn) asks s
+pub sound-in-turn : (p q : ℕ) → q ≢ p → (story : Story) (places : World) (a w : LivingState) (g : Program) (k : Kept) → IsTurnOf p story places a w → KeepsFor q (deeds story) a w → places.lists q ≡ seen number_of (shown k.caches) → q < a.side.grace.processors → asked_of knows_living g.scenario.now (in_its_turn k (at_turn q w)) < 2 ^ 22 → Sound knows_living g (in_its_turn k (at_turn q a)) → Sound knows_living g (in_its_turn k (at_turn q w))
+sound-in-turn p q ne story places a w g k t keeps lists turn asks s = sound-alone g (in_its_turn k (at_turn q a)) (at_turn q w) (turn-left p q ne story places a w (shown k.caches) t keeps lists turn) asks s

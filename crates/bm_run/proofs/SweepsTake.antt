@@ -23,7 +23,8 @@ use Rattle.bm_law_logs.proofs.QuietEntries.{AllQuiet, IsQuiet}
 use Rattle.bm_law_places.specs.World.{SweepsInbox, World, world_after, world_over}
 use Rattle.bm_law_places.proofs.Standing.{lists-of}
 use Rattle.bm_run.proofs.AddedParts.{own-log}
-use Rattle.bm_run.proofs.BatchesTold.{IsUnswept, OrderUnswept}
+use Rattle.bm_run.specs.LeftAlone.{IsUnswept}
+use Rattle.bm_run.proofs.BatchesTold.{OrderUnswept}
 
 -- ---- nothing is swept
 

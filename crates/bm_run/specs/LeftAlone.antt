@@ -41,10 +41,6 @@ pub record IsLeftAlone (lists : State Token) (before now : LivingState) : Type 0
   pub begins : (d : Domain) → (side d (known_living before)).begins ≤ (side d (known_living now)).begins
   pub units : Each (λ c k u. StaysPut u.number before now) (λ u. StaysPut u.number before now) lists
 
--- the world as the side of processor q
-abbrev pub turned : ℕ → LivingState → LivingState
-turned q world = record world { side = record { post = record world.side.post { processor = q }; grace = record world.side.grace { processor = q } } }
-
 -- Acts keep for processor q what it may begin, and of each unit that they spare what it waits for, since the same stamps.
 pub record KeepsFor (q : ℕ) (acts : List Act) (before now : LivingState) : Type 0 where
   pub begins : (d : Domain) → slice_index (domain_in d before.side.grace).begins q ≤ slice_index (domain_in d now.side.grace).begins q

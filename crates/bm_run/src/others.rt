@@ -28,7 +28,8 @@ ghost use Rattle.bm_exec_levels.specs.declared.kept.Kept.{Kept};
 ghost use Rattle.bm_exec_levels.specs.declared.processor.Processor.{Processor};
 ghost use Rattle.bm_exec_levels.specs.declared.program.Program.{Program};
 ghost use Rattle.bm_run.specs.Asked.{asked_by_all, in_its_turn};
-ghost use Rattle.bm_run.specs.LeftAlone.{AllUnswept, IsLeftAlone, IsTold, IsTurnOf, KeepsFor, Turned, turned};
+ghost use Rattle.bm_run.specs.LeftAlone.{AllUnswept, IsLeftAlone, IsTold, IsTurnOf, KeepsFor, Turned};
+ghost use Rattle.bm_run.specs.SoFar.{at_turn};
 ghost use Rattle.bm_run.specs.Spared.{Has};
 
 /// Ordinary code can go on on a processor that was left alone between two worlds, if few enough objects and works are asked for in the
@@ -59,14 +60,14 @@ pub fn others_law()
         (story : Story) (w : World) (before now : LivingState) (s : State Token) →
         IsTurnOf p story w before now → KeepsFor q (deeds story) before now →
         w.lists q ≡ seen number_of s → q < before.side.grace.processors →
-        IsLeftAlone s (turned q before) (turned q now) }
+        IsLeftAlone s (at_turn q before) (at_turn q now) }
     ensures stays { (p q : ℕ) → q ≢ p →
         (story : Story) (w : World) (before now : LivingState) (g : Program) (k : Kept) →
         IsTurnOf p story w before now → KeepsFor q (deeds story) before now →
         w.lists q ≡ seen number_of (shown k.caches) → q < before.side.grace.processors →
-        asked_of knows_living g.scenario.now (in_its_turn k (turned q now)) < 2 ^ 22 →
-        Sound knows_living g (in_its_turn k (turned q before)) →
-        Sound knows_living g (in_its_turn k (turned q now)) }
+        asked_of knows_living g.scenario.now (in_its_turn k (at_turn q now)) < 2 ^ 22 →
+        Sound knows_living g (in_its_turn k (at_turn q before)) →
+        Sound knows_living g (in_its_turn k (at_turn q now)) }
     ensures told { (closing : Bool) (p : ℕ) (since log : Log)
         (w : World) (before now : LivingState) (s : State ℕ)
         (tie : Tied (polled knows_living closing since before) (DoesHere knows_living)
