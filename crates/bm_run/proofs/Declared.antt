@@ -30,9 +30,9 @@ pub all-declared : (s : Parts) → HasConditions s → AreDeclared s s.runs
 all-declared s h i d lt = found script_form s.scripts (get_or s.runs i d).script.0 (λ x. runs_as false x.kind ≡ true) (h.runs i d lt).script
 
 -- what its `run` lines and its planned handlers ask for
-pub room-all : (s : Parts) → Within s → left_cost s (planned_for 0 s) + 2 * lines_cost 0 s.scripts s.runs ≤ 40000
+pub room-all : (s : Parts) → Within s 0 → left_cost s (planned_for 0 s) + 2 * lines_cost 0 s.scripts s.runs ≤ 40000
 room-all s w =
-    let k = cost-kept s s.ats in
+    let k = cost-kept s 0 s.ats in
     let n = w.statements in
     omega (arith, k, n)
 

@@ -21,7 +21,7 @@ use Rattle.bm_law_order.specs.Pages.{fetches}
 use Rattle.bm_law_order.specs.Seals.{Wait, WaitLeads}
 use Rattle.bm_law_order.specs.Shared.{Shared, fresh}
 use Rattle.bm_law_order.specs.Story.{AllJudged, Story, deeds, lines}
-use Rattle.bm_law_order.specs.Tie.{TiedBy}
+use Rattle.bm_law_order.specs.Tie.{Tied, TiedBy}
 use Rattle.bm_law_order.specs.Words.{first_words}
 use Rattle.bm_law_order.proofs.BarePool.{fetched-bare}
 use Rattle.bm_post.specs.PostState.{no_parcels}
@@ -35,45 +35,49 @@ use Rattle.bm_world.specs.Told.{told_boxes}
 use Rattle.bm_world.specs.ToldLiving.{LivingDoes, life_of, told_living}
 use Rattle.bm_run.specs.Filling.{filling}
 use Rattle.bm_exec_levels.specs.AtPolls.{DoesHere, polled}
-use Rattle.bm_run.specs.Opened.{fresh_side, outset}
+use Rattle.bm_run.specs.Opened.{fresh_side, fresh_world, outset}
 use Rattle.bm_run.proofs.OpeningLemmas.{living_side, none-at}
 
 bare-unborn : (n : ℕ) → map bare_unit (replicate n unborn) ≡ replicate n unborn
 bare-unborn zero = refl
 bare-unborn (suc n) = ap (λ us. unborn ∷ us) (bare-unborn n)
 
-no-boxes : (pool : Stock) (p c : ℕ) → told_boxes (fresh_side pool).post p c ≡ []
-no-boxes pool p c = none (nat_lt p 8 && nat_lt c 11)
+no-boxes : (n q : ℕ) (pool : Stock) (p c : ℕ) → told_boxes (fresh_side n q pool).post p c ≡ []
+no-boxes n q pool p c = none (nat_lt p 8 && nat_lt c 11)
   where
     none : (b : Bool) → (if b then map numbers (get_or no_parcels (11 * p + c) []) else []) ≡ []
     none true = ap (map numbers) (none-at 88 (11 * p + c))
     none false = refl
 
--- what is told where nobody did anything but take units from the stock
-fresh-told : (pages : ℕ) (pool : Stock) (slots : List (Option UnitState)) (begun : List ℕ) (standings : List Standing) → AllEmpty slots → ((n : ℕ) → begun_at begun n ≡ 0) → told_living (living_side pool slots begun standings) ≡ record (fresh 1 pages) { pool = bare_pool pool }
-fresh-told pages pool slots begun standings e z =
-    let F : (ℕ → ℕ → List (List ℕ)) → (ℕ → ℕ) → (ℕ → Option Life) → Shared = λ b g h. record { processors = 1; words = first_words; numbers = first_numbers; looks = first_looks; lives = record { begun = g; holds = h; dropping = λ p l. None }; pool = bare_pool pool; boxes = b } in
+-- What is told where nobody did anything but take units from the stock. Whose side it is, is no matter.
+pub fresh-told : (n q pages : ℕ) (pool : Stock) (slots : List (Option UnitState)) (begun : List ℕ) (standings : List Standing) → AllEmpty slots → ((u : ℕ) → begun_at begun u ≡ 0) → told_living (living_side n q pool slots begun standings) ≡ record (fresh n pages) { pool = bare_pool pool }
+fresh-told n q pages pool slots begun standings e z =
+    let F : (ℕ → ℕ → List (List ℕ)) → (ℕ → ℕ) → (ℕ → Option Life) → Shared = λ b g h. record { processors = n; words = first_words; numbers = first_numbers; looks = first_looks; lives = record { begun = g; holds = h; dropping = λ p l. None }; pool = bare_pool pool; boxes = b } in
     let B : ℕ → ℕ → List (List ℕ) = λ p c. [] in
-    ap (λ b. F b (begun_at begun) (λ n. life_of (unit_at slots n))) (fun_ext (λ p. fun_ext (λ c. no-boxes pool p c)))
-    ∙ (ap (λ g. F B g (λ n. life_of (unit_at slots n))) (fun_ext z)
-    ∙ ap (λ h. F B (λ u. 0) h) (fun_ext (λ n. ap life_of (e n))))
+    ap (λ b. F b (begun_at begun) (λ u. life_of (unit_at slots u))) (fun_ext (λ p. fun_ext (λ c. no-boxes n q pool p c)))
+    ∙ (ap (λ g. F B g (λ u. life_of (unit_at slots u))) (fun_ext z)
+    ∙ ap (λ h. F B (λ u. 0) h) (fun_ext (λ u. ap life_of (e u))))
 
-no-slots : AllEmpty []
+pub no-slots : AllEmpty []
 no-slots zero = refl
 no-slots (suc n) = refl
 
-no-standing : (n : ℕ) → standing_at [] n ≡ Nothing
+pub no-standing : (n : ℕ) → standing_at [] n ≡ Nothing
 no-standing zero = refl
 no-standing (suc n) = refl
 
-no-lives : (n : ℕ) → begun_at [] n ≡ 0
+pub no-lives : (n : ℕ) → begun_at [] n ≡ 0
 no-lives zero = refl
 no-lives (suc n) = refl
 
+-- .. before any opening, of so many processors
+pub first-told : (n q pages : ℕ) → told_living (fresh_world n q (fresh_stock pages)) ≡ fresh n pages
+first-told n q pages =
+    let F : List Stocked → Shared = λ us. record (fresh n pages) { pool = record { classes = replicate pages None; units = us } } in
+    fresh-told n q pages (fresh_stock pages) [] [] [] no-slots no-lives ∙ ap F (bare-unborn (256 * pages))
+
 pub outset-told : (pages : ℕ) → told_living (outset pages) ≡ fresh 1 pages
-outset-told pages =
-    let F : List Stocked → Shared = λ us. record (fresh 1 pages) { pool = record { classes = replicate pages None; units = us } } in
-    fresh-told pages (fresh_stock pages) [] [] [] no-slots no-lives ∙ ap F (bare-unborn (256 * pages))
+outset-told pages = first-told 1 0 pages
 
 -- the fills of some classes from a stock
 abbrev fill_story : List ℕ → Stock → Story
@@ -103,32 +107,41 @@ fill-waits : (cs : List ℕ) (pool : Stock) (w : ℕ → Wait) → WaitLeads (de
 fill-waits [] pool w = refl
 fill-waits (c ∷ cs) pool w = (w, (refl, fill-waits cs (fetched c (prefill c) pool).pool w))
 
-fill-does : (cs : List ℕ) (pages : ℕ) (pool : Stock) (slots : List (Option UnitState)) (begun : List ℕ) (standings : List Standing) → pool ≡ (filling cs (fresh_stock pages)).pool → AllEmpty slots → ((n : ℕ) → begun_at begun n ≡ 0) → ((n : ℕ) → standing_at standings n ≡ Nothing) →
-    LivingDoes (deeds (fill_story cs (fresh_stock pages))) (outset pages) (living_side pool slots begun standings)
-fill-does cs pages pool slots begun standings q e z n = record {
-  waits = subst (λ w. WaitLeads (deeds (fill_story cs (fresh_stock pages))) (waits_told []) w) (fun_ext (λ m. ap told_standing (no-standing m ∙ sym (n m)))) (fill-waits cs (fresh_stock pages) (waits_told []));
-  keeps = λ m s. n m ∙ sym (no-standing m);
+fill-does : (n q : ℕ) (cs : List ℕ) (before pool : Stock) (slots : List (Option UnitState)) (begun : List ℕ) (standings : List Standing) → pool ≡ (filling cs before).pool → AllEmpty slots → ((u : ℕ) → begun_at begun u ≡ 0) → ((u : ℕ) → standing_at standings u ≡ Nothing) →
+    LivingDoes (deeds (fill_story cs before)) (fresh_world n q before) (living_side n q pool slots begun standings)
+fill-does n q cs before pool slots begun standings same e z stands = record {
+  waits = subst (λ w. WaitLeads (deeds (fill_story cs before)) (waits_told []) w) (fun_ext (λ u. ap told_standing (no-standing u ∙ sym (stands u)))) (fill-waits cs before (waits_told []));
+  keeps = λ u s. stands u ∙ sym (no-standing u);
   did = λ p s.
-      let first = fresh-told pages (fresh_stock pages) [] [] [] no-slots no-lives in
-      let start : Shared = record (fresh 1 pages) { pool = bare_pool (fresh_stock pages) } in
-      let lead = fill-leads p cs (fresh_stock pages) start refl in
-      let now = fresh-told pages pool slots begun standings e z ∙ ap (λ x. let y : Shared = record (fresh 1 pages) { pool = bare_pool x } in y) q in
+      let first = fresh-told n q 0 before [] [] [] no-slots no-lives in
+      let start : Shared = record (fresh n 0) { pool = bare_pool before } in
+      let lead = fill-leads p cs before start refl in
+      let now = fresh-told n q 0 pool slots begun standings e z ∙ ap (λ x. let y : Shared = record (fresh n 0) { pool = bare_pool x } in y) same in
       record {
-        leads = subst (λ x. ActsLead p (deeds (fill_story cs (fresh_stock pages))) x (told_living (living_side pool slots begun standings))) (sym first) (subst (ActsLead p (deeds (fill_story cs (fresh_stock pages))) start) (sym now) lead);
+        leads = subst (λ x. ActsLead p (deeds (fill_story cs before)) x (told_living (living_side n q pool slots begun standings))) (sym first) (subst (ActsLead p (deeds (fill_story cs before)) start) (sym now) lead);
         stays = record { post_is = s.post_is; grace_is = s.grace_is; agree = s.agree; turn = s.turn; most = s.most; boxes = s.boxes; plain_words = s.plain_words; tracing_words = s.tracing_words };
         others = λ d q ne. refl;
       };
 }
 
-pub opened-tied : (cs : List ℕ) (pages : ℕ) (pool : Stock) (slots : List (Option UnitState)) (begun : List ℕ) (standings : List Standing) (told : Option Log) → pool ≡ (filling cs (fresh_stock pages)).pool → AllEmpty slots → ((n : ℕ) → begun_at begun n ≡ 0) → ((n : ℕ) → standing_at standings n ≡ Nothing) → IfSome told (λ es. es ≡ fill_log (filling cs (fresh_stock pages)).fills) →
-    TiedBy (polled knows_living false [] (outset pages)) (DoesHere knows_living) [] (outset pages) 0 [] [] told (living_side pool slots begun standings)
-opened-tied cs pages pool slots begun standings None q e z n t = tt
-opened-tied cs pages pool slots begun standings (Some log) q e z n t =
-    let story = fill_story cs (fresh_stock pages) in
-    let world : LivingState = living_side pool slots begun standings in
+-- The fills of a processor's opening are tied since the stock before them.
+pub fills-tied : (n q : ℕ) (cs : List ℕ) (before pool : Stock) (slots : List (Option UnitState)) (begun : List ℕ) (standings : List Standing) → pool ≡ (filling cs before).pool → AllEmpty slots → ((u : ℕ) → begun_at begun u ≡ 0) → ((u : ℕ) → standing_at standings u ≡ Nothing) →
+    Tied (polled knows_living false [] (fresh_world n q before)) (DoesHere knows_living) [] (fresh_world n q before) 0 [] [] (fill_log (filling cs before).fills) (living_side n q pool slots begun standings)
+fills-tied n q cs before pool slots begun standings same e z stands =
+    let story = fill_story cs before in
+    let start = fresh_world n q before in
+    let world : LivingState = living_side n q pool slots begun standings in
     record {
       story = story;
-      judged = fill-judged (outset pages) [] cs (fresh_stock pages);
-      log_is = t ∙ (sym (fill-lines cs (fresh_stock pages)) ∙ sym (append-nil (lines story)));
-      done_is = (subst (λ as'. LivingDoes as' (outset pages) world) (sym (append-nil (deeds story))) (fill-does cs pages pool slots begun standings q e z n), refl);
+      judged = fill-judged start [] cs before;
+      log_is = sym (fill-lines cs before) ∙ sym (append-nil (lines story));
+      done_is = (subst (λ as'. LivingDoes as' start world) (sym (append-nil (deeds story))) (fill-does n q cs before pool slots begun standings same e z stands), refl);
     }
+
+pub opened-tied : (cs : List ℕ) (pages : ℕ) (pool : Stock) (slots : List (Option UnitState)) (begun : List ℕ) (standings : List Standing) (told : Option Log) → pool ≡ (filling cs (fresh_stock pages)).pool → AllEmpty slots → ((u : ℕ) → begun_at begun u ≡ 0) → ((u : ℕ) → standing_at standings u ≡ Nothing) → IfSome told (λ es. es ≡ fill_log (filling cs (fresh_stock pages)).fills) →
+    TiedBy (polled knows_living false [] (outset pages)) (DoesHere knows_living) [] (outset pages) 0 [] [] told (living_side 1 0 pool slots begun standings)
+opened-tied cs pages pool slots begun standings None same e z stands t = tt
+opened-tied cs pages pool slots begun standings (Some log) same e z stands t =
+    let world : LivingState = living_side 1 0 pool slots begun standings in
+    subst (λ es. TiedBy (polled knows_living false [] (outset pages)) (DoesHere knows_living) [] (outset pages) 0 [] [] (Some es) world) (sym t)
+    (fills-tied 1 0 cs (fresh_stock pages) pool slots begun standings same e z stands)

@@ -4,6 +4,7 @@ pub mod OpeningLemmas
 pub mod Bounds
 pub mod Begun
 pub mod Started
+pub mod Opens
 pub mod FreshTold
 pub mod ClassLists
 pub mod Closes
@@ -30,6 +31,7 @@ pub mod Nesting
 pub mod AddedParts
 pub mod TurnTaken
 pub mod SweepsTake
+pub mod OpeningTurns
 pub mod ParcelsArrive
 pub mod StaysSound
 pub mod Spares

@@ -34,7 +34,7 @@ use Rattle.bm_run.proofs.FreshTold.{outset-told}
 use Rattle.bm_run.proofs.Laid.{added-lines, outset-side}
 
 -- what is known of lives, of what processors share
-abbrev lived_by : Lives → Lived
+abbrev pub lived_by : Lives → Lived
 lived_by lives = record { begun = lives.begun; homes = λ u. maker_of (lives.holds u) }
 
 -- ---- a life that begins, and one that ends
@@ -144,7 +144,7 @@ home-is None = refl
 home-is (Some u) = refl
 
 -- what a world tells of lives, its side knows
-lived-is : (w : LivingState) → lived_by (told_living w).lives ≡ lived_in (known_living w).objects
+pub lived-is : (w : LivingState) → lived_by (told_living w).lives ≡ lived_in (known_living w).objects
 lived-is w = ap (λ (f : ℕ → Option ℕ). let a : Lived = record { begun = begun_at w.begun; homes = f } in a) (fun_ext (λ u. home-is (unit_at w.slots u)))
 
 -- the log of a processor that is tied since a time tells which units live, from those that lived then

@@ -134,7 +134,7 @@ fills-said cs pool fills e =
 fills-leave : (p : Program) (m : Processor LivingState) (fills : Log) → (known_of knows_living m).grace.processor ≡ 0 → Sound knows_living p m → log_of m ≡ Some fills → lists_of m ≡ after (opening 0) fills
 fills-leave p m fills first sound told = (let l = subst (λ (x : Option Log). IfSome x (λ es. Leaves 0 es (lists_of m))) told (told-of p m first sound) in sym l.lists)
 
-fills-logged : (cs : List ℕ) (pool : Stock) (p : Program) (m : Processor LivingState) (fills : Log) → IsOpen p (filling cs pool) m → log_of m ≡ Some fills → fills ≡ fill_log (filling cs pool).fills
+fills-logged : (cs : List ℕ) (pool : Stock) (p : Program) (m : Processor LivingState) (fills : Log) → IsOpen 1 0 p (filling cs pool) m → log_of m ≡ Some fills → fills ≡ fill_log (filling cs pool).fills
 fills-logged cs pool p m fills o told = subst (λ (x : Option Log). IfSome x (λ es. es ≡ fill_log (filling cs pool).fills)) told o.told
 
 -- ---- what a log tells where ordinary code stands
@@ -155,7 +155,7 @@ stands-here p m log first s h = subst (λ n. HandlersStand p.scenario.now n log)
 -- What a run left: the processor as it was opened, behind its scripts, and once its closing has begun; and its log.
 pub record RunLeft (s : Parts) (p : Program) (m0 m2 m3 : Processor LivingState) (final : Log) : Type 0 where
   pub program : p.scenario.now ≡ s
-  pub opens : IsOpen p (filling (opened_classes s.types) (fresh_stock s.pages)) m0
+  pub opens : IsOpen 1 0 p (filling (opened_classes s.types) (fresh_stock s.pages)) m0
   pub scripts : Wrote (AreScripts s (lines_of 0 s.runs)) m0 m2
   pub lives : (u : ℕ) → lives_of m2.side.slots u ≡ None
   pub sound : Sound knows_living p m2
@@ -178,7 +178,7 @@ told-run s p m0 m2 m3 final r =
     let Ends : Part = Stand 0 (entry.Ended ∷ entry.Close ∷ []) in
     let Sweeps : LivingState → Part = λ v. SweepsTold classes (told_in v.side.post) in
     let z = r.closed.closes in
-    let first2 = w.ordinary.processor ∙ o.first in
+    let first2 = w.ordinary.processor ∙ o.processor in
     let first3 = e.ordinary.processor ∙ first2 in
     let e' : GrewPart Ends (lists_of m2) (log_of m2) z.log = subst (GrewBy Ends (lists_of m2) (log_of m2)) z.told e.grew in
     let w' : GrewPart Scripts (lists_of m0) (log_of m0) e'.log = subst (GrewBy Scripts (lists_of m0) (log_of m0)) e'.told w.grew in
@@ -222,7 +222,7 @@ told-run s p m0 m2 m3 final r =
         front_stands = front_stands;
         front_done = front_done;
         are_fills = fills-said classes (fresh_stock s.pages) fills logged;
-        are_scripts = subst (λ (t : State ℕ). Scripts t scripts) (fills-leave p m0 fills o.first o.sound told0) w'.is_part;
+        are_scripts = subst (λ (t : State ℕ). Scripts t scripts) (fills-leave p m0 fills o.processor o.sound told0) w'.is_part;
         mail = tied-parcels (polled knows_living false [] (outset s.pages)) s.pages front m2.side tied;
         closes = closes;
         before = lists_of m2;
@@ -266,7 +266,7 @@ told-some None h = cc
 told-some (Some l) h = (l, refl)
 
 -- .. before the closing
-pub unused-rows : (s : Parts) (p : Program) (m0 m2 m3 : Processor LivingState) → p.scenario.now ≡ s → RowsKept → IsOpen p (filling (opened_classes s.types) (fresh_stock s.pages)) m0 → Wrote (AreScripts s (lines_of 0 s.runs)) m0 m2 → Sound knows_living p m2 → Wrote (Stand 0 (entry.Ended ∷ entry.Close ∷ [])) m2 m3 → shown m3.caches ≡ shown m2.caches → IsSome (log_of m3) → (c : ℕ) → times c (opened_classes s.types) ≡ 0 → seven_lists ((shown m3.caches).rows c) ≡ []
+pub unused-rows : (s : Parts) (p : Program) (m0 m2 m3 : Processor LivingState) → p.scenario.now ≡ s → RowsKept → IsOpen 1 0 p (filling (opened_classes s.types) (fresh_stock s.pages)) m0 → Wrote (AreScripts s (lines_of 0 s.runs)) m0 m2 → Sound knows_living p m2 → Wrote (Stand 0 (entry.Ended ∷ entry.Close ∷ [])) m2 m3 → shown m3.caches ≡ shown m2.caches → IsSome (log_of m3) → (c : ℕ) → times c (opened_classes s.types) ≡ 0 → seven_lists ((shown m3.caches).rows c) ≡ []
 unused-rows s p m0 m2 m3 program kept o w sound2 e same some c none =
     let Scripts : Part = AreScripts s (lines_of 0 s.runs) in
     let Ends : Part = Stand 0 (entry.Ended ∷ entry.Close ∷ []) in
@@ -281,10 +281,10 @@ unused-rows s p m0 m2 m3 program kept o w sound2 e same some c none =
     let classes : List ℕ = opened_classes s.types in
     let logged : fills ≡ fill_log (filling classes (fresh_stock s.pages)).fills = fills-logged classes (fresh_stock s.pages) p m0 fills o told0 in
     let here2 = tells-here p m2 front sound2 told2 in
-    let stands : HandlersStand s 0 front = subst (λ x. HandlersStand x 0 front) program (stands-here p m2 front (w.ordinary.processor ∙ o.first) sound2 here2.stands) in
+    let stands : HandlersStand s 0 front = subst (λ x. HandlersStand x 0 front) program (stands-here p m2 front (w.ordinary.processor ∙ o.processor) sound2 here2.stands) in
     let done : HandlersDone s front = subst (λ x. HandlersDone x front) program here2.done in
-    let is : Front s 0 (opening 0) front = front-of s fills scripts (fills-said classes (fresh_stock s.pages) fills logged) (subst (λ (x : State ℕ). Scripts x scripts) (fills-leave p m0 fills o.first o.sound told0) w'.is_part) in
-    let leaves : Leaves 0 front (lists_of m2) = subst (λ (x : Option Log). IfSome x (λ es. Leaves 0 es (lists_of m2))) told2 (told-of p m2 (w.ordinary.processor ∙ o.first) sound2) in
+    let is : Front s 0 (opening 0) front = front-of s fills scripts (fills-said classes (fresh_stock s.pages) fills logged) (subst (λ (x : State ℕ). Scripts x scripts) (fills-leave p m0 fills o.processor o.sound told0) w'.is_part) in
+    let leaves : Leaves 0 front (lists_of m2) = subst (λ (x : Option Log). IfSome x (λ es. Leaves 0 es (lists_of m2))) told2 (told-of p m2 (w.ordinary.processor ∙ o.processor) sound2) in
     let empty : seven_lists ((lists_of m2).rows c) ≡ [] = row-empty s front m2 c kept stands done is leaves (never-used s c none (list_any (uses_class c) s.types) refl) in
     rw same (no-tokens (seven_lists ((shown m2.caches).rows c)) (map-seven number_of ((shown m2.caches).rows c) ∙ empty))
 

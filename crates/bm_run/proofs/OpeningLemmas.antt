@@ -1,9 +1,9 @@
--- The processor after its opening.
+-- A processor after its opening.
 use Rattle.std.proofs.Common.{◌≡◌, ◌≢◌, ◌≤◌, ◌<◌, ℕ, suc, zero, ◌*◌, Bool, true, false, not, if◌then◌else◌, List, [], ◌∷◌, ◌++◌, length, get_or, map, refl, sym, ap, subst, ◌∙◌, Option, Some, None, arith, eq-eqb, eqb, ne_eqb, nat_lt, is_some, inl, inr, replicate}
 use Rattle.std.specs.List.{All, AllPairs}
 use Rattle.std.proofs.lemmas.Bool.{and_from, and_parts, cases_eq, ltb-true}
 use Rattle.std.proofs.lemmas.Bool.Decides.{nat_tests}
-use Rattle.std.proofs.lemmas.List.{map-append}
+use Rattle.std.proofs.lemmas.List.{get_or-replicate, map-append}
 use Rattle.std.proofs.lemmas.List.Elements.{All-nil}
 use Rattle.bm_journal.specs.declared.ids.Domain.{Domain}
 use Rattle.bm_journal.specs.declared.ids.Domain.TheVariants.{Plain, Tracing}
@@ -36,6 +36,7 @@ use Rattle.bm_work.specs.DeskTests.{tests_by}
 use Rattle.bm_law_scenario.specs.Fills.{prefill, fresh_stock}
 use Rattle.bm_run.specs.Filling.{filling, units_in, IsUnborn, NeverLived}
 use Rattle.bm_run.specs.Opened.{ascends, fresh_side}
+use Rattle.bm_run.specs.Openings.{AreNew}
 
 pub ascending : (cs : List ℕ) (pool : Stock) → ascends cs ≡ true → Ascending (filling cs pool).fills
 ascending [] pool h = tt
@@ -92,37 +93,43 @@ unlived post h e = record {
   boxes = λ i. let none : get_or post.inboxes i [] ≡ [] = ap (λ (z : List Parcels). get_or z i []) e ∙ none-at 88 i in rw none (All-nil _);
 }
 
--- the side with nothing alive
-abbrev pub living_side : Stock → List (Option UnitState) → List ℕ → List Standing → LivingState
-living_side pool slots begun standings = record { side = fresh_side pool; slots = slots; begun = begun; standings = standings; asked = 0 }
+-- the world of processor p of n with nothing alive
+abbrev pub living_side : (n p : ℕ) → Stock → List (Option UnitState) → List ℕ → List Standing → LivingState
+living_side n p pool slots begun standings = record { side = fresh_side n p pool; slots = slots; begun = begun; standings = standings; asked = 0 }
 
-pub side-is : (world : LivingState) (pool : Stock) → world.side ≡ fresh_side pool → world.asked ≡ 0 → world ≡ living_side pool world.slots world.begun world.standings
-side-is world pool e z =
+pub side-is : (n p : ℕ) (world : LivingState) (pool : Stock) → world.side ≡ fresh_side n p pool → world.asked ≡ 0 → world ≡ living_side n p pool world.slots world.begun world.standings
+side-is n p world pool e z =
     ap (λ s. let w : LivingState = record { side = s; slots = world.slots; begun = world.begun; standings = world.standings; asked = world.asked } in w) e ∙
-    ap (λ a. let w : LivingState = record { side = fresh_side pool; slots = world.slots; begun = world.begun; standings = world.standings; asked = a } in w) z
+    ap (λ a. let w : LivingState = record { side = fresh_side n p pool; slots = world.slots; begun = world.begun; standings = world.standings; asked = a } in w) z
 
 pub none-live : (slots : List (Option UnitState)) → AllEmpty slots → (u : ℕ) → lives_of slots u ≡ None
 none-live slots e u = ap living_of (e u)
 
-pub no-numbers : (pool : Stock) (slots : List (Option UnitState)) (begun : List ℕ) (standings : List Standing) (d : Domain) → (side d (known_living (living_side pool slots begun standings))).number ≡ 0
-no-numbers pool slots begun standings Plain = refl
-no-numbers pool slots begun standings Tracing = refl
+-- a word of each processor is 0, of however many
+all-zero : (k i : ℕ) → get_or {A = ℕ} (replicate k 0) i 0 ≡ 0
+all-zero zero i = refl
+all-zero (suc k) zero = refl
+all-zero (suc k) (suc i) = all-zero k i
 
-pub no-words : (pool : Stock) (slots : List (Option UnitState)) (begun : List ℕ) (standings : List Standing) (d : Domain) → (side d (known_living (living_side pool slots begun standings))).word ≡ 0
-no-words pool slots begun standings Plain = refl
-no-words pool slots begun standings Tracing = refl
+pub no-numbers : (n p : ℕ) (pool : Stock) (slots : List (Option UnitState)) (begun : List ℕ) (standings : List Standing) (d : Domain) → (side d (known_living (living_side n p pool slots begun standings))).number ≡ 0
+no-numbers n p pool slots begun standings Plain = refl
+no-numbers n p pool slots begun standings Tracing = refl
 
-pub all-begins : (pool : Stock) (slots : List (Option UnitState)) (begun : List ℕ) (standings : List Standing) (d : Domain) → (side d (known_living (living_side pool slots begun standings))).begins ≡ 134217728
-all-begins pool slots begun standings Plain = refl
-all-begins pool slots begun standings Tracing = refl
+pub no-words : (n p : ℕ) (pool : Stock) (slots : List (Option UnitState)) (begun : List ℕ) (standings : List Standing) (d : Domain) → (side d (known_living (living_side n p pool slots begun standings))).word ≡ 0
+no-words n p pool slots begun standings Plain = all-zero 8 p
+no-words n p pool slots begun standings Tracing = all-zero 8 p
+
+pub all-begins : (n p : ℕ) (pool : Stock) (slots : List (Option UnitState)) (begun : List ℕ) (standings : List Standing) (d : Domain) → p < 8 → (side d (known_living (living_side n p pool slots begun standings))).begins ≡ 134217728
+all-begins n p pool slots begun standings Plain lt = get_or-replicate 8 p 134217728 0 lt
+all-begins n p pool slots begun standings Tracing lt = get_or-replicate 8 p 134217728 0 lt
 
 -- ---- each unit may be used again
 
-mine-here : (pool : Stock) (slots : List (Option UnitState)) (begun : List ℕ) (standings : List Standing) (n : ℕ) → AllEmpty slots → (stocked_at pool.units n).out ≡ true → (rights_living (living_side pool slots begun standings)).mine n ≡ true
-mine-here pool slots begun standings n e o =
-    let none : not (is_some (unit_at slots n)) ≡ true = ap (λ x. not (is_some x)) (e n) in
-    let alone : eqb (waits n no_parcels) 0 ≡ true = ap (λ k. eqb k 0) (no-waits 88 n) in
-    and_from (is_mine (fresh_side pool).post n) (not (is_some (unit_at slots n))) (and_from (stocked_at pool.units n).out (eqb (waits n no_parcels) 0) o alone) none
+mine-here : (n p : ℕ) (pool : Stock) (slots : List (Option UnitState)) (begun : List ℕ) (standings : List Standing) (u : ℕ) → AllEmpty slots → (stocked_at pool.units u).out ≡ true → (rights_living (living_side n p pool slots begun standings)).mine u ≡ true
+mine-here n p pool slots begun standings u e o =
+    let none : not (is_some (unit_at slots u)) ≡ true = ap (λ x. not (is_some x)) (e u) in
+    let alone : eqb (waits u no_parcels) 0 ≡ true = ap (λ k. eqb k 0) (no-waits 88 u) in
+    and_from (is_mine (fresh_side n p pool).post u) (not (is_some (unit_at slots u))) (and_from (stocked_at pool.units u).out (eqb (waits u no_parcels) 0) o alone) none
 
 settled-here : (begun : List ℕ) (standings : List Standing) (n life : ℕ) (seal : Option Seal) → n < 65536 → NeverLived life seal → begun_at begun n ≡ 0 → standing_at standings n ≡ Nothing → may_be_used begun standings n life seal ≡ true
 settled-here begun standings n life seal lt new none stands =
@@ -131,11 +138,11 @@ settled-here begun standings n life seal lt new none stands =
     (and_from (has_room n life) (eqb life (begun_at begun n)) (room-is n life (omega (arith, lt)) (omega (arith, z))) (eq-eqb life (begun_at begun n) (z ∙ sym none)))
     (waited-so (standing_at standings n) seal (stands ∙ ap standing_of (sym new.1)))
 
-reusable : (pool : Stock) (slots : List (Option UnitState)) (begun : List ℕ) (standings : List Standing) (u : Token) → AllEmpty slots → ((n : ℕ) → begun_at begun n ≡ 0) → ((n : ℕ) → standing_at standings n ≡ Nothing) → IsUnborn pool.units → NeverLived u.life u.seal → (stocked_at pool.units u.number).out ≡ true → Reusable (tests_by (rights_living (living_side pool slots begun standings))) u
-reusable pool slots begun standings u e none stands born z o =
+reusable : (n p : ℕ) (pool : Stock) (slots : List (Option UnitState)) (begun : List ℕ) (standings : List Standing) (u : Token) → AllEmpty slots → ((k : ℕ) → begun_at begun k ≡ 0) → ((k : ℕ) → standing_at standings k ≡ Nothing) → IsUnborn pool.units → NeverLived u.life u.seal → (stocked_at pool.units u.number).out ≡ true → Reusable (tests_by (rights_living (living_side n p pool slots begun standings))) u
+reusable n p pool slots begun standings u e none stands born z o =
     let inside = out_inside pool.units u.number o in
     let size = born.size in
-    and_from ((rights_living (living_side pool slots begun standings)).mine u.number) (may_be_used begun standings u.number u.life u.seal) (mine-here pool slots begun standings u.number e o) (settled-here begun standings u.number u.life u.seal (omega (arith, inside, size)) z (none u.number) (stands u.number))
+    and_from ((rights_living (living_side n p pool slots begun standings)).mine u.number) (may_be_used begun standings u.number u.life u.seal) (mine-here n p pool slots begun standings u.number e o) (settled-here begun standings u.number u.life u.seal (omega (arith, inside, size)) z (none u.number) (stands u.number))
 
 all-front : (P : Token → Type 0) (xs ys : List Token) → All P (xs ++ ys) → All P xs
 all-front P [] ys h i d lt = absurd (omega arith)
@@ -150,9 +157,9 @@ suits : (t : Tests) (fs : Fills) → All (Reusable t) (units_in fs) → FillsSui
 suits t [] h = tt
 suits t (f ∷ fs) h = (all-front (Reusable t) f.1 (units_in fs) h, suits t fs (all-back (Reusable t) f.1 (units_in fs) h))
 
-pub fills-suit : (pool : Stock) (slots : List (Option UnitState)) (begun : List ℕ) (standings : List Standing) (fs : Fills) → AllEmpty slots → ((n : ℕ) → begun_at begun n ≡ 0) → ((n : ℕ) → standing_at standings n ≡ Nothing) → IsUnborn pool.units → All (λ (u : Token). NeverLived u.life u.seal) (units_in fs) → AreOut pool (units_in fs) → FillsSuit (tests_by (rights_living (living_side pool slots begun standings))) fs
-fills-suit pool slots begun standings fs e none stands born z o =
-    suits (tests_by (rights_living (living_side pool slots begun standings))) fs (λ i d lt. reusable pool slots begun standings (get_or (units_in fs) i d) e none stands born (z i d lt) (o.each i d lt).out)
+pub fills-suit : (n p : ℕ) (pool : Stock) (slots : List (Option UnitState)) (begun : List ℕ) (standings : List Standing) (fs : Fills) → AllEmpty slots → ((k : ℕ) → begun_at begun k ≡ 0) → ((k : ℕ) → standing_at standings k ≡ Nothing) → IsUnborn pool.units → AreNew pool (units_in fs) → FillsSuit (tests_by (rights_living (living_side n p pool slots begun standings))) fs
+fills-suit n p pool slots begun standings fs e none stands born new =
+    suits (tests_by (rights_living (living_side n p pool slots begun standings))) fs (λ i d lt. reusable n p pool slots begun standings (get_or (units_in fs) i d) e none stands born (new.unlived i d lt) (new.out i d lt))
 
 -- ---- no deferred work is in progress
 
@@ -172,8 +179,8 @@ lowered-filled : (fs : Fills) (s : State Token) → ((k : ℕ) → (s.rows k).ra
 lowered-filled [] s h = h
 lowered-filled (f ∷ fs) s h = lowered-filled fs (effect 0 (entry.Fill f.0 (named f.1)) f.1 s) (λ k. either-flag (eqb k f.0) _ (s.rows k) (h f.0) (h k))
 
-pub lowered : (fs : Fills) (s : State Token) → s ≡ filled fs (opening 0) → (c : ℕ) → (s.rows c).raised ≡ false
-lowered fs s e c = ap (λ (x : State Token). (x.rows c).raised) e ∙ lowered-filled fs (opening 0) (λ i. refl) c
+pub lowered : (p : ℕ) (fs : Fills) (s : State Token) → s ≡ filled fs (opening p) → (c : ℕ) → (s.rows c).raised ≡ false
+lowered p fs s e c = ap (λ (x : State Token). (x.rows c).raised) e ∙ lowered-filled fs (opening p) (λ i. refl) c
 
 no-dates : (t : Tests) → DatedRow t no_deferred
 no-dates t = record {
@@ -186,14 +193,14 @@ no-dates t = record {
     clash : {x : ℕ} → ◌≡◌ {A = Option ℕ} None (Some x) → ⊥
     clash e = cc
 
-pub dated : (t : Tests) (fs : Fills) (s : State Token) → s ≡ filled fs (opening 0) → Dated t s
-dated t fs s e k =
-    let d : (s.rows k).deferred ≡ no_deferred = ap (λ (x : State Token). (x.rows k).deferred) e ∙ deferred-filled fs (opening 0) (λ i. refl) k in
+pub dated : (p : ℕ) (t : Tests) (fs : Fills) (s : State Token) → s ≡ filled fs (opening p) → Dated t s
+dated p t fs s e k =
+    let d : (s.rows k).deferred ≡ no_deferred = ap (λ (x : State Token). (x.rows k).deferred) e ∙ deferred-filled fs (opening p) (λ i. refl) k in
     subst (DatedRow t) (sym d) (no-dates t)
 
-pub stamped : (fs : Fills) (s : State Token) → s ≡ filled fs (opening 0) → (c : ℕ) → is_unstamped (s.rows c).deferred.plain ≡ false
-stamped fs s e c =
-    let d : (s.rows c).deferred ≡ no_deferred = ap (λ (x : State Token). (x.rows c).deferred) e ∙ deferred-filled fs (opening 0) (λ i. refl) c in
+pub stamped : (p : ℕ) (fs : Fills) (s : State Token) → s ≡ filled fs (opening p) → (c : ℕ) → is_unstamped (s.rows c).deferred.plain ≡ false
+stamped p fs s e c =
+    let d : (s.rows c).deferred ≡ no_deferred = ap (λ (x : State Token). (x.rows c).deferred) e ∙ deferred-filled fs (opening p) (λ i. refl) c in
     ap (λ (x : Deferred Token). is_unstamped x.plain) d
 
 pub opened-pool : (pool : Stock) (pages : ℕ) → pool.classes ≡ replicate pages None → pool.units ≡ replicate (256 * pages) unborn → pool ≡ fresh_stock pages

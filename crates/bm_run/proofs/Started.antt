@@ -24,13 +24,13 @@ use Rattle.bm_exec_levels.specs.declared.program.Program.{Program}
 use Rattle.bm_run.proofs.Begun.{stands-filled, tells-filled, where-told}
 use Rattle.bm_run.proofs.Bounds.{Within, asks-few, few-planned, handler-lines}
 
--- the plan of a scenario's handlers, none of which has run
-abbrev pub whole_plan : Parts → Plan
-whole_plan s = record { left = planned_for 0 s; ended = false }
+-- the plan of a processor's handlers, none of which has run
+abbrev pub whole_plan : Parts → ℕ → Plan
+whole_plan s p = record { left = planned_for p s; ended = false }
 
--- A processor on which nothing has run: what handlers need is there, and nothing was asked for, lived or entered.
-pub record IsFresh (s : Parts) (m : Processor LivingState) : Type 0 where
-  pub planned : m.handlers.planned ≡ whole_plan s
+-- Processor i, on which nothing has run: what handlers need is there, and nothing was asked for, lived or entered.
+pub record IsFresh (s : Parts) (i : ℕ) (m : Processor LivingState) : Type 0 where
+  pub planned : m.handlers.planned ≡ whole_plan s i
   pub scripts : m.handlers.scripts ≡ length s.scripts
   pub running : m.running.items ≡ []
   pub room_running : 3 ≤ vec_capacity m.running
@@ -38,40 +38,40 @@ pub record IsFresh (s : Parts) (m : Processor LivingState) : Type 0 where
   pub tables : length m.tables.items ≡ 3
   pub room_tables : 3 ≤ vec_capacity m.tables
   pub inside : m.inside ≡ false
-  pub home : m.caches.processor ≡ 0
-  pub first : (known_of knows_living m).grace.processor ≡ 0
+  pub home : m.caches.processor ≡ i
+  pub processor : (known_of knows_living m).grace.processor ≡ i
   pub words : (d : Domain) → word_of knows_living d m ≡ 0
   pub asked : (known_of knows_living m).objects.asked + m.settled ≡ 0
   pub begun : (u : ℕ) → (known_of knows_living m).objects.begun u ≡ 0
   pub lives : (u : ℕ) → (known_of knows_living m).objects.lives u ≡ None
 
-pub left-is : (s : Parts) (m : Processor LivingState) → IsFresh s m → left_of m ≡ planned_for 0 s
-left-is s m f = ap (λ (plan : Plan). plan.left) f.planned
+pub left-is : (s : Parts) (i : ℕ) (m : Processor LivingState) → IsFresh s i m → left_of m ≡ planned_for i s
+left-is s i m f = ap (λ (plan : Plan). plan.left) f.planned
 
 -- ordinary code is there
-stands : (p : ℕ) (s : Parts) (plan : Plan) (running : List Due) (log : Option Log) (fs : Fills) → p ≡ 0 → plan ≡ whole_plan s → running ≡ [] → IfSome log (λ es. es ≡ fill_log fs) → Running StandsAt 0 p s plan running log
-stands p s plan running log fs e f g told =
-    let at : IfSome log (StandsAt (position_of 0 s (whole_plan s) [])) = where-told (StandsAt (position_of 0 s (whole_plan s) [])) log (fill_log fs) told (stands-filled (names_in s.scripts) (planned_for 0 s) fs) in
-    let here : Running StandsAt 0 0 s (whole_plan s) [] log = record { at = at; level = refl; deep = omega arith } in
-    subst (λ q. Running StandsAt 0 q s plan running log) (sym e) (subst (λ x. Running StandsAt 0 0 s x running log) (sym f) (subst (λ x. Running StandsAt 0 0 s (whole_plan s) x log) (sym g) here))
+stands : (p i : ℕ) (s : Parts) (plan : Plan) (running : List Due) (log : Option Log) (fs : Fills) → p ≡ i → plan ≡ whole_plan s i → running ≡ [] → IfSome log (λ es. es ≡ fill_log fs) → Running StandsAt 0 p s plan running log
+stands p i s plan running log fs e f g told =
+    let at : IfSome log (StandsAt (position_of i s (whole_plan s i) [])) = where-told (StandsAt (position_of i s (whole_plan s i) [])) log (fill_log fs) told (stands-filled (names_in s.scripts) (planned_for i s) fs) in
+    let here : Running StandsAt 0 i s (whole_plan s i) [] log = record { at = at; level = refl; deep = omega arith } in
+    subst (λ q. Running StandsAt 0 q s plan running log) (sym e) (subst (λ x. Running StandsAt 0 i s x running log) (sym f) (subst (λ x. Running StandsAt 0 i s (whole_plan s i) x log) (sym g) here))
 
 outside : (w : ℕ) (b : Bool) → w ≡ 0 → b ≡ false → w % 2 ≡ (if b then 1 else 0)
 outside w b e f = rw (e, f) refl
 
 -- handlers can run
-ready : (p : Program) (m : Processor LivingState) → IsProgram p → HasConditions p.scenario.now → Within p.scenario.now → IsFresh p.scenario.now m → IsReady knows_living p m
-ready p m fits fine within f =
+ready : (p : Program) (i : ℕ) (m : Processor LivingState) → IsProgram p → HasConditions p.scenario.now → Within p.scenario.now i → IsFresh p.scenario.now i m → IsReady knows_living p m
+ready p i m fits fine within f =
     let s = p.scenario.now in
-    let left = left-is s m f in
-    let few = few-planned s within in
-    let cost = asks-few s within in
+    let left = left-is s i m f in
+    let few = few-planned s i within in
+    let cost = asks-few s i within in
     let none = f.asked in
     let word = f.words Plain in
     record {
       fits = fits;
-      here = f.home ∙ sym f.first;
+      here = f.home ∙ sym f.processor;
       scripts = f.scripts;
-      planned = subst (All (IsHandlerLine s)) (sym left) (handler-lines s fine);
+      planned = subst (All (IsHandlerLine s)) (sym left) (handler-lines s i fine);
       bound = f.bound;
       tables = (let t = f.tables in let r = ap length f.running in omega (arith, t, r));
       room_running = f.room_running;
@@ -81,16 +81,16 @@ ready p m fits fine within f =
       inside = outside (word_of knows_living Plain m) m.inside word f.inside;
     }
 
-pub fresh-at : (p : Program) (m : Processor LivingState) (fs : Fills) → IsProgram p → HasConditions p.scenario.now → Within p.scenario.now → IsFresh p.scenario.now m → IfSome (log_of m) (λ es. es ≡ fill_log fs) → IsAt knows_living StandsAt 0 p m
-fresh-at p m fs fits fine within f told = record {
-  at = stands (known_of knows_living m).grace.processor p.scenario.now m.handlers.planned m.running.items (log_of m) fs f.first f.planned f.running told;
+pub fresh-at : (p : Program) (i : ℕ) (m : Processor LivingState) (fs : Fills) → IsProgram p → HasConditions p.scenario.now → Within p.scenario.now i → IsFresh p.scenario.now i m → IfSome (log_of m) (λ es. es ≡ fill_log fs) → IsAt knows_living StandsAt 0 p m
+fresh-at p i m fs fits fine within f told = record {
+  at = stands (known_of knows_living m).grace.processor i p.scenario.now m.handlers.planned m.running.items (log_of m) fs f.processor f.planned f.running told;
   tells = where-told (Tells p.scenario.now (known_of knows_living m)) (log_of m) (fill_log fs) told (tells-filled p.scenario.now (known_of knows_living m) fs f.words);
-  ready = ready p m fits fine within f;
+  ready = ready p i m fits fine within f;
 }
 
 -- so few handlers are planned that each may begin the periods that it needs
-pub begins-enough : (s : Parts) (m : Processor LivingState) (begins : ℕ) → Within s → IsFresh s m → begins ≡ 134217728 → 24 * 4194304 + 12 * length (left_of m) ≤ begins
-begins-enough s m begins within f e = let l = ap length (left-is s m f) in let few = few-planned s within in omega (arith, l, few, e)
+pub begins-enough : (s : Parts) (i : ℕ) (m : Processor LivingState) (begins : ℕ) → Within s i → IsFresh s i m → begins ≡ 134217728 → 24 * 4194304 + 12 * length (left_of m) ≤ begins
+begins-enough s i m begins within f e = let l = ap length (left-is s i m f) in let few = few-planned s i within in omega (arith, l, few, e)
 
 -- ---- a scenario without types and scripts
 

@@ -1,5 +1,6 @@
 pub mod Filling
 pub mod Opened
+pub mod Openings
 pub mod Lines
 pub mod Turns
 pub mod Closed

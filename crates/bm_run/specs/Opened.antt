@@ -1,4 +1,4 @@
--- The one processor after its opening.
+-- A processor after its opening.
 use Rattle.std.specs.Prelude.{◌≡◌, ◌+◌, ◌&&◌, ℕ, Bool, true, false, List, [], ◌∷◌, None, IfSome, nat_lt}
 use Rattle.bm_world.specs.ToldLiving.{knows_living}
 use Rattle.bm_journal.specs.declared.ids.Domain.{Domain}
@@ -12,7 +12,6 @@ use Rattle.bm_law_scenario.specs.Fills.{fresh_stock}
 use Rattle.bm_cache.specs.Opening.{fill_log}
 use Rattle.bm_cache.specs.Shown.{shown}
 use Rattle.bm_due.specs.Due.{planned_for}
-use Rattle.bm_exec_levels.specs.AtTie.{TiedAt}
 use Rattle.bm_exec_levels.specs.Ready.{known_of, left_of}
 use Rattle.bm_exec_levels.specs.Sound.{Sound}
 use Rattle.bm_exec_levels.specs.declared.processor.Processor.{Processor}
@@ -25,23 +24,27 @@ ascends [] = true
 ascends (c ∷ []) = nat_lt c 11
 ascends (c ∷ d ∷ cs) = nat_lt c d && ascends (d ∷ cs)
 
--- The one processor's side of all that processors share, with this stock: nobody has sent a parcel, begun a period or entered a
--- section. (This project's own.)
-abbrev pub fresh_side : Stock → SideState
-fresh_side pool = record {
-  post = record { pool = pool; processors = 1; processor = 0; inboxes = no_parcels };
-  grace = record { processors = 1; processor = 0; plain = idle; tracing = idle };
+-- Processor p's side, of so many, of all that processors share, with this stock: nobody has sent a parcel, begun a period or entered
+-- a section. (This project's own.)
+abbrev pub fresh_side : (processors p : ℕ) → Stock → SideState
+fresh_side n p pool = record {
+  post = record { pool = pool; processors = n; processor = p; inboxes = no_parcels };
+  grace = record { processors = n; processor = p; plain = idle; tracing = idle };
 }
+
+-- .. where no unit lives or has begun a life, and none was asked for
+abbrev pub fresh_world : (processors p : ℕ) → Stock → LivingState
+fresh_world n p pool = record { side = fresh_side n p pool; slots = []; begun = []; standings = []; asked = 0 }
 
 -- the world of one processor before its opening: all units are in stock
 abbrev pub outset : (pages : ℕ) → LivingState
-outset pages = record { side = fresh_side (fresh_stock pages); slots = []; begun = []; standings = []; asked = 0 }
+outset pages = fresh_world 1 0 (fresh_stock pages)
 
--- The processor's caches were filled so: the log has a `fill` for each class, no flag is up, no object lives, no life began,
+-- Processor i of n, whose caches were filled so: the log has a `fill` for each class, no flag is up, no object lives, no life began,
 -- none was asked for, no period is in progress, and no section was entered. No handler that the program plans for it has run, none
--- runs, and it is in no section. Its log and its side are tied since the outset. (bpf_mem_alloc_init and prefill_mem_cache in
--- kernel/bpf/memalloc.c; objects, periods, sections and planned handlers are this project's own.)
-pub record IsOpen (p : Program) (f : Filling) (m : Processor LivingState) : Type 0 where
+-- runs, and it is in no section. (bpf_mem_alloc_init and prefill_mem_cache in kernel/bpf/memalloc.c; objects, periods, sections and
+-- planned handlers are this project's own.)
+pub record IsOpen (n i : ℕ) (p : Program) (f : Filling) (m : Processor LivingState) : Type 0 where
   pub sound : Sound knows_living p m
   pub told : IfSome m.caches.recorder.told (λ es. es ≡ fill_log f.fills)
   pub lowered : (c : ℕ) → ((shown m.caches).rows c).raised ≡ false
@@ -50,9 +53,8 @@ pub record IsOpen (p : Program) (f : Filling) (m : Processor LivingState) : Type
   pub asked : (known_of knows_living m).objects.asked + m.settled ≡ 0
   pub numbers : (d : Domain) → (side d (known_of knows_living m)).number ≡ 0
   pub words : (d : Domain) → (side d (known_of knows_living m)).word ≡ 0
-  pub one : (known_of knows_living m).grace.processors ≡ 1
-  pub first : (known_of knows_living m).grace.processor ≡ 0
-  pub planned : left_of m ≡ planned_for 0 p.scenario.now
+  pub processors : (known_of knows_living m).grace.processors ≡ n
+  pub processor : (known_of knows_living m).grace.processor ≡ i
+  pub planned : left_of m ≡ planned_for i p.scenario.now
   pub running : m.running.items ≡ []
   pub inside : m.inside ≡ false
-  pub tied : TiedAt knows_living [] (outset p.scenario.now.pages) m

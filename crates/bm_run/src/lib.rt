@@ -25,5 +25,5 @@ mod stretches;
 mod turns;
 
 pub use journals::replay;
-pub use opening::open;
+pub use opening::{open, open_all};
 pub use others::{asked_law, others_law};

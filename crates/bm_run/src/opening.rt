@@ -1,15 +1,18 @@
-//! The opening of the one processor.
+//! The opening of processors.
 
-ghost use Rattle.std.specs.Prelude.{◌≡◌, ℕ, IfOk, None, true};
+ghost use Rattle.std.specs.Prelude.{◌≡◌, ◌<◌, ◌≤◌, [], ℕ, IfOk, None, length, true};
 ghost use Rattle.bm_lang.specs.Fine.{HasConditions};
 ghost use Rattle.bm_lang.specs.Limits.{first_limit};
 ghost use Rattle.bm_law_scenario.specs.Fills.{fresh_stock};
+ghost use Rattle.bm_exec_levels.specs.AtTie.{TiedAt};
 ghost use Rattle.bm_exec_levels.specs.Ready.{IsProgram};
-ghost use Rattle.bm_run.specs.Filling.{IsUnborn, filling};
-ghost use Rattle.bm_run.specs.Opened.{IsOpen, ascends, fresh_side};
+ghost use Rattle.bm_run.specs.Filling.{IsUnborn, filling, units_in};
+ghost use Rattle.bm_run.specs.Opened.{IsOpen, ascends, fresh_side, outset};
+ghost use Rattle.bm_run.specs.Openings.{AreFilled, AreNew, AreOpen, IsFilled};
 ghost use Rattle.bm_world.specs.LivingState.{begun_at};
 ghost use Rattle.bm_world.specs.Slots.{AllEmpty};
 ghost use Rattle.bm_world.specs.Standings.{standing_at};
+ghost use Rattle.bm_world.specs.ToldLiving.{knows_living};
 ghost use Rattle.bm_world.specs.declared.standing.Standing.TheVariants.{Nothing as WaitsForNothing};
 
 use crate::filling::{fill, give_up_fills};
@@ -25,26 +28,65 @@ use bm_word::NoMemory;
 use bm_world::{LivingSide, OneSide};
 use std::alloc::Global;
 
-// The one processor's side, with this stock, on which nobody has done anything. Want of memory is the only refusal.
-fn open_side(alloc: Global, pool: Pool) -> Result<LivingSide, NoMemory>
+// The side of processor 0, of so many, with this stock, on which nobody has done anything. Want of memory is the only refusal.
+fn open_side(alloc: Global, pool: Pool, processors: u8) -> Result<LivingSide, NoMemory>
+    requires some { 0 < processors }
+    requires limit { processors ≤ 8 }
     requires unborn { IsUnborn pool.units }
-    ensures side { IfOk result (λ world. world.side ≡ fresh_side pool) }
+    ensures side { IfOk result (λ world. world.side ≡ fresh_side processors 0 pool) }
     ensures slots { IfOk result (λ world. AllEmpty world.slots) }
     ensures begun { IfOk result (λ world. (n : ℕ) → begun_at world.begun n ≡ 0) }
     ensures standings { IfOk result (λ world. (n : ℕ) → standing_at world.standings n ≡ WaitsForNothing) }
     ensures asked { IfOk result (λ world. world.asked ≡ 0) }
 {
-    match PlainPost::create(alloc, pool, 1) {
-        Ok(post) => match LivingSide::create(alloc, OneSide::new(post, PlainGrace::new(1))) {
-            Ok(world) => Ok(world),
-            Err(side) => {
-                let (post, _grace) = side.into_parts();
-                post.give_up();
-                Err(NoMemory)
+    match PlainPost::create(alloc, pool, processors) {
+        Ok(post) => {
+            match LivingSide::create(alloc, OneSide::new(post, PlainGrace::new(processors))) {
+                Ok(world) => Ok(world),
+                Err(side) => {
+                    let (post, _grace) = side.into_parts();
+                    post.give_up();
+                    Err(NoMemory)
+                }
             }
-        },
+        }
         Err(pool) => {
             pool.give_up();
+            Err(NoMemory)
+        }
+    }
+}
+
+// What a processor keeps once its caches of these classes, ascending, are filled from this stock: with all memory that the handlers
+// need which the scenario plans for it. Want of memory is the only refusal.
+fn open_kept(
+    alloc: Global,
+    scenario: &Scenario,
+    classes: &[Class],
+    processor: u8,
+    pool: &mut Pool,
+) -> Result<Kept, NoMemory>
+    requires ascend { ascends classes.now ≡ true }
+    requires unborn { IsUnborn pool.old.units }
+    ensures kept { IfOk result
+        (IsFilled scenario.now processor (filling classes.now pool.old).fills) }
+    ensures units { IfOk result
+        (λ kept. AreNew pool.new (units_in (filling classes.now pool.old).fills)) }
+    ensures pool { IfOk result (λ kept. pool.new ≡ (filling classes.now pool.old).pool) }
+    ensures unborn { IsUnborn pool.new.units }
+{
+    let fills = fill(alloc, pool, classes)?;
+    let caches = match Caches::create(alloc, processor, fills, Keep::new(alloc)) {
+        Ok(caches) => caches,
+        Err((fills, _recorder)) => {
+            give_up_fills(fills);
+            return Err(NoMemory);
+        }
+    };
+    match Kept::create(alloc, scenario, processor, caches) {
+        Ok(kept) => Ok(kept),
+        Err(caches) => {
+            caches.give_up();
             Err(NoMemory)
         }
     }
@@ -64,30 +106,92 @@ pub fn open(
     requires fine { HasConditions scenario.now }
     requires limits { first_limit scenario.now ≡ None }
     requires ascend { ascends classes.now ≡ true }
-    ensures { IfOk result (IsOpen program.now (filling classes.now (fresh_stock scenario.now.pages))) }
+    ensures opened { IfOk result
+        (IsOpen 1 0 program.now (filling classes.now (fresh_stock scenario.now.pages))) }
+    ensures tied { IfOk result (TiedAt knows_living [] (outset scenario.now.pages)) }
 {
     let mut pool = Pool::create(alloc, program.scenario.pages as u16)?;
-    let Ok(fills) = fill(alloc, &mut pool, classes) else {
+    let Ok(kept) = open_kept(alloc, scenario, classes, 0, &mut pool) else {
         pool.give_up();
         return Err(NoMemory);
     };
-    let Ok(side) = open_side(alloc, pool) else {
-        give_up_fills(fills);
-        return Err(NoMemory);
-    };
-    let caches = match Caches::create(alloc, 0, fills, Keep::new(alloc)) {
-        Ok(caches) => caches,
-        Err((fills, _recorder)) => {
-            give_up_fills(fills);
-            side.give_up();
+    match open_side(alloc, pool, 1) {
+        Ok(side) => Ok(Processor::open(kept, side)),
+        Err(_) => {
+            kept.give_up();
+            Err(NoMemory)
+        }
+    }
+}
+
+// Ends what processors keep after memory ran out.
+fn give_up_kept(kept: Vec<Kept>) {
+    let mut kept = kept;
+    while let Some(own) = kept.pop() {
+        own.give_up();
+    }
+    kept.destroy_empty();
+}
+
+// What so many processors keep, from processor 0 on, each with caches filled from the stock that those before it have left. Want of
+// memory is the only refusal.
+fn open_each(
+    alloc: Global,
+    scenario: &Scenario,
+    classes: &[Class],
+    processors: u8,
+    pool: &mut Pool,
+) -> Result<Vec<Kept>, NoMemory>
+    requires ascend { ascends classes.now ≡ true }
+    requires fresh { pool.old ≡ fresh_stock scenario.now.pages }
+    requires unborn { IsUnborn pool.old.units }
+    ensures kept { IfOk result (λ kept. AreFilled scenario.now classes.now kept.items pool.new) }
+    ensures many { IfOk result (λ kept. length kept.items ≡ processors) }
+    ensures unborn { IsUnborn pool.new.units }
+{
+    let mut kept = Vec::new(alloc);
+    for processor in 0..processors {
+        let Ok(own) = open_kept(alloc, scenario, classes, processor, pool) else {
+            give_up_kept(kept);
+            return Err(NoMemory);
+        };
+        if let Err(refused) = kept.push(own) {
+            refused.value.give_up();
+            give_up_kept(kept);
             return Err(NoMemory);
         }
+    }
+    Ok(kept)
+}
+
+/// What the processors of a scenario keep before their first turns, ascending, and the world that they share, which is the side of
+/// processor 0. They run this program, the types of the scenario each with its class, and open one after the other: each fills its
+/// caches of these classes, ascending, from the stock that those before it have left, and has all memory that the handlers need
+/// which are planned for it. Want of memory is the only refusal. From `bpf_mem_alloc_init` of kernel/bpf/memalloc.c.
+pub fn open_all(
+    alloc: Global,
+    scenario: &Scenario,
+    program: &Program<'_>,
+    classes: &[Class],
+) -> Result<(Vec<Kept>, LivingSide), NoMemory>
+    requires same { program.now.scenario.now ≡ scenario.now }
+    requires fits { IsProgram program.now }
+    requires fine { HasConditions scenario.now }
+    requires limits { first_limit scenario.now ≡ None }
+    requires ascend { ascends classes.now ≡ true }
+    ensures { IfOk result (λ all. AreOpen program.now classes.now all.0.items all.1) }
+{
+    let parts = program.scenario;
+    let processors = parts.processors as u8;
+    let mut pool = Pool::create(alloc, parts.pages as u16)?;
+    let Ok(kept) = open_each(alloc, scenario, classes, processors, &mut pool) else {
+        pool.give_up();
+        return Err(NoMemory);
     };
-    match Kept::create(alloc, scenario, 0, caches) {
-        Ok(kept) => Ok(Processor::open(kept, side)),
-        Err(caches) => {
-            caches.give_up();
-            side.give_up();
+    match open_side(alloc, pool, processors) {
+        Ok(world) => Ok((kept, world)),
+        Err(_) => {
+            give_up_kept(kept);
             Err(NoMemory)
         }
     }

@@ -1,6 +1,6 @@
 use Rattle.std.specs.Prelude.{None}
 use Rattle.bm_world.specs.ToldLiving.{knows_living}
-use Rattle.std.proofs.Common.{◌≡◌, ◌≤◌, ◌%◌, ℕ, List, [], ◌∷◌, Some, true, slice_get, IfOk, ap, lit≤, sym, subst, ◌∙◌, arith}
+use Rattle.std.proofs.Common.{◌≡◌, ◌<◌, ◌%◌, ℕ, List, [], ◌∷◌, Some, true, slice_get, IfOk, ap, lit≤, sym, subst, ◌∙◌, arith}
 use Rattle.bm_grace.specs.Known.{Lives, Objects, side}
 use Rattle.bm_lang.specs.declared.scenario.Parts.{Parts}
 use Rattle.bm_lang.specs.declared.scenario.TypeDeclaration.{TypeDeclaration}
@@ -40,7 +40,7 @@ use Rattle.bm_run.proofs.PollsTold.{tied-polled}
 use Rattle.bm_run.proofs.BatchesTold.{told-batched, told-sealed}
 use Rattle.bm_run.proofs.journals.log_of.Goals as goal
 
-some-processors : (n : ℕ) → n ≡ 1 → 1 ≤ n
+some-processors : (n : ℕ) → n ≡ 1 → 0 < n
 some-processors n e = omega (arith, e)
 
 pub open-requires-clause-fits : goal.open-requires-clause-fits
@@ -69,20 +69,20 @@ pub run_lines-requires-clause-cost : goal.run_lines-requires-clause-cost
 run_lines-requires-clause-cost g c =
     let s = c.args.scenario.now in
     let m : Processor LivingState = c.in_ok-own.own in
-    let o = c.in_ok-own.ensures in
-    let w = within s (some-processors s.processors c.requires.yet.one) c.requires.checked.within_limits in
+    let o = c.in_ok-own.ensures.opened in
+    let w = within s 0 (some-processors s.processors c.requires.yet.one) c.requires.checked.within_limits in
     rw c.parts-parts.ensures.value (room-for s (known_of knows_living m).objects.asked m.settled (lines_cost 0 s.scripts s.runs) (left_of m) _ (rw c.parts-parts.ensures.value at o.planned) o.asked (room-all s w))
 
 pub run_lines-requires-clause-handlers : goal.run_lines-requires-clause-handlers
 run_lines-requires-clause-handlers g c =
     let s = c.args.scenario.now in
-    let w = within s (some-processors s.processors c.requires.yet.one) c.requires.checked.within_limits in
-    few-left 1000 (left_of c.in_ok-own.own) _ (rw c.parts-parts.ensures.value at c.in_ok-own.ensures.planned) (few-planned s w)
+    let w = within s 0 (some-processors s.processors c.requires.yet.one) c.requires.checked.within_limits in
+    few-left 1000 (left_of c.in_ok-own.own) _ (rw c.parts-parts.ensures.value at c.in_ok-own.ensures.opened.planned) (few-planned s 0 w)
 
 pub run_lines-requires-clause-down : goal.run_lines-requires-clause-down
 run_lines-requires-clause-down g c =
     let t = lists_of c.in_ok-own.own in
-    subst (λ w. Behind w t []) (sym c.when_on.ensures) (down-when c.parts-parts.result.now.deferred c.args.opened.now t c.in_ok-own.ensures.lowered)
+    subst (λ w. Behind w t []) (sym c.when_on.ensures) (down-when c.parts-parts.result.now.deferred c.args.opened.now t c.in_ok-own.ensures.opened.lowered)
 
 pub run_lines-requires-clause-declared : goal.run_lines-requires-clause-declared
 run_lines-requires-clause-declared g c = rw c.parts-parts.ensures.value (all-declared c.args.scenario.now c.requires.fine)
@@ -97,12 +97,12 @@ close-requires-clause-sound g c = (_, c.begin_closing.ensures.sound _ (not-err c
 pub close-requires-clause-one : goal.close-requires-clause-one
 close-requires-clause-one g c =
     let wrote = not-err c.run_lines.result _ c.if-is_err.ensures.value c.run_lines.ensures.wrote in
-    c.begin_closing.ensures.wrote.ordinary.processors ∙ (wrote.ordinary.processors ∙ c.in_ok-own.ensures.one)
+    c.begin_closing.ensures.wrote.ordinary.processors ∙ (wrote.ordinary.processors ∙ c.in_ok-own.ensures.opened.processors)
 
 pub close-requires-clause-first : goal.close-requires-clause-first
 close-requires-clause-first g c =
     let wrote = not-err c.run_lines.result _ c.if-is_err.ensures.value c.run_lines.ensures.wrote in
-    c.begin_closing.ensures.wrote.ordinary.processor ∙ (wrote.ordinary.processor ∙ c.in_ok-own.ensures.first)
+    c.begin_closing.ensures.wrote.ordinary.processor ∙ (wrote.ordinary.processor ∙ c.in_ok-own.ensures.opened.processor)
 
 pub close-requires-clause-outside : goal.close-requires-clause-outside
 close-requires-clause-outside g c d = ap (λ (x : LivingState). (side d (known_living x)).word % 2) c.begin_closing.ensures.side ∙ not-err c.run_lines.result _ c.if-is_err.ensures.value c.run_lines.ensures.outside d
@@ -110,7 +110,7 @@ close-requires-clause-outside g c d = ap (λ (x : LivingState). (side d (known_l
 pub close-requires-clause-unused : goal.close-requires-clause-unused
 close-requires-clause-unused g c some k =
     let e = c.if-is_err.ensures.value in
-    let o = rw c.requires.opened at c.in_ok-own.ensures in
+    let o = rw c.requires.opened at c.in_ok-own.ensures.opened in
     let wrote = rw c.parts-parts.ensures.value at (not-err c.run_lines.result _ e c.run_lines.ensures.wrote) in
     let sound = not-err c.run_lines.result _ e c.run_lines.ensures.sound in
     rw c.requires.opened (unused-rows c.args.scenario.now _ c.in_ok-own.own c.run_lines.new.own c.begin_closing.new.own c.parts-parts.ensures.value c.handled_law.ensures.rows o wrote sound c.begin_closing.ensures.wrote c.begin_closing.ensures.lists some k)
@@ -120,7 +120,7 @@ run-left : (g : Over) (c : goal.After-close g) (final : Log) → Closed c.args.o
 run-left g c final x =
     let m3 = c.begin_closing.new.own in
     let e = c.if-is_err.ensures.value in
-    let o = rw c.requires.opened at c.in_ok-own.ensures in
+    let o = rw c.requires.opened at c.in_ok-own.ensures.opened in
     let wrote = rw c.parts-parts.ensures.value at (not-err c.run_lines.result _ e c.run_lines.ensures.wrote) in
     let sound = not-err c.run_lines.result _ e c.run_lines.ensures.sound in
     let lives = not-err c.run_lines.result _ e c.run_lines.ensures.lives in
@@ -188,7 +188,7 @@ returns-clause-returns g c = both-if-ok c.close.result _ _ _ (returns-clause-law
 pub run_lines-requires-clause-tied : goal.run_lines-requires-clause-tied
 run_lines-requires-clause-tied g c =
     let m : Processor LivingState = c.in_ok-own.own in
-    let o : TiedAt knows_living [] (outset c.args.scenario.now.pages) m = rw c.parts-parts.ensures.value at c.in_ok-own.ensures.tied in
+    let o : TiedAt knows_living [] (outset c.args.scenario.now.pages) m = c.in_ok-own.ensures.tied in
     subst (λ l. TiedAt knows_living l g.B.Since.start m) (sym c.requires.since) (subst (λ w. TiedAt knows_living [] w m) (sym c.requires.start) o)
 
 pub close-requires-clause-tied : goal.close-requires-clause-tied
