@@ -2,6 +2,7 @@
 //!
 //! - `replay` is all of it: from a checked scenario to a journal, or out of memory.
 //! - `open` fills a cache for each class that a type uses, from a fresh stock, and takes all memory that handlers will need.
+//!   `open_all` does so for each processor of a scenario, one after the other, out of one stock.
 //! - Between the two, src/turns.rt runs the `run` lines turn by turn, each script in its section, with the work after it;
 //!   src/stretches.rt and closing_desk.rt carry a processor to its closing; src/journals.rt puts the journal together.
 //!

@@ -1,4 +1,5 @@
-//! One opening, of two classes over a stock of one page, for a scenario without types and scripts.
+//! Openings of two classes, for scenarios without types and scripts: of one processor over a stock of one page, and of three over
+//! two pages.
 
 ghost use Rattle.std.specs.Prelude.{◌≡◌, ◌∷◌, []};
 
@@ -7,11 +8,16 @@ use bm_exec::Types;
 use bm_exec_levels::{Processor, Program};
 use bm_journal::Recorder;
 use bm_lang::{limits, read_scenario};
-use bm_run::open;
+use bm_run::{open, open_all};
 use std::process::Abort;
 use std::test::Fail;
 
 const TEXT: &[u8] = b"scenario { processors 1 pages 1 deferred off }";
+
+const THREE: &[u8] = b"scenario { processors 3 pages 2 deferred off }";
+
+/// How many units of 16 and of 4096 bytes each of the three has.
+const FILLED: &[(u64, u64)] = &[(4, 1), (4, 0), (4, 0)];
 
 /// The classes of 16 bytes and of 4096.
 fn two_classes(rt: &impl Abort) -> [Class; 2]
@@ -66,5 +72,46 @@ fn the_first_class_takes_the_only_page(rt: HostRuntime) -> Result<(), Fail> {
     assert_eq!(rt; tables.len(), 3);
     caches.give_up();
     side.give_up();
+    Ok(())
+}
+
+/// The first processor takes units of the first page for the least class, and the second page for the greatest; each of the others
+/// takes the next units of the first page, and finds no page for the greatest.
+#[test]
+#[tactic(auto, using(bm_run::proofs::Started::idle_program))]
+fn each_processor_takes_what_those_before_left(rt: HostRuntime) -> Result<(), Fail> {
+    let classes = two_classes(&rt);
+    let scenario = read_scenario(rt.alloc(), THREE)?;
+    let parts = scenario.parts();
+    if limits(&scenario).is_some() {
+        return Err(Fail::from("a scenario within the limits"));
+    }
+    if parts.types.as_slice().len() != 0 {
+        return Err(Fail::from("a scenario without types"));
+    }
+    if parts.scripts.as_slice().len() != 0 {
+        return Err(Fail::from("a scenario without scripts"));
+    }
+    let program = Program {
+        scenario: parts,
+        types: Types {
+            declared: parts.types.as_slice(),
+            classes: &[],
+        },
+    };
+    let (kept, world) = open_all(rt.alloc(), &scenario, &program, &classes)?;
+    world.give_up();
+    assert_eq!(rt; kept.len(), FILLED.len());
+    let mut kept = kept;
+    let mut filled = FILLED.iter().rev();
+    while let Some(last) = kept.pop() {
+        let (least, greatest) = filled.next().expect(&rt, "a processor more than three");
+        assert!(rt; !last.caches.recorder().failed());
+        let told = last.caches.recorder().counts();
+        assert_eq!(rt; told.lengths(classes[0]).free, *least);
+        assert_eq!(rt; told.lengths(classes[1]).free, *greatest);
+        last.give_up();
+    }
+    kept.destroy_empty();
     Ok(())
 }
