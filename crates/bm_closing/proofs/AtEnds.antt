@@ -1,5 +1,5 @@
 -- A desk whose processor has ended, while its side is called and its caches note entries.
-use Rattle.std.proofs.Common.{◌≡◌, ◌+◌, ◌%◌, ◌<◌, ◌≤◌, ℕ, zero, suc, true, false, List, [], Option, Result, Ok, Err, OnOk, refl, sym, ◌∙◌, ap, subst, arith}
+use Rattle.std.proofs.Common.{◌≡◌, ◌+◌, ◌%◌, ◌<◌, ◌≤◌, ◌≢◌, ◌⊎◌, ℕ, zero, suc, true, false, List, [], Option, Result, Ok, Err, OnOk, refl, sym, ◌∙◌, ap, subst, arith, inl, inr}
 use Rattle.std.specs.Result.{is_err}
 use Rattle.bm_journal.specs.declared.counts.Counts.{Counts}
 use Rattle.bm_journal.specs.declared.ids.Domain.{Domain}
@@ -12,6 +12,7 @@ use Rattle.bm_law.specs.Lists.{Log}
 use Rattle.bm_law.specs.Stands.{Once, stands, times}
 use Rattle.bm_law.specs.State.{State, seen}
 use Rattle.bm_post.specs.Rights.{AreSame}
+use Rattle.bm_post.proofs.Counts.{zero-or-more}
 use Rattle.bm_cache.specs.Tokens.{Token, number_of}
 use Rattle.bm_cache.proofs.Absent.{failing, nowhere}
 use Rattle.bm_cache.specs.Placed.{Placed}
@@ -31,6 +32,15 @@ use Rattle.bm_closing.specs.AtEnd.{AtEnd, ended_at}
 pub odd-ended : (k n : ℕ) → k % 2 ≡ 1 → ended_at k n ≡ n + 1
 odd-ended zero n e = absurd (omega (arith, e))
 odd-ended (suc k) n e = refl
+
+-- the number is even then if it was before, or if the period was the side's, which has none in progress where the number is even
+pub even-ended : (k n : ℕ) → (n % 2 ≡ 0 → k ≡ 0) → (n % 2 ≡ 0) ⊎ (k ≢ 0) → ended_at k n % 2 ≡ 0
+even-ended zero n idle (inl even) = even
+even-ended zero n idle (inr some) = absurd (some refl)
+even-ended (suc k) n idle h = elim (zero-or-more (n % 2)) [
+  | inl even ↦ absurd (let none = idle even in omega (arith, none))
+  | inr odd ↦ omega (arith, odd)
+]
 
 module _ {H R : Type 0} (log : R → Option Log) (counts : R → Counts) (sound : H → Type 0) (tests : H → Tests) (faces : H → Face) (holds : H → Caches R) where
   -- the caches are as they were, and tests go on

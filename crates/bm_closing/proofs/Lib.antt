@@ -6,3 +6,5 @@ mod Returning
 mod Sweeping
 mod Swept
 mod Classes
+mod Closes
+pub mod Others

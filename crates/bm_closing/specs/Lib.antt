@@ -9,3 +9,6 @@ pub mod Swept
 pub mod Sweeps
 pub mod EndsBegun
 pub mod SweepsEach
+pub mod Closes
+pub mod Crews
+pub mod Others

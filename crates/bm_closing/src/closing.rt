@@ -23,6 +23,7 @@ ghost use Rattle.bm_work.specs.Works.{Handled};
 ghost use Rattle.bm_law_scenario.specs.Closing.{EndsOne};
 ghost use Rattle.bm_closing.specs.AtEnd.{AtEnd, ended_at};
 ghost use Rattle.bm_closing.specs.Arrived.{Arrived};
+ghost use Rattle.bm_closing.specs.Closes.{ClosesBy};
 ghost use Rattle.bm_closing.specs.Emptied.{Emptied};
 ghost use Rattle.bm_closing.specs.Gathered.{Gathered, swept};
 ghost use Rattle.bm_closing.specs.SentBack.{SentBack};
@@ -61,6 +62,7 @@ pub fn end_period<R: Recorder, H: Ended<R>>(host: &mut H, domain: Domain)
     ensures begins { (d : DomainValue) → (side d (H.W.Knows.known (H.shared host.new))).begins ≡ (side d (H.W.Knows.known (H.shared host.old))).begins }
     ensures alike { Alike (H.W.Knows.known (H.shared host.old)) (H.W.Knows.known (H.shared host.new)) }
     ensures parcels { (H.W.Knows.known (H.shared host.new)).parcels ≡ (H.W.Knows.known (H.shared host.old)).parcels }
+    ensures does { ClosesBy H.W.Knows.does (H.shared host.old) (H.shared host.new) }
     ensures rest { (n : ℕ) → MovesNumber H.W.Knows.rest domain n (ended_at (side domain (H.W.Knows.known (H.shared host.old))).number n) (H.shared host.old) (H.shared host.new) }
     ensures goes { Goes H.Host.face H.Host.pending H.stays host.old host.new }
     ensures at_end { AtEnd R.log R.counts H.Host.sound H.Host.tests H.Host.face H.Host.held host.new }
@@ -82,6 +84,7 @@ fn empty_inbox<R: Recorder, H: Ended<R>>(
     requires at_end { AtEnd R.log R.counts H.Host.sound H.Host.tests H.Host.face H.Host.held host.old }
     ensures some { IfOk result (λ parcels. length parcels.items ≤ length (flat_map (λ p. p.items) parcels.items)) }
     ensures emptied { IfOk result (λ parcels. Emptied H.Host.face H.Host.pending H.stays H.Host.held (λ h. H.W.Knows.known (H.shared h)) (λ h. H.W.Knows.rights (H.shared h)) class (flat_map (λ p. p.items) parcels.items) host.old host.new) }
+    ensures does { OnOk result (ClosesBy H.W.Knows.does (H.shared host.old) (H.shared host.new)) }
     ensures rest { OnOk result (StaysAtRest H.W.Knows.rest (H.shared host.old) (H.shared host.new)) }
     ensures at_end { OnOk result (AtEnd R.log R.counts Whatever H.Host.tests H.Host.face H.Host.held host.new) }
     ensures owes { IfOk result (λ parcels. H.owes (receives_all class (map (λ p. numbers p.items) parcels.items)) [] host.new) }
@@ -111,6 +114,7 @@ fn gather_all<R: Recorder, H: Ended<R>>(host: &mut H, class: Class, parcels: Vec
     ensures plain { (side Plain (H.W.Knows.known (H.shared host.new))).begins ≡ (side Plain (H.W.Knows.known (H.shared host.old))).begins }
     ensures begins { (side Tracing (H.W.Knows.known (H.shared host.old))).begins ≤ (side Tracing (H.W.Knows.known (H.shared host.new))).begins + 1 }
     ensures parcels { (H.W.Knows.known (H.shared host.new)).parcels ≡ (H.W.Knows.known (H.shared host.old)).parcels }
+    ensures does { ClosesBy H.W.Knows.does (H.shared host.old) (H.shared host.new) }
     ensures rest { (n : ℕ) → n % 2 ≡ 0 → MovesNumber H.W.Knows.rest Tracing n (n + 2) (H.shared host.old) (H.shared host.new) }
     ensures goes { Goes H.Host.face H.Host.pending H.stays host.old host.new }
     ensures at_end { AtEnd R.log R.counts H.Host.sound H.Host.tests H.Host.face H.Host.held host.new }
@@ -133,6 +137,7 @@ fn send_back<R: Recorder, H: Ended<R>>(
     ensures alike { OnOk result (Alike (H.W.Knows.known (H.shared host.old)) (H.W.Knows.known (H.shared host.new))) }
     ensures grace { OnOk result ((H.W.Knows.known (H.shared host.new)).grace ≡ (H.W.Knows.known (H.shared host.old)).grace) }
     ensures parcels { OnOk result ((H.W.Knows.known (H.shared host.new)).parcels ≡ (H.W.Knows.known (H.shared host.old)).parcels) }
+    ensures does { OnOk result (ClosesBy H.W.Knows.does (H.shared host.old) (H.shared host.new)) }
     ensures rest { OnOk result (StaysAtRest H.W.Knows.rest (H.shared host.old) (H.shared host.new)) }
     ensures goes { OnOk result (Goes H.Host.face H.Host.pending H.stays host.old host.new) }
     ensures at_end { OnOk result (AtEnd R.log R.counts H.Host.sound H.Host.tests H.Host.face H.Host.held host.new) }
@@ -180,6 +185,7 @@ fn sweep_all<R: Recorder, H: Ended<R>>(
     requires room { 0 < (side Tracing (H.W.Knows.known (H.shared host.old))).begins }
     ensures gone { OnOk result (Loses (swept class (flat_map (λ p. p.items) parcels.items) (shown (H.Host.held host.old))) (H.W.Knows.rights (H.shared host.old)) (H.W.Knows.rights (H.shared host.new))) }
     ensures swept { OnOk result (Swept R.log H.Host.face H.Host.pending H.stays H.Host.held (λ h. H.W.Knows.known (H.shared h)) class (flat_map (λ p. p.items) parcels.items) host.old host.new) }
+    ensures does { OnOk result (ClosesBy H.W.Knows.does (H.shared host.old) (H.shared host.new)) }
     ensures rest { OnOk result ((n : ℕ) → n % 2 ≡ 0 → MovesNumber H.W.Knows.rest Tracing n (n + 2) (H.shared host.old) (H.shared host.new)) }
     ensures at_end { OnOk result (AtEnd R.log R.counts H.Host.sound H.Host.tests H.Host.face H.Host.held host.new) }
 {
@@ -202,6 +208,7 @@ pub fn sweep<R: Recorder, H: Ended<R>>(
     requires room { 0 < (side Tracing (H.W.Knows.known (H.shared host.old))).begins }
     ensures gone { OnOk result (Loses (map number_of (seven_lists ((shown (H.Host.held host.old)).rows class))) (H.W.Knows.rights (H.shared host.old)) (H.W.Knows.rights (H.shared host.new))) }
     ensures sweeps { OnOk result (Sweeps R.log H.Host.face H.Host.pending H.stays H.Host.held (λ h. H.W.Knows.known (H.shared h)) class host.old host.new) }
+    ensures does { OnOk result (ClosesBy H.W.Knows.does (H.shared host.old) (H.shared host.new)) }
     ensures rest { OnOk result ((n : ℕ) → n % 2 ≡ 0 → (m : ℕ) × ((m % 2 ≡ 0) × MovesNumber H.W.Knows.rest Tracing n m (H.shared host.old) (H.shared host.new))) }
     ensures at_end { OnOk result (AtEnd R.log R.counts H.Host.sound H.Host.tests H.Host.face H.Host.held host.new) }
 {

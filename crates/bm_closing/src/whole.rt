@@ -1,6 +1,6 @@
 //! The whole closing of a processor on a desk: its periods end, and then its classes are swept.
 
-ghost use Rattle.std.specs.Prelude.{◌≡◌, ◌%◌, ◌<◌, ◌≤◌, ℕ, [], length, OnOk, IfSome};
+ghost use Rattle.std.specs.Prelude.{◌≡◌, ◌≢◌, ◌⊎◌, ◌%◌, ◌<◌, ◌≤◌, ℕ, [], length, OnOk, IfSome};
 ghost use Rattle.std.specs.Option.{option_map};
 ghost use Rattle.bm_journal.specs.declared.ids.Domain.TheVariants.{Tracing};
 ghost use Rattle.bm_journal.specs.declared.ids.Domain.{Domain as DomainValue};
@@ -17,6 +17,7 @@ ghost use Rattle.bm_work.specs.Goes.{Alike};
 ghost use Rattle.bm_law_scenario.specs.Closing.{AreSweeps};
 ghost use Rattle.bm_law_logs.specs.SweepsTold.{SweepsTold};
 ghost use Rattle.bm_closing.specs.AtEnd.{AtEnd, ended_at};
+ghost use Rattle.bm_closing.specs.Closes.{ClosesBy};
 ghost use Rattle.bm_closing.specs.EndsBegun.{EndsBegun};
 ghost use Rattle.bm_closing.specs.SweepsEach.{SweepsEach, all_emptied};
 
@@ -29,10 +30,12 @@ use bm_word::NoMemory;
 use bm_work::Desk;
 use std::alloc::Global;
 
-/// Ends the periods that this processor has in progress, first that of the plain domain and then that of the tracing one.
-fn end_periods<R: Recorder, H: Ended<R>>(host: &mut H)
+/// The first phase of a closing: ends the periods that this processor has in progress, first that of the plain domain and then that
+/// of the tracing one (see `end_period`). All stays at rest, and the number of a domain is one greater where its period was this
+/// processor's, and else as it was. It is even then if it was before, or if the period was this processor's.
+pub fn end_periods<R: Recorder, H: Ended<R>>(host: &mut H)
     requires at_end { AtEnd R.log R.counts H.Host.sound H.Host.tests H.Host.face H.Host.held host.old }
-    requires rest { (d : DomainValue) → (n : ℕ) × (H.W.Knows.rest (H.shared host.old) d n × (ended_at (side d (H.W.Knows.known (H.shared host.old))).number n % 2 ≡ 0)) }
+    requires rest { (d : DomainValue) → (n : ℕ) × H.W.Knows.rest (H.shared host.old) d n }
     ensures ends { GrewBy (EndsBegun (H.W.Knows.known (H.shared host.old))) (seen number_of (shown (H.Host.held host.old))) (R.log (H.Host.held host.old).recorder) (R.log (H.Host.held host.new).recorder) }
     ensures alone { Alone 0 (R.log (H.Host.held host.old).recorder) (R.log (H.Host.held host.new).recorder) }
     ensures lists { shown (H.Host.held host.new) ≡ shown (H.Host.held host.old) }
@@ -40,7 +43,14 @@ fn end_periods<R: Recorder, H: Ended<R>>(host: &mut H)
     ensures begins { (d : DomainValue) → (side d (H.W.Knows.known (H.shared host.new))).begins ≡ (side d (H.W.Knows.known (H.shared host.old))).begins }
     ensures alike { Alike (H.W.Knows.known (H.shared host.old)) (H.W.Knows.known (H.shared host.new)) }
     ensures parcels { (H.W.Knows.known (H.shared host.new)).parcels ≡ (H.W.Knows.known (H.shared host.old)).parcels }
-    ensures rest { (d : DomainValue) → (n : ℕ) × (H.W.Knows.rest (H.shared host.new) d n × (n % 2 ≡ 0)) }
+    ensures ended { (d : DomainValue) → (side d (H.W.Knows.known (H.shared host.new))).number ≡ 0 }
+    ensures does { ClosesBy H.W.Knows.does (H.shared host.old) (H.shared host.new) }
+    ensures rest { (d : DomainValue) (n : ℕ) → H.W.Knows.rest (H.shared host.old) d n →
+        let own = (side d (H.W.Knows.known (H.shared host.old))).number in
+        H.W.Knows.rest (H.shared host.new) d (ended_at own n) }
+    ensures even { (d : DomainValue) (n : ℕ) → H.W.Knows.rest (H.shared host.old) d n →
+        let own = (side d (H.W.Knows.known (H.shared host.old))).number in
+        (n % 2 ≡ 0) ⊎ (own ≢ 0) → ended_at own n % 2 ≡ 0 }
     ensures goes { Goes H.Host.face H.Host.pending H.stays host.old host.new }
     ensures at_end { AtEnd R.log R.counts H.Host.sound H.Host.tests H.Host.face H.Host.held host.new }
 {
@@ -48,8 +58,10 @@ fn end_periods<R: Recorder, H: Ended<R>>(host: &mut H)
     end_period(host, Domain::Tracing);
 }
 
-/// Sweeps each of these classes, in their order. Want of memory is the only refusal.
-fn sweep_each<R: Recorder, H: Ended<R>>(
+/// The second phase of a closing, behind the first one of each processor: sweeps each of these classes of this processor, in their
+/// order (see `sweep`). Want of memory is the only refusal. Units may be lost then, and the desk is fit for nothing more. From
+/// `drain_mem_cache` and `bpf_mem_alloc_destroy` of kernel/bpf/memalloc.c; the order is this project's own.
+pub fn sweep_each<R: Recorder, H: Ended<R>>(
     alloc: Global,
     host: &mut H,
     classes: &[Class],
@@ -58,6 +70,7 @@ fn sweep_each<R: Recorder, H: Ended<R>>(
     requires rest { (d : DomainValue) → (n : ℕ) × (H.W.Knows.rest (H.shared host.old) d n × (n % 2 ≡ 0)) }
     requires room { length classes.now ≤ (side Tracing (H.W.Knows.known (H.shared host.old))).begins }
     ensures sweeps { OnOk result (SweepsEach R.log H.Host.face H.Host.pending H.stays H.Host.held (λ h. H.W.Knows.known (H.shared h)) classes.now host.old host.new) }
+    ensures does { OnOk result (ClosesBy H.W.Knows.does (H.shared host.old) (H.shared host.new)) }
     ensures rest { OnOk result ((d : DomainValue) → (n : ℕ) × (H.W.Knows.rest (H.shared host.new) d n × (n % 2 ≡ 0))) }
     ensures at_end { OnOk result (AtEnd R.log R.counts H.Host.sound H.Host.tests H.Host.face H.Host.held host.new) }
 {
@@ -90,6 +103,7 @@ pub fn close<R: Recorder, H: Ended<R>>(
     ensures processor { OnOk result ((H.Host.held host.new).processor ≡ (H.Host.held host.old).processor) }
     ensures alike { OnOk result (Alike (H.W.Knows.known (H.shared host.old)) (H.W.Knows.known (H.shared host.new))) }
     ensures goes { OnOk result (Goes H.Host.face H.Host.pending H.stays host.old host.new) }
+    ensures does { OnOk result (ClosesBy H.W.Knows.does (H.shared host.old) (H.shared host.new)) }
     ensures rest { OnOk result ((d : DomainValue) → (n : ℕ) × (H.W.Knows.rest (H.shared host.new) d n × (n % 2 ≡ 0))) }
     ensures at_end { OnOk result (AtEnd R.log R.counts H.Host.sound H.Host.tests H.Host.face H.Host.held host.new) }
 {

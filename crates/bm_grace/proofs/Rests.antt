@@ -7,10 +7,10 @@ use Rattle.bm_journal.specs.declared.ids.Domain.TheVariants.{Plain, Tracing}
 use Rattle.bm_grace.specs.declared.answer.Look.{Look}
 use Rattle.bm_grace.specs.declared.answer.Look.TheVariants.{All, Waits}
 use Rattle.bm_grace.specs.Answers.{IsPassed, Verdict}
-use Rattle.bm_grace.specs.AtRest.{AreEven, IsAtRest, IsSole}
+use Rattle.bm_grace.specs.AtRest.{AreEven, IsAtRest, IsDriven, IsSole}
 use Rattle.bm_grace.specs.Kept.{AreAtMost, parity}
 use Rattle.bm_grace.specs.Known.{side}
-use Rattle.bm_grace.specs.PlainState.{DomainState, PlainState, domain_in, in_turn, is_processor, known_in, period_looked, words_in}
+use Rattle.bm_grace.specs.PlainState.{DomainState, PlainState, domain_in, in_turn, is_processor, known_in, period_looked, side_in, words_in}
 use Rattle.bm_grace.proofs.Grown.{at_most-at, at_most-first_or}
 
 -- the words of the first n processors are even, and past them there are none
@@ -49,14 +49,48 @@ look-passes r domain g looked words w e v h n rest =
     let first : AreAtMost looked.first words = subst (λ (s : DomainState). AreAtMost s.first words) (sym e) (at_most-first_or words (domain_in domain g).first (subst (λ xs. AreAtMost (domain_in domain g).first xs) (sym w) h)) in
     all-pass r domain looked.first words v first (subst (λ xs. (i : ℕ) → slice_index xs i % 2 ≡ 0) (sym w) (even-words domain g n rest))
 
--- ---- one processor
-
-one-even : (processors processor : ℕ) (words : List ℕ) → processors ≡ 1 → processor < processors → slice_index words processor % 2 ≡ 0 → AreEven processors words
-one-even processors processor words one turn even i lt = subst (λ k. slice_index words k % 2 ≡ 0) (let e : processor ≡ i = omega (arith, one, turn, lt) in e) even
+-- ---- any number of processors
 
 none-driven : (o : Option ℕ) (number : ℕ) → number % 2 ≡ parity o → number % 2 ≡ 0 → o ≡ None
 none-driven None number p even = refl
 none-driven (Some q) number p even = absurd (omega (arith, p, even))
+
+pub all-rest : (g : PlainState) → g.plain.number % 2 ≡ parity g.plain.driver → g.tracing.number % 2 ≡ parity g.tracing.driver → ((d : Domain) → AreEven g.processors (domain_in d g).words) → (d : Domain) → IsAtRest g d (domain_in d g).number
+all-rest g p t even d = record {
+  plain = even Plain;
+  tracing = even Tracing;
+  number_is = refl;
+  no_driver = undriven d;
+}
+  where
+    undriven : (d : Domain) → (domain_in d g).number % 2 ≡ 0 → (domain_in d g).driver ≡ None
+    undriven Plain = none-driven g.plain.driver g.plain.number p
+    undriven Tracing = none-driven g.tracing.driver g.tracing.number t
+
+pub all-driven : (g : PlainState) → g.plain.number % 2 ≡ parity g.plain.driver → g.tracing.number % 2 ≡ parity g.tracing.driver → IfSome g.plain.driver (λ q. q < g.processors) → IfSome g.tracing.driver (λ q. q < g.processors) → (d : Domain) → IsDriven g.processors (domain_in d g)
+all-driven g p t few many Plain = record { parity_is = p; few = few }
+all-driven g p t few many Tracing = record { parity_is = t; few = many }
+
+-- whoever's side it is, all is at rest
+pub rests-turned : (g : PlainState) (p : ℕ) (d : Domain) (n : ℕ) → IsAtRest g d n → IsAtRest (record g { processor = p }) d n
+rests-turned g p Plain n rest = record { plain = rest.plain; tracing = rest.tracing; number_is = rest.number_is; no_driver = rest.no_driver }
+rests-turned g p Tracing n rest = record { plain = rest.plain; tracing = rest.tracing; number_is = rest.number_is; no_driver = rest.no_driver }
+
+left-by : (o : Option ℕ) (number n : ℕ) → number % 2 ≡ parity o → IfSome o (λ q. q < n) → ((p : ℕ) → p < n → (if is_processor p o then number else 0) ≡ 0) → number % 2 ≡ 0
+left-by None number n p few none = p
+left-by (Some q) number n p few none =
+    let same : (q == q) ≡ true = (Decides-eqb q q).1 refl in
+    let zero-now = rw same at (none q few) in
+    absurd (omega (arith, p, zero-now))
+
+-- where none of the processors has a period of a domain in progress, its number is even
+pub none-left : (n : ℕ) (here : DomainState) → IsDriven n here → ((p : ℕ) → p < n → (side_in p here).number ≡ 0) → here.number % 2 ≡ 0
+none-left n here d none = left-by here.driver here.number n d.parity_is d.few none
+
+-- ---- one processor
+
+one-even : (processors processor : ℕ) (words : List ℕ) → processors ≡ 1 → processor < processors → slice_index words processor % 2 ≡ 0 → AreEven processors words
+one-even processors processor words one turn even i lt = subst (λ k. slice_index words k % 2 ≡ 0) (let e : processor ≡ i = omega (arith, one, turn, lt) in e) even
 
 sole-by : (o : Option ℕ) (number processors processor : ℕ) → processors ≡ 1 → processor < processors → number % 2 ≡ parity o → IfSome o (λ q. q < processors) → IsSole (if is_processor processor o then number else 0) number
 sole-by None number processors processor one turn p few = inl (p, refl)
@@ -68,16 +102,11 @@ sole-by (Some q) number processors processor one turn p few =
     same-yes a b e = (Decides-eqb a b).1 e
 
 pub one-rests : (g : PlainState) → g.processors ≡ 1 → g.processor < g.processors → g.plain.number % 2 ≡ parity g.plain.driver → g.tracing.number % 2 ≡ parity g.tracing.driver → ((d : Domain) → (side d (known_in g)).word % 2 ≡ 0) → (d : Domain) → IsAtRest g d (domain_in d g).number
-one-rests g one turn p t out d = record {
-  plain = one-even g.processors g.processor g.plain.words one turn (out Plain);
-  tracing = one-even g.processors g.processor g.tracing.words one turn (out Tracing);
-  number_is = refl;
-  no_driver = undriven d;
-}
+one-rests g one turn p t out = all-rest g p t even
   where
-    undriven : (d : Domain) → (domain_in d g).number % 2 ≡ 0 → (domain_in d g).driver ≡ None
-    undriven Plain = none-driven g.plain.driver g.plain.number p
-    undriven Tracing = none-driven g.tracing.driver g.tracing.number t
+    even : (d : Domain) → AreEven g.processors (domain_in d g).words
+    even Plain = one-even g.processors g.processor g.plain.words one turn (out Plain)
+    even Tracing = one-even g.processors g.processor g.tracing.words one turn (out Tracing)
 
 pub one-sole : (g : PlainState) → g.processors ≡ 1 → g.processor < g.processors → g.plain.number % 2 ≡ parity g.plain.driver → g.tracing.number % 2 ≡ parity g.tracing.driver → IfSome g.plain.driver (λ q. q < g.processors) → IfSome g.tracing.driver (λ q. q < g.processors) → (d : Domain) → IsSole (side d (known_in g)).number (domain_in d g).number
 one-sole g one turn p t few many Plain = sole-by g.plain.driver g.plain.number g.processors g.processor one turn p few

@@ -1,8 +1,9 @@
 -- When all processors on one thread are at rest. (This project's own.)
-use Rattle.std.specs.Prelude.{◌≡◌, ◌⊎◌, ℕ, ◌%◌, ◌<◌, Option, None, List, slice_index, if◌then◌else◌}
+use Rattle.std.specs.Prelude.{◌≡◌, ◌⊎◌, ℕ, ◌%◌, ◌<◌, Option, None, IfSome, List, slice_index, if◌then◌else◌}
 use Rattle.std.proofs.Common.{ap}
 use Rattle.bm_journal.specs.declared.ids.Domain.{Domain}
 use Rattle.bm_journal.specs.declared.ids.Domain.TheVariants.{Plain, Tracing}
+use Rattle.bm_grace.specs.Kept.{parity}
 use Rattle.bm_grace.specs.Known.{side}
 use Rattle.bm_grace.specs.PlainState.{DomainState, PlainState, domain_in, is_processor, known_in, side_in}
 
@@ -20,6 +21,11 @@ pub record IsAtRest (state : PlainState) (domain : Domain) (number : ℕ) : Type
 -- A side has the period that is in progress, if one is: its number is the domain's where that is odd, and else 0.
 abbrev pub IsSole : ℕ → ℕ → Type 0
 IsSole own number = ((number % 2 ≡ 0) × (own ≡ 0)) ⊎ ((number % 2 ≡ 1) × (own ≡ number))
+
+-- A period in progress of this domain is that of one of n processors, and the number is odd exactly where one is.
+pub record IsDriven (n : ℕ) (here : DomainState) : Type 0 where
+  pub parity_is : here.number % 2 ≡ parity here.driver
+  pub few : IfSome here.driver (λ p. p < n)
 
 -- what nobody has in progress, this side hasn't
 no-driver : (here : DomainState) (processor : ℕ) → here.driver ≡ None → (side_in processor here).number ≡ 0

@@ -5,7 +5,7 @@ ghost use Rattle.bm_grace.specs.Known.{side};
 ghost use Rattle.bm_grace.specs.Calls.{began, entered, finished, found_at, left, looked, looks, read};
 ghost use Rattle.bm_grace.specs.Rights.{no_rights};
 ghost use Rattle.bm_grace.specs.Answers.{Answers, BeganAt, CanFinish, Stamped, Verdict, ended, next, number_in};
-ghost use Rattle.bm_grace.specs.AtRest.{IsAtRest, IsSole, idle-at-rest};
+ghost use Rattle.bm_grace.specs.AtRest.{AreEven, IsAtRest, IsDriven, IsSole, idle-at-rest};
 ghost use Rattle.bm_journal.specs.declared.ids.Domain.{Domain as DomainValue};
 ghost use Rattle.bm_grace.specs.Rest.{MovesNumber, StaysAtRest};
 ghost use Rattle.bm_grace.specs.declared.answer.Began.TheVariants.{Won};
@@ -65,6 +65,21 @@ impl PlainGrace {
         ensures { self.new ≡ record self.old { processor = processor } }
     {
         self.processor = processor;
+    }
+
+    /// Where no processor is in a section, all is at rest, whoever's side it is. Where the number of a domain is odd, one of the
+    /// processors has a period in progress; where it is even, none has. So once each has ended its own, the number is even.
+    pub fn all_at_rest(&self)
+        requires outside { (d : DomainValue) →
+            AreEven self.now.processors (domain_in d self.now).words }
+        ensures rest { (d : DomainValue) → IsAtRest self.now d (domain_in d self.now).number }
+        ensures driven { (d : DomainValue) → IsDriven self.now.processors (domain_in d self.now) }
+        ensures ended { (d : DomainValue) → let here = domain_in d self.now in
+            ((p : ℕ) → p < self.now.processors → (side_in p here).number ≡ 0) →
+            here.number % 2 ≡ 0 }
+    {
+        self.plain.parity_agrees();
+        self.tracing.parity_agrees();
     }
 
     /// Where there is one processor, and it is in no section, all is at rest; and if a period is in progress, it is this side's.

@@ -11,10 +11,10 @@ ghost use Rattle.bm_grace.specs.Rights.{Ages, AsBefore, MineSince, Ripens};
 ghost use Rattle.bm_grace.specs.Rest.{MovesNumber, StaysAtRest};
 ghost use Rattle.bm_grace.specs.declared.answer.Began.TheVariants.{Won};
 ghost use Rattle.bm_grace.specs.declared.answer.Look.TheVariants.{All as AllPass};
-ghost use Rattle.bm_grace.specs.AtRest.{IsSole};
+ghost use Rattle.bm_grace.specs.AtRest.{AreEven, IsDriven, IsSole};
 ghost use Rattle.bm_grace.specs.Known.{side};
 ghost use Rattle.bm_journal.specs.declared.ids.Domain.{Domain as DomainValue};
-ghost use Rattle.bm_grace.specs.PlainState.{domain_in, is_processor, period_begun, period_ended, period_looked, with_domain, word_moved, words_in};
+ghost use Rattle.bm_grace.specs.PlainState.{domain_in, is_processor, period_begun, period_ended, period_looked, side_in, with_domain, word_moved, words_in};
 ghost use Rattle.bm_post.specs.PostState.{all_returned, inbox, rights_in, sent_to, taken_by, told_in};
 ghost use Rattle.bm_post.specs.HasRoom.{room-of};
 ghost use Rattle.bm_post.specs.Calls.{Fetches, GivesBack, IsOf, Mails, Posts, Receives};
@@ -78,6 +78,22 @@ impl OneSide {
         ensures { self.now.post.processors ≡ self.now.grace.processors }
     {
         let _ = &self.post;
+    }
+
+    /// Where no processor is in a section, all is at rest, whoever's side it is. Where the number of a domain is odd, one of the
+    /// processors has a period in progress; where it is even, none has. So once each has ended its own, the number is even.
+    pub fn all_at_rest(&self)
+        requires outside { (d : DomainValue) → let g = self.now.grace in
+            AreEven g.processors (domain_in d g).words }
+        ensures rest { (d : DomainValue) →
+            SideAtRest self.now d (domain_in d self.now.grace).number }
+        ensures driven { (d : DomainValue) → let g = self.now.grace in
+            IsDriven g.processors (domain_in d g) }
+        ensures ended { (d : DomainValue) → let g = self.now.grace in
+            ((p : ℕ) → p < g.processors → (side_in p (domain_in d g)).number ≡ 0) →
+            (domain_in d g).number % 2 ≡ 0 }
+    {
+        self.grace.all_at_rest();
     }
 
     /// Where there is one processor, and it is in no section, all is at rest; and if a period is in progress, it is this side's.

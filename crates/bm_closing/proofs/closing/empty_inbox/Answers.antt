@@ -17,6 +17,7 @@ use Rattle.bm_closing.specs.Told.{receives_all}
 use Rattle.bm_closing.proofs.Owed.{at-end-with}
 use Rattle.bm_work.proofs.Came.{lasting-onward}
 use Rattle.bm_closing.specs.Arrived.{Came}
+use Rattle.bm_closing.proofs.Closes.{closes-moved, closing-received}
 use Rattle.bm_closing.proofs.AtEnds.{alike-graces, at-end-on, came-apart, when-ok}
 use Rattle.bm_closing.proofs.closing.empty_inbox.Goals as goal
 
@@ -82,3 +83,11 @@ returns-clause-owes g c =
     let all : now ≡ did.0 = did.1 ∙ ap (λ z. z ++ did.0) none in
     let does : g.H.W.Knows.does (receives_all i now) v w = subst (λ (z : List (List ℕ)). g.H.W.Knows.does (receives_all i z) v w) (sym all) did.2 in
     owes-called g.H.Desk.shared g.H.Desk.with_shared N g.H.W.Knows.does (λ (done : List Act). g.H.Desk.owes done []) (λ x y done more. g.met.H.Desk.owes_done x y done more []) h v w (N w) (receives_all i now) c.world.ensures.held refl (alike-graces (N v) (N w) told.grace told.objects) does [] (g.met.H.Desk.owes_open h c.requires.at_end.sound)
+
+pub returns-clause-does : goal.returns-clause-does
+returns-clause-does g c =
+    let h = c.args.host.now in
+    let v = c.world.result.now in
+    let w = c.receive_all.new.post in
+    let did = when-ok c.receive_all.result _ c.if-is_err.ensures.value c.receive_all.ensures.does in
+    closes-moved g.H.W.Knows.does (g.H.Desk.shared h) v w (g.H.Desk.shared (g.H.Desk.with_shared h w)) c.world.ensures.held (g.met.H.Desk.shared_back h w) (receives_all c.args.class did.0, closing-received c.args.class did.0, did.2)

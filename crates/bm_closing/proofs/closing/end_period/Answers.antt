@@ -11,6 +11,7 @@ use Rattle.bm_work.specs.Owed.{Whatever}
 use Rattle.bm_work.proofs.Owing.{owes-called, owes-noted}
 use Rattle.bm_closing.specs.AtEnd.{ended_at}
 use Rattle.bm_closing.proofs.Owed.{at-end-with, finishing}
+use Rattle.bm_closing.proofs.Closes.{closes-moved}
 use Rattle.bm_closing.proofs.AtEnds.{alike-moved, at-end-called, at-end-noted, odd-ended}
 use Rattle.bm_closing.proofs.closing.end_period.Goals as goal
 
@@ -76,3 +77,22 @@ returns-clause-alike g c =
     let h2 = g.H.Desk.with_shared h1 w in
     let z = c.finished.new.self in
     alike-moved g.H.W.Knows.known (g.H.Desk.shared h) c.world-2.result.now w (g.H.Desk.shared (g.H.Host.with_held h2 z)) (c.world-2.ensures.held ∙ g.met.H.Desk.shared_back h v ∙ c.world.ensures.held) (g.met.H.Desk.shared_apart h2 z ∙ g.met.H.Desk.shared_back h1 w) c.end_driven-period.ensures.alike
+
+pub returns-then-not-driving-clause-does : goal.returns-then-not-driving-clause-does
+returns-then-not-driving-clause-does g c =
+    let h = c.args.host.now in
+    let v = c.world.result.now in
+    closes-moved g.H.W.Knows.does (g.H.Desk.shared h) v v (g.H.Desk.shared (g.H.Desk.with_shared h v)) c.world.ensures.held (g.met.H.Desk.shared_back h v) ([], tt, g.H.W.Knows.does_same v)
+
+pub returns-clause-does : goal.returns-clause-does
+returns-clause-does g c =
+    let h = c.args.host.now in
+    let v = c.world.result.now in
+    let h1 = g.H.Desk.with_shared h v in
+    let w = c.end_driven-period.new.world in
+    let h2 = g.H.Desk.with_shared h1 w in
+    let z = c.finished.new.self in
+    let d = c.args.domain in
+    let did = c.end_driven-period.ensures.does in
+    let acts : List Act = act.Looks d did.0 ∷ act.Finishes c.end_driven-period.result ∷ [] in
+    closes-moved g.H.W.Knows.does (g.H.Desk.shared h) c.world-2.result.now w (g.H.Desk.shared (g.H.Host.with_held h2 z)) (c.world-2.ensures.held ∙ g.met.H.Desk.shared_back h v ∙ c.world.ensures.held) (g.met.H.Desk.shared_apart h2 z ∙ g.met.H.Desk.shared_back h1 w) (acts, (tt, (tt, tt)), did.1)

@@ -18,6 +18,7 @@ use Rattle.bm_closing.specs.Arrived.{Arrived}
 use Rattle.bm_closing.specs.Gathered.{swept}
 use Rattle.bm_closing.specs.Told.{receives_all, waiting}
 use Rattle.bm_closing.proofs.Owed.{at-end-with, gathered-sound, parcels-numbers}
+use Rattle.bm_closing.proofs.Closes.{closes-moved}
 use Rattle.bm_closing.proofs.AtEnds.{alike-moved, at-end-called, same-moved}
 use Rattle.bm_closing.proofs.Sweeping.{arrived-either, at-end-batched, batch-leaves, batched}
 use Rattle.bm_closing.proofs.closing.gather_all.Goals as goal
@@ -102,3 +103,12 @@ returns-clause-mine g c =
     let z = c.gather.new.caches in
     let R = g.H.W.Knows.rights in
     same-moved R (g.H.Desk.shared h) v w (g.H.Desk.shared (g.H.Host.with_held h1 z)) c.world.ensures.held (g.met.H.Desk.shared_apart h1 z ∙ g.met.H.Desk.shared_back h w) c.wait_period-waited.ensures.ages.mine
+
+pub returns-clause-does : goal.returns-clause-does
+returns-clause-does g c =
+    let h = c.args.host.now in
+    let w = c.wait_period-waited.new.world in
+    let h1 = g.H.Desk.with_shared h w in
+    let z = c.gather.new.caches in
+    let did = c.wait_period-waited.ensures.does in
+    closes-moved g.H.W.Knows.does (g.H.Desk.shared h) c.world.result.now w (g.H.Desk.shared (g.H.Host.with_held h1 z)) c.world.ensures.held (g.met.H.Desk.shared_apart h1 z ∙ g.met.H.Desk.shared_back h w) (waiting did.0 c.wait_period-waited.result, (tt, (tt, (tt, (tt, (tt, tt))))), did.1)

@@ -24,6 +24,7 @@ use Rattle.bm_work.proofs.Gone.{returned-apart, returned-once}
 use Rattle.bm_work.proofs.Owing.{owes-called, units-sealed}
 use Rattle.bm_work.proofs.Sides.{tests-shared}
 use Rattle.bm_closing.specs.SentBack.{SentBack}
+use Rattle.bm_closing.proofs.Closes.{closes-moved}
 use Rattle.bm_closing.proofs.Returning.{at-end-returned, second-held, sent-back}
 use Rattle.bm_closing.proofs.closing.send_back.Goals as goal
 
@@ -119,3 +120,15 @@ returns-clause-goes g c =
       pending = omega (arith, g.met.H.Host.pending_back h2 y, g.met.H.Desk.pending_apart h1 w, g.met.H.Host.pending_back h z);
       keeps = join h h2 h3 (join h h1 h2 (g.met.H.Desk.keeps_stays h h1 (g.met.H.Host.keeps_back h z)) (g.met.H.Desk.stays_apart h1 w alike)) (g.met.H.Desk.keeps_stays h2 h3 (g.met.H.Host.keeps_back h2 y));
     }
+
+pub returns-clause-does : goal.returns-clause-does
+returns-clause-does g c =
+    let h = c.args.host.now in
+    let z = c.second_out.new.self in
+    let h1 = g.H.Host.with_held h z in
+    let v = c.world.result.now in
+    let w = c.put_back.new.self in
+    let h2 = g.H.Desk.with_shared h1 w in
+    let y = c.returned.new.self in
+    let given : List Sealed = sealed c.in_ok-units.units.items in
+    closes-moved g.H.W.Knows.does (g.H.Desk.shared h) v w (g.H.Desk.shared (g.H.Host.with_held h2 y)) (c.world.ensures.held ∙ g.met.H.Desk.shared_apart h z) (g.met.H.Desk.shared_apart h2 y ∙ g.met.H.Desk.shared_back h1 w) (act.Returns given ∷ [], (tt, tt), c.put_back.ensures.does)

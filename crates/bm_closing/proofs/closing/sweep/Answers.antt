@@ -15,6 +15,8 @@ use Rattle.bm_cache.specs.Tokens.{Token, number_of}
 use Rattle.bm_cache.specs.declared.caches.Caches.{Caches}
 use Rattle.bm_cache.specs.Span.{Goes}
 use Rattle.bm_closing.proofs.AtEnds.{at-end-still, when-ok, with-ok}
+use Rattle.bm_closing.proofs.Closes.{closes-join, closes-moved}
+use Rattle.bm_closing.specs.Closes.{ClosesBy}
 use Rattle.bm_closing.proofs.Swept.{all-gone, emptied-still, sweeps-none, sweeps-some}
 use Rattle.bm_closing.proofs.closing.sweep.Goals as goal
 
@@ -95,3 +97,18 @@ returns-then-hold_nothing-clause-at_end g c =
     let F : List (List ℕ) → Type 0 = λ z. g.H.Desk.owes (receives_all i z) [] d in
     let sound = g.met.H.Desk.owes_closed d (act.Receives i [] ∷ []) [] (shows (chunk.FindingNone i) refl) (subst F none o) in
     at-end-with g.R.Recorder.log g.R.Recorder.counts Whatever g.H.Host.sound g.H.Host.tests g.H.Host.face g.H.Host.held d sound (at-end-still g.R.Recorder.log g.R.Recorder.counts Whatever g.H.Host.tests g.H.Host.face g.H.Host.held b d q.same q.handled.face q.handled.tests_are tt c.in_ok-parcels.ensures.at_end)
+
+pub returns-then-hold_nothing-clause-does : goal.returns-then-hold_nothing-clause-does
+returns-then-hold_nothing-clause-does g c =
+    let side = g.H.Desk.shared in
+    let b = c.empty_inbox.new.host in
+    closes-moved g.H.W.Knows.does (side c.args.host.now) (side c.args.host.now) (side b) (side c.hold_nothing.new.host) refl c.hold_nothing.ensures.handled.shared_is c.in_ok-parcels.ensures.does
+
+pub returns-clause-does : goal.returns-clause-does
+returns-clause-does g c =
+    let side = g.H.Desk.shared in
+    let b = c.empty_inbox.new.host in
+    let f = c.sweep_all.new.host in
+    let r = c.sweep_all.result in
+    let F : g.row.H-W.Denot → Type 0 = λ x. ClosesBy g.H.W.Knows.does x (side f) in
+    with-ok r _ (λ o. closes-join g.H.W.Knows.does g.H.W.Knows.does_join (side c.args.host.now) (side b) (side f) c.in_ok-parcels.ensures.does (subst F c.hold_nothing.ensures.handled.shared_is (when-ok r _ o c.sweep_all.ensures.does)))

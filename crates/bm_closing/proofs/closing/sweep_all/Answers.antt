@@ -1,6 +1,7 @@
 use Rattle.std.proofs.Common.{◌≡◌, ◌≤◌, ◌+◌, ℕ, arith}
 use Rattle.std.specs.List.{flat_map}
 use Rattle.bm_closing.proofs.AtEnds.{when-ok, with-ok}
+use Rattle.bm_closing.proofs.Closes.{closes-join}
 use Rattle.bm_closing.proofs.Swept.{swept-of}
 use Rattle.bm_closing.proofs.closing.sweep_all.Goals as goal
 
@@ -22,3 +23,9 @@ returns-clause-swept g c =
     let at = one.gathered.1 rest.0 rest.1.0 rest.1.1 in
     let passed = reached w.stamp w.seen rest.0 at.stamp at.seen in
     with-ok r _ (λ e. swept-of g.R.Recorder.log g.H.Host.face g.H.Host.pending g.H.Desk.stays g.H.Host.held (λ h. g.H.W.Knows.known (g.H.Desk.shared h)) g.met.H.Desk.stays_join c.args.class us w a b d at.domain passed one.gathered.2 (when-ok r _ e two.sent) one.goes (when-ok r _ e two.goes) one.alike (when-ok r _ e two.alike) one.parcels (when-ok r _ e two.parcels) (when-ok r _ e two.grace) one.plain one.begins)
+
+pub returns-clause-does : goal.returns-clause-does
+returns-clause-does g c =
+    let side = g.H.Desk.shared in
+    let r = c.send_back.result in
+    with-ok r _ (λ e. closes-join g.H.W.Knows.does g.H.W.Knows.does_join (side c.args.host.now) (side c.gather_all.new.host) (side c.send_back.new.host) c.gather_all.ensures.does (when-ok r _ e c.send_back.ensures.does))

@@ -3,6 +3,7 @@ use Rattle.bm_law.proofs.Alone.{Alone-join}
 use Rattle.bm_work_lists.proofs.Grown.{grew-then}
 use Rattle.bm_closing.specs.EndsBegun.{EndsBegun}
 use Rattle.bm_closing.proofs.AtEnds.{when-ok, with-ok}
+use Rattle.bm_closing.proofs.Closes.{closes-join}
 use Rattle.bm_closing.proofs.Classes.{told-behind}
 use Rattle.bm_closing.proofs.whole.close.Goals as goal
 
@@ -34,3 +35,17 @@ returns-clause-alone g c =
     let L = λ (h : g.row.H.Denot). g.R.Recorder.log (held h).recorder in
     let r = c.sweep_each.result in
     with-ok r _ (λ o. Alone-join 0 (L c.args.host.now) (L c.end_periods.new.host) (L c.sweep_each.new.host) c.end_periods.ensures.alone (when-ok r _ o c.sweep_each.ensures.sweeps).alone)
+
+pub sweep_each-requires-clause-rest : goal.sweep_each-requires-clause-rest
+sweep_each-requires-clause-rest g c d =
+    let r = c.requires.rest d in
+    (_, (c.end_periods.ensures.rest d r.0 r.1.0, r.1.1))
+
+pub returns-clause-does : goal.returns-clause-does
+returns-clause-does g c =
+    let shared = g.H.Desk.shared in
+    let r = c.sweep_each.result in
+    with-ok r _ (λ o. closes-join g.H.W.Knows.does g.H.W.Knows.does_join (shared c.args.host.now) (shared c.end_periods.new.host) (shared c.sweep_each.new.host) c.end_periods.ensures.does (when-ok r _ o c.sweep_each.ensures.does))
+
+pub end_periods-requires-clause-rest : goal.end_periods-requires-clause-rest
+end_periods-requires-clause-rest g c d = let r = c.requires.rest d in (r.0, r.1.0)

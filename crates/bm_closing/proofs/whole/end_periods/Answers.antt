@@ -1,4 +1,4 @@
-use Rattle.std.proofs.Common.{◌≡◌, ◌%◌, sym, subst}
+use Rattle.std.proofs.Common.{◌≡◌, ◌∙◌, ap, subst}
 use Rattle.bm_journal.specs.declared.ids.Domain.TheVariants.{Plain, Tracing}
 use Rattle.bm_grace.specs.Known.{Side, side}
 use Rattle.bm_law.specs.State.{seen}
@@ -10,18 +10,18 @@ use Rattle.bm_law_work.specs.Grown.{GrewBy}
 use Rattle.bm_law_scenario.specs.Closing.{EndsOne}
 use Rattle.bm_work_lists.proofs.Grown.{grew-then}
 use Rattle.bm_closing.specs.AtEnd.{ended_at}
+use Rattle.bm_closing.proofs.AtEnds.{even-ended}
+use Rattle.bm_closing.proofs.Closes.{closes-join}
 use Rattle.bm_closing.proofs.Classes.{plain-tracing, tracing-plain}
 use Rattle.bm_closing.proofs.whole.end_periods.Goals as goal
 
 pub end_period-requires-clause-rest : goal.end_period-requires-clause-rest
-end_period-requires-clause-rest g c =
-    let r = c.requires.rest Plain in
-    (r.0, r.1.0)
+end_period-requires-clause-rest g c = c.requires.rest Plain
 
 pub end_period-requires-2-clause-rest : goal.end_period-requires-2-clause-rest
 end_period-requires-2-clause-rest g c =
     let r = c.requires.rest Tracing in
-    (r.0, (c.end_period.ensures.rest r.0).other Tracing r.0 tracing-plain r.1.0)
+    (r.0, (c.end_period.ensures.rest r.0).other Tracing r.0 tracing-plain r.1)
 
 pub returns-clause-ends : goal.returns-clause-ends
 returns-clause-ends g c =
@@ -43,14 +43,23 @@ returns-clause-alone g c =
     Alone-join 0 (L c.args.host.now) (L c.end_period.new.host) (L c.end_period-2.new.host) c.end_period.ensures.alone c.end_period-2.ensures.alone
 
 pub returns-clause-rest : goal.returns-clause-rest
-returns-clause-rest g c Plain =
-    let r = c.requires.rest Plain in
-    let n = ended_at (side Plain (g.H.W.Knows.known (g.H.Desk.shared c.args.host.now))).number r.0 in
-    (n, ((c.end_period-2.ensures.rest 0).other Plain n plain-tracing ((c.end_period.ensures.rest r.0).moves r.1.0), r.1.1))
-returns-clause-rest g c Tracing =
-    let r = c.requires.rest Tracing in
-    let N = λ (h : g.row.H.Denot). g.H.W.Knows.known (g.H.Desk.shared h) in
+returns-clause-rest g c Plain n h =
+    let m = ended_at (side Plain (g.H.W.Knows.known (g.H.Desk.shared c.args.host.now))).number n in
+    (c.end_period-2.ensures.rest 0).other Plain m plain-tracing ((c.end_period.ensures.rest n).moves h)
+returns-clause-rest g c Tracing n h =
+    let N = λ (x : g.row.H.Denot). g.H.W.Knows.known (g.H.Desk.shared x) in
     let same : side Tracing (N c.end_period.new.host) ≡ side Tracing (N c.args.host.now) = c.end_period.ensures.other Tracing tracing-plain in
-    let n = ended_at (side Tracing (N c.end_period.new.host)).number r.0 in
-    let F : Side → Type 0 = λ x. ended_at x.number r.0 % 2 ≡ 0 in
-    (n, ((c.end_period-2.ensures.rest r.0).moves ((c.end_period.ensures.rest r.0).other Tracing r.0 tracing-plain r.1.0), subst F (sym same) r.1.1))
+    let F : Side → Type 0 = λ x. g.H.W.Knows.rest (g.H.Desk.shared c.end_period-2.new.host) Tracing (ended_at x.number n) in
+    subst F same ((c.end_period-2.ensures.rest n).moves ((c.end_period.ensures.rest n).other Tracing n tracing-plain h))
+
+pub returns-clause-ended : goal.returns-clause-ended
+returns-clause-ended g c Plain = ap (λ (x : Side). x.number) (c.end_period-2.ensures.other Plain plain-tracing) ∙ c.end_period.ensures.ended
+returns-clause-ended g c Tracing = c.end_period-2.ensures.ended
+
+pub returns-clause-does : goal.returns-clause-does
+returns-clause-does g c =
+    let shared = g.H.Desk.shared in
+    closes-join g.H.W.Knows.does g.H.W.Knows.does_join (shared c.args.host.now) (shared c.end_period.new.host) (shared c.end_period-2.new.host) c.end_period.ensures.does c.end_period-2.ensures.does
+
+pub returns-clause-even : goal.returns-clause-even
+returns-clause-even g c d n h = even-ended (side d (g.H.W.Knows.known (g.H.Desk.shared c.args.host.now))).number n (g.met.H.W.Grace.idle_at_rest (g.H.Desk.shared c.args.host.now) d n h)

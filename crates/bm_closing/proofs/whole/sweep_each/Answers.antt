@@ -3,8 +3,18 @@ use Rattle.std.proofs.lemmas.List.{drop_all, drop_more}
 use Rattle.bm_journal.specs.declared.ids.Domain.TheVariants.{Tracing}
 use Rattle.bm_grace.specs.Known.{side}
 use Rattle.bm_closing.specs.SweepsEach.{SweepsEach}
+use Rattle.bm_closing.proofs.Closes.{closes-join}
 use Rattle.bm_closing.proofs.Classes.{each-more, each-none, rests-even}
 use Rattle.bm_closing.proofs.whole.sweep_each.Goals as goal
+
+pub loop-class-init : goal.loop-class-init
+loop-class-init g c = record {
+  then_swept = λ d r. r;
+  rest = c.requires.rest;
+  room = c.requires.room;
+  does = ([], tt, g.H.W.Knows.does_same (g.H.Desk.shared c.args.host.now));
+  at_end = c.requires.at_end;
+}
 
 pub loop-class-preserved : goal.loop-class-preserved
 loop-class-preserved g c =
@@ -23,6 +33,7 @@ loop-class-preserved g c =
       then_swept = λ d r. v.then_swept d (subst (λ (ys : List ℕ). S ys b d) (sym e) (each-more g.R.Recorder.log g.H.Host.face g.H.Host.pending g.H.Desk.stays g.H.Host.held N g.R.Recorder.counts g.met.H.Desk.stays_join x (drop (i + 1) cs) b z d v.at_end.fine.placed w.at_end.fine.placed w.sweeps r));
       rest = rests-even g.H.W.Knows.rest (g.H.Desk.shared b) (g.H.Desk.shared z) v.rest w.rest;
       room = let n = ap length e in let m = v.room in omega (arith, n, m, begins);
+      does = closes-join g.H.W.Knows.does g.H.W.Knows.does_join (g.H.Desk.shared c.args.host.now) (g.H.Desk.shared b) (g.H.Desk.shared z) v.does w.does;
       at_end = w.at_end;
     }
 
