@@ -14,11 +14,11 @@ use Rattle.bm_law_scenario.specs.Calls.{Allocates}
 use Rattle.bm_law_scenario.proofs.Freed.{either-free}
 use Rattle.bm_exec.specs.Around.{Around, Entered, HasLeft}
 use Rattle.bm_exec.specs.Living.{Created, Disposed, Lives, reply_of}
-use Rattle.bm_exec.specs.Yields.{NoYields, Unyielding, YieldsLast}
+use Rattle.bm_exec.specs.Yields.{AllInTurn, Unyielding, YieldsLast}
 
 -- ---- one after the other
 
-pub none-append : (v w : List Entry) → NoYields v → NoYields w → NoYields (v ++ w)
+pub none-append : (v w : List Entry) → AllInTurn v → AllInTurn w → AllInTurn (v ++ w)
 none-append [] w h k = k
 none-append (e ∷ v) w h k = (h.0, none-append v w h.1 k)
 
@@ -42,39 +42,39 @@ yields-one l a b r = record { own = []; none = tt; records = r }
 
 -- ---- calls
 
-raise-none : (b : Bool) (c : ℕ) → NoYields (if b then entry.Raise c ∷ [] else [])
+raise-none : (b : Bool) (c : ℕ) → AllInTurn (if b then entry.Raise c ∷ [] else [])
 raise-none true c = (tt, tt)
 raise-none false c = tt
 
-unless-none : (b : Bool) (c : ℕ) → NoYields (raise_unless b c)
+unless-none : (b : Bool) (c : ℕ) → AllInTurn (raise_unless b c)
 unless-none true c = tt
 unless-none false c = (tt, tt)
 
-given-none : (u life : ℕ) (seal : Option (ℕ × ℕ)) → NoYields (given u life seal ∷ [])
+given-none : (u life : ℕ) (seal : Option (ℕ × ℕ)) → AllInTurn (given u life seal ∷ [])
 given-none u life None = (tt, tt)
 given-none u life (Some x) = (tt, tt)
 
-overtaken-none : (c : ℕ) (ks : List ℕ) → NoYields (overtaken c ks)
+overtaken-none : (c : ℕ) (ks : List ℕ) → AllInTurn (overtaken c ks)
 overtaken-none c [] = tt
 overtaken-none c (k ∷ ks) = (tt, (tt, overtaken-none c ks))
 
-delayed-none : (c : ℕ) (ks : List ℕ) → NoYields (overtaken_delayed c ks)
+delayed-none : (c : ℕ) (ks : List ℕ) → AllInTurn (overtaken_delayed c ks)
 delayed-none c [] = tt
 delayed-none c (k ∷ ks) = (tt, (tt, delayed-none c ks))
 
-alloc-none : (c : ℕ) (own : List Entry) (reply : Option (ℕ × ℕ)) → Allocates c own reply → NoYields own
-alloc-none c own (Some o) x = subst NoYields (sym x.3) (tt, (tt, (tt, (tt, none-append (raise_below c x.1) (given o.0 o.1 x.0 ∷ []) (raise-none (nat_lt x.1 (low_of_size (size_of_class c))) c) (given-none o.0 o.1 x.0)))))
-alloc-none c own None (inl x) = subst NoYields (sym x.1) (tt, (tt, (tt, none-append (raise_below c 0) (entry.Empty ∷ []) (raise-none (nat_lt 0 (low_of_size (size_of_class c))) c) (tt, tt))))
-alloc-none c own None (inr x) = subst NoYields (sym x.3) (tt, (tt, none-append (raise_below c 0) (entry.Busy x.0 ∷ []) (raise-none (nat_lt 0 (low_of_size (size_of_class c))) c) (tt, tt)))
+alloc-none : (c : ℕ) (own : List Entry) (reply : Option (ℕ × ℕ)) → Allocates c own reply → AllInTurn own
+alloc-none c own (Some o) x = subst AllInTurn (sym x.3) (tt, (tt, (tt, (tt, none-append (raise_below c x.1) (given o.0 o.1 x.0 ∷ []) (raise-none (nat_lt x.1 (low_of_size (size_of_class c))) c) (given-none o.0 o.1 x.0)))))
+alloc-none c own None (inl x) = subst AllInTurn (sym x.1) (tt, (tt, (tt, none-append (raise_below c 0) (entry.Empty ∷ []) (raise-none (nat_lt 0 (low_of_size (size_of_class c))) c) (tt, tt))))
+alloc-none c own None (inr x) = subst AllInTurn (sym x.3) (tt, (tt, none-append (raise_below c 0) (entry.Busy x.0 ∷ []) (raise-none (nat_lt 0 (low_of_size (size_of_class c))) c) (tt, tt)))
 
-free-none : (c u home : ℕ) (own : List Entry) → FreePhrase c u home own → NoYields own
-free-none c u home own (inl x) = subst NoYields (sym x.2) (tt, (tt, (tt, (tt, (tt, raise-none (nat_lt (high_of_size (size_of_class c)) x.0) c)))))
-free-none c u home own (inr x) = subst NoYields (sym x.5) (tt, (tt, none-append (overtaken c x.1) (entry.Look c x.2 ∷ entry.Put c u ∷ entry.Leave c x.3 ∷ []) (overtaken-none c x.1) (tt, (tt, (tt, tt)))))
+free-none : (c u home : ℕ) (own : List Entry) → FreePhrase c u home own → AllInTurn own
+free-none c u home own (inl x) = subst AllInTurn (sym x.2) (tt, (tt, (tt, (tt, (tt, raise-none (nat_lt (high_of_size (size_of_class c)) x.0) c)))))
+free-none c u home own (inr x) = subst AllInTurn (sym x.5) (tt, (tt, none-append (overtaken c x.1) (entry.Look c x.2 ∷ entry.Put c u ∷ entry.Leave c x.3 ∷ []) (overtaken-none c x.1) (tt, (tt, (tt, tt)))))
 
-delay-none : (c u home : ℕ) (batch : Bool) (own : List Entry) → DelayPhrase c u home batch own → NoYields own
-delay-none c u home batch own (inl x) = subst NoYields (sym x.1) (tt, (tt, (tt, (tt, unless-none batch c))))
+delay-none : (c u home : ℕ) (batch : Bool) (own : List Entry) → DelayPhrase c u home batch own → AllInTurn own
+delay-none c u home batch own (inl x) = subst AllInTurn (sym x.1) (tt, (tt, (tt, (tt, unless-none batch c))))
 delay-none c u home batch own (inr x) =
-    subst NoYields (sym x.5) (tt, (tt, none-append (overtaken_delayed c x.1) (entry.LookDelayed c x.2 ∷ entry.PutDelayed c u ∷ entry.Leave c x.3 ∷ raise_unless batch c) (delayed-none c x.1) (tt, (tt, (tt, unless-none batch c)))))
+    subst AllInTurn (sym x.5) (tt, (tt, none-append (overtaken_delayed c x.1) (entry.LookDelayed c x.2 ∷ entry.PutDelayed c u ∷ entry.Leave c x.3 ∷ raise_unless batch c) (delayed-none c x.1) (tt, (tt, (tt, unless-none batch c)))))
 
 pub created-unyielding : (l c : ℕ) (name values : List ℕ) (a b : Option Log) (lives lives' : Lives) (reply : Option ObjId) → Created l c name values a b lives lives' reply → Unyielding l a b
 created-unyielding l c name values a b lives lives' reply made = record { own = entry.New name values ∷ made.own; none = (tt, alloc-none c made.own (reply_of reply) made.allocates); records = made.records }
@@ -82,7 +82,7 @@ created-unyielding l c name values a b lives lives' reply made = record { own = 
 pub disposed-unyielding : (l : ℕ) (counted : Bool) (c : ℕ) (o : ObjId) (s : State ℕ) (a b : Option Log) (lives lives' : Lives) → Disposed l counted c o s a b lives lives' → Unyielding l a b
 disposed-unyielding l counted c o s a b lives lives' gone = record {
   own = entry.Drop o.unit o.life ∷ entry.Last ∷ gone.own;
-  none = (tt, (tt, either-free NoYields counted c o.unit gone.home _ gone.own (free-none c o.unit gone.home gone.own) (delay-none c o.unit gone.home _ gone.own) gone.frees));
+  none = (tt, (tt, either-free AllInTurn counted c o.unit gone.home _ gone.own (free-none c o.unit gone.home gone.own) (delay-none c o.unit gone.home _ gone.own) gone.frees));
   records = gone.records;
 }
 

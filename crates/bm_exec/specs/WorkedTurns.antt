@@ -1,6 +1,7 @@
 -- What a turn of a script adds to a log, by an example.
 use Rattle.std.specs.Prelude.{[], ◌∷◌, ◌++◌}
 use Rattle.bm_journal.specs.declared.entry.Entry.TheVariants as entry
+use Rattle.bm_journal.specs.declared.units.Units.TheVariants.{Whole}
 use Rattle.bm_law.specs.Lists.{Log}
 
 -- A drop, between whose lines a handler of level 2 runs that does nothing.
@@ -13,3 +14,7 @@ a_drop_then_yield = a_drop ++ (0, entry.Yield) ∷ []
 -- a line of level 2 is nothing to a script of level 0
 abbrev pub yields_above : Log
 yields_above = a_drop ++ (2, entry.Yield) ∷ []
+
+-- a sweep is of the closing
+abbrev pub sweeps_after : Log
+sweeps_after = a_drop ++ (0, entry.Sweep 3 (Whole (0 ∷ []))) ∷ []

@@ -12,24 +12,26 @@ abbrev pub is_yield : Action → Bool
 is_yield Yield = true
 is_yield a = false
 
-abbrev pub IsNoYield : Entry → Type 0
-IsNoYield entry.Yield = ⊥
-IsNoYield e = Unit {0}
+-- What a turn records before it ends: no yield, and no sweep, which is the closing's.
+abbrev pub IsInTurn : Entry → Type 0
+IsInTurn entry.Yield = ⊥
+IsInTurn (entry.Sweep c us) = ⊥
+IsInTurn e = Unit {0}
 
-abbrev pub NoYields : List Entry → Type 0
-NoYields [] = Unit {0}
-NoYields (e ∷ own) = IsNoYield e × NoYields own
+abbrev pub AllInTurn : List Entry → Type 0
+AllInTurn [] = Unit {0}
+AllInTurn (e ∷ own) = IsInTurn e × AllInTurn own
 
--- A log has grown by entries of level l and above, none of which is a yield of that level.
+-- A log has grown by entries of level l and above, none of which is a yield or a sweep of that level.
 pub record Unyielding (l : ℕ) (log log' : Option Log) : Type 0 where
   pub own : List Entry
-  pub none : NoYields own
+  pub none : AllInTurn own
   pub records : Records l own log log'
 
 -- .. and then by a yield, with which its entries of that level end.
 pub record YieldsLast (l : ℕ) (log log' : Option Log) : Type 0 where
   pub own : List Entry
-  pub none : NoYields own
+  pub none : AllInTurn own
   pub records : Records l (own ++ entry.Yield ∷ []) log log'
 
 -- what a statement leaves, which is a yield or isn't

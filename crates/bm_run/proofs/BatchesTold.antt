@@ -24,7 +24,7 @@ use Rattle.bm_law_scenario.specs.Calls.{Allocates}
 use Rattle.bm_law_scenario.specs.Grammar.{Front}
 use Rattle.bm_law_scenario.specs.Handlers.{HandlersDone}
 use Rattle.bm_law_scenario.specs.WorkEntries.{IsOfWork}
-use Rattle.bm_law_scenario.proofs.EachLevel.{AllAbove, Framed, above-back, above-front, above-map, handlers-above, handlers-have}
+use Rattle.bm_law_scenario.proofs.EachLevel.{AllAbove, Framed, above-back, above-front, handlers-have}
 use Rattle.bm_law_scenario.proofs.Freed.{either-free}
 use Rattle.bm_law_scenario.proofs.FrontLaws.{Written, front-has}
 use Rattle.bm_law_scenario.proofs.Levels.{levels}
@@ -36,26 +36,25 @@ use Rattle.bm_law_order.specs.Chunk.{Chunk, acts_of, entries_of, seal_told}
 use Rattle.bm_law_order.specs.Chunk as chunk
 use Rattle.bm_law_order.specs.Orders.{AllFit, Order, by, over, part_of}
 use Rattle.bm_law_order.specs.Quiet.{is_quiet}
-use Rattle.bm_law_order.specs.Seals.{GivesNo, GivesNone, IsSealed, Wait, WaitLeads, Waiting, nobody_waits, waiting_after, waiting_over}
+use Rattle.bm_law_order.specs.Seals.{GivesNo, GivesNone, Wait, WaitLeads, Waiting, nobody_waits, waiting_after, waiting_over}
 use Rattle.bm_law_order.specs.Story.{AllJudged, Story, at_level, deeds, lines, lines_of}
 use Rattle.bm_law_order.specs.Tie.{Tied}
 use Rattle.bm_law_order.proofs.Along.{by-append, fit-append, over-append}
 use Rattle.bm_law_order.proofs.Waited.{story-goes}
 use Rattle.bm_law_places.proofs.Apart.{others-part}
 use Rattle.bm_law_seals.specs.Answered.{AreAnswered, ArePut, IsAnswered, IsPut, PutsDelayed}
-use Rattle.bm_law_seals.specs.Batches.{BatchFits, EndsGiving, GivesNoMore, SweepsLast, WaitsInBatches}
+use Rattle.bm_law_seals.specs.Batches.{BatchFits, EndsGiving, GivesNoMore, SweepsLast}
 use Rattle.bm_world.specs.LivingState.{LivingState}
 use Rattle.bm_world.specs.Standings.{waits_told}
 use Rattle.bm_world.specs.ToldLiving.{LivingDoes, knows_living}
 use Rattle.bm_exec_levels.specs.AtPolls.{polled}
 use Rattle.bm_run.specs.LeftAlone.{AllUnswept, IsUnswept}
-use Rattle.bm_run.specs.Opened.{outset}
 use Rattle.bm_run.specs.SoFar.{SealedSoFar}
+use Rattle.bm_run.specs.LogsSoFar.{AnswersAll, OrderUnswept}
 use Rattle.bm_run.proofs.AddedParts.{own-log, part-added}
 use Rattle.bm_run.proofs.Closes.{IsLate}
 use Rattle.bm_run.proofs.Laid.{added-lines}
-use Rattle.bm_run.proofs.LogLaw.{Told}
-use Rattle.bm_run.proofs.SealsTold.{LowSend, goes-low, level-zero, lists-waiting, outset-sealed, releases-fit, stamped-so, tied-sealed, tied-waits}
+use Rattle.bm_run.proofs.SealsTold.{LowSend, goes-low, level-zero, lists-waiting, releases-fit, stamped-so, tied-waits}
 
 -- ---- drops
 
@@ -85,16 +84,9 @@ append-log : (a b c : Log) → (a ++ b) ++ c ≡ a ++ (b ++ c)
 append-log [] b c = refl
 append-log (e ∷ a) b c = ap (λ z. e ∷ z) (append-log a b c)
 
--- No drop of a stretch is left without its answers, whatever comes after it.
-abbrev pub AnswersAll : Log → Type 0
-AnswersAll log = (rest : Log) → AreAnswered rest → AreAnswered (log ++ rest)
-
 story-answers : (ts : Story) → AnswersAll (lines ts)
 story-answers [] rest h = h
 story-answers (t ∷ ts) rest h = subst AreAnswered (sym (append-log (lines_of t) (lines ts) rest)) (chunk-answered t.level t.chunk (lines ts ++ rest) (story-answers ts rest h))
-
-pub answers-append : (one two : Log) → AnswersAll one → AnswersAll two → AnswersAll (one ++ two)
-answers-append one two h k rest r = subst AreAnswered (sym (append-log one two rest)) (h (two ++ rest) (k rest r))
 
 -- so it is of what was added to a log that is tied since a time
 pub tied-answers-since : (judge : ℕ → Log → Chunk → Type 0) (since added log : Log) (start now : LivingState) → log ≡ since ++ added → Tied judge LivingDoes since start 0 [] [] log now → AnswersAll added
@@ -156,7 +148,7 @@ puts-put [] h = tt
 puts-put (e ∷ own) h = (put-so e own h.0, puts-put own h.1)
 
 -- what frees nothing with delay
-abbrev IsUndelayed : Entry → Type 0
+abbrev pub IsUndelayed : Entry → Type 0
 IsUndelayed (entry.Delay u home) = ⊥
 IsUndelayed _ = Unit {0}
 
@@ -349,7 +341,7 @@ statement-unswept : (e : Entry) → IsOfStatement e → IsUnswept e
 statement-unswept (entry.Sweep c us) h = absurd h
 statement-unswept _ h = tt
 
-handler-unswept : (e : Entry) → IsOfHandler e → IsUnswept e
+pub handler-unswept : (e : Entry) → IsOfHandler e → IsUnswept e
 handler-unswept (entry.Sweep c us) h = absurd h
 handler-unswept _ h = tt
 
@@ -380,17 +372,12 @@ zero-or : (l : ℕ) → (l ≢ 0) → 0 < l
 zero-or zero h = absurd (h refl)
 zero-or (suc l) h = omega arith
 
-all-unswept : (log : Log) → AllOf IsUnswept (own_entries 0 log) → AllAbove IsUnswept log → AllUnswept log
+pub all-unswept : (log : Log) → AllOf IsUnswept (own_entries 0 log) → AllAbove IsUnswept log → AllUnswept log
 all-unswept [] own above = tt
 all-unswept (e ∷ es) own above = elim (eqb_tells e.0 0) [
   | inl y ↦ (let h : IsUnswept e.1 × AllOf IsUnswept (own_entries 0 es) = rw y.0 at own in (h.0, all-unswept es h.1 above.1))
   | inr y ↦ (above.0 (zero-or e.0 y.1), all-unswept es (rw y.0 at own) above.1)
 ]
-
--- the same of an order
-abbrev pub OrderUnswept : Order → Type 0
-OrderUnswept [] = Unit {0}
-OrderUnswept (e ∷ o) = IsUnswept e.entry × OrderUnswept o
 
 pub unswept-by : (p : ℕ) (log : Log) → AllUnswept log → OrderUnswept (by p log)
 unswept-by p [] h = tt
@@ -435,7 +422,7 @@ each-part P log h none p = elim (eqb_tells p 0) [
   | inr y ↦ subst P (sym (others-part 0 p log y.1)) none
 ]
 
-late-none : (log : Log) → AllAt 0 log → AllOf IsLate (own_entries 0 log) → GivesNone log
+pub late-none : (log : Log) → AllAt 0 log → AllOf IsLate (own_entries 0 log) → GivesNone log
 late-none [] at late = tt
 late-none (e ∷ es) at late = (let own : IsLate e.1 × AllOf IsLate (own_entries 0 es) = rw (eq-eqb e.0 0 at.0) at late in (late-no e.1 own.0, late-none es at.1 own.1))
   where
@@ -444,53 +431,14 @@ late-none (e ∷ es) at late = (let own : IsLate e.1 × AllOf IsLate (own_entrie
     late-no (entry.GivenAfter u life x n) h = absurd h
     late-no _ h = tt
 
-early-is : (s : Parts) (log : Log) (t : Told s log) → log ≡ ((t.fills ++ t.scripts) ++ t.ended) ++ t.late
-early-is s log t =
-    let front : Log = t.fills ++ t.scripts in
-    t.final_is ∙ (ap (λ z. front ++ z) t.closing_is ∙ sym (append-log front t.ended t.late))
-
--- what holds of the entries of handlers
-told-above : (s : Parts) (log : Log) → Told s log → (I : Entry → Type 0) → ((e : Entry) → IsOfHandler e → I e) → AllAbove I log
-told-above s log t I f =
-    above-map IsOfHandler I f log (handlers-above s 0 log (subst (HandlersStand s 0) (sym t.final_is) t.stands) (subst (HandlersDone s) (sym t.final_is) t.done))
-
-pub told-sealed : (s : Parts) (log : Log) → Told s log → IsSealed (by 0 log)
-told-sealed s log t =
-    let early : Log = (t.fills ++ t.scripts) ++ t.ended in
-    let parts = early-is s log t in
-    let low = above-front LowSend early t.late (subst (AllAbove LowSend) parts (told-above s log t LowSend handler-sends)) in
-    subst (λ z. IsSealed (by 0 z)) (sym parts) (tied-sealed s.pages early t.late t.world t.tied low (late-none t.late t.late_at t.late_own))
-
-pub told-batched : (s : Parts) (log : Log) (world : LivingState) → Told s log → Tied (polled knows_living true [] (outset s.pages)) LivingDoes [] (outset s.pages) 0 [] [] log world → WaitsInBatches (by 0 log)
-told-batched s log world t tied =
-    let front : Log = t.fills ++ t.scripts in
-    let early : Log = front ++ t.ended in
-    let parts : log ≡ early ++ t.late = early-is s log t in
-    let stands : HandlersStand s 0 log = subst (HandlersStand s 0) (sym t.final_is) t.stands in
-    let done : HandlersDone s log = subst (HandlersDone s) (sym t.final_is) t.done in
-    let low = above-front LowStamp early t.late (subst (AllAbove LowStamp) parts (told-above s log t LowStamp handler-low)) in
-    let sends = above-front LowSend early t.late (subst (AllAbove LowSend) parts (told-above s log t LowSend handler-sends)) in
-    let over = above-front IsUnswept early t.late (subst (AllAbove IsUnswept) parts (told-above s log t IsUnswept handler-unswept)) in
-    let is_front : Front s 0 (opening 0) front = record { one = t.fills; two = t.scripts; part_is = refl; is_first = t.are_fills; is_second = t.are_scripts } in
-    let own : AllOf IsUnswept (own_entries 0 early) = subst (AllOf IsUnswept) (sym (own-append 0 front t.ended)) (of-append IsUnswept (own_entries 0 front) (own_entries 0 t.ended) (front-has s (AllOf IsUnswept) (unswept s) 0 (opening 0) front is_front) (subst (AllOf IsUnswept) (sym t.ended_own) (tt, (tt, tt)))) in
-    let answers = all-answered log (tied-answers-since (polled knows_living true [] (outset s.pages)) [] log log (outset s.pages) world refl tied) in
-    let inner : ArePutWithin (own_entries 0 early) = subst ArePutWithin (sym (own-append 0 front t.ended)) (within-append (own_entries 0 front) (own_entries 0 t.ended) (front-has s ArePutWithin (written-within s) 0 (opening 0) front is_front) (subst ArePutWithin (sym t.ended_own) (tt, (tt, tt)))) in
-    let outer : ArePutWithin (own_entries 0 t.late) = undelayed-within (own_entries 0 t.late) (of-map IsLate IsUndelayed late-undelayed (own_entries 0 t.late) t.late_own) in
-    let ordinary : ArePutWithin (own_entries 0 log) = subst (λ z. ArePutWithin (own_entries 0 z)) (sym parts) (subst ArePutWithin (sym (own-append 0 early t.late)) (within-append (own_entries 0 early) (own_entries 0 t.late) inner outer)) in
-    let level : (l : ℕ) → ArePutWithin (own_entries l log) = λ l. elim (eqb_tells l 0) [
+-- A delayed free in the log of any processor puts its unit where it waits: in its front, at its end, in what is late, and in handlers.
+pub log-puts : (s : Parts) (p : ℕ) (log front ended late : Log) → log ≡ (front ++ ended) ++ late → Front s p (opening p) front → AllOf IsLate (own_entries 0 late) → AllOf IsUndelayed (own_entries 0 ended) → HandlersStand s p log → HandlersDone s log → (l : ℕ) → ArePut (own_entries l log)
+log-puts s p log front ended late parts is_front late_own ended_own stands done l =
+    let early : Log = front ++ ended in
+    let inner : ArePutWithin (own_entries 0 early) = subst ArePutWithin (sym (own-append 0 front ended)) (within-append (own_entries 0 front) (own_entries 0 ended) (front-has s ArePutWithin (written-within s) p (opening p) front is_front) (undelayed-within (own_entries 0 ended) ended_own)) in
+    let outer : ArePutWithin (own_entries 0 late) = undelayed-within (own_entries 0 late) (of-map IsLate IsUndelayed late-undelayed (own_entries 0 late) late_own) in
+    let ordinary : ArePutWithin (own_entries 0 log) = subst (λ z. ArePutWithin (own_entries 0 z)) (sym parts) (subst ArePutWithin (sym (own-append 0 early late)) (within-append (own_entries 0 early) (own_entries 0 late) inner outer)) in
+    puts-put (own_entries l log) (elim (eqb_tells l 0) [
       | inl y ↦ subst (λ k. ArePutWithin (own_entries k log)) (sym y.1) ordinary
-      | inr y ↦ handlers-have s ArePutWithin (framed-within s) (own_entries l log) (levels s 0 log stands done l (zero-or l y.1))
-    ] in
-    let first = tied-batches-since 0 [] [] early early (outset s.pages) t.world refl refl refl t.tied sends low (outset-sealed s.pages) tt in
-    let batches : AllFit waiting_after BatchFits (by 0 (early ++ t.late)) nobody_waits =
-    subst (λ o. AllFit waiting_after BatchFits o nobody_waits) (sym (by-append 0 early t.late))
-    (fit-append waiting_after BatchFits (by 0 early) (by 0 t.late) nobody_waits first (late-batches 0 t.late (left_by (by 0 early)) t.late_at t.late_own)) in
-    let swept : SweepsLast (by 0 (early ++ t.late)) =
-    subst SweepsLast (sym (by-append 0 early t.late))
-    (sweeps-last (by 0 early) (by 0 t.late) (unswept-by 0 early (all-unswept early own over)) (no-more 0 t.late (late-none t.late t.late_at t.late_own))) in
-    record {
-      answered = each-part AreAnswered log answers tt;
-      put = λ p l. each-part (λ part. ArePut (own_entries l part)) log (puts-put (own_entries l log) (level l)) tt p;
-      batches = subst (λ z. AllFit waiting_after BatchFits (by 0 z) nobody_waits) (sym parts) batches;
-      swept = subst (λ z. SweepsLast (by 0 z)) (sym parts) swept;
-    }
+      | inr y ↦ handlers-have s ArePutWithin (framed-within s) (own_entries l log) (levels s p log stands done l (zero-or l y.1))
+    ])

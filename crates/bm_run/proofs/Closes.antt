@@ -11,9 +11,9 @@ use Rattle.bm_journal.specs.Totals.{counts_of, share_of}
 use Rattle.bm_grace.specs.Known.{Known, side}
 use Rattle.bm_lang.specs.declared.scenario.Parts.{Parts}
 use Rattle.bm_law.specs.Alone.{AllAt, at_level}
-use Rattle.bm_law.specs.Lists.{Log, after}
+use Rattle.bm_law.specs.Lists.{Log}
 use Rattle.bm_law.specs.Spans.{own_entries}
-use Rattle.bm_law.specs.State.{State, seven_lists}
+use Rattle.bm_law.specs.State.{seven_lists}
 use Rattle.bm_law.specs.SweepPhrases.{MayBegin, MayFinish, PollPhrase, SweepPhrase}
 use Rattle.bm_law.proofs.Alone.{at-own}
 use Rattle.bm_cache.specs.Steps.{steps_in}
@@ -24,12 +24,12 @@ use Rattle.bm_law_work.proofs.Each.{AllOf, PartOf, of-append, part-nothing, part
 use Rattle.bm_due.specs.Due.{due_handler}
 use Rattle.bm_due.specs.Plan.{Plan, due_of}
 use Rattle.bm_due.specs.Standing.{Stays, Steps, kind_of, step_or_not}
-use Rattle.bm_law_scenario.specs.Closing.{AreSweeps, Closing, EndsOne, EndsPeriods, SweepOf, SweepWhere, in_progress}
+use Rattle.bm_law_scenario.specs.Closing.{EndsOne, EndsPeriods, SweepOf, SweepWhere, in_progress}
 use Rattle.bm_law_scenario.specs.Handlers.{HandlersDone}
 use Rattle.bm_law_scenario.proofs.GoneBack.{done-grow}
 use Rattle.bm_plan.specs.Position.{Position, StandsAt, level_in}
 use Rattle.bm_plan.proofs.Positions.{asks-none, stays-here, steps-here}
-use Rattle.bm_law_logs.specs.SweepsTold.{ClosingTold, SweepsTold}
+use Rattle.bm_law_logs.specs.SweepsTold.{SweepsTold}
 use Rattle.bm_exec_levels.specs.Growing.{IsInner, no-back}
 use Rattle.bm_closing.specs.EndsBegun.{EndsBegun}
 
@@ -60,7 +60,7 @@ poll-late c own p = subst (AllOf IsLate) (sym p.own_is) (of-append IsLate p.ende
 sweep-late : (c : ℕ) (own : List Entry) → SweepPhrase c own → AllOf IsLate own
 sweep-late c own p = subst (AllOf IsLate) (sym p.own_is) (tt, (tt, of-append IsLate p.poll (entry.Return c (Whole p.returned) ∷ []) (poll-late c p.poll p.polls) (tt, tt)))
 
-ends-late : (d : Domain) (begun : Option ℕ) → PartOf IsLate 0 (EndsOne d begun)
+pub ends-late : (d : Domain) (begun : Option ℕ) → PartOf IsLate 0 (EndsOne d begun)
 ends-late d None = part-nothing IsLate 0
 ends-late d (Some n) = part-say IsLate 0 _ (λ own h. subst (AllOf IsLate) (sym h.3) (tt, tt))
 
@@ -68,17 +68,9 @@ where-late : (c : ℕ) (us : List ℕ) → PartOf IsLate 0 (SweepWhere c us)
 where-late c [] = part-nothing IsLate 0
 where-late c (u ∷ us) = part-say IsLate 0 (SweepOf c (u ∷ us)) (λ own h. sweep-late c own h.phrase)
 
-sweeps-late : (cs : List ℕ) (boxes : Inboxes) → PartOf IsLate 0 (SweepsTold cs boxes)
+pub sweeps-late : (cs : List ℕ) (boxes : Inboxes) → PartOf IsLate 0 (SweepsTold cs boxes)
 sweeps-late [] boxes s part h = part-nothing IsLate 0 s part h
 sweeps-late (c ∷ cs) boxes s part h = part-then IsLate 0 (SweepWhere c (seven_lists (s.rows c) ++ concat (boxes c))) (SweepsTold cs (on_inbox c (λ parcels. []) boxes)) (where-late c (seven_lists (s.rows c) ++ concat (boxes c))) (sweeps-late cs (on_inbox c (λ parcels. []) boxes)) s part h.1
-
--- the ends of the periods in progress, and the sweeps
-pub rest-late : (known : Known) (classes : List ℕ) (boxes : Inboxes) → PartOf IsLate 0 (Then (EndsBegun known) (SweepsTold classes boxes))
-rest-late known classes boxes =
-    let plain : Option ℕ = begun_by (side Plain known).number in
-    let tracing : Option ℕ = begun_by (side Tracing known).number in
-    let ends : PartOf IsLate 0 (EndsBegun known) = part-then IsLate 0 (EndsOne Plain plain) (EndsOne Tracing tracing) (ends-late Plain plain) (ends-late Tracing tracing) in
-    part-then IsLate 0 (EndsBegun known) (SweepsTold classes boxes) ends (sweeps-late classes boxes)
 
 -- ---- how the log goes on then
 
@@ -138,17 +130,6 @@ pub late-goes-on : (x : Position) (s : Parts) (log more : Log) → x.running ≡
 late-goes-on x s log more none ended at late h = subst (λ z. LawfulSoFar x s (log ++ z)) (sym (at-own 0 more at)) (late-all x s log (own_entries 0 more) none ended late h)
 
 -- ---- what is said of the inboxes gives the closing
-
-pub closing-is : (classes : List ℕ) (front : Log) (boxes : Inboxes) (s : State ℕ) (part : Log) → ((t : State ℕ) (more : Log) → SweepsTold classes boxes t more → AreSweeps classes t more) → ClosingTold 0 classes front boxes s part → Closing 0 classes front s part
-closing-is classes front boxes s part f h =
-    let rest = h.is_second in
-    record {
-      one = h.one;
-      two = h.two;
-      part_is = h.part_is;
-      is_first = h.is_first;
-      is_second = record { one = rest.one; two = rest.two; part_is = rest.part_is; is_first = rest.is_first; is_second = f (after (after s h.one) rest.one) rest.two rest.is_second };
-    }
 
 -- ---- the periods that end
 

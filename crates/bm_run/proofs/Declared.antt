@@ -1,5 +1,5 @@
 -- What the language's conditions say of types and `run` lines.
-use Rattle.std.proofs.Common.{◌≡◌, ◌≤◌, ◌+◌, ◌*◌, ℕ, suc, zero, Bool, true, false, ◌&&◌, List, [], ◌∷◌, ◌++◌, map, get_or, refl, sym, ap, subst, length, arith, IsSome, slice_get}
+use Rattle.std.proofs.Common.{◌≡◌, ℕ, suc, zero, Bool, true, false, ◌&&◌, List, [], ◌∷◌, ◌++◌, map, get_or, refl, IsSome, slice_get}
 use Rattle.std.specs.List.{list_all}
 use Rattle.std.specs.Option.{IsSomeAnd}
 use Rattle.bm_lang.specs.declared.scenario.Parts.{Parts}
@@ -7,11 +7,7 @@ use Rattle.bm_lang.specs.declared.scenario.TypeDeclaration.{TypeDeclaration}
 use Rattle.bm_lang.specs.Fine.{FineTypes, HasConditions}
 use Rattle.bm_lang.specs.Names.{TypeForm, has_size, runs_as}
 use Rattle.bm_lang.specs.Spelling.{type_form, script_form}
-use Rattle.bm_due.specs.Due.{planned_for}
-use Rattle.bm_lang.specs.declared.scenario.AtLine.{AtLine}
-use Rattle.bm_exec_levels.specs.Ready.{left_cost}
-use Rattle.bm_run.proofs.Bounds.{Within, cost-kept}
-use Rattle.bm_run.specs.Lines.{AreDeclared, lines_cost}
+use Rattle.bm_run.specs.Lines.{AreDeclared}
 
 both : (a b : Bool) → a ≡ true → b ≡ true → (a && b) ≡ true
 both true b e f = f
@@ -28,16 +24,3 @@ found f (x ∷ xs) (suc i) P h = found f xs i P h
 
 pub all-declared : (s : Parts) → HasConditions s → AreDeclared s s.runs
 all-declared s h i d lt = found script_form s.scripts (get_or s.runs i d).script.0 (λ x. runs_as false x.kind ≡ true) (h.runs i d lt).script
-
--- what its `run` lines and its planned handlers ask for
-pub room-all : (s : Parts) → Within s 0 → left_cost s (planned_for 0 s) + 2 * lines_cost 0 s.scripts s.runs ≤ 40000
-room-all s w =
-    let k = cost-kept s 0 s.ats in
-    let n = w.statements in
-    omega (arith, k, n)
-
-pub room-for : (s : Parts) (asked settled cost : ℕ) (left planned : List AtLine) → left ≡ planned → asked + settled ≡ 0 → left_cost s planned + 2 * cost ≤ 40000 → (asked + settled + left_cost s left) + 2 * cost ≤ 40000
-room-for s asked settled cost left planned e z h = (let k = ap (left_cost s) e in omega (arith, k, z, h))
-
-pub few-left : (n : ℕ) (left planned : List AtLine) → left ≡ planned → length planned ≤ n → length left ≤ n
-few-left n left planned e h = subst (λ (x : List AtLine). length x ≤ n) (sym e) h

@@ -76,9 +76,6 @@ first-told n q pages =
     let F : List Stocked → Shared = λ us. record (fresh n pages) { pool = record { classes = replicate pages None; units = us } } in
     fresh-told n q pages (fresh_stock pages) [] [] [] no-slots no-lives ∙ ap F (bare-unborn (256 * pages))
 
-pub outset-told : (pages : ℕ) → told_living (outset pages) ≡ fresh 1 pages
-outset-told pages = first-told 1 0 pages
-
 -- the fills of some classes from a stock
 abbrev fill_story : List ℕ → Stock → Story
 fill_story [] pool = []

@@ -9,31 +9,31 @@ use Rattle.bm_law.specs.State.{State, opening}
 use Rattle.bm_law.proofs.Folds.{after-append}
 use Rattle.bm_law_work.specs.Grown.{GrewBy, GrewPart}
 use Rattle.bm_law_work.specs.Parts.{Part, Stand, Then}
-use Rattle.bm_law_work.proofs.Grown.{grew-join, grew-none}
-use Rattle.bm_law_scenario.specs.Grammar.{AreScripts, IsBody, IsScript, behind_script, behind_statement, lines_of, section_of, starts_inside}
+use Rattle.bm_law_work.proofs.Grown.{grew-join}
+use Rattle.bm_law_scenario.specs.Grammar.{AreScripts, IsBody, IsScript, behind_script, behind_statement, section_of, starts_inside}
 use Rattle.bm_law_scenario.specs.Held.{no_names}
 use Rattle.bm_law_scenario.specs.Runs.{RunsBlock}
 use Rattle.bm_world.specs.LivingState.{LivingState}
 use Rattle.bm_world.specs.ToldLiving.{knows_living}
 use Rattle.bm_exec.specs.Lists.{Behind}
-use Rattle.bm_exec.specs.Yields.{NoYields, Unyielding}
-use Rattle.bm_exec_levels.specs.AtProcessor.{SameLives, lists_of, log_of}
+use Rattle.bm_exec.specs.Yields.{AllInTurn, Unyielding}
+use Rattle.bm_exec_levels.specs.AtProcessor.{lists_of, log_of}
 use Rattle.bm_exec_levels.specs.Ordinary.{Ordinary}
 use Rattle.bm_exec_levels.specs.Ready.{known_of, word_of}
 use Rattle.bm_exec_levels.specs.Sound.{Sound}
-use Rattle.bm_exec_levels.specs.Stated.{ordinary-joined, ordinary-same}
+use Rattle.bm_exec_levels.specs.Stated.{ordinary-joined}
 use Rattle.bm_exec_levels.specs.declared.processor.Processor.{Processor}
 use Rattle.bm_exec_levels.specs.declared.program.Program.{Program}
 use Rattle.bm_exec_levels.proofs.Yields.{behind-unyielding}
-use Rattle.bm_run.specs.Lines.{AreDeclared, BehindScript, Wrote, lines_cost, works_for}
-use Rattle.bm_run.specs.Turns.{Advanced, CanRun, EndsScript, HasBegun, HasEnded, HasRun, IsNextOf, IsOutside, RunsBlocks, RunsOn, StillRuns, WentOn, around_in, begun_cost, begun_weight, cost_left, domain_of, lines_left, owned_by, stands_in, weight_left}
+use Rattle.bm_run.specs.Lines.{AreDeclared, BehindScript, lines_cost, works_for}
+use Rattle.bm_run.specs.Turns.{Advanced, EndsScript, HasBegun, HasEnded, HasRun, IsNextOf, RunsBlocks, RunsOn, StillRuns, WentOn, around_in, begun_cost, begun_weight, cost_left, domain_of, lines_left, owned_by, weight_left}
 use Rattle.bm_run.specs.declared.turns.Begun.{Begun}
 use Rattle.bm_run.specs.declared.turns.Remaining.{Remaining}
 use Rattle.bm_run.proofs.Lines.{behind-scripts, behind-statements}
 
 -- ---- what yields nothing
 
-pub stand-unyielding : (own : List Entry) (s : State ℕ) (a b : Option Log) → NoYields own → GrewBy (Stand 0 own) s a b → Unyielding 0 a b
+pub stand-unyielding : (own : List Entry) (s : State ℕ) (a b : Option Log) → AllInTurn own → GrewBy (Stand 0 own) s a b → Unyielding 0 a b
 stand-unyielding own s a None n h = record { own = []; none = tt; records = tt }
 stand-unyielding own s a (Some now) n h = record { own = own; none = n; records = record { log = h.log; told = h.told; added = h.added; now_is = h.now_is; from = h.is_part.from; owned = h.is_part.own_is } }
 
@@ -65,10 +65,6 @@ grew-inner P Q E p s t a b (Some now) x y f h =
           h.now_is ∙ (ap (λ z. h.log ++ z) part.part_is ∙ (sym (append_assoc h.log part.one part.two) ∙ (ap (λ z. z ++ part.two) g.now_is ∙ append_assoc g.log g.added part.two)));
       is_part = record { one = g.added; two = part.two; part_is = refl; is_first = g.is_part; is_second = subst S (sym same) part.is_second };
     }
-
--- a part that is another one too, before what follows
-then-map : (P Q E F : Part) (s : State ℕ) (part : Log) → ((x : Log) → P s x → Q s x) → ((v : State ℕ) (x : Log) → E v x → F v x) → Then P E s part → Then Q F s part
-then-map P Q E F s part f g h = record { one = h.one; two = h.two; part_is = h.part_is; is_first = f h.one h.is_first; is_second = g (after s h.one) h.two h.is_second }
 
 -- what is recorded leaves the lists
 told-at : (p : Program) (m : Processor LivingState) → Sound knows_living p m → (n : ℕ) → m.caches.processor ≡ n → IfSome (log_of m) (λ es. Leaves n es (lists_of m))
@@ -198,21 +194,11 @@ advanced-ended s w p before mid now b r sa sb sc o word h e d =
 
 -- ---- one after the other
 
-pub advanced-none : (s : Parts) (w : Option (List ℕ)) (m : Processor LivingState) (r : Remaining) → CanRun s w m r → Advanced s w m r m r
-advanced-none s w m r c = record { grew = λ final x. x; ordinary = ordinary-same knows_living m; can = c; owns = λ base x. x; used = omega arith }
-
 -- all `run` lines remain, of processor p to run
 pub record AllRemain (s : Parts) (p : ℕ) (r : Remaining) : Type 0 where
   pub own : r.processor ≡ p
   pub none : r.begun ≡ None
   pub all : r.lines.now ≡ s.runs
-
--- so it is at first
-pub advanced-first : (s : Parts) (w : Option (List ℕ)) (m : Processor LivingState) (r : Remaining) → AllRemain s r.processor r → IsOutside w m → AreDeclared s s.runs → Advanced s w m r m r
-advanced-first s w m r a o d = advanced-none s w m r record {
-  stands = subst (λ (x : Option Begun). stands_in s w m x) (sym a.none) o;
-  declared = subst (AreDeclared s) (sym a.all) d;
-}
 
 -- what it costs to run them all
 pub all-cost : (s : Parts) (p : ℕ) (r : Remaining) → AllRemain s p r → cost_left s r ≡ 2 * lines_cost p s.scripts s.runs
@@ -229,19 +215,3 @@ advanced-join s w a b c r q t x y = record {
   owns = λ base z. y.owns base (x.owns base z);
   used = (let u = x.used in let v = y.used in omega (arith, u, v));
 }
-
--- where nothing remains, all has run
-pub advanced-all : (s : Parts) (w : Option (List ℕ)) (p : ℕ) (a b : Processor LivingState) (r q : Remaining) → AllRemain s p r → q.begun ≡ None → lines_left q ≡ [] → Advanced s w a r b q → Wrote (AreScripts s (lines_of p s.runs)) a b
-advanced-all s w p a b r q h f none x =
-    let nothing : GrewBy (StillRuns s w b q) (lists_of b) (log_of b) (log_of b) = subst (λ (o : Option Begun). GrewBy (StillRuns s w b (with_begun o q)) (lists_of b) (log_of b) (log_of b)) (sym f) (subst (λ ls. GrewBy (AreScripts s ls) (lists_of b) (log_of b) (log_of b)) (sym none) (grew-none (AreScripts s []) (lists_of b) (log_of b) refl)) in
-    let lines : lines_left r ≡ lines_of p s.runs = ap (λ k. lines_of k r.lines.now) h.own ∙ ap (lines_of p) h.all in
-    record {
-      grew = subst (λ ls. GrewBy (AreScripts s ls) (lists_of a) (log_of a) (log_of b)) lines (subst (λ (o : Option Begun). GrewBy (StillRuns s w a (with_begun o r)) (lists_of a) (log_of a) (log_of b)) h.none (x.grew (log_of b) nothing));
-      ordinary = x.ordinary;
-    }
-
--- .. and its names own nothing
-pub advanced-lives : (s : Parts) (w : Option (List ℕ)) (p : ℕ) (a b : Processor LivingState) (r q : Remaining) → AllRemain s p r → q.begun ≡ None → Advanced s w a r b q → SameLives knows_living a b
-advanced-lives s w p a b r q h f x =
-    subst (λ (o : Option Begun). owned_by s (known_of knows_living a).objects.lives (known_of knows_living b).objects.lives o) f
-    (x.owns (known_of knows_living a).objects.lives (subst (λ (o : Option Begun). owned_by s (known_of knows_living a).objects.lives (known_of knows_living a).objects.lives o) (sym h.none) refl))

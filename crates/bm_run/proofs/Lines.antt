@@ -1,5 +1,5 @@
 -- What stands after statements and scripts, and what `run` lines cost.
-use Rattle.std.proofs.Common.{sym, ◌≡◌, ◌≢◌, eq-eqb, ne_eqb, ◌≤◌, ℕ, ◌+◌, Bool, true, false, List, [], ◌∷◌, length, refl, ap, ◌∙◌, Option, Some, None, IfSome, slice_get, arith, if◌then◌else◌}
+use Rattle.std.proofs.Common.{sym, ◌≡◌, eq-eqb, ◌≤◌, ℕ, ◌+◌, Bool, true, false, List, [], ◌∷◌, length, refl, ap, ◌∙◌, Option, Some, None, IfSome, slice_get, arith, if◌then◌else◌}
 use Rattle.std.specs.Borrow.{Bor}
 use Rattle.std.proofs.lemmas.List.Sums.{sum_by-cons}
 use Rattle.bm_lang.specs.declared.scenario.RunLine.{RunLine}
@@ -56,11 +56,4 @@ cost-line p scripts r rest script here e =
     let c = sum_by-cons (λ (x : RunLine). cost_on p x.processor (script_cost (slice_get scripts x.script.0))) r rest in
     let w : cost_on p r.processor (script_cost (slice_get scripts r.script.0)) ≡ 10 + block_cost script.body =
     ap (λ b. if b then script_cost (slice_get scripts r.script.0) else 0) (eq-eqb p r.processor (sym here)) ∙ ap script_cost e in
-    omega (arith, c, w)
-
--- a line of another one costs nothing
-pub cost-other : (p : ℕ) (scripts : List Script) (r : RunLine) (rest : List RunLine) → r.processor ≢ p → lines_cost p scripts (r ∷ rest) ≡ lines_cost p scripts rest
-cost-other p scripts r rest there =
-    let c = sum_by-cons (λ (x : RunLine). cost_on p x.processor (script_cost (slice_get scripts x.script.0))) r rest in
-    let w : cost_on p r.processor (script_cost (slice_get scripts r.script.0)) ≡ 0 = ap (λ b. if b then script_cost (slice_get scripts r.script.0) else 0) (ne_eqb p r.processor (λ q. there (sym q))) in
     omega (arith, c, w)

@@ -9,7 +9,7 @@ use Rattle.bm_law.specs.Lists.{Log}
 use Rattle.bm_page.specs.UnitState.{UnitState}
 use Rattle.bm_page.specs.declared.units.Seal.{Seal}
 use Rattle.bm_law_logs.specs.Lifeless.{SaysNoLife}
-use Rattle.bm_law_logs.specs.Lived.{Lived, no_lives, with_dropped, with_given}
+use Rattle.bm_law_logs.specs.Lived.{Lived, with_dropped, with_given}
 use Rattle.bm_law_logs.specs.Told.{LivesOn}
 use Rattle.bm_law_logs.proofs.Stretches as stretch
 use Rattle.bm_law_order.specs.Act.{Act}
@@ -28,10 +28,8 @@ use Rattle.bm_world.specs.Slots.{unit_at}
 use Rattle.bm_world.specs.Told.{IsSideOf}
 use Rattle.bm_world.specs.ToldLiving.{LivingDoes, life_of, told_living}
 use Rattle.bm_exec.specs.Living.{home_of}
-use Rattle.bm_grace.specs.Known.{Objects}
-use Rattle.bm_run.specs.Opened.{outset}
-use Rattle.bm_run.proofs.FreshTold.{outset-told}
-use Rattle.bm_run.proofs.Laid.{added-lines, outset-side}
+use Rattle.bm_run.specs.LogsSoFar.{lived_in}
+use Rattle.bm_run.proofs.Laid.{added-lines}
 
 -- what is known of lives, of what processors share
 abbrev pub lived_by : Lives → Lived
@@ -135,10 +133,6 @@ story-tells p (t ∷ ts) s f =
     let all = stretch.lives-join p (lived_by s.lives) (lived_by now.lives) (lived_by (acts_over p (deeds ts) now).lives) (lines_of t) (lines ts) (chunk-tells p t.level t.chunk s (acts-before p first (deeds ts) s f)) rest in
     subst (λ (x : Shared). LivesOn p (lived_by s.lives) (lived_by x.lives) (lines (t ∷ ts))) (sym (acts-append p first (deeds ts) s)) all
 
--- what a side knows of lives
-abbrev pub lived_in : Objects → Lived
-lived_in objects = record { begun = objects.begun; homes = λ u. home_of (objects.lives u) }
-
 home-is : (o : Option UnitState) → maker_of (life_of o) ≡ home_of (living_of o)
 home-is None = refl
 home-is (Some u) = refl
@@ -159,9 +153,3 @@ tied-lives-since judge p since added log start now own log_is t =
     let told = subst (λ (x : Shared). LivesOn p (lived_by first.lives) (lived_by x.lives) (lines t.story)) there (story-tells p t.story first fit) in
     let known = subst (λ (a : Lived). LivesOn p a (lived_in (known_living now).objects) (lines t.story)) (lived-is start) (subst (λ (b : Lived). LivesOn p (lived_by first.lives) b (lines t.story)) (lived-is now) told) in
     subst (LivesOn p (lived_in (known_living start).objects) (lived_in (known_living now).objects)) (sym (added-lines judge since added log start now log_is t)) known
-
--- so does one that is tied since the outset, where none lived
-pub tied-lives : (judge : ℕ → Log → Chunk → Type 0) (pages : ℕ) (log : Log) (world : LivingState) → Tied judge LivingDoes [] (outset pages) 0 [] [] log world → LivesOn 0 no_lives (lived_in (known_living world).objects) log
-tied-lives judge pages log world t =
-    let none : lived_in (known_living (outset pages)).objects ≡ no_lives = sym (lived-is (outset pages)) ∙ ap (λ (x : Shared). lived_by x.lives) (outset-told pages) in
-    subst (λ (a : Lived). LivesOn 0 a (lived_in (known_living world).objects) log) none (tied-lives-since judge 0 [] log log (outset pages) world (outset-side pages) refl t)

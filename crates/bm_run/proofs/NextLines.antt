@@ -1,5 +1,5 @@
 -- The `run` lines that a processor hasn't come to.
-use Rattle.std.proofs.Common.{◌≡◌, ◌≢◌, ◌<◌, ◌≤◌, ◌+◌, ◌-◌, ◌∙◌, ℕ, suc, List, [], ◌∷◌, Some, ap, drop, eq-eqb, ne_eqb, refl, subst, sym, take, arith, length, slice_get, slice_index_or}
+use Rattle.std.proofs.Common.{◌≡◌, ◌<◌, ◌≤◌, ◌+◌, ◌-◌, ◌∙◌, ℕ, suc, List, [], ◌∷◌, Some, ap, drop, eq-eqb, refl, subst, sym, take, arith, length, slice_get, slice_index_or}
 use Rattle.std.specs.Borrow.{Bor}
 use Rattle.std.proofs.lemmas.List.{take_all}
 use Rattle.bm_lang.specs.declared.scenario.Parts.{Parts}
@@ -10,13 +10,10 @@ use Rattle.bm_law_scenario.specs.Grammar.{lines_of}
 use Rattle.bm_run.specs.Lines.{AreDeclared, lines_cost}
 use Rattle.bm_run.specs.Turns.{IsNextOf, lines_left}
 use Rattle.bm_run.specs.declared.turns.Remaining.{Remaining}
-use Rattle.bm_run.proofs.Lines.{cost-line, cost-other}
+use Rattle.bm_run.proofs.Lines.{cost-line}
 
 lines-here : (p : ℕ) (r : RunLine) (rest : List RunLine) → r.processor ≡ p → lines_of p (r ∷ rest) ≡ r ∷ lines_of p rest
 lines-here p r rest e = rw (eq-eqb r.processor p e) refl
-
-lines-there : (p : ℕ) (r : RunLine) (rest : List RunLine) → r.processor ≢ p → lines_of p (r ∷ rest) ≡ lines_of p rest
-lines-there p r rest n = rw (ne_eqb r.processor p n) refl
 
 -- the lines after the first
 abbrev pub after_first : List RunLine → List RunLine
@@ -41,19 +38,6 @@ pub record Searched (s : Parts) (before now : Remaining) : Type 0 where
 
 pub searched-none : (s : Parts) (r : Remaining) → AreDeclared s r.lines.now → Searched s r r
 searched-none s r d = record { same = refl; left = refl; cost = refl; declared = d }
-
--- a line of another processor
-pub searched-other : (s : Parts) (before now : Remaining) (rest : Bor (List RunLine)) (d : RunLine) → 1 ≤ length now.lines.now → rest.now ≡ after_first now.lines.now → (slice_index_or now.lines.now 0 d).processor ≢ now.processor → Searched s before now → Searched s before (record now { lines = rest })
-searched-other s before now rest d some e other x =
-    let line = slice_index_or now.lines.now 0 d in
-    let all = first-is now.lines.now d some in
-    let here : now.processor ≡ before.processor = ap (λ (r : Remaining). r.processor) x.same in
-    record {
-      same = ap (λ (r : Remaining). let q : Remaining = record r { lines = rest } in q) x.same;
-      left = ap (lines_of now.processor) e ∙ (sym (lines-there now.processor line (after_first now.lines.now) other) ∙ (ap (lines_of now.processor) (sym all) ∙ x.left));
-      cost = ap (lines_cost before.processor s.scripts) e ∙ (sym (cost-other before.processor s.scripts line (after_first now.lines.now) (λ q. other (q ∙ sym here))) ∙ (ap (lines_cost before.processor s.scripts) (sym all) ∙ x.cost));
-      declared = subst (AreDeclared s) (sym e) (declared-after s now.lines.now d some x.declared);
-    }
 
 -- a line of its own
 pub next-is : (s : Parts) (script : Script) (before now : Remaining) (rest : Bor (List RunLine)) (d : RunLine) → 1 ≤ length now.lines.now → rest.now ≡ after_first now.lines.now → (slice_index_or now.lines.now 0 d).processor ≡ now.processor → slice_get s.scripts (slice_index_or now.lines.now 0 d).script.0 ≡ Some script → Searched s before now → IsNextOf s script before (record now { lines = rest })

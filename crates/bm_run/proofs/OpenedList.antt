@@ -1,5 +1,5 @@
 -- The classes that a scenario's types use, as a list.
-use Rattle.std.proofs.Common.{◌≡◌, ◌≤◌, ◌<◌, ℕ, suc, zero, ◌+◌, Bool, true, false, ◌&&◌, List, [], ◌∷◌, length, refl, sym, ap, ◌∙◌, Option, Some, None, arith, inl, inr, eqb, eq-eqb, ne_eqb, nat_lt, if◌then◌else◌, cond, lit<}
+use Rattle.std.proofs.Common.{◌≡◌, ◌≤◌, ◌<◌, ℕ, suc, zero, ◌+◌, Bool, true, false, ◌&&◌, List, [], ◌∷◌, length, refl, sym, ap, ◌∙◌, Option, Some, None, arith, inl, inr, eqb, ne_eqb, nat_lt, if◌then◌else◌, cond, lit<}
 use Rattle.std.specs.List.{list_any, filter}
 use Rattle.std.proofs.lemmas.Bool.Decides.{nat_tests, Decides-eqb}
 use Rattle.bm_class.specs.Sizes.{class_of_size}
@@ -62,21 +62,6 @@ absent c x (y ∷ ys) h lt =
     let below : x < y = grind (arith, nat_tests, one) in
     let rest = absent c y ys (right (nat_lt x y) (ascends (y ∷ ys)) h) (omega (arith, lt, below)) in
     rw (ne_eqb c x (λ e. absurd (omega (arith, e, lt)))) (omega (arith, rest))
-
-pub ascending-once : (xs : List ℕ) → ascends xs ≡ true → (c : ℕ) → times c xs ≤ 1
-ascending-once [] h c = omega arith
-ascending-once (x ∷ xs) h c = elim (cases_eq c x) [
-  | inl same ↦ (let t = alone x xs h in let e : times c (x ∷ xs) ≡ times x (x ∷ xs) = ap (λ k. times k (x ∷ xs)) same in omega (arith, t, e))
-  | inr other ↦ (let r = ascending-once xs (tail x xs h) c in rw (ne_eqb c x other) (omega (arith, r)))
-]
-  where
-    alone : (x : ℕ) (xs : List ℕ) → ascends (x ∷ xs) ≡ true → times x (x ∷ xs) ≤ 1
-    alone x [] h = rw (eq-eqb x x refl) (omega arith)
-    alone x (y ∷ ys) h =
-        let one = left (nat_lt x y) (ascends (y ∷ ys)) h in
-        let below : x < y = grind (arith, nat_tests, one) in
-        let a = absent x y ys (right (nat_lt x y) (ascends (y ∷ ys)) h) below in
-        rw (eq-eqb x x refl) (omega (arith, a))
 
 -- ---- kept elements
 

@@ -1,6 +1,6 @@
 -- The order of the openings of several processors: each opening is a turn, so the order is so far as it is between two turns.
 use Rattle.std.specs.Prelude.{◌<◌, ◌≤◌}
-use Rattle.std.proofs.Common.{◌≡◌, ℕ, zero, suc, Option, false, List, [], ◌∷◌, ◌++◌, length, refl, sym, ap, subst, ◌∙◌, None, IfSome, arith, inl, inr}
+use Rattle.std.proofs.Common.{◌≡◌, ℕ, zero, suc, Option, false, List, [], ◌∷◌, ◌++◌, length, refl, sym, ap, subst, ◌∙◌, None, arith, inl, inr}
 use Rattle.std.proofs.lemmas.Bool.{cases_eq, cases_lt}
 use Rattle.std.proofs.lemmas.Option.{slice_get_within}
 use mathlib.Core.Path.{fun_ext}
@@ -14,14 +14,13 @@ use Rattle.bm_law.specs.State.{State, opening}
 use Rattle.bm_law_scenario.specs.Fills.{fresh_stock, opening_stock}
 use Rattle.bm_law_scenario.proofs.EachLevel.{AllAbove}
 use Rattle.bm_law_order.specs.Bare.{bare_pool}
-use Rattle.bm_law_order.specs.Orders.{AllFit, AllShared, Leads, Order, by, part_of, shared_over}
+use Rattle.bm_law_order.specs.Orders.{AllFit, AllShared, Leads, Order, by, part_of}
 use Rattle.bm_law_order.specs.Seals.{nobody_waits, waiting_after}
 use Rattle.bm_law_order.specs.Shared.{Shared, fresh}
 use Rattle.bm_law_order.specs.Story.{Steady, plainly}
 use Rattle.bm_law_logs.specs.Lived.{Lived, no_lives}
 use Rattle.bm_law_logs.specs.Told.{LivesOn}
-use Rattle.bm_law_places.specs.Placed.{IsWellPlaced}
-use Rattle.bm_law_places.specs.World.{AllFound, SweepsInbox, World, outset, world_after, world_over}
+use Rattle.bm_law_places.specs.World.{AllFound, SweepsInbox, World, outset, world_after}
 use Rattle.bm_law_seals.specs.Batches.{BatchFits}
 use Rattle.bm_cache.specs.Opening.{Fills, fill_log}
 use Rattle.bm_world.specs.LivingState.{LivingState, begun_at, known_living}
@@ -34,16 +33,16 @@ use Rattle.bm_world.specs.declared.standing.Standing.TheVariants.{Nothing}
 use Rattle.bm_exec_levels.specs.Ready.{IsProgram}
 use Rattle.bm_exec_levels.specs.declared.kept.Kept.{Kept}
 use Rattle.bm_exec_levels.specs.declared.program.Program.{Program}
-use Rattle.bm_run.specs.LeftAlone.{AllUnswept, IsTold}
+use Rattle.bm_run.specs.LeftAlone.{AllUnswept}
 use Rattle.bm_run.specs.Opened.{fresh_world}
 use Rattle.bm_run.specs.Openings.{AreFilled, AreOpen, filling_of, openings}
 use Rattle.bm_run.specs.SoFar.{SealedSoFar, SoFar}
+use Rattle.bm_run.specs.LogsSoFar.{OrderUnswept, lived_in}
 use Rattle.bm_run.proofs.AddedParts.{part-added, part-kept}
-use Rattle.bm_run.proofs.BatchesTold.{LowStamp, OrderUnswept, unswept-append, unswept-by}
-use Rattle.bm_run.proofs.Begun.{where-told}
+use Rattle.bm_run.proofs.BatchesTold.{LowStamp, unswept-append, unswept-by}
 use Rattle.bm_run.proofs.Bounds.{within}
 use Rattle.bm_run.proofs.FreshTold.{fills-tied, first-told, fresh-told, no-lives, no-slots, no-standing}
-use Rattle.bm_run.proofs.LivesTold.{lived-is, lived_by, lived_in}
+use Rattle.bm_run.proofs.LivesTold.{lived-is, lived_by}
 use Rattle.bm_run.proofs.OpeningLemmas.{living_side}
 use Rattle.bm_run.proofs.Opens.{filling-leaves, opens}
 use Rattle.bm_run.proofs.SealsTold.{LowSend}
@@ -67,11 +66,6 @@ part-opened classes pages (suc p) q h = elim (cases_eq q p) [
       (part-added p (openings classes pages p) (fill_log (filling_of classes pages p).fills) ∙ ap (λ (z : Log). z ++ fill_log (filling_of classes pages p).fills) (part-unopened classes pages p p (omega arith)))
   | inr other ↦ part-kept p q (openings classes pages p) (fill_log (filling_of classes pages p).fills) other ∙ part-opened classes pages p q (omega (arith, h, other))
 ]
-
--- So a processor's log, where it is told, is its part of the order.
-pub part-told : (classes : List ℕ) (pages n q : ℕ) (log : Option Log) → q < n → IfSome log (λ es. es ≡ fill_log (filling_of classes pages q).fills) → IfSome log (λ es. part_of q (openings classes pages n) ≡ es)
-part-told classes pages n q log lt told =
-    where-told (λ es. part_of q (openings classes pages n) ≡ es) log (fill_log (filling_of classes pages q).fills) told (part-opened classes pages n q lt)
 
 -- ---- what fills don't do
 
@@ -103,7 +97,7 @@ fills-unswept : (fs : Fills) → AllUnswept (fill_log fs)
 fills-unswept [] = tt
 fills-unswept (f ∷ fs) = (tt, fills-unswept fs)
 
-openings-unswept : (classes : List ℕ) (pages n : ℕ) → OrderUnswept (openings classes pages n)
+pub openings-unswept : (classes : List ℕ) (pages n : ℕ) → OrderUnswept (openings classes pages n)
 openings-unswept classes pages zero = tt
 openings-unswept classes pages (suc p) =
     let fs = (filling_of classes pages p).fills in
@@ -119,19 +113,6 @@ pub openings-found : ((o : Order) (w : World) → AllShared o w.shared → ((p :
     (n pages : ℕ) (classes : List ℕ) (world : LivingState) → SoFar n pages (openings classes pages n) world → AllFound (openings classes pages n) (outset n pages)
 openings-found found n pages classes world h =
     found (openings classes pages n) (outset n pages) h.leads.fit (openings-name classes pages n) (openings-take classes pages n (outset n pages))
-
--- .. and after them the one world of all lists is as the world tells it: by `places_law`, clauses `outset` and `along`, and by `found_law`,
--- clause `shared`.
-pub openings-told : ((o : Order) (w : World) → AllShared o w.shared → ((p : ℕ) → AllName (w.lists p) (part_of p o)) → AllFit world_after SweepsInbox o w → AllFound o w) → ((processors pages : ℕ) → IsWellPlaced (outset processors pages)) →
-    ((o : Order) (w : World) → IsWellPlaced w → AllFound o w → IsWellPlaced (world_over o w)) → ((o : Order) (w : World) → (world_over o w).shared ≡ shared_over o w.shared) →
-    (n pages : ℕ) (classes : List ℕ) (world : LivingState) → SoFar n pages (openings classes pages n) world → IsTold (world_over (openings classes pages n) (outset n pages)) world
-openings-told found first along shared n pages classes world h =
-    let o = openings classes pages n in
-    record {
-      placed = along o (outset n pages) (first n pages) (openings-found found n pages classes world h);
-      told = shared o (outset n pages) ∙ h.leads.now_is;
-      steady = h.steady;
-    }
 
 -- ---- turn after turn
 

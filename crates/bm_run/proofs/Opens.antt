@@ -9,7 +9,7 @@ use Rattle.bm_page.specs.declared.units.Stocked.{Stocked}
 use Rattle.bm_page.specs.Stock.{Stock, fetched, given, next_unit, stocked_at}
 use Rattle.bm_page.specs.UnitState.{UnitState}
 use Rattle.bm_page.proofs.FetchLemmas.{fetched-next, fetched-none, fetched-zero}
-use Rattle.bm_law_scenario.specs.Fills.{after_fills, fresh_stock, opening_stock, prefill}
+use Rattle.bm_law_scenario.specs.Fills.{after_fills, opening_stock, prefill}
 use Rattle.bm_cache.specs.Shown.{shown}
 use Rattle.bm_cache.proofs.Opened.{fine-opened}
 use Rattle.bm_work.specs.DeskTests.{tests_by}
@@ -79,10 +79,6 @@ at-last [] x zero y e = inr (refl, cc)
 at-last [] x (suc i) y e = absurd (cc)
 at-last (z ∷ xs) x zero y e = inl e
 at-last (z ∷ xs) x (suc i) y e = elim (at-last xs x i y e) [ inl h ↦ inl h | inr h ↦ inr (ap suc h.0, h.1) ]
-
--- before the first processor
-pub none-filled : (s : Parts) (classes : List ℕ) (pool : Stock) → pool ≡ fresh_stock s.pages → IsUnborn pool.units → AreFilled s classes [] pool
-none-filled s classes pool e born = record { each = λ p own h. absurd (cc); stock = e; unborn = born }
 
 -- one processor more has filled its caches
 pub one-more : (s : Parts) (classes : List ℕ) (kept more : List Kept) (own : Kept) (p : ℕ) (pool now : Stock) → AreFilled s classes kept pool → length kept ≡ p → more ≡ kept ++ own ∷ [] →

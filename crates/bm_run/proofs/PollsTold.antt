@@ -27,7 +27,6 @@ use Rattle.bm_law_order.specs.Quiet.{is_quiet}
 use Rattle.bm_law_order.specs.Shared.{Fits, Shared, found, fresh, shared_after}
 use Rattle.bm_law_order.specs.Story.{AllJudged, Steady, Story, at_level, deeds, lines, lines_of, plainly}
 use Rattle.bm_law_order.specs.Tie.{Tied, whatever}
-use Rattle.bm_law_order.specs.Whole.{whole}
 use Rattle.bm_law_order.proofs.ActsJoin.{acts-append, acts-later}
 use Rattle.bm_law_order.proofs.Along.{by-append, fit-append, fit-front, fit-rest, leads-join, over-append}
 use Rattle.bm_law_order.proofs.Ties.{tie-judged}
@@ -39,9 +38,8 @@ use Rattle.bm_world.specs.Told.{IsSideOf}
 use Rattle.bm_world.specs.ToldLiving.{LivingDoes, living-join, living-same, told_living}
 use Rattle.bm_exec_levels.specs.AtPolls.{Idle, Idles, IsDue, WaitsIn, WasIdle, home, polled, tied-bare, waits-whole}
 use Rattle.bm_exec_levels.specs.AtPolls as idle
-use Rattle.bm_run.specs.Opened.{outset}
 use Rattle.bm_run.proofs.AddedParts.{lists-step, order-apart, part-added}
-use Rattle.bm_run.proofs.Laid.{added-lines, outset-leads, outset-side, outset-steady, tied-led-since, whole-one}
+use Rattle.bm_run.proofs.Laid.{added-lines, tied-led-since}
 use Rattle.bm_run.proofs.StampsBound.{order-bound}
 
 -- ---- words that pass
@@ -336,9 +334,3 @@ module _ (n pages p : ℕ) (o : Order) (since : Log) (start : LivingState) (lead
       fit-append polling_after PollFits o (by p added) (no_polls n pages) h (subst (λ z. FitsAt p z (polls_over o (no_polls n pages))) (sym said) here)
 
 -- ---- a log that is tied since the outset
-
-pub tied-polled : (closing : Bool) (pages : ℕ) (log : Log) (world : LivingState) → Tied (polled knows_living closing [] (outset pages)) LivingDoes [] (outset pages) 0 [] [] log world → IsPolled 1 pages (by 0 log)
-tied-polled closing pages log world t = tied-polled-since 1 pages 0 [] [] (outset pages) (outset-leads pages) (outset-steady pages) (outset-side pages) refl closing log log world refl t tt
-
-pub polled-whole : (turns : List ℕ) (pages : ℕ) (log : Log) → IsPolled 1 pages (by 0 log) → IsPolled 1 pages (whole turns (log ∷ []))
-polled-whole turns pages log = subst (λ (o : Order). IsPolled 1 pages o) (sym (whole-one turns log))

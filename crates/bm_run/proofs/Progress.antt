@@ -7,12 +7,11 @@ use Rattle.bm_journal.specs.declared.ids.Domain.{Domain}
 use Rattle.bm_journal.specs.declared.ids.Domain.TheVariants.{Plain, Tracing}
 use Rattle.bm_journal.specs.declared.entry.Entry.{Entry}
 use Rattle.bm_journal.specs.declared.entry.Entry.TheVariants as entry
-use Rattle.bm_law.specs.Lists.{Log}
 use Rattle.bm_law.specs.Begun.{begun_after, begun_by, for_domain}
 use Rattle.bm_law_scenario.specs.Closing.{in_progress}
 use Rattle.bm_law_order.specs.ByDomain.{of, with_of}
 use Rattle.bm_law_order.specs.Numbers.{Course, Numbers, NumbersFit, ended, first_numbers, numbers_after}
-use Rattle.bm_law_order.specs.Orders.{AllFit, Leads, Order, by, over, part_of}
+use Rattle.bm_law_order.specs.Orders.{AllFit, Leads, Order, over, part_of}
 use Rattle.bm_law_order.specs.Shared.{Shared, fresh}
 use Rattle.bm_law_order.specs.Story.{plainly}
 use Rattle.bm_law_laid.proofs.Parts.{numbers-fit, numbers-over}
@@ -20,7 +19,6 @@ use Rattle.bm_grace.specs.Known.{side}
 use Rattle.bm_grace.specs.PlainState.{is_processor, side_in}
 use Rattle.bm_world.specs.LivingState.{LivingState, known_living}
 use Rattle.bm_world.specs.ToldLiving.{told_living}
-use Rattle.bm_run.proofs.AddedParts.{own-log}
 use Rattle.bm_run.proofs.StampsBound.{odd-after}
 
 -- while a period is in progress the number is odd
@@ -138,7 +136,3 @@ order-progress n pages p o world own l d = known d (there d)
     known : (d : Domain) → Odd (of d (told_living world).numbers) × (in_progress d None (part_of p o) ≡ begun_in p (of d (told_living world).numbers)) → begun_by (side d (known_living world)).number ≡ in_progress d None (part_of p o)
     known Plain h = ap (λ k. begun_by (side_in k world.side.grace.plain).number) own ∙ (known-begun p world.side.grace.plain.driver world.side.grace.plain.number h.0 ∙ sym h.1)
     known Tracing h = ap (λ k. begun_by (side_in k world.side.grace.tracing).number) own ∙ (known-begun p world.side.grace.tracing.driver world.side.grace.tracing.number h.0 ∙ sym h.1)
-
--- so it is of the one processor that there is
-pub led-progress : (pages : ℕ) (log : Log) (world : LivingState) → world.side.grace.processor ≡ 0 → Leads (by 0 log) (fresh 1 pages) (plainly (told_living world)) → (d : Domain) → begun_by (side d (known_living world)).number ≡ in_progress d None log
-led-progress pages log world first l d = order-progress 1 pages 0 (by 0 log) world first l d ∙ ap (in_progress d None) (own-log 0 log)

@@ -1,9 +1,8 @@
 -- Each unit of a log that is tied since a time was given with what it had waited for.
-use Rattle.std.specs.Prelude.{◌≡◌, ◌≢◌, ◌<◌, ◌≤◌, ◌++◌, ℕ, zero, suc, eqb, false, List, [], ◌∷◌, Some}
+use Rattle.std.specs.Prelude.{◌≡◌, ◌≢◌, ◌<◌, ◌≤◌, ◌++◌, ℕ, zero, suc, eqb, false, [], ◌∷◌, Some}
 use Rattle.std.proofs.Common.{◌∙◌, ap, append-nil, arith, eq-eqb, inl, inr, ne_eqb, refl, subst, sym}
 use Rattle.std.proofs.lemmas.Bool.{cases_Bool}
 use Rattle.std.proofs.lemmas.Bool.Decides.{eqb_tells}
-use Rattle.std.proofs.Math.Path.{fun_ext}
 use Rattle.bm_journal.specs.declared.ids.Domain.TheVariants.{Plain}
 use Rattle.bm_journal.specs.declared.entry.Entry.{Entry}
 use Rattle.bm_journal.specs.declared.entry.Entry.TheVariants as entry
@@ -13,10 +12,9 @@ use Rattle.bm_law.specs.State.{State, opening}
 use Rattle.bm_law_order.specs.Chunk.{Chunk, entries_of}
 use Rattle.bm_law_order.specs.Chunk as chunk
 use Rattle.bm_law_order.specs.Orders.{AllFit, Order, by, over, part_of}
-use Rattle.bm_law_order.specs.Seals.{GivesNo, GivesNone, IsSealed, Nothing, ReleaseFits, ReleasesFit, SealFits, Wait, WaitLeads, Waiting, nobody_waits, waiting_after, waiting_over}
+use Rattle.bm_law_order.specs.Seals.{ReleaseFits, ReleasesFit, SealFits, Wait, WaitLeads, Waiting, nobody_waits, waiting_after, waiting_over}
 use Rattle.bm_law_order.specs.Story.{AllJudged, Story, at_level, deeds, lines, lines_of}
 use Rattle.bm_law_order.specs.Tie.{Tied}
-use Rattle.bm_law_order.specs.Whole.{whole}
 use Rattle.bm_law_order.proofs.Along.{by-append, fit-append, over-append}
 use Rattle.bm_law_order.proofs.Waited.{story-goes}
 use Rattle.bm_law_scenario.proofs.EachLevel.{AllAbove, above-back, above-front}
@@ -25,20 +23,11 @@ use Rattle.bm_world.specs.LivingState.{LivingState}
 use Rattle.bm_world.specs.Standings.{waits_told}
 use Rattle.bm_world.specs.ToldLiving.{LivingDoes, knows_living}
 use Rattle.bm_exec_levels.specs.AtPolls.{home, polled}
-use Rattle.bm_run.specs.Opened.{outset}
 use Rattle.bm_run.specs.SoFar.{SealedSoFar}
 use Rattle.bm_run.proofs.AddedParts.{lists-step, part-added}
-use Rattle.bm_run.proofs.Laid.{added-lines, whole-one}
+use Rattle.bm_run.proofs.Laid.{added-lines}
 
 -- ---- what a log leaves of what units wait for
-
--- at first nothing waits
-pub none-at-first : (pages : ℕ) → waits_told (outset pages).standings ≡ (λ u. Nothing)
-none-at-first pages = fun_ext none
-  where
-    none : (n : ℕ) → waits_told (outset pages).standings n ≡ Nothing
-    none zero = refl
-    none (suc n) = refl
 
 -- the lists that an order leaves
 pub lists-waiting : (q : ℕ) (o : Order) (m : Waiting) → (over waiting_after o m).lists q ≡ after (m.lists q) (part_of q o)
@@ -145,28 +134,3 @@ tied-sealed-since p o since added log start now own part log_is t low h =
           ∙ (ap (λ (z : Log). (waiting_over p z m).waits) said ∙ g.now_is);
       sealed = fit-append waiting_after SealFits o (by p added) nobody_waits h.sealed (subst (λ (z : Log). AllFit waiting_after SealFits (by p z) m) (sym said) g.fit);
     }
-
--- so it is, too, with entries that give no unit
-pub none-sealed : (p : ℕ) (o : Order) (added : Log) → GivesNone added → IsSealed o → IsSealed (o ++ by p added)
-none-sealed p o added none h = fit-append waiting_after SealFits o (by p added) nobody_waits h (fit p added (over waiting_after o nobody_waits) none)
-  where
-    no-fits : (p l : ℕ) (e : Entry) (m : Waiting) → GivesNo e → SealFits p l e m
-    no-fits p l (entry.Given u life) m h = absurd h
-    no-fits p l (entry.GivenAfter u life stamp seen) m h = absurd h
-    no-fits p l _ m h = tt
-
-    fit : (p : ℕ) (log : Log) (m : Waiting) → GivesNone log → AllFit waiting_after SealFits (by p log) m
-    fit p [] m h = tt
-    fit p (e ∷ log) m h = (no-fits p e.0 e.1 m h.0, fit p log (waiting_after p e.0 e.1 m) h.1)
-
-pub outset-sealed : (pages : ℕ) → SealedSoFar [] (outset pages)
-outset-sealed pages = record { waits = sym (none-at-first pages); sealed = tt }
-
--- A log that is tied since the outset is sealed, also where entries come after it that give none.
-pub tied-sealed : (pages : ℕ) (log rest : Log) (world : LivingState) → Tied (polled knows_living false [] (outset pages)) LivingDoes [] (outset pages) 0 [] [] log world → AllAbove LowSend log → GivesNone rest → IsSealed (by 0 (log ++ rest))
-tied-sealed pages log rest world t low none =
-    let here = tied-sealed-since 0 [] [] log log (outset pages) world refl refl refl t low (outset-sealed pages) in
-    subst (λ (o : Order). IsSealed o) (sym (by-append 0 log rest)) (none-sealed 0 (by 0 log) rest none here.sealed)
-
-pub sealed-whole : (turns : List ℕ) (log : Log) → IsSealed (by 0 log) → IsSealed (whole turns (log ∷ []))
-sealed-whole turns log = subst (λ (o : Order). IsSealed o) (sym (whole-one turns log))

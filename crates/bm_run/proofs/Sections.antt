@@ -1,5 +1,5 @@
 -- A processor runs a script in its section, and ends.
-use Rattle.std.proofs.Common.{◌≡◌, ◌+◌, ℕ, Bool, zero, suc, inl, inr, List, [], ◌∷◌, Option, false, true, refl, sym, ap, subst, ◌∙◌, arith, reverse, length}
+use Rattle.std.proofs.Common.{◌≡◌, ◌+◌, ℕ, Bool, List, [], ◌∷◌, Option, false, true, refl, sym, ap, subst, ◌∙◌, arith, reverse, length}
 use Rattle.bm_world.specs.LivingState.{LivingState}
 use Rattle.bm_world.specs.ToldLiving.{knows_living}
 use Rattle.std.specs.Prelude.{◌≤◌, ◌<◌, ◌*◌, ◌^◌, ◌%◌, if◌then◌else◌}
@@ -7,8 +7,6 @@ use Rattle.bm_journal.specs.declared.ids.Domain.{Domain}
 use Rattle.bm_journal.specs.declared.ids.Domain.TheVariants.{Plain, Tracing}
 use Rattle.bm_journal.specs.declared.entry.Entry.TheVariants as entry
 use Rattle.bm_journal.specs.Recording.{Appends, Kept as Recorded}
-use Rattle.bm_closing.specs.AtEnd.{ended_at}
-use Rattle.bm_grace.specs.AtRest.{IsSole}
 use Rattle.bm_grace.specs.Calls.{moved}
 use Rattle.bm_grace.specs.Known.{Known, side}
 use Rattle.bm_grace.specs.declared.step.StepKind.{StepKind}
@@ -32,7 +30,7 @@ use Rattle.bm_exec_levels.specs.Sound.{Sound}
 use Rattle.bm_exec_levels.specs.Turns.{told-more}
 use Rattle.bm_exec_levels.specs.declared.processor.Processor.{Processor}
 use Rattle.bm_exec_levels.specs.declared.program.Program.{Program}
-use Rattle.bm_exec_levels.specs.Ordinary.{Scripted, Statements}
+use Rattle.bm_exec_levels.specs.Ordinary.{Statements}
 use Rattle.bm_exec_levels.proofs.Scripts.{words-most}
 use Rattle.bm_run.specs.Lines.{asks_in}
 use Rattle.bm_law.specs.Begun.{for_domain}
@@ -106,28 +104,6 @@ sound-ended p m n h e k is same pr a fine s =
 
 -- ---- one script in its section
 
--- the word says whether it is in one
-by-inside : (a b : Bool) (v w : ℕ) → w % 2 ≡ (if b then 1 else 0) → v % 2 ≡ (if a then 1 else 0) → b ≡ a → w % 2 ≡ v % 2
-by-inside a b v w h k e = h ∙ ap (λ (x : Bool). let n : ℕ = if x then 1 else 0 in n) e ∙ sym k
-
--- each section begins and ends as often
-pub parity-script : (e : Domain) (m m1 m2 m3 m4 : Processor LivingState) → known_of knows_living m1 ≡ moved Enter false e (known_of knows_living m) → word_of knows_living Plain m2 % 2 ≡ word_of knows_living Plain m1 % 2 → word_of knows_living Tracing m2 ≡ word_of knows_living Tracing m1 → known_of knows_living m3 ≡ moved Leave false e (known_of knows_living m2) →
-    ((d : Domain) → word_of knows_living d m4 % 2 ≡ word_of knows_living d m3 % 2) → (d : Domain) → word_of knows_living d m4 % 2 ≡ word_of knows_living d m % 2
-parity-script e m m1 m2 m3 m4 k p t l q d = q d ∙ over e d k l
-  where
-    steps : (a b : ℕ) → b ≡ a + 1 → (c : ℕ) → c % 2 ≡ b % 2 → (f : ℕ) → f ≡ c + 1 → f % 2 ≡ a % 2
-    steps a b g c h f i = omega (arith, g, h, i)
-
-    over : (e d : Domain) → known_of knows_living m1 ≡ moved Enter false e (known_of knows_living m) → known_of knows_living m3 ≡ moved Leave false e (known_of knows_living m2) → word_of knows_living d m3 % 2 ≡ word_of knows_living d m % 2
-    over Plain Plain k l = steps (word_of knows_living Plain m) (word_of knows_living Plain m1) (ap (λ (x : Known). (side Plain x).word) k) (word_of knows_living Plain m2) p (word_of knows_living Plain m3) (ap (λ (x : Known). (side Plain x).word) l)
-    over Plain Tracing k l = ap (λ (x : Known). (side Tracing x).word % 2) l ∙ (ap (λ n. n % 2) t ∙ ap (λ (x : Known). (side Tracing x).word % 2) k)
-    over Tracing Plain k l = ap (λ (x : Known). (side Plain x).word % 2) l ∙ (p ∙ ap (λ (x : Known). (side Plain x).word % 2) k)
-    over Tracing Tracing k l = steps (word_of knows_living Tracing m) (word_of knows_living Tracing m1) (ap (λ (x : Known). (side Tracing x).word) k) (word_of knows_living Tracing m2) (ap (λ n. n % 2) t) (word_of knows_living Tracing m3) (ap (λ (x : Known). (side Tracing x).word) l)
-
--- the plain word is odd or even as it was, where it is in a plain section as it was
-pub parity-plain : (p : Program) (a b : Processor LivingState) → Sound knows_living p a → Sound knows_living p b → b.inside ≡ a.inside → word_of knows_living Plain b % 2 ≡ word_of knows_living Plain a % 2
-parity-plain p a b s t e = by-inside a.inside b.inside (word_of knows_living Plain a) (word_of knows_living Plain b) t.at.ready.inside s.at.ready.inside e
-
 -- what its section begins with is what it is in
 pub starts-is : (d : Domain) (inside now : Bool) → inside ≡ false → now ≡ for_domain Plain d true inside → now ≡ is_plain d
 starts-is Plain inside now e h = h
@@ -136,11 +112,6 @@ starts-is Tracing inside now e h = h ∙ e
 pub even-out : (b : Bool) (w : ℕ) → w % 2 ≡ (if b then 1 else 0) → w % 2 ≡ 0 → b ≡ false
 even-out true w h e = absurd (let z = h in omega (arith, z, e))
 even-out false w h e = refl
-
--- outside a section no word waits to be named
-pub outside-words : (b : Bool) (w n : ℕ) → w % 2 ≡ (if b then 1 else 0) → n ≡ (if b then 1 else 0) → w ≡ 0 → n ≡ 0
-outside-words true w n h k e = absurd (let z = h in omega (arith, z, e))
-outside-words false w n h k e = k
 
 -- what is asked for with a section's begin, and with its end
 same-asked : (s : Parts) (m k : Processor LivingState) (e : Domain) (kind : StepKind) → known_of knows_living k ≡ moved kind false e (known_of knows_living m) → k ≡ record m { caches = k.caches; side = k.side; inside = k.inside } → asked_of knows_living s k ≡ asked_of knows_living s m
@@ -195,16 +166,4 @@ tracing-moved kind Tracing m k q = (let w : word_of knows_living Tracing k ≡ w
 pub odd-begun : (e : Domain) (v w : ℕ) → v % 2 ≡ 0 → w ≡ v + 1 → w % 2 ≡ 1
 odd-begun e v w h k = omega (arith, h, k)
 
--- the word of a script's section stays
-pub section-stays : (d : Domain) (a b : Processor LivingState) → a.inside ≡ is_plain d → Scripted knows_living a.inside a b → word_of knows_living d b ≡ word_of knows_living d a
-section-stays Plain a b e s = s.plain e
-section-stays Tracing a b e s = s.tracing
-
 -- ---- the periods at the end
-
--- the number of a domain is even once the period that the side has in progress, if it has one, has ended
-pub ends-even : (own number : ℕ) → IsSole own number → ended_at own number % 2 ≡ 0
-ends-even zero number (inl h) = h.0
-ends-even (suc k) number (inl h) = absurd (let e = h.1 in omega (arith, e))
-ends-even zero number (inr h) = absurd (let e = h.1 in let o = h.0 in omega (arith, e, o))
-ends-even (suc k) number (inr h) = let o = h.0 in omega (arith, o)

@@ -132,7 +132,7 @@ ready-alone p m w same word asks r = record {
   inside = ap (λ k. k % 2) word ∙ r.inside;
 }
 
-fine-alone : (m : Processor LivingState) (w : LivingState) → IsLeftAlone (shown m.caches) m.side w → FineAt knows_living 0 m → FineAt knows_living 0 (with_side m w)
+pub fine-alone : (m : Processor LivingState) (w : LivingState) → IsLeftAlone (shown m.caches) m.side w → FineAt knows_living 0 m → FineAt knows_living 0 (with_side m w)
 fine-alone m w a f = record {
   placed = f.placed;
   ready = f.ready;

@@ -22,9 +22,9 @@ use Rattle.bm_law_logs.proofs.Quiet.{quiet-behind}
 use Rattle.bm_law_logs.proofs.QuietEntries.{AllQuiet, IsQuiet}
 use Rattle.bm_law_places.specs.World.{SweepsInbox, World, world_after, world_over}
 use Rattle.bm_law_places.proofs.Standing.{lists-of}
+use Rattle.bm_run.specs.LogsSoFar.{OrderUnswept}
 use Rattle.bm_run.proofs.AddedParts.{own-log}
 use Rattle.bm_run.specs.LeftAlone.{IsUnswept}
-use Rattle.bm_run.proofs.BatchesTold.{OrderUnswept}
 
 -- ---- nothing is swept
 

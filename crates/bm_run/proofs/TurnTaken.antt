@@ -14,13 +14,11 @@ use Rattle.bm_world.specs.LivingState.{LivingState, known_living}
 use Rattle.bm_world.specs.Told.{IsSideOf}
 use Rattle.bm_world.specs.ToldLiving.{knows_living, told_living}
 use Rattle.bm_exec_levels.specs.AtPolls.{DoesHere, polled, tied-bare}
-use Rattle.bm_run.specs.Opened.{outset}
 use Rattle.bm_run.specs.SoFar.{SealedSoFar, SoFar, TurnTaken, at_turn}
-use Rattle.bm_run.proofs.AddedParts.{part-added}
+use Rattle.bm_run.specs.LogsSoFar.{lived_in}
 use Rattle.bm_run.proofs.BatchesTold.{LowStamp, tied-batches-since}
-use Rattle.bm_run.proofs.FreshTold.{outset-told}
 use Rattle.bm_run.proofs.Laid.{fresh-leads, fresh-steady, tied-led-since}
-use Rattle.bm_run.proofs.LivesTold.{lived_in, tied-lives-since}
+use Rattle.bm_run.proofs.LivesTold.{tied-lives-since}
 use Rattle.bm_run.proofs.PollsTold.{tied-polled-since}
 use Rattle.bm_run.proofs.SealsTold.{LowSend, tied-sealed-since}
 
@@ -29,9 +27,6 @@ use Rattle.bm_run.proofs.SealsTold.{LowSend, tied-sealed-since}
 -- so it is at the outset, of however many processors
 pub fresh-so-far : (n pages : ℕ) (world : LivingState) → told_living world ≡ fresh n pages → SoFar n pages [] world
 fresh-so-far n pages world e = record { leads = fresh-leads n pages world e; steady = subst Steady (sym e) (fresh-steady n pages); polled = tt }
-
-pub outset-so-far : (pages : ℕ) → SoFar 1 pages [] (outset pages)
-outset-so-far pages = fresh-so-far 1 pages (outset pages) (outset-told pages)
 
 -- whose side the world is, is no matter
 pub so-far-at : (n pages p : ℕ) (o : Order) (world : LivingState) → SoFar n pages o world → SoFar n pages o (at_turn p world)
@@ -85,10 +80,6 @@ pub next-turn : (closing : Bool) (n pages p q : ℕ) (o : Order) (since log : Lo
 next-turn closing n pages p q o since log world now h side lt part t =
     let there : p < world.side.grace.processors = subst (λ k. p < k) (sym (so-many n pages o world h)) lt in
     turn-taken closing n pages p o since log (at_turn p world) now (so-far-at n pages p o world h) (side-at p q world there side) part t
-
--- the part of the processor is its log then
-pub turn-part : (n pages p : ℕ) (o : Order) (since log : Log) (world : LivingState) → part_of p o ≡ since → (t : TurnTaken n pages p o since log world) → part_of p (o ++ by p t.added) ≡ log
-turn-part n pages p o since log world part t = part-added p o t.added ∙ (ap (λ (z : Log). z ++ t.added) part ∙ sym t.log_is)
 
 -- Before the closing, where sends are of ordinary code, units go on waiting for what is told, and are given with it.
 pub turn-sealed : (p : ℕ) (o : Order) (since added log : Log) (start now : LivingState) → IsSideOf p start.side → part_of p o ≡ since → log ≡ since ++ added →

@@ -9,11 +9,9 @@ use Rattle.bm_law.specs.Spans.{own_entries}
 use Rattle.bm_law.specs.State.{State}
 use Rattle.bm_law.proofs.Spans.{Records-one, from-append, own-append}
 use Rattle.bm_law_work.specs.Parts.{Part, Stand, Then}
-use Rattle.bm_law_work.proofs.Grown.{grew-join, grew-map, grew-stand}
-use Rattle.bm_plan.specs.declared.handlers.Handlers.{Handlers}
+use Rattle.bm_law_work.proofs.Grown.{grew-join, grew-stand}
 use Rattle.bm_exec_levels.specs.AtProcessor.{FineAt, lists_of, log_of}
 use Rattle.bm_exec_levels.specs.Ordinary.{Ordinary}
-use Rattle.bm_exec_levels.specs.Ready.{known_of}
 use Rattle.bm_exec_levels.specs.Sound.{Sound}
 use Rattle.bm_exec_levels.specs.Stated.{ordinary-joined}
 use Rattle.bm_exec_levels.specs.declared.processor.Processor.{Processor}
@@ -21,9 +19,6 @@ use Rattle.bm_exec_levels.specs.declared.program.Program.{Program}
 use Rattle.bm_run.specs.Lines.{Wrote}
 
 -- ---- what the log of the one processor tells
-
-pub told-of : (p : Program) (m : Processor LivingState) → (known_of knows_living m).grace.processor ≡ 0 → Sound knows_living p m → IfSome (log_of m) (λ es. Leaves 0 es (lists_of m))
-told-of p m first s = subst (λ n. IfSome (log_of m) (λ es. Leaves n es (lists_of m))) (s.at.ready.here ∙ first) s.fine.placed.told
 
 -- ---- stretches that join
 
@@ -40,10 +35,6 @@ wrote-join P Q W p a b c f s t u v = wrote-joined P Q W a b c f s.fine t.fine (t
 pub wrote-then : (P Q : Part) (p : Program) (a b c : Processor LivingState) → Sound knows_living p a → Sound knows_living p b → Wrote P a b → Wrote Q b c → Wrote (Then P Q) a c
 wrote-then P Q p a b c = wrote-join P Q (Then P Q) p a b c (λ one two i j. record { one = one; two = two; part_is = refl; is_first = i; is_second = j })
 
--- a part that is another one too
-pub wrote-map : (P Q : Part) (a b : Processor LivingState) → ((part : Log) → P (lists_of a) part → Q (lists_of a) part) → Wrote P a b → Wrote Q a b
-wrote-map P Q a b f u = record { grew = grew-map P Q (lists_of a) (log_of a) (log_of b) f u.grew; ordinary = u.ordinary }
-
 stand-join : (v w : List Entry) (s t : State ℕ) (one two : Log) → Stand 0 v s one → Stand 0 w t two → Stand 0 (v ++ w) s (one ++ two)
 stand-join v w s t one two f g = record {
   from = from-append 0 one two f.from g.from;
@@ -57,13 +48,3 @@ wrote-stands v w a b c = wrote-joined (Stand 0 v) (Stand 0 w) (Stand 0 (v ++ w))
 -- one entry
 pub wrote-one : (a b : Processor LivingState) (e : Entry) → Appends (log_of a) 0 e (log_of b) → Ordinary knows_living a b → Wrote (Stand 0 (e ∷ [])) a b
 wrote-one a b e h o = record { grew = grew-stand 0 (e ∷ []) (lists_of a) (log_of a) (log_of b) (Records-one 0 e (log_of a) (log_of b) h); ordinary = o }
-
--- its handlers changed before
-pub wrote-before : {P : Part} (a : Processor LivingState) (h : Handlers) (b : Processor LivingState) → Wrote P (record a { handlers = h }) b → Wrote P a b
-wrote-before a h b u = record {
-  grew = u.grew;
-  ordinary = record {
-    processors = u.ordinary.processors;
-    processor = u.ordinary.processor;
-  };
-}

@@ -1,5 +1,5 @@
 -- The log and the side of a processor that has ended, tied since a time.
-use Rattle.std.specs.Prelude.{◌≡◌, ◌≤◌, ℕ, List, [], ◌∷◌, ◌++◌, Option, Some, None, IfSome, IsSome, false, true}
+use Rattle.std.specs.Prelude.{◌≡◌, ◌≤◌, ℕ, List, [], ◌∷◌, ◌++◌, Option, Some, None, IfSome, IsSome, true}
 use Rattle.bm_world.specs.ToldLiving.{knows_living}
 use Rattle.std.proofs.Common.{◌∙◌, ap, append_assoc, append-nil, refl, subst, sym}
 use Rattle.std.proofs.lemmas.List.{append_cancel_right}
@@ -19,7 +19,7 @@ use Rattle.bm_law_order.specs.Act as act
 use Rattle.bm_law_order.specs.Chunk.{Shows}
 use Rattle.bm_law_order.specs.Chunk as chunk
 use Rattle.bm_law_order.specs.Quiet.{is_quiet}
-use Rattle.bm_law_order.specs.Story.{AllJudged, Story, at_level, deeds, lines, lines_of}
+use Rattle.bm_law_order.specs.Story.{at_level, deeds, lines}
 use Rattle.bm_law_order.specs.Tie.{Tied, TiedBy, whatever}
 use Rattle.bm_law_order.proofs.ActsJoin.{acts-append, acts-before}
 use Rattle.bm_law_order.proofs.WaitsJoin.{go-unread}
@@ -31,8 +31,7 @@ use Rattle.bm_journal.specs.Recording.{Kept as Recorded}
 use Rattle.bm_exec_levels.specs.AtPolls.{DoesHere, IsDue, here-join, here-same, home, WaitsIn, WasIdle, later, polled, unpolled}
 use Rattle.bm_exec_levels.specs.AtPolls as idle
 use Rattle.bm_exec_levels.specs.AtTie.{as-judged}
-use Rattle.bm_exec_levels.specs.declared.processor.Processor.{Processor}
-use Rattle.bm_world.specs.LivingState.{LivingState, known_living}
+use Rattle.bm_world.specs.LivingState.{LivingState}
 use Rattle.bm_world.specs.Spared.{spare-append}
 use Rattle.bm_world.specs.Standings.{waits_told}
 use Rattle.bm_world.specs.ToldLiving.{LivingDoes, told_living}
@@ -52,13 +51,6 @@ EndsHere since start done es caches side = IsHere caches side × Ends since star
 abbrev pub IsIdle : LivingState → Type 0
 IsIdle world = (d : Domain) → (domain_in d world.side.grace).driver ≡ None
 
--- A log that is tied since then to some world: no period is in progress there, and those objects live that lived on the processor.
-pub record IsTiedLog (since : Log) (start : LivingState) (own : Processor LivingState) (log : Log) : Type 0 where
-  pub world : LivingState
-  pub tied : Tied (polled knows_living true since start) (DoesHere knows_living) since start 0 [] [] log world
-  pub idle : IsIdle world
-  pub objects : (known_living world).objects ≡ (known_living own.side).objects
-
 pub ends-back : (since : Log) (start : LivingState) (now before : Option Log) (side : LivingState) → now ≡ before → Ends since start [] [] before side → Ends since start [] [] now side
 ends-back since start now before side e t = subst (λ o. Ends since start [] [] o side) (sym e) t
 
@@ -73,15 +65,6 @@ ends-said since start done es e before now side a t = law-said (polled knows_liv
 
 pub ends-closed : (since : Log) (start : LivingState) (done : List Act) (es : List Entry) (told : Option Log) (side : LivingState) → Shows done es → Ends since start done es told side → Ends since start [] [] told side
 ends-closed since start done es told side s t = law-closed (polled knows_living true since start) (unpolled knows_living true since start) (DoesHere knows_living) (here-same knows_living) (here-join knows_living) since start 0 done es told side s t
-
--- what was tied before the closing
-later-all : (since before : Log) (start : LivingState) (ts : Story) → AllJudged (polled knows_living false since start) before ts → AllJudged (polled knows_living true since start) before ts
-later-all since before start [] j = tt
-later-all since before start (t ∷ ts) j = (later knows_living since start t.level before t.chunk j.0, later-all since (before ++ lines_of t) start ts j.1)
-
-pub ends-begun : (since : Log) (start : LivingState) (told : Option Log) (side : LivingState) → TiedBy (polled knows_living false since start) (DoesHere knows_living) since start 0 [] [] told side → Ends since start [] [] told side
-ends-begun since start None side t = tt
-ends-begun since start (Some log) side t = record { story = t.story; judged = later-all since since start t.story t.judged; log_is = t.log_is; done_is = t.done_is }
 
 -- units go back in the closing, whatever they wait for
 pub ends-returned : (since : Log) (start : LivingState) (i : ℕ) (us : List Sealed) (told : Option Log) (side : LivingState) → Ends since start (act.Returns us ∷ []) (entry.Return i (Whole (units_of us)) ∷ []) told side → Ends since start [] [] told side

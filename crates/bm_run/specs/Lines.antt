@@ -1,4 +1,4 @@
--- Stretches of the run of the one processor.
+-- Stretches of the run of a processor.
 use Rattle.std.specs.Prelude.{ℕ, ◌+◌, Bool, true, false, List, Option, Some, None, IsSome, sum_by, slice_get}
 use Rattle.bm_world.specs.LivingState.{LivingState}
 use Rattle.bm_world.specs.ToldLiving.{knows_living}

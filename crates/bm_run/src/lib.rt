@@ -1,30 +1,34 @@
-//! Runs of whole scenarios on one processor: its opening, its scripts, its closing, and its journal.
+//! Runs of whole scenarios on one thread: the openings of their processors, their turns, their closing, and the journal.
 //!
 //! - `replay` is all of it: from a checked scenario to a journal, or out of memory.
-//! - `open` fills a cache for each class that a type uses, from a fresh stock, and takes all memory that handlers will need.
-//!   `open_all` does so for each processor of a scenario, one after the other, out of one stock.
-//! - Between the two, src/turns.rt runs the `run` lines turn by turn, each script in its section, with the work after it;
-//!   src/stretches.rt and closing_desk.rt carry a processor to its closing; src/journals.rt puts the journal together.
+//! - `open_all` fills the caches of each processor, one after the other, out of one stock, and takes all memory that handlers will
+//!   need. `open` does so for a processor that is alone.
+//! - Between the two, src/turns.rt is a processor's turn over its `run` lines, each script in its section, with the work after it;
+//!   src/seats.rt takes the turn of one of several, and src/all_turns.rt all turns, in the order that the scenario names;
+//!   src/closers.rt and closing_desk.rt are the closing; src/journals.rt puts the journal together.
 //!
-//! `bm_tool` calls `replay`; tests call `open` too.
+//! `bm_tool` calls `replay`; tests call `open` and `open_all` too.
 //!
-//! The journal is lawful and laid (`Lawful`, `Laid` of `bm_law_journal`). Each law comes from where it is a theorem: what a
-//! lawful log says by itself and what logs say together from `bm_law_logs`, what the one order says from `bm_law_laid`; the order
-//! itself comes from the tie that the machines keep (`TiedAt` of `bm_exec_levels`), which the opening begins and the closing ends
-//! (specs/ClosingTie).
-//!
-//! Runs on several processors aren't here so far. What a turn of one processor would leave of another is: `others_law`, `asked_law`.
+//! The journal is lawful and laid (`Lawful`, `Laid` of `bm_law_journal`), for any number of processors. Each law comes from where it is
+//! a theorem: what a lawful log says by itself and what logs say together from `bm_law_logs`, what the one order says from
+//! `bm_law_laid`. What is so between two turns is `Between`, and what is so at the end `AllClosed` (specs/Between): the turns have made
+//! an order of all entries, along which each finds what it needs, and which is the whole order of the logs (proofs/FinalOrder). A turn
+//! adds a stretch to it, tied to the world since it began (`TiedAt` of `bm_exec_levels`), and leaves the other processors alone:
+//! `stretch_law`, `others_law`, `asked_law`.
 #![tactic(auto)]
 
+mod all_turns;
 mod classes;
+mod closers;
 mod closing_desk;
 mod filling;
 mod journals;
 mod opening;
 mod others;
+mod seats;
 mod stretches;
 mod turns;
 
 pub use journals::replay;
 pub use opening::{open, open_all};
-pub use others::{asked_law, others_law};
+pub use others::{asked_law, others_law, stretch_law};

@@ -125,7 +125,7 @@ pub fn open(
 }
 
 // Ends what processors keep after memory ran out.
-fn give_up_kept(kept: Vec<Kept>) {
+pub(crate) fn give_up_kept(kept: Vec<Kept>) {
     let mut kept = kept;
     while let Some(own) = kept.pop() {
         own.give_up();

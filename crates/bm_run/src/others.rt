@@ -1,17 +1,17 @@
 //! What turns of other processors leave of one that waits for its turn.
 
-ghost use Rattle.std.specs.Prelude.{◌≡◌, ◌≢◌, ◌<◌, ◌≤◌, ◌+◌, ◌^◌, ℕ, Bool, List, [], get_or, length, set};
+ghost use Rattle.std.specs.Prelude.{◌≡◌, ◌≢◌, ◌<◌, ◌≤◌, ◌+◌, ◌^◌, ◌++◌, ℕ, Bool, List, [], get_or, length, set};
 ghost use Rattle.bm_journal.specs.declared.ids.Domain.{Domain};
 ghost use Rattle.bm_lang.specs.declared.scenario.Parts.{Parts};
-ghost use Rattle.bm_law.specs.Lists.{Leaves, Log};
-ghost use Rattle.bm_law.specs.State.{State, seen};
+ghost use Rattle.bm_law.specs.Lists.{Leaves, Log, after};
+ghost use Rattle.bm_law.specs.State.{State, opening, seen};
 ghost use Rattle.bm_law_order.specs.Act.{Act};
 ghost use Rattle.bm_law_order.specs.Orders.{AllFit, Order, by, part_of};
 ghost use Rattle.bm_law_order.specs.Seals.{Wait, WaitLeads};
 ghost use Rattle.bm_law_order.specs.Story.{Story, deeds, lines, plainly};
 ghost use Rattle.bm_law_order.specs.Tie.{Tied};
 ghost use Rattle.bm_law_places.specs.Placed.{IsWellPlaced};
-ghost use Rattle.bm_law_places.specs.World.{AllFound, SweepsInbox, World, world_after, world_over};
+ghost use Rattle.bm_law_places.specs.World.{AllFound, SweepsInbox, World, outset, world_after, world_over};
 ghost use Rattle.bm_grace.specs.Known.{side};
 ghost use Rattle.bm_cache.specs.Shown.{shown};
 ghost use Rattle.bm_cache.specs.Tokens.{Token, number_of};
@@ -29,6 +29,7 @@ ghost use Rattle.bm_exec_levels.specs.declared.processor.Processor.{Processor};
 ghost use Rattle.bm_exec_levels.specs.declared.program.Program.{Program};
 ghost use Rattle.bm_run.specs.Asked.{asked_by_all, in_its_turn};
 ghost use Rattle.bm_run.specs.LeftAlone.{AllUnswept, IsLeftAlone, IsTold, IsTurnOf, KeepsFor, Turned};
+ghost use Rattle.bm_run.specs.LogsSoFar.{LogsSoFar, Stretched};
 ghost use Rattle.bm_run.specs.SoFar.{at_turn};
 ghost use Rattle.bm_run.specs.Spared.{Has};
 
@@ -79,6 +80,20 @@ pub fn others_law()
         AllUnswept log → AllFit world_after SweepsInbox (by p log) w }
     ensures waits { (n : ℕ) (acts : List Act) (before now : ℕ → Wait) →
         AllSpare n acts → WaitLeads acts before now → now n ≡ before n }
+{}
+
+/// A stretch of a processor's log that is tied to the world since its begin goes into the order: with it each entry of the order finds what
+/// it needs, the logs tell which units live, and each other processor was left alone. The stretch names what is there, and its sweeps take
+/// what waits in the inboxes.
+pub fn stretch_law()
+    ensures { (closing : Bool) (n pages p : ℕ) (o : Order) (logs : List Log)
+        (log added : Log) (world now : LivingState) (s : State ℕ) →
+        LogsSoFar n pages o logs world → p < n → log ≡ get_or logs p [] ++ added →
+        Tied (polled knows_living closing (get_or logs p []) (at_turn p world))
+        (DoesHere knows_living) (get_or logs p []) (at_turn p world) 0 [] [] log now →
+        Leaves p (get_or logs p []) (after (opening p) (get_or logs p [])) → Leaves p log s →
+        AllFit world_after SweepsInbox (by p added) (world_over o (outset n pages)) →
+        Stretched n pages p o logs added world now }
 {}
 
 /// No processor asked for more than all did, and a turn that asks for at most so many raises what all did by at most so many.

@@ -31,8 +31,8 @@ use bm_journal::{Domain, Entry, Level};
 use bm_word::{Name, NoMemory};
 use bm_world::LivingSide;
 
-// Records an entry of ordinary code that moves nothing.
-fn note(own: &mut Processor<LivingSide>, entry: Entry)
+/// Records an entry of ordinary code that moves nothing.
+pub(crate) fn note(own: &mut Processor<LivingSide>, entry: Entry)
     requires fine { FineAt knows_living 0 own.old }
     requires note { IsTrue (is_note entry) }
     ensures wrote { Wrote (Stand 0 (entry ∷ [])) own.old own.new }
@@ -141,20 +141,4 @@ pub(crate) fn settle_behind<'s, B: Since<LivingSide>>(
         return Ok(());
     };
     settle_script::<LivingSide, B>(own, program, classes)
-}
-
-/// Records that the scripts of the one processor have ended, and that the closing begins. From then on no handler is due.
-pub fn begin_closing(own: &mut Processor<LivingSide>)
-    requires fine { FineAt knows_living 0 own.old }
-    ensures wrote { Wrote (Stand 0 (entry.Ended ∷ entry.Close ∷ [])) own.old own.new }
-    ensures lists { shown own.new.caches ≡ shown own.old.caches }
-    ensures side { own.new.side ≡ own.old.side }
-    ensures settled { own.new.settled ≡ own.old.settled }
-    ensures ended { own.new.handlers.planned.ended ≡ true }
-    ensures tied { (since : Log) (start : LivingState) → TiedAt knows_living since start own.old → TiedAt knows_living since start own.new }
-    ensures sound { (p : ProgramValue) → Sound knows_living p own.old → Sound knows_living p own.new }
-{
-    note(own, Entry::Ended);
-    own.handlers.end();
-    note(own, Entry::Close);
 }

@@ -11,7 +11,7 @@ ghost use Rattle.bm_exec.specs.Cost.{stack_cost};
 ghost use Rattle.bm_exec.specs.Lists.{Behind, behind_of};
 ghost use Rattle.bm_exec.specs.Yields.{IfWent, IsTurn, Unyielding};
 ghost use Rattle.bm_exec.specs.declared.running.Stopped.TheVariants as stopped;
-ghost use Rattle.bm_law_scenario.specs.Grammar.{AreScripts, is_plain, lines_of, section_of, starts_inside};
+ghost use Rattle.bm_law_scenario.specs.Grammar.{is_plain, section_of, starts_inside};
 ghost use Rattle.bm_exec_levels.specs.AtProcessor.{SameLives, lists_of, log_of};
 ghost use Rattle.bm_exec_levels.specs.AtTie.{TiedAt};
 ghost use Rattle.bm_exec_levels.specs.Ordinary.{Scripted};
@@ -211,6 +211,7 @@ fn next_begun<'s>(
     ensures light { IfOk result (λ begun. weight_left program.now.scenario.now (record remaining.new { begun = begun })
         ≤ weight_left program.now.scenario.now remaining.old) }
     ensures taken { OnOk result (remaining.new.begun ≡ None) }
+    ensures processor { OnOk result (remaining.new.processor ≡ remaining.old.processor) }
     ensures none { IfOk result (λ begun. begun ≡ None → lines_left remaining.new ≡ []) }
     ensures yields { OnOk result (Unyielding 0 (log_of own.old) (log_of own.new)) }
     ensures sound { OnOk result (Sound knows_living program.now own.new) }
@@ -245,6 +246,7 @@ pub fn take_turn<'s, B: Since<LivingSide>>(
         own.old remaining.old own.new remaining.new) }
     ensures turn { IfOk result (λ how. GoesTo how (log_of own.old) (log_of own.new)) }
     ensures left { IfOk result (λ how. NothingLeft how remaining.new) }
+    ensures processor { OnOk result (remaining.new.processor ≡ remaining.old.processor) }
     ensures less { IfOk result (λ how. how ≡ turned.Yielded
         → weight_left program.now.scenario.now remaining.new < weight_left program.now.scenario.now remaining.old) }
     ensures sound { OnOk result (Sound knows_living program.now own.new) }
@@ -262,44 +264,6 @@ pub fn take_turn<'s, B: Since<LivingSide>>(
             }
             Stopped::Ended => finish::<B>(own, program, deferred, begun.script)?,
             Stopped::NoMemory => return Err(NoMemory),
-        }
-    }
-}
-
-/// Runs the scripts of the `run` lines of processor 0 in order, turn after turn, since no other processor takes turns so far. Out of
-/// memory is the only refusal.
-pub fn run_lines<'s, B: Since<LivingSide>>(
-    alloc: Global,
-    own: &mut Processor<LivingSide>,
-    program: &'s Program<'s>,
-    deferred: &'s Deferred<'s>,
-) -> Result<(), NoMemory>
-    requires sound { Sound knows_living program.now own.old }
-    requires tied { TiedAt knows_living B.since B.start own.old }
-    requires works { behind_of deferred.now.behind ≡ works_for program.now.scenario.now }
-    requires few { IfSome deferred.now.behind (λ classes. length classes.now ≤ 11) }
-    requires cost { asked_of knows_living program.now.scenario.now own.old
-        + 2 * lines_cost 0 program.now.scenario.now.scripts program.now.scenario.now.runs ≤ 40000 }
-    requires handlers { length (left_of own.old) ≤ 1000 }
-    requires down { Behind (behind_of deferred.now.behind) (lists_of own.old) [] }
-    requires words { (d : DomainValue) → word_of knows_living d own.old ≡ 0 }
-    requires declared { AreDeclared program.now.scenario.now program.now.scenario.now.runs }
-    ensures wrote { OnOk result (Wrote (AreScripts program.now.scenario.now (lines_of 0 program.now.scenario.now.runs)) own.old own.new) }
-    ensures lives { OnOk result (SameLives knows_living own.old own.new) }
-    ensures outside { OnOk result ((d : DomainValue) → word_of knows_living d own.new % 2 ≡ 0) }
-    ensures asked { OnOk result (asked_of knows_living program.now.scenario.now own.new ≤ 42000) }
-    ensures sound { OnOk result (Sound knows_living program.now own.new) }
-    ensures tied { OnOk result (TiedAt knows_living B.since B.start own.new) }
-{
-    let mut remaining = Remaining {
-        processor: 0,
-        begun: None,
-        lines: program.scenario.runs.as_slice(),
-    };
-    'turns: loop {
-        match take_turn::<B>(alloc, own, program, deferred, &mut remaining)? {
-            Turned::Yielded => {}
-            Turned::Ended => return Ok(()),
         }
     }
 }

@@ -28,11 +28,11 @@ new_runs [] i values h fine = absurd fine
 new_runs (t ∷ ts) zero values h fine = few (length values) (length t.fields) (has_many ts) h fine
 new_runs (t ∷ ts) (suc i) values h fine = new_runs ts i values (first_few (nat_lt 8 (length t.fields)) (has_many ts) h) fine
 
-pub along : (a b rest : List Word) → built false ((a ++ b) ++ rest) ≡ true → built false (a ++ (b ++ rest)) ≡ true
-along a b rest h = subst (λ ws. built false ws ≡ true) (append_assoc a b rest) h
+pub along : (a b rest : List Word) → built ((a ++ b) ++ rest) ≡ true → built (a ++ (b ++ rest)) ≡ true
+along a b rest h = subst (λ ws. built ws ≡ true) (append_assoc a b rest) h
 
 mutual
-  action_runs : (types : List TypeDeclaration) (maps : List MapForm) (d l : ℕ) (a : Action) (rest : List Word) → has_many types ≡ false → FineAction (map type_form types) maps d a → built false (spell_action (map type_form types) maps l a ++ rest) ≡ true → (can_run_action types a ≡ true) × (built false rest ≡ true)
+  action_runs : (types : List TypeDeclaration) (maps : List MapForm) (d l : ℕ) (a : Action) (rest : List Word) → has_many types ≡ false → FineAction (map type_form types) maps d a → built (spell_action (map type_form types) maps l a ++ rest) ≡ true → (can_run_action types a ≡ true) × (built rest ≡ true)
   action_runs types maps d l (New x t values) rest h fine b = (new_runs types t.0 values h fine, numbers values rest b)
   action_runs types maps d l (Drop x) rest h fine b = (refl, b)
   action_runs types maps d l (If' x body otherwise) rest h fine b =
@@ -45,14 +45,14 @@ mutual
   action_runs types maps d l Yield rest h fine b = (refl, b)
   action_runs types maps d l a rest h fine b = cc
 
-  else_runs : (types : List TypeDeclaration) (maps : List MapForm) (d : ℕ) (o : Held-Action-If-2) (rest : List Word) → has_many types ≡ false → FineElse (map type_form types) maps d o → built false (spell_else (map type_form types) maps o ++ rest) ≡ true → (can_run_else types o ≡ true) × (built false rest ≡ true)
+  else_runs : (types : List TypeDeclaration) (maps : List MapForm) (d : ℕ) (o : Held-Action-If-2) (rest : List Word) → has_many types ≡ false → FineElse (map type_form types) maps d o → built (spell_else (map type_form types) maps o ++ rest) ≡ true → (can_run_else types o ≡ true) × (built rest ≡ true)
   else_runs types maps d None' rest h fine b = (refl, b)
   else_runs types maps d (Some' body) rest h fine b = block_runs types maps d body rest h fine b
 
-  pub block_runs : (types : List TypeDeclaration) (maps : List MapForm) (d : ℕ) (body : Block) (rest : List Word) → has_many types ≡ false → FineBlock (map type_form types) maps d body → built false (spell_block (map type_form types) maps body ++ rest) ≡ true → (can_run_block types body ≡ true) × (built false rest ≡ true)
+  pub block_runs : (types : List TypeDeclaration) (maps : List MapForm) (d : ℕ) (body : Block) (rest : List Word) → has_many types ≡ false → FineBlock (map type_form types) maps d body → built (spell_block (map type_form types) maps body ++ rest) ≡ true → (can_run_block types body ≡ true) × (built rest ≡ true)
   block_runs types maps d (Block' shape row line) rest h fine b = row_runs types maps (d - 1) row (on line Close ∷ rest) h fine.1 (along (spell_row (map type_form types) maps row) (on line Close ∷ []) rest b)
 
-  row_runs : (types : List TypeDeclaration) (maps : List MapForm) (d : ℕ) {m : _} (row : Row_of-Statement m) (rest : List Word) → has_many types ≡ false → FineRow (map type_form types) maps d row → built false (spell_row (map type_form types) maps row ++ rest) ≡ true → (can_run_row types row ≡ true) × (built false rest ≡ true)
+  row_runs : (types : List TypeDeclaration) (maps : List MapForm) (d : ℕ) {m : _} (row : Row_of-Statement m) (rest : List Word) → has_many types ≡ false → FineRow (map type_form types) maps d row → built (spell_row (map type_form types) maps row ++ rest) ≡ true → (can_run_row types row ≡ true) × (built rest ≡ true)
   row_runs types maps d end_of-Statement rest h fine b = (refl, b)
   row_runs types maps d (more_of-Statement line action more) rest h fine b =
       let forms = map type_form types in

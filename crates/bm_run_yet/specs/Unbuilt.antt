@@ -1,12 +1,12 @@
 -- Forms of the language that can't be run yet, and where a text has the first one. (This project's own. The table gets
 -- shorter as forms are built.)
-use Rattle.std.specs.Prelude.{Bool, true, false, not, ◌==◌, ◌&&◌, ◌||◌, List, [], ◌∷◌, if◌then◌else◌, Option, Some, None}
+use Rattle.std.specs.Prelude.{Bool, true, false, ◌==◌, ◌&&◌, ◌||◌, List, [], ◌∷◌, if◌then◌else◌, Option, Some, None}
 use Rattle.bm_lang.specs.declared.keyword.Keyword.{Keyword}
 use Rattle.bm_lang.specs.declared.keyword.Keyword.TheVariants as word
 use Rattle.bm_lang.specs.declared.fault.BadKind.TheVariants.{NotYet}
 use Rattle.bm_lang.specs.declared.fault.BadText.{BadText}
 use Rattle.bm_lang.specs.declared.place.Place.{Place}
-use Rattle.bm_lang.specs.Tokens.{Sort, Number, Reserved, End, Mark}
+use Rattle.bm_lang.specs.Tokens.{Sort, Reserved, End, Mark}
 
 -- the words that begin such a form
 abbrev pub is_unbuilt_word : Keyword → Bool
@@ -27,16 +27,10 @@ is_unbuilt_word word.First = true
 is_unbuilt_word word.Remove = true
 is_unbuilt_word w = false
 
--- a token begins such a form: one of these words, or behind `processors` a number other than 1
-abbrev pub is_unbuilt : Bool → Sort → Bool
-is_unbuilt counts (Reserved w) = is_unbuilt_word w
-is_unbuilt counts (Number n) = counts && not (n == 1)
-is_unbuilt counts _ = false
-
--- the number of processors comes behind this token
-abbrev pub is_processors : Sort → Bool
-is_processors (Reserved word.Processors) = true
-is_processors _ = false
+-- a token begins such a form
+abbrev pub is_unbuilt : Sort → Bool
+is_unbuilt (Reserved w) = is_unbuilt_word w
+is_unbuilt _ = false
 
 abbrev pub is_end : Sort → Bool
 is_end End = true
@@ -46,13 +40,12 @@ abbrev pub is_at : Option BadText → Place → Bool
 is_at None p = false
 is_at (Some f) p = (f.line == p.line) && (f.column == p.column)
 
--- the place of the first such token before a fault, where there is a fault. `counts` says that the number of processors
--- comes first.
-abbrev pub unbuilt_before : Option BadText → Bool → List Mark → Option Place
-unbuilt_before fault counts [] = None
-unbuilt_before fault counts (m ∷ ms) =
+-- the place of the first such token before a fault, where there is a fault
+abbrev pub unbuilt_before : Option BadText → List Mark → Option Place
+unbuilt_before fault [] = None
+unbuilt_before fault (m ∷ ms) =
     if is_end m.sort || is_at fault m.place then None
-    else (if is_unbuilt counts m.sort then Some m.place else unbuilt_before fault (is_processors m.sort) ms)
+    else (if is_unbuilt m.sort then Some m.place else unbuilt_before fault ms)
 
 -- the fault of a form that isn't built yet
 abbrev pub not_yet : Place → BadText

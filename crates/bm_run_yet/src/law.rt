@@ -1,6 +1,6 @@
 //! The law of scenarios whose text has built forms alone.
 
-ghost use Rattle.std.specs.Prelude.{◌≡◌, ℕ, List, None, false};
+ghost use Rattle.std.specs.Prelude.{◌≡◌, ℕ, List, None};
 ghost use Rattle.bm_lang.specs.Limits.{first_limit};
 ghost use Rattle.bm_lang.specs.Scenarios.{Reads};
 ghost use Rattle.bm_lang.specs.Tokens.{tokens, start};
@@ -10,5 +10,5 @@ ghost use Rattle.bm_run_yet.specs.Yet.{RunsYet};
 
 /// A scenario within the limits whose text has no form that can't be run yet is one that runs so far.
 pub fn built_scenarios_run()
-    ensures { (bytes : List ℕ) (s : Parts) → Reads bytes s → unbuilt_before None false (tokens start bytes) ≡ None → first_limit s ≡ None → RunsYet s }
+    ensures { (bytes : List ℕ) (s : Parts) → Reads bytes s → unbuilt_before None (tokens start bytes) ≡ None → first_limit s ≡ None → RunsYet s }
 {}

@@ -1,8 +1,8 @@
 //! Forms that can't be run yet.
 
-ghost use Rattle.std.specs.Prelude.{◌≡◌, ◌-◌, ◌<◌, ◌^◌, length, false};
+ghost use Rattle.std.specs.Prelude.{◌≡◌, ◌-◌, ◌<◌, ◌^◌, length};
 ghost use Rattle.bm_lang.specs.Tokens.{tokens, start, sort};
-ghost use Rattle.bm_run_yet.specs.Unbuilt.{is_unbuilt_word, is_unbuilt, is_processors, is_end, is_at, unbuilt_before};
+ghost use Rattle.bm_run_yet.specs.Unbuilt.{is_unbuilt_word, is_unbuilt, is_end, is_at, unbuilt_before};
 
 use bm_lang::{BadText, Keyword, Place, Token, Tokens};
 
@@ -40,22 +40,14 @@ fn is_at(fault: Option<BadText>, place: Place) -> bool
     }
 }
 
-// Whether a token begins one, where `counts` says that the number of processors comes.
-fn is_unbuilt(counts: bool, token: Token<'_>) -> bool
-    ensures { result ≡ is_unbuilt counts (sort token.entry) }
+// Whether a token begins one.
+fn is_unbuilt(token: Token<'_>) -> bool
+    ensures { result ≡ is_unbuilt (sort token.entry) }
 {
     match token {
         Token::Keyword(word) => is_unbuilt_word(word),
-        Token::Number(number) => counts && number != 1,
         _ => false,
     }
-}
-
-// Whether the number of processors comes behind a token.
-fn is_processors(token: Token<'_>) -> bool
-    ensures { result ≡ is_processors (sort token.entry) }
-{
-    matches!(token, Token::Keyword(Keyword::Processors))
 }
 
 // Whether a token is the end of the text.
@@ -70,10 +62,9 @@ fn is_end(token: Token<'_>) -> bool
 pub fn first_unbuilt(bytes: &[u8], fault: Option<BadText>) -> Option<Place>
     // Lines and columns must fit.
     requires { length bytes.now < 2 ^ 32 - 1 }
-    ensures { result ≡ unbuilt_before fault false (tokens start bytes.now) }
+    ensures { result ≡ unbuilt_before fault (tokens start bytes.now) }
 {
     let mut tokens = Tokens::new(bytes);
-    let mut counts = false;
     loop {
         let next = tokens.take();
         if is_end(next.token) {
@@ -82,9 +73,8 @@ pub fn first_unbuilt(bytes: &[u8], fault: Option<BadText>) -> Option<Place>
         if is_at(fault, next.place) {
             return None;
         }
-        if is_unbuilt(counts, next.token) {
+        if is_unbuilt(next.token) {
             return Some(next.place);
         }
-        counts = is_processors(next.token);
     }
 }

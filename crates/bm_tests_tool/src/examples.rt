@@ -5,6 +5,8 @@ pub(crate) mod busy_handler;
 pub(crate) mod counted_object;
 pub(crate) mod deferred_block;
 pub(crate) mod empty_stock;
+pub(crate) mod held_by_a_plain_section;
+pub(crate) mod held_by_a_tracing_section;
 pub(crate) mod nested_blocks;
 pub(crate) mod nested_handlers;
 pub(crate) mod one_object;
@@ -20,6 +22,14 @@ pub(crate) const EXAMPLES: &[(&str, &str)] = &[
     (counted_object::SCENARIO, counted_object::JOURNAL),
     (deferred_block::SCENARIO, deferred_block::JOURNAL),
     (empty_stock::SCENARIO, empty_stock::JOURNAL),
+    (
+        held_by_a_plain_section::SCENARIO,
+        held_by_a_plain_section::JOURNAL,
+    ),
+    (
+        held_by_a_tracing_section::SCENARIO,
+        held_by_a_tracing_section::JOURNAL,
+    ),
     (nested_blocks::SCENARIO, nested_blocks::JOURNAL),
     (nested_handlers::SCENARIO, nested_handlers::JOURNAL),
     (one_object::SCENARIO, one_object::JOURNAL),

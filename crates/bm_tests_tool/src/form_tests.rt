@@ -32,7 +32,7 @@ fn found(text: &[u8], fault: At) -> Result<At, Fail> {
 // Texts with the place of their fault, where they have one, and the place of their first form that can't be run yet.
 #[test]
 fn texts_with_the_place_of_their_first_form(rt: HostRuntime) -> Result<(), Fail> {
-    let table: [(&str, At, At); 32] = [
+    let table: [(&str, At, At); 29] = [
         // none
         ("", None, None),
         (
@@ -51,14 +51,11 @@ fn texts_with_the_place_of_their_first_form(rt: HostRuntime) -> Result<(), Fail>
             None,
             None,
         ),
-        // the number of processors, and other numbers
-        ("scenario {\nprocessors 2\n", None, Some((2, 12))),
-        ("scenario { processors 0 }", None, Some((1, 23))),
-        ("scenario { processors\n\n 4294967295", None, Some((3, 2))),
-        ("scenario { processors 1 pages 8 run 2", None, None),
-        ("processors pages 8", None, None),
-        ("processors { 8", None, None),
-        ("processors processors 8", None, Some((1, 23))),
+        // several processors, and their turns
+        ("scenario {\nprocessors 2\n", None, None),
+        ("scenario { processors 8 pages 8 run 2", None, None),
+        ("run 1 main turns { 1 0 7 }", None, None),
+        ("processors { lock", None, Some((1, 14))),
         // deferred work
         (
             "scenario {\n processors 1\n pages 2\n deferred on\n",
@@ -81,7 +78,7 @@ fn texts_with_the_place_of_their_first_form(rt: HostRuntime) -> Result<(), Fail>
         ("run 0 main turns { 0 }", None, None),
         ("script m plain { section { lock q } }", None, Some((1, 28))),
         // the first of several
-        ("processors 3 deferred on slot s item", None, Some((1, 12))),
+        ("processors 3 deferred on slot s item", None, Some((1, 26))),
         (
             "script m plain { new x t drop x }\nyield get",
             None,
@@ -91,7 +88,7 @@ fn texts_with_the_place_of_their_first_form(rt: HostRuntime) -> Result<(), Fail>
         ("script m plain { unlock }\n7", Some((2, 1)), Some((1, 18))),
         ("script m plain { drop x }\nlock", Some((2, 1)), None),
         ("script m plain { drop 7 }\nlock q", Some((1, 23)), None),
-        ("processors 8 on", Some((1, 12)), None),
+        ("processors 8 get", Some((1, 14)), None),
         // a fault whose place is on the same line, or in the same column
         ("a b c get", Some((1, 5)), None),
         ("a\nget b\nc", Some((3, 1)), Some((2, 1))),

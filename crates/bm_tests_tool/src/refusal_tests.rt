@@ -272,11 +272,11 @@ const CAUSES: &[(&str, u8, &str, u8, &str)] = &[
     ),
     // a fault and a form that can't be run yet, in both orders
     (
-        "scenario {\nprocessors 2\npages x",
+        "scenario {\nprocessors 2 pages 1 deferred on type t { a }\nslot s t\npages",
         5,
-        "line 2 column 12: not_yet",
+        "line 3 column 1: not_yet",
         5,
-        "line 3 column 7: unexpected",
+        "line 4 column 1: unexpected",
     ),
     (
         "scenario {\nprocessors 1\npages x\ndeferred on",
@@ -292,11 +292,11 @@ const CAUSES: &[(&str, u8, &str, u8, &str)] = &[
         5,
         "line 2 column 31: unexpected",
     ),
-    // such a form and a limit
+    // a limit, and such a form and a limit
     (
         "scenario { processors 9\npages 257 deferred off }",
-        5,
-        "line 1 column 23: not_yet",
+        7,
+        "limit processors",
         7,
         "limit processors",
     ),

@@ -67,7 +67,7 @@ first_none None h = refl
 first_none (Some place) h = cc
 
 -- a text that `replay` lets pass has no form that can't be run yet
-pub has_built_forms : (c : Reading) (totals : Bool) (bytes : List ℕ) → c ≡ Replay totals → IsBuilt c bytes → unbuilt_before None false (tokens start bytes) ≡ None
+pub has_built_forms : (c : Reading) (totals : Bool) (bytes : List ℕ) → c ≡ Replay totals → IsBuilt c bytes → unbuilt_before None (tokens start bytes) ≡ None
 has_built_forms c totals bytes is built = first_none _ (subst (λ c. IsBuilt c bytes) is built)
 
 -- words that aren't none are a command

@@ -32,7 +32,7 @@ earlier None fault = fault
 -- the first fault of a text for a command, where its fault by the whole language is this
 abbrev pub command_fault : Reading → Option BadText → List ℕ → Option BadText
 command_fault Check fault bytes = fault
-command_fault (Replay totals) fault bytes = earlier (unbuilt_before fault false (tokens start bytes)) fault
+command_fault (Replay totals) fault bytes = earlier (unbuilt_before fault (tokens start bytes)) fault
 
 -- a text without a reading, with its fault by the whole language
 pub record IsUnread (bytes : List ℕ) (fault : BadText) : Type 0 where

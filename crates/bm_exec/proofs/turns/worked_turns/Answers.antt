@@ -3,17 +3,17 @@ use Rattle.bm_journal.specs.declared.entry.Entry.{Entry}
 use Rattle.bm_journal.specs.declared.entry.Entry.TheVariants as entry
 use Rattle.bm_law.specs.Lists.{Log}
 use Rattle.bm_law.specs.Spans.{own_entries}
-use Rattle.bm_exec.specs.Yields.{IsNoYield, NoYields, Unyielding, YieldsLast}
-use Rattle.bm_exec.specs.WorkedTurns.{a_drop, a_drop_then_yield, yields_above}
+use Rattle.bm_exec.specs.Yields.{IsInTurn, AllInTurn, Unyielding, YieldsLast}
+use Rattle.bm_exec.specs.WorkedTurns.{a_drop, a_drop_then_yield, sweeps_after, yields_above}
 use Rattle.bm_exec.proofs.turns.worked_turns.Goals as goal
 
 -- entries that end with their only yield
 abbrev YieldsAtLast : List Entry → Type 0
 YieldsAtLast [] = ⊥
 YieldsAtLast (entry.Yield ∷ []) = Unit {0}
-YieldsAtLast (e ∷ es) = IsNoYield e × YieldsAtLast es
+YieldsAtLast (e ∷ es) = IsInTurn e × YieldsAtLast es
 
-last-so : (own : List Entry) → NoYields own → YieldsAtLast (own ++ entry.Yield ∷ [])
+last-so : (own : List Entry) → AllInTurn own → YieldsAtLast (own ++ entry.Yield ∷ [])
 last-so [] n = tt
 last-so (entry.Yield ∷ own) n = absurd n.0
 last-so (e ∷ own) n = (n.0, last-so own n.1)
@@ -25,12 +25,12 @@ yields-so log y =
     let added : r.added ≡ log = sym (r.now_is ∙ ap (λ (z : Log). z ++ r.added) none) in
     subst YieldsAtLast (sym (ap (own_entries 0) (sym added) ∙ r.owned)) (last-so y.own y.none)
 
-none-so : (log : Log) → Unyielding 0 (Some []) (Some log) → NoYields (own_entries 0 log)
+none-so : (log : Log) → Unyielding 0 (Some []) (Some log) → AllInTurn (own_entries 0 log)
 none-so log y =
     let r = y.records in
     let none : r.log ≡ [] = (let t = r.told in cc) in
     let added : r.added ≡ log = sym (r.now_is ∙ ap (λ (z : Log). z ++ r.added) none) in
-    subst NoYields (sym (ap (own_entries 0) (sym added) ∙ r.owned)) y.none
+    subst AllInTurn (sym (ap (own_entries 0) (sym added) ∙ r.owned)) y.none
 
 pub returns-clause-yielded : goal.returns-clause-yielded
 returns-clause-yielded c = record {
@@ -64,6 +64,9 @@ returns-clause-past_it c y = (yields-so (a_drop_then_yield ++ a_drop) y).1.1.1.0
 
 pub returns-clause-two : goal.returns-clause-two
 returns-clause-two c y = (yields-so (a_drop_then_yield ++ a_drop_then_yield) y).1.1.1.0
+
+pub returns-clause-swept : goal.returns-clause-swept
+returns-clause-swept c y = (none-so sweeps_after y).1.1.1.0
 
 pub returns-clause-no_yield_of_its_own : goal.returns-clause-no_yield_of_its_own
 returns-clause-no_yield_of_its_own c y = (yields-so yields_above y).1.1.1

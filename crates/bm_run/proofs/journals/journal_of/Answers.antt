@@ -1,43 +1,76 @@
-use Rattle.std.specs.Prelude.{None}
-use Rattle.std.proofs.Common.{rules, ◌≡◌, ◌∷◌, [], ℕ, List, Some, lit≤, refl, sym, subst, slice_get}
+use Rattle.std.specs.Prelude.{None, get_or, length}
+use Rattle.std.proofs.Common.{rules, ◌∙◌, map, ◌≡◌, ◌<◌, ◌≤◌, ℕ, [], List, Some, ap, arith, refl, slice_get, subst, sym}
+use Rattle.std.proofs.lemmas.List.Sums.{list_all-from_AllPass}
+use Rattle.std.proofs.lemmas.Option.{get_or_from_slice_get, slice_get_within}
+use Rattle.bm_journal.specs.WellFormed.{is_whole_log}
+use Rattle.bm_journal.specs.declared.ids.Domain.TheVariants.{Plain, Tracing}
+use Rattle.bm_class.specs.Sizes.{size_of_class}
+use Rattle.bm_class.specs.Watermarks.{marks_of_size}
 use Rattle.bm_law.specs.Lists.{Log}
-use Rattle.bm_law_order.specs.ByDomain.{of}
-use Rattle.bm_law_laid.specs.OrderOf.{IsOrderOf}
-use Rattle.bm_law_order.specs.Orders.{IsLaid, Order, by, shared_over}
-use Rattle.bm_law_order.specs.Polls.{IsPolled}
-use Rattle.bm_law_order.specs.Seals.{IsSealed}
-use Rattle.bm_law_order.specs.Shared.{fresh}
+use Rattle.bm_law.specs.State.{opening}
+use Rattle.bm_law_lives.specs.Returns.{ReturnsLaw, receiver}
+use Rattle.bm_law_lives.specs.StampLaw.{ReturnsFit, StampLaw}
+use Rattle.bm_law_lives.specs.Together.{Each, named}
+use Rattle.bm_law_logs.specs.UnitsMoved.{LeavesNothing}
+use Rattle.bm_law_order.specs.Orders.{IsLaid, Order}
 use Rattle.bm_law_order.specs.Whole.{whole}
 use Rattle.bm_law_journal.specs.Lawful.{named_turns}
-use Rattle.bm_law_places.specs.Placed.{IsPlaced}
-use Rattle.bm_run.proofs.Laid.{laid-whole, whole-one}
-use Rattle.bm_run.proofs.LogLaw.{alone-sends}
-use Rattle.bm_run.proofs.PollsTold.{polled-whole}
-use Rattle.bm_run.proofs.SealsTold.{sealed-whole}
 use Rattle.bm_law_scenario.specs.Lawful.{LawfulLog}
+use Rattle.bm_law_scenario.specs.Opened.{opened}
 use Rattle.bm_law_scenario.specs.Short.{JournalShort}
-use Rattle.bm_law_scenario.proofs.Told.{one-log}
-use Rattle.bm_journal.specs.declared.ids.Domain.{Domain}
-use Rattle.bm_journal.specs.declared.ids.Domain.TheVariants.{Plain, Tracing}
 use Rattle.bm_law_lives.specs.GraceLaw.{WholeGrace}
 use Rattle.bm_law_lives.specs.Lives.{WholeLives}
-use Rattle.bm_law_lives.specs.StampLaw.{StampLaw}
-use Rattle.bm_law_lives.specs.Returns.{ReturnsLaw}
+use Rattle.bm_law_order.specs.Polls.{IsPolled}
+use Rattle.bm_law_order.specs.Seals.{IsSealed}
+use Rattle.bm_law_places.specs.Placed.{IsPlaced}
+use Rattle.bm_law_scenario.specs.SectionWords.{SectionWords}
+use Rattle.bm_exec.specs.Living.{home_of}
+use Rattle.bm_world.specs.LivingState.{known_living}
+use Rattle.bm_run.specs.LogsSoFar.{lived_in}
+use Rattle.bm_run.proofs.FinalLaws.{batched-is, each-log, found-is, idle-is, inbox-is, inboxes-are, laid-is, log-of-each, order-is, parcels-are, placed-is, polled-is, sealed-is}
+use Rattle.bm_run.proofs.FinalLog.{final-lawful}
+use Rattle.bm_run.proofs.ParcelsArrive.{parcels-arrive}
 use Rattle.bm_run.proofs.journals.journal_of.Goals as goal
+
+pub invariant_of-result-clause-units_whole : goal.invariant_of-result-clause-units_whole
+invariant_of-result-clause-units_whole c = rw c.new-logs.ensures (list_all-from_AllPass is_whole_log c.args.logs.items c.requires.whole)
+
+-- the log of each processor is lawful
+each-lawful : (c : goal.After-result-1) (p : ℕ) → p < length c.args.logs.items → LawfulLog c.args.scenario.now p (get_or c.args.logs.items p [])
+each-lawful c p lt =
+    let s = c.args.scenario.now in
+    let logs : List Log = c.args.logs.items in
+    let turns = named_turns s.turns in
+    let h = c.requires.closed in
+    let few : length logs ≤ 8 = (let f = c.requires.few in let m = h.so_far.many in omega (arith, f, m)) in
+    let there : p < s.processors = subst (λ k. p < k) h.so_far.many lt in
+    let laid = subst (λ k. IsLaid k s.pages (whole turns logs)) (sym h.so_far.many) (laid-is s turns logs h) in
+    let words = log-of-each (λ p log. SectionWords log) logs (c.journal_law.ensures.words s.pages logs (whole turns logs) few (order-is s turns logs h) laid) p lt in
+    final-lawful s p (get_or logs p []) (get_or h.finishes p []) (get_or h.sweeps p []) c.handled_law.ensures.rows c.handled_law.ensures.null c.sweeps_law.ensures (h.logs p there) words (parcels-are s turns logs h p there)
+
+classes-are : (c : goal.After-result-1) → c.new-classes.result ≡ opened c.args.scenario.now.types
+classes-are c = c.new-classes.ensures ∙ (c.in_ok-with_marks.ensures ∙ ap (λ (cs : List ℕ). map (λ k. (k, marks_of_size (size_of_class k))) cs) c.requires.classes)
 
 pub returns-clause-lawful : goal.returns-clause-lawful
 returns-clause-lawful c =
     let s = c.args.scenario.now in
-    let log = c.args.log in
-    let logs : List Log = log ∷ [] in
-    let order = whole (named_turns s.turns) logs in
-    let of-logs = c.whole_law.ensures (named_turns s.turns) logs in
-    let laid = laid-whole (named_turns s.turns) s.pages log c.requires.laid in
-    let idle : (d : Domain) → (of d (shared_over order (fresh 1 s.pages)).numbers).driver ≡ None = λ d. subst (λ (o : Order). (of d (shared_over o (fresh 1 s.pages)).numbers).driver ≡ None) (sym (whole-one (named_turns s.turns) log)) (c.requires.idle d) in
+    let logs : List Log = c.args.logs.items in
+    let turns = named_turns s.turns in
+    let h = c.requires.closed in
+    let n = s.processors in
+    let order : Order = whole turns logs in
+    let of-logs = order-is s turns logs h in
+    let laid = laid-is s turns logs h in
     let laws = c.journal_law.ensures in
-    let l : LawfulLog s 0 log = c.requires.lawful in
-    let one = sym c.in_ok-logs.ensures in
-    let found = c.found_law.ensures.one s.pages log l.last c.requires.laid l.lists (l.parcels (alone-sends s c.requires.yet.one)) in
+    let many : length logs ≡ n = h.so_far.many in
+    let few : length logs ≤ 8 = (let f = c.requires.few in omega (arith, f, many)) in
+    let one : logs ≡ c.new-logs.result = sym c.new-logs.ensures in
+    let none : (u : ℕ) → home_of ((known_living h.world).objects.lives u) ≡ None = λ u. ap home_of (h.lives u) in
+    let lives = c.lives_law.ensures.whole (lived_in (known_living h.world).objects) logs h.so_far.lived none in
+    let freed = c.lives_law.ensures.freed (lived_in (known_living h.world).objects) logs h.so_far.lived none in
+    let nothing = each-log LeavesNothing logs (λ p lt. (let l = each-lawful c p lt in (l.last, l.lists, l.emptied))) in
+    let receivers = subst (λ k. Each (λ p. p < k) (named receiver logs)) (sym many) (laws.receivers n s.pages logs order of-logs laid) in
+    let arrive = parcels-arrive n s.pages logs order of-logs laid (inbox-is s turns logs h) (inboxes-are s turns logs h) in
     record {
       logs = record {
         heading = record {
@@ -46,43 +79,43 @@ returns-clause-lawful c =
           types = search rules;
           maps = search rules;
           scripts = search rules;
-          classes = search rules;
+          classes = classes-are c;
         };
-        count = search rules;
-        logs = subst (λ logs. (p : ℕ) (log : Log) → slice_get logs p ≡ Some log → LawfulLog s p log) one (one-log s log l);
+        count = subst (λ (x : List Log). length x ≡ n) one many;
+        logs = subst (λ (x : List Log). (p : ℕ) (log : Log) → slice_get x p ≡ Some log → LawfulLog s p log) one
+            (λ p log e. subst (LawfulLog s p) (get_or_from_slice_get logs p log [] e) (each-lawful c p (slice_get_within logs p log e)));
         graphs = search rules;
         totals = search rules;
-        short = subst (JournalShort s.pages) one (laws.short 1 s.pages logs order of-logs laid);
+        short = subst (JournalShort s.pages) one (laws.short n s.pages logs order of-logs laid);
       };
-      lives = subst WholeLives one c.requires.lives;
-      returns = subst ReturnsLaw one c.requires.returns;
+      lives = subst WholeLives one lives;
+      returns = subst ReturnsLaw one (c.returns_law.ensures.together logs nothing freed receivers arrive);
       grace = subst WholeGrace one (record {
-        law = laws.grace s.pages logs order (lit≤ tt) of-logs laid;
-        plain_ended = laws.ended Plain 1 s.pages logs order of-logs laid (idle Plain);
-        tracing_ended = laws.ended Tracing 1 s.pages logs order of-logs laid (idle Tracing);
+        law = laws.grace s.pages logs order few of-logs (subst (λ k. IsLaid k s.pages order) (sym many) laid);
+        plain_ended = laws.ended Plain n s.pages logs order of-logs laid (idle-is s turns logs h Plain);
+        tracing_ended = laws.ended Tracing n s.pages logs order of-logs laid (idle-is s turns logs h Tracing);
       });
       stamps = subst StampLaw one (record {
-        plain_stamps = laws.stamps Plain 1 s.pages logs order of-logs laid;
-        tracing_stamps = laws.stamps Tracing 1 s.pages logs order of-logs laid;
-        plain_seen = laws.seen Plain 1 s.pages logs order of-logs laid;
-        tracing_seen = laws.seen Tracing 1 s.pages logs order of-logs laid;
-        seals = c.seals_law.ensures 1 s.pages logs (by 0 log) (subst (IsOrderOf logs) (whole-one [] log) (c.whole_law.ensures [] logs)) found c.requires.sealed c.requires.batched c.requires.lives.law;
-        returns = (c.returned_law.ensures s 0 log l.last l.handlers l.phrases l.is_log l.lists, tt);
+        plain_stamps = laws.stamps Plain n s.pages logs order of-logs laid;
+        tracing_stamps = laws.stamps Tracing n s.pages logs order of-logs laid;
+        plain_seen = laws.seen Plain n s.pages logs order of-logs laid;
+        tracing_seen = laws.seen Tracing n s.pages logs order of-logs laid;
+        seals = c.seals_law.ensures n s.pages logs order of-logs (found-is s turns logs h) (sealed-is s turns logs h) (batched-is s turns logs h) lives.law;
+        returns = each-log (λ p log. ReturnsFit (opening p) None (λ c. []) log) logs (λ p lt. (let l = each-lawful c p lt in c.returned_law.ensures s p (get_or logs p []) l.last l.handlers l.phrases l.is_log l.lists));
       });
     }
 
 pub returns-clause-laid : goal.returns-clause-laid
 returns-clause-laid c =
     let s = c.args.scenario.now in
-    let log = c.args.log in
+    let logs : List Log = c.args.logs.items in
     let turns = named_turns s.turns in
-    let one = sym c.in_ok-logs.ensures in
-    let processors = sym c.requires.yet.one in
-    let l : LawfulLog s 0 log = c.requires.lawful in
-    let placed = c.logs_law.ensures.one s.pages log l.last c.requires.laid l.lists (l.parcels (alone-sends s c.requires.yet.one)) in
+    let h = c.requires.closed in
+    let n = s.processors in
+    let one : logs ≡ c.new-logs.result = sym c.new-logs.ensures in
     record {
-      laid = subst (λ (x : List Log). IsLaid s.processors s.pages (whole turns x)) one (subst (λ (n : ℕ). IsLaid n s.pages (whole turns (log ∷ []))) processors (laid-whole turns s.pages log c.requires.laid));
-      placed = subst (λ (x : List Log). IsPlaced s.processors s.pages (whole turns x)) one (subst (λ (n : ℕ). IsPlaced n s.pages (whole turns (log ∷ []))) processors (subst (λ (o : Order). IsPlaced 1 s.pages o) (sym (whole-one turns log)) placed));
-      polled = subst (λ (x : List Log). IsPolled s.processors s.pages (whole turns x)) one (subst (λ (n : ℕ). IsPolled n s.pages (whole turns (log ∷ []))) processors (polled-whole turns s.pages log c.requires.polled));
-      sealed = subst (λ (x : List Log). IsSealed (whole turns x)) one (sealed-whole turns log c.requires.sealed);
+      laid = subst (λ (x : List Log). IsLaid n s.pages (whole turns x)) one (laid-is s turns logs h);
+      placed = subst (λ (x : List Log). IsPlaced n s.pages (whole turns x)) one (placed-is s turns logs h);
+      polled = subst (λ (x : List Log). IsPolled n s.pages (whole turns x)) one (polled-is s turns logs h);
+      sealed = subst (λ (x : List Log). IsSealed (whole turns x)) one (sealed-is s turns logs h);
     }

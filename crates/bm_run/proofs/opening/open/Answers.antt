@@ -7,7 +7,6 @@ use Rattle.bm_lang.specs.Fine.{HasConditions}
 use Rattle.bm_law_scenario.specs.Fills.{fresh_stock}
 use Rattle.bm_exec_levels.specs.AtTie.{TiedAt}
 use Rattle.bm_exec_levels.specs.declared.kept.Kept.{Kept}
-use Rattle.bm_exec_levels.specs.declared.processor.Processor.{Processor}
 use Rattle.bm_exec_levels.specs.declared.program.Program.{Program}
 use Rattle.bm_run.specs.Asked.{in_its_turn}
 use Rattle.bm_run.specs.Filling.{filling, units_in}

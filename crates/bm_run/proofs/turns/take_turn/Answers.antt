@@ -88,5 +88,6 @@ scripts-preserved g c =
       tied = end.tied;
       advanced = advanced-join s w c.args.own.now m l c.args.remaining.now r q i.advanced (advanced-join s w m k l r (record q { begun = Some b }) q here now);
       yields = unyielding-join 0 _ _ _ (unyielding-join 0 _ _ _ (unyielding-join 0 _ _ _ i.yields next.yields) (rw e at went.turn)) end.yields;
+      processor = next.processor ∙ i.processor;
       light = omega (arith, light, less, before);
     }

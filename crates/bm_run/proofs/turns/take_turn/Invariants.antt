@@ -1,4 +1,4 @@
-use Rattle.std.proofs.Common.{◌≤◌}
+use Rattle.std.proofs.Common.{◌≡◌, ◌≤◌}
 use Rattle.bm_world.specs.ToldLiving.{knows_living}
 use Rattle.bm_exec.specs.Lists.{behind_of}
 use Rattle.bm_exec.specs.Yields.{Unyielding}
@@ -14,6 +14,7 @@ invariant-scripts g l = record {
   tied : TiedAt knows_living g.B.Since.since g.B.Since.start l.own;
   advanced : Advanced l.program.scenario.now (behind_of l.deferred.behind) l.initial.own l.initial.remaining l.own l.remaining;
   yields : Unyielding 0 (log_of l.initial.own) (log_of l.own);
+  processor : l.remaining.processor ≡ l.initial.remaining.processor;
   light : weight_left l.program.scenario.now l.remaining ≤ weight_left l.program.scenario.now l.initial.remaining;
 }
 

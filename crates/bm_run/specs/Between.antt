@@ -1,0 +1,131 @@
+-- What is so of a whole run between two turns. (This project's own.)
+use Rattle.std.specs.Prelude.{◌≡◌, ◌≢◌, ◌<◌, ◌+◌, ◌^◌, ◌++◌, ◌∷◌, ℕ, Bool, true, List, [], None, Some, get_or, length, map, slice_get, sum_by}
+use Rattle.bm_journal.specs.declared.ids.Domain.{Domain}
+use Rattle.bm_journal.specs.declared.entry.Entry.TheVariants as entry
+use Rattle.bm_lang.specs.declared.scenario.Parts.{Parts}
+use Rattle.bm_law.specs.Alone.{AllAt, at_level}
+use Rattle.bm_law.specs.Kept.{Ready}
+use Rattle.bm_law.specs.Lists.{Leaves, Log, after}
+use Rattle.bm_law.specs.Stands.{times}
+use Rattle.bm_law.specs.State.{State, seen, seven_lists}
+use Rattle.bm_law_order.specs.ByDomain.{of}
+use Rattle.bm_law_order.specs.Orders.{Order, shared_over}
+use Rattle.bm_law_order.specs.Shared.{fresh}
+use Rattle.bm_law_order.specs.Whole.{joined}
+use Rattle.bm_law_logs.specs.SweepsTold.{SweepsTold}
+use Rattle.bm_law.specs.Inboxes.{Inboxes}
+use Rattle.bm_law_scenario.specs.Closing.{EndsPeriods, close_of}
+use Rattle.bm_law_scenario.specs.Opened.{opened_classes}
+use Rattle.bm_law_scenario.specs.Grammar.{AreScripts, lines_of}
+use Rattle.bm_law_scenario.specs.Handlers.{HandlersDone}
+use Rattle.bm_due.specs.Standing.{HandlersStand}
+use Rattle.bm_cache.specs.Tokens.{Token, number_of}
+use Rattle.bm_exec.specs.Living.{Lives}
+use Rattle.bm_exec_levels.specs.declared.program.Program.{Program}
+use Rattle.bm_world.specs.LivingState.{LivingState, known_living}
+use Rattle.bm_run.specs.InTurns.{AreTaken, TurnsSoFar, one_by_one}
+use Rattle.bm_run.specs.LogsSoFar.{LogsSoFar, WaitsSoFar}
+use Rattle.bm_run.specs.Openings.{openings}
+use Rattle.bm_run.specs.Seated.{IsSeated, opening_lists, opening_log}
+use Rattle.bm_run.specs.declared.seats.Seat.{Seat}
+
+-- ---- whose objects live
+
+-- unit u lives, and not among these others
+pub record IsOwned (base lives : Lives) (u : ℕ) : Type 0 where
+  pub other : base u ≡ None
+  pub living : lives u ≢ None
+
+-- Each unit that lives is one processor's own: `bases p` are those of the others.
+pub record AreApart (processors : ℕ) (bases : ℕ → Lives) (lives : Lives) : Type 0 where
+  pub once : (p q u : ℕ) → p < processors → q < processors → IsOwned (bases p) lives u → IsOwned (bases q) lives u → p ≡ q
+  pub some : (u : ℕ) → lives u ≢ None → (p : ℕ) × (p < processors) × IsOwned (bases p) lives u
+
+-- ---- the turns
+
+-- which processors have ended
+abbrev pub ended_of : List Seat → List Bool
+ended_of seats = map (λ (x : Seat). x.ended) seats
+
+-- the openings of all processors of a scenario
+abbrev pub all_openings : Parts → Order
+all_openings s = openings (opened_classes s.types) s.pages s.processors
+
+-- All processors of a program are between turns, which they take in this order, of which the rest is still to come.
+pub record Between (g : Program) (turns rest : List ℕ) (seats : List Seat) (world : LivingState) : Type 0 where
+  pub many : length seats ≡ g.scenario.now.processors
+  pub order : Order
+  pub taken : List (List Log)
+  pub logs : List Log
+  pub bases : ℕ → Lives
+  pub shares : List ℕ
+  pub turned : TurnsSoFar g.scenario.now.processors turns rest taken (ended_of seats) order
+  pub pieces : AreTaken g.scenario.now.processors taken (ended_of seats)
+  pub logs_are : (p : ℕ) → p < g.scenario.now.processors → get_or logs p [] ≡ opening_log g.scenario.now p ++ joined (get_or taken p [])
+  pub so_far : LogsSoFar g.scenario.now.processors g.scenario.now.pages (all_openings g.scenario.now ++ order) logs world
+  pub waits : WaitsSoFar (all_openings g.scenario.now ++ order) world
+  pub seated : (p : ℕ) (seat : Seat) → slice_get seats p ≡ Some seat → IsSeated g p (get_or logs p []) (bases p) (get_or shares p 0) world seat
+  pub apart : AreApart g.scenario.now.processors bases (known_living world).objects.lives
+  pub shares_many : length shares ≡ g.scenario.now.processors
+  pub few : world.asked + sum_by (λ n. n) shares < 2 ^ 22
+
+-- each processor has ended
+abbrev pub AllStopped : List Seat → Type 0
+AllStopped seats = (p : ℕ) (seat : Seat) → slice_get seats p ≡ Some seat → seat.ended ≡ true
+
+-- ---- the closing
+
+-- What processor p leaves in its closing, after this front and with these lists: it ends the periods that it has in progress, and sweeps
+-- these classes, in whose inboxes these parcels wait by then. At the end nothing stands in their lists; the other classes are as
+-- they were, and no call is in a cache or has anything in hand.
+pub record ClosesAs (classes : List ℕ) (front : Log) (lists : State ℕ) (p : ℕ) (final finishes sweeps : Log) : Type 0 where
+  pub finishes_at : AllAt 0 finishes
+  pub finishes_are : EndsPeriods front lists finishes
+  pub boxes : Inboxes
+  pub sweeps_at : AllAt 0 sweeps
+  pub sweeps_are : SweepsTold classes boxes (after lists finishes) sweeps
+  pub last : State Token
+  pub leaves : Leaves p final (seen number_of last)
+  pub ready : Ready 0 last
+  pub empty : (c : ℕ) → 0 < times c classes → seven_lists (last.rows c) ≡ []
+  pub others : (c : ℕ) → times c classes ≡ 0 → (seen number_of last).rows c ≡ lists.rows c
+
+-- The log of processor p: its opening, its scripts, in whose middle and at whose end each handler stood where it was due and left its
+-- phrase, its end, and its closing.
+pub record IsFinal (s : Parts) (p : ℕ) (final finishes sweeps : Log) : Type 0 where
+  pub scripts : Log
+  pub final_is : final ≡ (opening_log s p ++ scripts) ++ ((0, entry.Ended) ∷ (at_level 0 (close_of p) ++ (finishes ++ sweeps)))
+  pub are_scripts : AreScripts s (lines_of p s.runs) (opening_lists s p) scripts
+  pub front_stands : HandlersStand s p (opening_log s p ++ scripts)
+  pub front_done : HandlersDone s (opening_log s p ++ scripts)
+  pub lists : State ℕ
+  pub front_leaves : Leaves p (opening_log s p ++ scripts) lists
+  pub stands : HandlersStand s p final
+  pub done : HandlersDone s final
+  pub closes : ClosesAs (opened_classes s.types) (opening_log s p ++ scripts) lists p final finishes sweeps
+
+-- All processors of a scenario have closed, and these are their logs: the turns made this order; then processor 0 began the closing; then
+-- each ended its periods, and then each swept its classes.
+pub record AllClosed (s : Parts) (turns : List ℕ) (finals : List Log) : Type 0 where
+  pub order : Order
+  pub taken : List (List Log)
+  pub ended : List Bool
+  pub front : LivingState
+  pub turned : TurnsSoFar s.processors turns [] taken ended order
+  pub pieces : AreTaken s.processors taken ended
+  pub all_ended : (p : ℕ) → p < s.processors → get_or ended p true ≡ true
+  pub waits : WaitsSoFar (all_openings s ++ order) front
+  pub given : List Log
+  pub finishes : List Log
+  pub sweeps : List Log
+  pub given_many : length given ≡ s.processors
+  pub finishes_many : length finishes ≡ s.processors
+  pub sweeps_many : length sweeps ≡ s.processors
+  pub given_are : (p : ℕ) → p < s.processors → get_or given p [] ≡ at_level 0 (close_of p)
+  pub finals_are : (p : ℕ) → p < s.processors → get_or finals p [] ≡ (opening_log s p ++ joined (get_or taken p [])) ++ (get_or given p [] ++ (get_or finishes p [] ++ get_or sweeps p []))
+  pub logs : (p : ℕ) → p < s.processors → IsFinal s p (get_or finals p []) (get_or finishes p []) (get_or sweeps p [])
+  pub world : LivingState
+  pub so_far : LogsSoFar s.processors s.pages (((all_openings s ++ order) ++ one_by_one 0 given) ++ (one_by_one 0 finishes ++ one_by_one 0 sweeps)) finals world
+  pub lives : (u : ℕ) → (known_living world).objects.lives u ≡ None
+  pub inboxes : (p c : ℕ) → (shared_over (((all_openings s ++ order) ++ one_by_one 0 given) ++ (one_by_one 0 finishes ++ one_by_one 0 sweeps)) (fresh s.processors s.pages)).boxes p c ≡ []
+  pub idle : (d : Domain) → (of d (shared_over (((all_openings s ++ order) ++ one_by_one 0 given) ++ (one_by_one 0 finishes ++ one_by_one 0 sweeps)) (fresh s.processors s.pages)).numbers).driver ≡ None
