@@ -1,5 +1,5 @@
 -- A processor that has been opened is tied to its log since the outset: its fills are what was fetched.
-use Rattle.std.specs.Prelude.{◌≡◌, ◌+◌, ◌*◌, ◌&&◌, ◌++◌, ℕ, zero, suc, Bool, true, false, List, [], ◌∷◌, map, replicate, nat_lt, Option, None, Some, IfSome, get_or, if◌then◌else◌}
+use Rattle.std.specs.Prelude.{◌≡◌, ◌+◌, ◌*◌, ◌&&◌, ◌++◌, ℕ, zero, suc, Bool, true, false, List, [], ◌∷◌, map, replicate, nat_lt, Option, None, get_or, if◌then◌else◌}
 use Rattle.bm_world.specs.ToldLiving.{knows_living}
 use Rattle.std.proofs.Common.{◌∙◌, ap, append-nil, refl, subst, sym}
 use Rattle.bm_law.specs.Lists.{Log}
@@ -21,7 +21,7 @@ use Rattle.bm_law_order.specs.Pages.{fetches}
 use Rattle.bm_law_order.specs.Seals.{Wait, WaitLeads}
 use Rattle.bm_law_order.specs.Shared.{Shared, fresh}
 use Rattle.bm_law_order.specs.Story.{AllJudged, Story, deeds, lines}
-use Rattle.bm_law_order.specs.Tie.{Tied, TiedBy}
+use Rattle.bm_law_order.specs.Tie.{Tied}
 use Rattle.bm_law_order.specs.Words.{first_words}
 use Rattle.bm_law_order.proofs.BarePool.{fetched-bare}
 use Rattle.bm_post.specs.PostState.{no_parcels}
@@ -35,7 +35,7 @@ use Rattle.bm_world.specs.Told.{told_boxes}
 use Rattle.bm_world.specs.ToldLiving.{LivingDoes, life_of, told_living}
 use Rattle.bm_run.specs.Filling.{filling}
 use Rattle.bm_exec_levels.specs.AtPolls.{DoesHere, polled}
-use Rattle.bm_run.specs.Opened.{fresh_side, fresh_world, outset}
+use Rattle.bm_run.specs.Opened.{fresh_side, fresh_world}
 use Rattle.bm_run.proofs.OpeningLemmas.{living_side, none-at}
 
 bare-unborn : (n : ℕ) → map bare_unit (replicate n unborn) ≡ replicate n unborn
@@ -134,11 +134,3 @@ fills-tied n q cs before pool slots begun standings same e z stands =
       log_is = sym (fill-lines cs before) ∙ sym (append-nil (lines story));
       done_is = (subst (λ as'. LivingDoes as' start world) (sym (append-nil (deeds story))) (fill-does n q cs before pool slots begun standings same e z stands), refl);
     }
-
-pub opened-tied : (cs : List ℕ) (pages : ℕ) (pool : Stock) (slots : List (Option UnitState)) (begun : List ℕ) (standings : List Standing) (told : Option Log) → pool ≡ (filling cs (fresh_stock pages)).pool → AllEmpty slots → ((u : ℕ) → begun_at begun u ≡ 0) → ((u : ℕ) → standing_at standings u ≡ Nothing) → IfSome told (λ es. es ≡ fill_log (filling cs (fresh_stock pages)).fills) →
-    TiedBy (polled knows_living false [] (outset pages)) (DoesHere knows_living) [] (outset pages) 0 [] [] told (living_side 1 0 pool slots begun standings)
-opened-tied cs pages pool slots begun standings None same e z stands t = tt
-opened-tied cs pages pool slots begun standings (Some log) same e z stands t =
-    let world : LivingState = living_side 1 0 pool slots begun standings in
-    subst (λ es. TiedBy (polled knows_living false [] (outset pages)) (DoesHere knows_living) [] (outset pages) 0 [] [] (Some es) world) (sym t)
-    (fills-tied 1 0 cs (fresh_stock pages) pool slots begun standings same e z stands)

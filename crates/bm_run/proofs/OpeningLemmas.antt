@@ -1,5 +1,5 @@
 -- A processor after its opening.
-use Rattle.std.proofs.Common.{◌≡◌, ◌≢◌, ◌≤◌, ◌<◌, ℕ, suc, zero, ◌*◌, Bool, true, false, not, if◌then◌else◌, List, [], ◌∷◌, ◌++◌, length, get_or, map, refl, sym, ap, subst, ◌∙◌, Option, Some, None, arith, eq-eqb, eqb, ne_eqb, nat_lt, is_some, inl, inr, replicate}
+use Rattle.std.proofs.Common.{◌≡◌, ◌≢◌, ◌≤◌, ◌<◌, ℕ, suc, zero, Bool, true, false, not, if◌then◌else◌, List, [], ◌∷◌, ◌++◌, length, get_or, map, refl, sym, ap, subst, ◌∙◌, Option, Some, None, arith, eq-eqb, eqb, ne_eqb, nat_lt, is_some, inl, inr, replicate}
 use Rattle.std.specs.List.{All, AllPairs}
 use Rattle.std.proofs.lemmas.Bool.{and_from, and_parts, cases_eq, ltb-true}
 use Rattle.std.proofs.lemmas.Bool.Decides.{nat_tests}
@@ -9,7 +9,7 @@ use Rattle.bm_journal.specs.declared.ids.Domain.{Domain}
 use Rattle.bm_journal.specs.declared.ids.Domain.TheVariants.{Plain, Tracing}
 use Rattle.bm_journal.specs.declared.entry.Entry.TheVariants as entry
 use Rattle.bm_page.specs.declared.units.Seal.{Seal}
-use Rattle.bm_page.specs.Stock.{Stock, stocked_at, fetched, unborn}
+use Rattle.bm_page.specs.Stock.{Stock, stocked_at, fetched}
 use Rattle.bm_page.specs.UnitState.{UnitState}
 use Rattle.bm_page.specs.Out.{AreOut}
 use Rattle.bm_page.proofs.StockLemmas.{out_inside}
@@ -33,7 +33,7 @@ use Rattle.bm_cache.specs.Tests.{Reusable, Tests}
 use Rattle.bm_cache.specs.Tokens.{Token, number_of}
 use Rattle.bm_work.specs.Dated.{Dated, DatedRow}
 use Rattle.bm_work.specs.DeskTests.{tests_by}
-use Rattle.bm_law_scenario.specs.Fills.{prefill, fresh_stock}
+use Rattle.bm_law_scenario.specs.Fills.{prefill}
 use Rattle.bm_run.specs.Filling.{filling, units_in, IsUnborn, NeverLived}
 use Rattle.bm_run.specs.Opened.{ascends, fresh_side}
 use Rattle.bm_run.specs.Openings.{AreNew}
@@ -202,6 +202,3 @@ pub stamped : (p : ℕ) (fs : Fills) (s : State Token) → s ≡ filled fs (open
 stamped p fs s e c =
     let d : (s.rows c).deferred ≡ no_deferred = ap (λ (x : State Token). (x.rows c).deferred) e ∙ deferred-filled fs (opening p) (λ i. refl) c in
     ap (λ (x : Deferred Token). is_unstamped x.plain) d
-
-pub opened-pool : (pool : Stock) (pages : ℕ) → pool.classes ≡ replicate pages None → pool.units ≡ replicate (256 * pages) unborn → pool ≡ fresh_stock pages
-opened-pool pool pages e f = ap (λ l. let s : Stock = record { classes = l; units = pool.units } in s) e ∙ ap (λ l. let s : Stock = record { classes = replicate pages None; units = l } in s) f

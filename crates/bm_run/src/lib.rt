@@ -2,12 +2,12 @@
 //!
 //! - `replay` is all of it: from a checked scenario to a journal, or out of memory.
 //! - `open_all` fills the caches of each processor, one after the other, out of one stock, and takes all memory that handlers will
-//!   need. `open` does so for a processor that is alone.
+//!   need.
 //! - Between the two, src/turns.rt is a processor's turn over its `run` lines, each script in its section, with the work after it;
 //!   src/seats.rt takes the turn of one of several, and src/all_turns.rt all turns, in the order that the scenario names;
 //!   src/closers.rt and closing_desk.rt are the closing; src/journals.rt puts the journal together.
 //!
-//! `bm_tool` calls `replay`; tests call `open` and `open_all` too.
+//! `bm_tool` calls `replay`; tests call `open_all` too.
 //!
 //! The journal is lawful and laid (`Lawful`, `Laid` of `bm_law_journal`), for any number of processors. Each law comes from where it is
 //! a theorem: what a lawful log says by itself and what logs say together from `bm_law_logs`, what the one order says from
@@ -28,7 +28,9 @@ mod others;
 mod seats;
 mod stretches;
 mod turns;
+mod worked;
 
 pub use journals::replay;
-pub use opening::{open, open_all};
+pub use opening::open_all;
 pub use others::{asked_law, others_law, stretch_law};
+pub use worked::worked_orders_in_turns;

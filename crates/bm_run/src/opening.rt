@@ -92,38 +92,6 @@ fn open_kept(
     }
 }
 
-/// A processor that runs this program, the types of this scenario each with its class: its caches of these classes, ascending,
-/// are filled from the scenario's stock, and it has all memory that the handlers need which are planned for it. Want of memory
-/// is the only refusal. From `bpf_mem_alloc_init` of kernel/bpf/memalloc.c.
-pub fn open(
-    alloc: Global,
-    scenario: &Scenario,
-    program: &Program<'_>,
-    classes: &[Class],
-) -> Result<Processor<LivingSide>, NoMemory>
-    requires same { program.now.scenario.now ≡ scenario.now }
-    requires fits { IsProgram program.now }
-    requires fine { HasConditions scenario.now }
-    requires limits { first_limit scenario.now ≡ None }
-    requires ascend { ascends classes.now ≡ true }
-    ensures opened { IfOk result
-        (IsOpen 1 0 program.now (filling classes.now (fresh_stock scenario.now.pages))) }
-    ensures tied { IfOk result (TiedAt knows_living [] (outset scenario.now.pages)) }
-{
-    let mut pool = Pool::create(alloc, program.scenario.pages as u16)?;
-    let Ok(kept) = open_kept(alloc, scenario, classes, 0, &mut pool) else {
-        pool.give_up();
-        return Err(NoMemory);
-    };
-    match open_side(alloc, pool, 1) {
-        Ok(side) => Ok(Processor::open(kept, side)),
-        Err(_) => {
-            kept.give_up();
-            Err(NoMemory)
-        }
-    }
-}
-
 // Ends what processors keep after memory ran out.
 pub(crate) fn give_up_kept(kept: Vec<Kept>) {
     let mut kept = kept;

@@ -1,18 +1,15 @@
-//! Openings of two classes, for scenarios without types and scripts: of one processor over a stock of one page, and of three over
-//! two pages.
+//! Openings of two classes, for a scenario without types and scripts: of three processors over a stock of two pages.
 
 ghost use Rattle.std.specs.Prelude.{◌≡◌, ◌∷◌, []};
 
 use bm_class::Class;
 use bm_exec::Types;
-use bm_exec_levels::{Processor, Program};
+use bm_exec_levels::Program;
 use bm_journal::Recorder;
 use bm_lang::{limits, read_scenario};
-use bm_run::{open, open_all};
+use bm_run::open_all;
 use std::process::Abort;
 use std::test::Fail;
-
-const TEXT: &[u8] = b"scenario { processors 1 pages 1 deferred off }";
 
 const THREE: &[u8] = b"scenario { processors 3 pages 2 deferred off }";
 
@@ -28,55 +25,9 @@ fn two_classes(rt: &impl Abort) -> [Class; 2]
     [least, greatest]
 }
 
-/// What its log tells is counted here, entry by entry: units 0, 1, 2 and 3 filled the least class. Its page was the only one, so
-/// none was left for the greatest. No handler is planned, and there is a table for each of three.
-#[test]
-#[tactic(auto, using(bm_run::proofs::Started::idle_program))]
-fn the_first_class_takes_the_only_page(rt: HostRuntime) -> Result<(), Fail> {
-    let classes = two_classes(&rt);
-    let scenario = read_scenario(rt.alloc(), TEXT)?;
-    let parts = scenario.parts();
-    if limits(&scenario).is_some() {
-        return Err(Fail::from("a scenario within the limits"));
-    }
-    if parts.types.as_slice().len() != 0 {
-        return Err(Fail::from("a scenario without types"));
-    }
-    if parts.scripts.as_slice().len() != 0 {
-        return Err(Fail::from("a scenario without scripts"));
-    }
-    let program = Program {
-        scenario: parts,
-        types: Types {
-            declared: parts.types.as_slice(),
-            classes: &[],
-        },
-    };
-    let Processor {
-        alloc: _,
-        caches,
-        side,
-        settled,
-        inside,
-        handlers: _,
-        running,
-        tables,
-    } = open(rt.alloc(), &scenario, &program, &classes)?;
-    assert!(rt; !caches.recorder().failed());
-    let told = caches.recorder().counts();
-    assert_eq!(rt; told.lengths(classes[0]).free, 4);
-    assert_eq!(rt; told.lengths(classes[1]).free, 0);
-    assert_eq!(rt; settled, 0);
-    assert!(rt; !inside);
-    assert_eq!(rt; running.len(), 0);
-    assert_eq!(rt; tables.len(), 3);
-    caches.give_up();
-    side.give_up();
-    Ok(())
-}
-
 /// The first processor takes units of the first page for the least class, and the second page for the greatest; each of the others
-/// takes the next units of the first page, and finds no page for the greatest.
+/// takes the next units of the first page, and finds no page for the greatest. What each log tells is counted here, entry by entry. No
+/// work was asked for, no handler is planned, and there is a table for each of three.
 #[test]
 #[tactic(auto, using(bm_run::proofs::Started::idle_program))]
 fn each_processor_takes_what_those_before_left(rt: HostRuntime) -> Result<(), Fail> {
@@ -110,6 +61,10 @@ fn each_processor_takes_what_those_before_left(rt: HostRuntime) -> Result<(), Fa
         let told = last.caches.recorder().counts();
         assert_eq!(rt; told.lengths(classes[0]).free, *least);
         assert_eq!(rt; told.lengths(classes[1]).free, *greatest);
+        assert_eq!(rt; last.settled, 0);
+        assert!(rt; !last.inside);
+        assert_eq!(rt; last.running.len(), 0);
+        assert_eq!(rt; last.tables.len(), 3);
         last.give_up();
     }
     kept.destroy_empty();
