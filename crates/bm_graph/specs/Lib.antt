@@ -1,0 +1,9 @@
+pub mod Objects
+pub mod Replay
+pub mod Contents
+pub mod Calls
+pub mod Refused
+pub mod Index
+pub mod Sound
+pub mod Spending
+pub mod Worked
