@@ -1,0 +1,6 @@
+pub mod Places
+pub mod Refs
+pub mod Alive
+pub mod Told
+pub mod Calls
+pub mod Sides

@@ -1,0 +1,130 @@
+-- What one side knows of all objects, and how each call changes it. (This project's own.)
+use Rattle.std.specs.Prelude.{◌≡◌, ℕ, zero, suc, ◌+◌, ◌-◌, ◌<◌, ◌≤◌, eqb, if◌then◌else◌, true, false, List, Option, None, Some, is_some, slice_index_or}
+use Rattle.std.specs.Option.{option_map, option_map_or}
+use Rattle.bm_page.specs.UnitState.{UnitState}
+use Rattle.bm_class.specs.Sizes.{class_of_size}
+use Rattle.bm_obj.specs.Reference.{Reference}
+use Rattle.bm_obj.specs.TypeSize.{type_size}
+use Rattle.bm_obj.specs.declared.answer.Claimed.{Claimed}
+use Rattle.bm_obj.specs.declared.answer.Claimed.TheVariants.{Won, Taken}
+use Rattle.bm_obj.specs.declared.answer.Released.{Released}
+use Rattle.bm_obj.specs.declared.answer.Released.TheVariants.{Still, Last}
+use Rattle.bm_obj.specs.declared.type_def.TypeDef.{TypeDef}
+use Rattle.bm_obj.specs.declared.type_def.Node.TheVariants.{Bare}
+
+-- References to one life: how they all look, and how many there are, at least one.
+pub record Held : Type 0 where
+  pub to : Reference
+  pub count : ℕ
+
+-- What a side knows: its processor; by unit the references that it has, to one life of the unit at a time; of each unit that
+-- is its own, so that it may make an object of it, how many lives the unit has begun; by unit the graph for which it has the
+-- claim; by slot and by graph the number of its type; the types; and how many references it may still acquire.
+pub record Known : Type 0 where
+  pub processor : ℕ
+  pub refs : ℕ → Option Held
+  pub mine : ℕ → Option ℕ
+  pub claims : ℕ → Option ℕ
+  pub slots : List ℕ
+  pub graphs : List ℕ
+  pub defs : List TypeDef
+  pub acquires : ℕ
+
+-- the type of a number, and one without anything where there is none
+abbrev pub type_at : List TypeDef → ℕ → TypeDef
+type_at defs d = slice_index_or defs d (record { fields = 0; counted = false; node = Bare; pad = 0 })
+
+-- This is one of the references that the side has.
+abbrev pub Has : Reference → Known → Type 0
+Has r k = option_map (λ held. held.to) (k.refs r.unit) ≡ Some r
+
+-- how many references to a unit's life the side has
+abbrev pub count_had : ℕ → Known → ℕ
+count_had n k = option_map_or (λ held. held.count) (k.refs n) 0
+
+-- While the side has the claim of a life, it keeps a reference to it.
+abbrev pub MayGo : Reference → Known → Type 0
+MayGo r k = is_some (k.claims r.unit) ≡ true → 1 < count_had r.unit k
+
+-- The unit of this number is the side's own, and has begun so many lives.
+abbrev pub IsMine : UnitState → Known → Type 0
+IsMine unit k = k.mine unit.number ≡ Some unit.life
+
+-- another value at one number
+abbrev pub at_unit : {A : Type 0} → ℕ → A → (ℕ → A) → ℕ → A
+at_unit u x f = λ n. if eqb u n then x else f n
+
+-- so many references to a life; where there are none, nothing is known of it
+abbrev pub some_of : Reference → ℕ → Option Held
+some_of r zero = None
+some_of r (suc count) = Some (record { to = r; count = suc count })
+
+-- one more, and one fewer
+abbrev pub more : Reference → Option Held → Option Held
+more r None = some_of r 1
+more r (Some held) = some_of r (held.count + 1)
+
+abbrev pub fewer : Option Held → Option Held
+fewer None = None
+fewer (Some held) = some_of held.to (held.count - 1)
+
+-- The side has one reference more, or one fewer.
+abbrev pub gained : Reference → Known → Known
+gained r k = record k { refs = at_unit r.unit (more r (k.refs r.unit)) k.refs }
+
+abbrev pub spent : Reference → Known → Known
+spent r k = record k { refs = at_unit r.unit (fewer (k.refs r.unit)) k.refs }
+
+-- The first reference to the next life of a unit, made as an object of a type.
+abbrev pub first_reference : UnitState → ℕ → Reference
+first_reference unit def = record { unit = unit.number; life = unit.life + 1; def = def; maker = unit.home }
+
+-- An object is made: its unit isn't the side's own any more, and the side has the first reference.
+abbrev pub told_made : Reference → Known → Known
+told_made r k = gained r (record k { mine = at_unit r.unit None k.mine })
+
+-- One reference more, and one fewer may still be acquired.
+abbrev pub told_acquired : Reference → Known → Known
+told_acquired r k = gained r (record k { acquires = k.acquires - 1 })
+
+-- One reference fewer. With the last the unit is the side's own, and has begun so many lives as the reference says.
+abbrev pub told_released : Reference → Released → Known → Known
+told_released r (Still count) k = spent r k
+told_released r (Last unit) k = spent r (record k { mine = at_unit r.unit (Some r.life) k.mine })
+
+-- The side gains what the slot held, and has spent what was put. What a reference shows is told by a function.
+abbrev pub told_exchanged : {T : Type 0} → (T → Reference) → (put old : Option T) → Known → Known
+told_exchanged reference put old k =
+    option_map_or (λ r. spent (reference r)) put (λ known. known) (option_map_or (λ r. gained (reference r)) old (λ known. known) k)
+
+-- A claim that is won is the side's.
+abbrev pub told_claimed : Reference → ℕ → Claimed → Known → Known
+told_claimed r graph Won k = record k { claims = at_unit r.unit (Some graph) k.claims }
+told_claimed r graph (Taken owner) k = k
+
+abbrev pub told_unclaimed : Reference → Known → Known
+told_unclaimed r k = record k { claims = at_unit r.unit None k.claims }
+
+-- The unit of an object that ended: of the number and the life of the last reference, with its maker as home, and without a
+-- seal.
+pub record IsUnitOf (r : Reference) (unit : UnitState) : Type 0 where
+  pub number : unit.number ≡ r.unit
+  pub life : unit.life ≡ r.life
+  pub home : unit.home ≡ r.maker
+  pub seal : unit.seal ≡ None
+
+-- What an answer says. Where the side had so many references to the life, the count that was found is above 1 and at least as
+-- many, or the side had one, and it was the last.
+abbrev pub IsSeen : ℕ → Released → Type 0
+IsSeen had (Still count) = (1 < count) × (had ≤ count)
+IsSeen had (Last unit) = had ≡ 1
+
+-- It was the last reference.
+abbrev pub IsLast : Released → Type 0
+IsLast (Still count) = ⊥
+IsLast (Last unit) = Unit {0}
+
+-- It was the last to this unit, which is of the class of its type.
+abbrev pub IsLastUnit : List TypeDef → Reference → Released → Type 0
+IsLastUnit defs r (Still count) = Unit {0}
+IsLastUnit defs r (Last unit) = IsUnitOf r unit × (class_of_size (type_size (type_at defs r.def)) ≡ Some unit.class)
