@@ -16,7 +16,7 @@ import random
 from collections.abc import Iterator
 from pathlib import Path
 
-from compare_journals import Maker
+from random_scenarios import Maker
 from second_reader import BYTE, CALL_FORMS, ENTRY_FORMS, LIMITS, LISTS, LONG, NUMBER, SHORT, SIZES, TOTALS, first_wrong
 from second_simulator import Simulator
 

@@ -2,7 +2,11 @@
 
 import argparse
 import tempfile
+from collections.abc import Iterator
 from pathlib import Path
+
+from object_scenarios import ObjectMaker
+from random_scenarios import Maker
 
 
 def words(about: str) -> tuple[str, range]:
@@ -10,12 +14,15 @@ def words(about: str) -> tuple[str, range]:
     return program_and_seeds(parser_of(about).parse_args())
 
 
-def words_with_processors(about: str) -> tuple[str, range, bool]:
-    """The same, and whether the scenarios are of several processors."""
+def words_with_makers(about: str) -> tuple[str, Iterator[tuple[int, Maker]]]:
+    """The same, and for each seed what makes its scenario."""
     parser = parser_of(about)
     parser.add_argument("--processors", action="store_true", help="scenarios of two to eight processors, not of one")
+    parser.add_argument("--objects", action="store_true", help="scenarios of the whole language")
     given = parser.parse_args()
-    return *program_and_seeds(given), given.processors
+    program, seeds = program_and_seeds(given)
+    made_by = ObjectMaker if given.objects else Maker
+    return program, ((seed, made_by(seed, given.processors)) for seed in seeds)
 
 
 def parser_of(about: str) -> argparse.ArgumentParser:

@@ -3,9 +3,9 @@
 
     tools/laid.py [SCENARIO] < JOURNAL
 
-It is written from the definitions of bm_law_order (specs/Words, Numbers, Looks, Lives, Pages, Parcels, Polls, Seals), of which nothing
-is proved of a run so far: it tries them on what the program prints. Beside them it follows the target of each cache, to which parcels go
-(`Lists` of bm_law). A journal of one processor is its own order. The logs of several are put into one order by the scenario's turns, so
+It is written from the definitions of bm_law_order (specs/Words, Numbers, Looks, Lives, Pages, Parcels, Polls, Seals), and tries them on what
+the program prints. Beside them it follows the target of each cache, to which parcels go (`Lists` of bm_law), and by owned.py what programs
+own: fields, slots, and lists and trees with their histories. A journal of one processor is its own order. The logs of several are put into one order by the scenario's turns, so
 its file is named; without one no turns are listed, and each processor goes on to its end. It prints `laid` and ends with 0, or the first
 entry that doesn't fit, with what it doesn't fit, and ends with 1. Nothing of it is part of the gate.
 """
@@ -17,19 +17,11 @@ from dataclasses import dataclass, field
 from itertools import takewhile
 from pathlib import Path
 
+from owned import CALLS, Misfit, Owned, histories_of, needs
 from second_checker import Reader
 
 SIZES = [16, 32, 64, 96, 128, 192, 256, 512, 1024, 2048, 4096]
 PAGE = 256
-
-
-class Misfit(Exception):
-    """An entry that doesn't find what it needs."""
-
-
-def needs(fact: bool, what: str) -> None:
-    if not fact:
-        raise Misfit(what)
 
 
 @dataclass
@@ -95,6 +87,7 @@ class Shared:
         # the target of each cache, and by processor and level the home of the unit that is being freed
         self.targets: dict[tuple[int, int], int] = {}
         self.homes: dict[tuple[int, int], int] = {}
+        self.owned = Owned()
 
     def found(self, domain: str, courses: dict[str, Course]) -> list[int]:
         plain, tracing = courses["plain"].words, courses["tracing"].words
@@ -104,9 +97,12 @@ class Shared:
         return self.boxes.setdefault((p, size), [])
 
     def entry(self, p: int, level: int, words: list[str]) -> None:
-        known = getattr(self, f"on_{words[0]}", None)
-        if known:
-            known(p, level, words[1:])
+        if words[0] in CALLS:
+            self.owned.calls[p] += 1
+        for part in (self.owned, self):
+            known = getattr(part, f"on_{words[0]}", None)
+            if known:
+                known(p, level, words[1:])
         if level == 0:
             if words[0] == "begin":
                 self.began[p] = int(words[2]) - 1
@@ -173,6 +169,24 @@ class Shared:
         else:
             needs(waited is None, "a unit that waits for nothing")
         self.make(p, unit, int(words[1]))
+
+    def living(self, words: list[str]) -> tuple[int, int]:
+        """The maker and the count of the life that is named."""
+        unit, life = int(words[0]), int(words[1])
+        needs(unit in self.holds and life == self.begun[unit], "the life that the unit has")
+        return self.holds[unit]
+
+    def on_acquire(self, p: int, level: int, words: list[str]) -> None:
+        maker, count = self.living(words)
+        needs(count == int(words[2]), "the count")
+        self.holds[int(words[0])] = (maker, count + 1)
+
+    def on_get(self, p: int, level: int, words: list[str]) -> None:
+        self.living(words)
+
+    def on_xchg(self, p: int, level: int, words: list[str]) -> None:
+        if words[2] != "none":
+            self.living(words[2:])
 
     def on_drop(self, p: int, level: int, words: list[str]) -> None:
         unit, life = int(words[0]), int(words[1])
@@ -334,6 +348,7 @@ def judge(journal: str, turns: Iterable[int] = ()) -> str | None:
         place = "at the end"
         needs(not shared.stock.out and not shared.holds, "no unit is out or lives")
         needs(all(course.driver is None for course in shared.courses.values()), "no period is in progress")
+        shared.owned.at_end(histories_of(journal))
     except Misfit as misfit:
         return f"{place}: {misfit}"
     return None

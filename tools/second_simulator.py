@@ -4,10 +4,9 @@
     tools/second_simulator.py replay [--totals] < SCENARIO
 
 It was written from the rules alone, which docs/caches.md, docs/deferred-work.md, docs/grace-periods.md, docs/handlers.md
-and docs/journals.md restate, and shares no code with the program. It knows types without a graph, plain and sleepable scripts and
-handlers of `new`, `drop`, `if`, `repeat`, `section` and `yield`, with deferred work or without. Since nothing acquires a reference, each
-`drop` of a counted object is the last one; since nothing hands objects on, a unit is freed by the processor that gave it. Nothing of it is
-proved. It answers as the program does, but for a scenario with another form: there it ends with status 70.
+and docs/journals.md restate, and shares no code with the program. It knows the whole language: what the program can't run yet
+(a second reference, a field that is read, slots, lists, trees and locks) it runs too, by second_objects.py. Nothing of it is proved. It
+answers as the program does, but that it refuses no form as `not_yet`.
 """
 
 import sys
@@ -17,13 +16,12 @@ from dataclasses import dataclass, field
 
 from language import AtLine, Block, ObjectType, Scenario, Script, Statement
 from second_checker import Reader, answer
+from second_objects import Objects, Reference, named
 
 SIZES = [16, 32, 64, 96, 128, 192, 256, 512, 1024, 2048, 4096]
 PAGE_UNITS = 256
 MOST_RECEIVES = 64
 DOMAINS = ("plain", "tracing")
-KNOWN = {"new", "drop", "if", "repeat", "section", "yield"}
-UNKNOWN_FORM = 70
 TOTALS = (
     "steps given empty busy last still acquired exchanged pushed already taken none raised worked fetched returned "
     "plain tracing handlers"
@@ -108,8 +106,9 @@ class Period:
 class Shared:
     """What all processors share."""
 
-    def __init__(self, processors: int, pages: int):
+    def __init__(self, processors: int, pages: int, objects: Objects):
         self.stock = Stock(pages)
+        self.objects = objects
         # by processor and class the parcels that wait, oldest first
         self.inboxes: defaultdict[tuple[int, int], list[list[int]]] = defaultdict(list)
         self.lives: Counter[int] = Counter()
@@ -139,6 +138,9 @@ class Processor:
         self.totals = shared.totals
         self.caches = {each: Cache(target=number) for each in classes}
         self.steps = 0
+        # how many calls its log has so far, and the list or tree whose lock its script holds
+        self.calls = 0
+        self.locked: str | None = None
         self.planned = [at for at in scenario.ats if at.processor == number]
         self.has_ended = False
         self.lines: list[str] = []
@@ -161,6 +163,17 @@ class Processor:
 
     def note(self, level: int, *words: object) -> None:
         self.lines.append(" ".join(map(str, (level, *words))))
+
+    def call(self, level: int, *words: object) -> tuple[int, int]:
+        """A call begins: its processor and its serial."""
+        self.note(level, *words)
+        return self.next_tag(True)
+
+    def next_tag(self, is_used: bool = False) -> tuple[int, int]:
+        """Of the call that begins next, or now."""
+        tag = self.number, self.calls + 1
+        self.calls += is_used
+        return tag
 
     def step(self, level: int, *words: object) -> None:
         self.steps += 1
@@ -283,7 +296,7 @@ class Processor:
     def block(self, level: int, block: Block, names: dict) -> Iterator[None]:
         for statement in block.statements:
             yield from self.statement(level, statement, names)
-            if level == 0 and self.scenario.deferred:
+            if level == 0 and self.scenario.deferred and self.locked is None:
                 self.work_until_down()
 
     def statement(self, level: int, statement: Statement, names: dict) -> Iterator[None]:
@@ -291,7 +304,30 @@ class Processor:
             case "new":
                 names[statement.names[0]] = self.make(level, statement.type, statement.values)
             case "drop":
-                self.give_up(level, *names.pop(statement.names[0]))
+                self.give_up(level, names.pop(statement.names[0]))
+            case "acquire":
+                names[statement.names[0]] = self.acquire(level, names[statement.names[1]])
+            case "get":
+                self.get(level, *statement.names, names)
+            case "xchg":
+                put = names.pop(statement.names[1]) if len(statement.names) == 2 else None
+                names[statement.names[0]] = self.exchange(level, statement.map.name, put)
+            case "lock":
+                self.locked = statement.map.name
+                self.note(level, "lock", self.locked)
+            case "unlock":
+                self.note(level, "unlock", self.locked)
+                self.locked = None
+            case "push_front" | "push_back" | "add":
+                self.push_object(level, statement.word, statement.map.name, names[statement.names[0]])
+            case "pop_front" | "pop_back":
+                names[statement.names[0]] = self.pop_object(level, statement.word, statement.map.name)
+            case "first":
+                names[statement.names[0]] = self.find_first(level, statement.map.name)
+            case "remove":
+                # (the removal of null is no call)
+                found = names[statement.names[1]]
+                names[statement.names[0]] = found and self.remove(level, statement.map.name, found)
             case "if":
                 # (the second block, if there is one, is run at null)
                 chosen = 1 if names.get(statement.names[0]) is None else 0
@@ -316,22 +352,13 @@ class Processor:
         if is_outermost:
             self.move_word(level, "out", "plain")
 
-    def give_up(self, level: int, made: ObjectType, unit: int, life: int) -> None:
+    def make(self, level: int, made: ObjectType, values: list[int]) -> Reference | None:
         number = class_of(made.size())
-        self.note(level, "drop", unit, life)
-        self.note(level, "last")
-        self.totals["last"] += 1
-        if made.counted:
-            self.release_later(level, number, unit)
-        else:
-            self.release(level, number, unit)
-
-    def make(self, level: int, made: ObjectType, values: list[int]) -> tuple[ObjectType, int, int] | None:
-        number = class_of(made.size())
-        self.note(level, "new", made.name, *values)
+        self.call(level, "new", made.name, *values)
         depth, unit = self.allocate(level, number)
         if unit is not None:
-            return made, unit, self.begin_life(level, unit)
+            self.shared.objects.begin(unit, values)
+            return Reference(made, unit, self.begin_life(level, unit))
         if depth > 1:
             self.totals["busy"] += 1
             self.note(level, "busy", depth)
@@ -348,6 +375,88 @@ class Processor:
         seal = shared.seals.pop(unit, None)
         self.note(level, "given", unit, shared.lives[unit], *(("after", *seal) if seal else ()))
         return shared.lives[unit]
+
+    # ---- references
+
+    def give_up(self, level: int, reference: Reference) -> None:
+        self.call(level, "drop", *reference.words())
+        seen = self.shared.objects.move_count(reference, -1)
+        if seen > 1:
+            self.totals["still"] += 1
+            self.note(level, "still", seen)
+            return
+        self.note(level, "last")
+        self.totals["last"] += 1
+        release = self.release_later if reference.type.counted else self.release
+        release(level, class_of(reference.type.size()), reference.unit)
+
+    def acquire(self, level: int, reference: Reference) -> Reference:
+        self.totals["acquired"] += 1
+        self.call(level, "acquire", *reference.words(), self.shared.objects.move_count(reference, 1))
+        return reference
+
+    def get(self, level: int, name: str, member: str, names: dict) -> None:
+        reference = names[name]
+        place = reference.type.fields.index(member)
+        self.call(level, "get", *reference.words(), place, self.shared.objects.values[reference.unit][place])
+
+    def exchange(self, level: int, name: str, put: Reference | None) -> Reference | None:
+        self.totals["exchanged"] += 1
+        was = self.shared.objects.exchange(name, put, self.next_tag())
+        self.call(level, "xchg", name, "put", *named(put), "was", *named(was.held), "by", *(was.by or ["start"]))
+        return was.held
+
+    # ---- lists and trees
+
+    def push_object(self, level: int, word: str, name: str, reference: Reference) -> None:
+        """An object that is in a list or tree already stays there alone, and the caller's reference is given up."""
+        objects = self.shared.objects
+        graph, owner, tag = objects.graphs[name], objects.owners.get(reference.unit), self.next_tag()
+        # (a type with a tree node has a field; the key of an item of a list is no matter)
+        key = objects.values[reference.unit][0] if word == "add" else 0
+        keyed = [key] if word == "add" else []
+        if owner is None:
+            self.totals["pushed"] += 1
+            objects.owners[reference.unit] = name
+            graph.put(word, key, reference)
+            self.call(level, word, name, *reference.words(), "at", graph.record(tag, word, *reference.words(), *keyed))
+            return
+        self.totals["already"] += 1
+        position = graph.record(tag, word, *reference.words(), *keyed, "already", owner)
+        self.call(level, word, name, *reference.words(), "already", owner, "at", position)
+        self.give_up(level, reference)
+
+    def pop_object(self, level: int, word: str, name: str) -> Reference | None:
+        graph = self.shared.objects.graphs[name]
+        found = self.find_end(level, word, name)
+        self.totals["none" if found is None else "taken"] += 1
+        if found is not None:
+            self.leave_graph(graph.map.name, found)
+        return found
+
+    def find_first(self, level: int, name: str) -> Reference | None:
+        found = self.find_end(level, "first", name)
+        self.totals["none"] += found is None
+        return found
+
+    def find_end(self, level: int, word: str, name: str) -> Reference | None:
+        graph = self.shared.objects.graphs[name]
+        found = graph.end(word)
+        self.call(level, word, name, *named(found), "at", graph.record(self.next_tag(), word, *named(found)))
+        return found
+
+    def remove(self, level: int, name: str, reference: Reference) -> Reference:
+        graph = self.shared.objects.graphs[name]
+        self.totals["taken"] += 1
+        self.call(level, "remove", name, *reference.words(), "at", graph.record(self.next_tag(), "remove", *reference.words()))
+        self.leave_graph(name, reference)
+        return reference
+
+    def leave_graph(self, name: str, reference: Reference) -> None:
+        self.shared.objects.graphs[name].take(reference)
+        del self.shared.objects.owners[reference.unit]
+
+    # ---- sections, handlers and scripts
 
     def move_word(self, level: int, line: str, domain: str) -> None:
         words = self.shared.words[domain]
@@ -544,6 +653,23 @@ class Processor:
         self.caches[number].count = len(units)
         self.note(0, "fill", SIZES[number], *units)
 
+    def empty_maps(self) -> None:
+        """In the order of their declarations: what a slot holds is dropped, and each item of a list or tree, one by one."""
+        for each in self.scenario.maps.values():
+            if each.kind == "slot":
+                found = self.exchange(0, each.name, None)
+                if found is not None:
+                    self.give_up(0, found)
+                continue
+            while (found := self.take_first(each.kind, each.name)) is not None:
+                self.give_up(0, found)
+
+    def take_first(self, kind: str, name: str) -> Reference | None:
+        if kind == "list":
+            return self.pop_object(0, "pop_front", name)
+        found = self.find_first(0, name)
+        return found and self.remove(0, name, found)
+
     def sweep(self, number: int) -> None:
         cache, inbox = self.caches[number], self.shared.inboxes[self.number, number]
         lists = [cache.free, cache.extra, cache.delayed, cache.extra_delayed, cache.first, cache.ready, cache.second, *inbox]
@@ -564,7 +690,7 @@ class Simulator:
     def __init__(self, scenario: Scenario):
         self.scenario = scenario
         self.classes = sorted({class_of(each.size()) for each in scenario.types.values()})
-        self.shared = Shared(scenario.processors, scenario.pages)
+        self.shared = Shared(scenario.processors, scenario.pages, Objects(scenario.maps))
         self.processors = [Processor(number, scenario, self.shared, self.classes) for number in range(scenario.processors)]
 
     def journal(self) -> str:
@@ -575,7 +701,7 @@ class Simulator:
         self.take_turns()
         self.close()
         logs = [line for processor in self.processors for line in (f"processor {processor.number}", *processor.lines)]
-        return "".join(f"{line}\n" for line in [*self.heading(), *logs, *self.ending()])
+        return "".join(f"{line}\n" for line in [*self.heading(), *logs, *self.histories(), *self.ending()])
 
     def take_turns(self) -> None:
         """As the scenario has them; afterwards the lowest one that hasn't ended, until all have."""
@@ -585,8 +711,9 @@ class Simulator:
             left[0].turn()
 
     def close(self) -> None:
-        """All periods in progress end before the first sweep."""
+        """The maps are emptied, and all periods in progress end before the first sweep."""
         self.processors[0].note(0, "close")
+        self.processors[0].empty_maps()
         for processor in self.processors:
             for domain in DOMAINS:
                 processor.look_at_own(domain)
@@ -599,30 +726,20 @@ class Simulator:
         return [
             f"processors {scenario.processors} pages {scenario.pages}",
             " ".join(["types", *scenario.types]),
-            "maps",
+            " ".join(["maps", *scenario.maps]),
             " ".join(["scripts", *scenario.scripts]),
             *("class {} marks {} {} {}".format(SIZES[number], *marks(SIZES[number])) for number in self.classes),
         ]
+
+    def histories(self) -> list[str]:
+        graphs = self.shared.objects.graphs.values()
+        return [line for graph in graphs for line in (f"graph {graph.map.name}", *graph.history)]
 
     def ending(self) -> list[str]:
         return [f"total {name} {self.shared.totals[name]}" for name in TOTALS]
 
 
 # ---- the command
-
-
-def statements(block: Block) -> Iterator[Statement]:
-    """All of the block, those of inner blocks too."""
-    for statement in block.statements:
-        yield statement
-        for inner in statement.blocks:
-            yield from statements(inner)
-
-
-def unknown_forms(scenario: Scenario) -> list[str]:
-    """The forms that this simulator can't run."""
-    words = {statement.word for script in scenario.scripts.values() for statement in statements(script.body)}
-    return sorted({each.kind for each in scenario.maps.values()} | words - KNOWN)
 
 
 def main() -> int:
@@ -635,9 +752,6 @@ def main() -> int:
         print(f"bpfmem: {said}", file=sys.stderr)
         return status
     scenario = Reader(text).read()
-    if unknown := unknown_forms(scenario):
-        print("not known:", *unknown, file=sys.stderr)
-        return UNKNOWN_FORM
     simulator = Simulator(scenario)
     journal = simulator.journal()
     sys.stdout.write("".join(f"{line}\n" for line in simulator.ending()) if "--totals" in sys.argv else journal)
