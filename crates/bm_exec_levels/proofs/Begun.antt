@@ -6,6 +6,7 @@ use Rattle.bm_journal.specs.declared.entry.Entry.TheVariants as entry
 use Rattle.bm_journal.specs.Recording.{Appends, Kept as Recorded}
 use Rattle.bm_page.specs.UnitState.{UnitState}
 use Rattle.bm_grace.specs.Known.{Known, Sides, side}
+use Rattle.bm_law_scenario.specs.Handlers.{HandlersDone}
 use Rattle.bm_journal.specs.declared.ids.Domain.{Domain}
 use Rattle.bm_journal.specs.declared.ids.Domain.TheVariants.{Plain, Tracing}
 use Rattle.bm_lang.specs.declared.scenario.Parts.{Parts}
@@ -32,7 +33,7 @@ same-words a b e Tracing = ap (λ (s : Sides). s.tracing.word) e
 -- what it tells, where the words are the same
 tells-same : (s : Parts) (k n : Known) (o : Option Log) → n.grace ≡ k.grace → IfSome o (Tells s k) → IfSome o (Tells s n)
 tells-same s k n None g t = tt
-tells-same s k n (Some es) g t = record { done = t.done; last = λ d. t.last d ∙ sym (same-words k n g d) }
+tells-same s k n (Some es) g t = record { done = (let F : ℕ → Type 0 = λ p. HandlersDone s p es in subst F (sym (ap (λ (x : Sides). x.processor) g)) t.done); last = λ d. t.last d ∙ sym (same-words k n g d) }
 
 -- two entries more
 told-twice : (P Q : Log → Type 0) (a b c : Option Log) (l : ℕ) (d e : Entry) → ((es : Log) → P es → Q ((es ++ (l, d) ∷ []) ++ (l, e) ∷ [])) → Appends a l d b → Appends b l e c → IfSome a P → IfSome c Q

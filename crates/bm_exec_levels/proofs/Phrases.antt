@@ -1,10 +1,9 @@
--- What the script of a handler leaves, by the entries of its level, with the section around it.
-use Rattle.std.specs.Prelude.{slice_get}
-use Rattle.std.proofs.Common.{◌≡◌, ℕ, zero, suc, ◌+◌, List, [], ◌∷◌, ◌++◌, Option, Some, None, refl, sym, subst, arith}
+-- What the script of a handler leaves where it stands, with the section around it.
+use Rattle.std.specs.Prelude.{IfSome, slice_get}
+use Rattle.std.proofs.Common.{◌≡◌, ℕ, zero, suc, ◌+◌, List, [], ◌∷◌, ◌++◌, Option, Some, None, refl, ap, subst}
 use Rattle.std.specs.Prelude.{◌%◌, Bool, true}
 use Rattle.std.specs.List.{list_all}
 use Rattle.std.proofs.lemmas.Bool.{and_parts}
-use Rattle.bm_journal.specs.declared.entry.Entry.{Entry}
 use Rattle.bm_journal.specs.declared.entry.Entry.TheVariants as entry
 use Rattle.bm_journal.specs.declared.ids.Domain.TheVariants.{Plain}
 use Rattle.bm_journal.specs.Recording.{Appends}
@@ -13,91 +12,54 @@ use Rattle.bm_lang.specs.declared.scenario.Script.{Script}
 use Rattle.bm_lang.specs.declared.scenario.ScriptKind.TheVariants as kind
 use Rattle.bm_lang.specs.declared.scenario.TypeDeclaration.{TypeDeclaration}
 use Rattle.bm_law.specs.State.{State}
-use Rattle.bm_law.specs.Lists.{Log}
-use Rattle.bm_law.specs.Spans.{Records, own_entries}
-use Rattle.bm_law.proofs.Spans.{Records-join, Records-one}
+use Rattle.bm_law.specs.Lists.{Leaves, Log}
+use Rattle.bm_law.specs.Spans.{Records}
+use Rattle.bm_law.proofs.Spans.{Records-one}
 use Rattle.bm_law_work.specs.Grown.{GrewBy}
-use Rattle.bm_law_work.specs.Parts.{Say}
-use Rattle.bm_law_work.proofs.Grown.{grew-say}
-use Rattle.bm_law_scenario.specs.Handlers.{HandlerPhrase, enclosed}
+use Rattle.bm_law_work.specs.Parts.{Nothing, Part, Stand, Then}
+use Rattle.bm_law_work.proofs.Grown.{grew-join, grew-map, grew-stand}
+use Rattle.bm_law_scenario.specs.Handlers.{HandlerRun, InSection}
 use Rattle.bm_law_scenario.specs.Held.{Names, OwnsNothing, no_names}
-use Rattle.bm_law_scenario.specs.Runs.{RunsAlone}
+use Rattle.bm_law_scenario.specs.Runs.{RunsBlock}
+use Rattle.bm_law_scenario.specs.SectionWords.{is_outside}
 use Rattle.bm_exec.specs.Bindings.{binds_among}
 use Rattle.bm_exec.specs.Running.{RanScript}
 use Rattle.bm_exec.specs.Seen.{has_name}
 use Rattle.bm_exec.specs.declared.names.NameTable.{NameTable}
 use Rattle.bm_exec_levels.specs.Ready.{BindsAll}
-use Rattle.bm_law_scenario.proofs.SameRuns.{alone-told, block-same}
 use Rattle.bm_law_scenario.proofs.Words.{inside-odd, outside-even}
 
--- ---- its script
-
--- The log has grown by a run of its block, begun with names that hold nothing; at its end the names own nothing.
-record RanOwn (types : List TypeDeclaration) (l : ℕ) (x : Script) (a b : Option Log) : Type 0 where
-  run : List Entry
-  records : Records l run a b
-  last : Names
-  runs : RunsAlone types x.body no_names run last
-  owns_nothing : (name : List ℕ) → OwnsNothing (last name)
-
-ran-own : (types : List TypeDeclaration) (l : ℕ) (s : State ℕ) (x : Script) (a : Option Log) (now : Log) → RanScript types l true None s x a (Some now) → RanOwn types l x a (Some now)
-ran-own types l s x a now r =
-    let g = r.grew in
-    let h = (block-same l types true x.body).owned no_names r.after s g.added g.is_part in
-    record {
-      run = own_entries l g.added;
-      records = record { log = g.log; told = g.told; added = g.added; now_is = g.now_is; from = h.0; owned = refl };
-      last = r.after;
-      runs = alone-told types x.body no_names r.after (own_entries l g.added) h.1;
-      owns_nothing = r.owns_nothing;
-    }
-
--- ---- its phrase
-
--- inside a section nothing stands around these entries
-enclosed-inside : (w : ℕ) (es : List Entry) → w % 2 ≡ 1 → enclosed w es ≡ es
-enclosed-inside w es h = rw (inside-odd w h) refl
-
--- outside they stand in one of their own
-enclosed-outside : (w : ℕ) (es : List Entry) → w % 2 ≡ 0 → enclosed w es ≡ entry.In Plain (w + 1) ∷ es ++ entry.Out Plain (w + 2) ∷ []
-enclosed-outside w es h = rw (outside-even w h) refl
+-- ---- its script, where it stands
 
 module _ (s : Parts) (types : List TypeDeclaration) (same : types ≡ s.types) (x : Script) (i : ℕ) (found : slice_get s.scripts i ≡ Some x) (handles : x.kind ≡ kind.Handler) (l w : ℕ) where
-  handled : (a b : Option Log) (r : RanOwn types l x a b) (es : List Entry) → es ≡ enclosed w r.run → HandlerPhrase s x.name w es
-  handled a b r es e = record {
-    index = i;
-    script = x;
-    found = found;
-    called = refl;
-    handles = handles;
-    part = r.run;
-    after = r.last;
-    own_is = e;
-    runs = (let F : List TypeDeclaration → Type 0 = λ t. RunsAlone t x.body no_names r.run r.last in subst F same r.runs);
-    owns_nothing = r.owns_nothing;
-  }
+  -- what its block leaves
+  abbrev Block : (last : Names) → Part
+  Block last = RunsBlock s.types l true Nothing x.body no_names last
+
+  handled : (last : Names) (lists : State ℕ) (part : Log) → ((name : List ℕ) → OwnsNothing (last name)) → InSection (is_outside w) l w (RunsBlock s.types l true Nothing x.body) no_names last lists part → HandlerRun s l x.name w lists part
+  handled last lists part owns r = record { index = i; script = x; found = found; called = refl; handles = handles; after = last; runs = r; owns_nothing = owns }
+
+  in-types : (last : Names) (lists : State ℕ) (part : Log) → RunsBlock types l true Nothing x.body no_names last lists part → Block last lists part
+  in-types last lists part r = (let F : List TypeDeclaration → Type 0 = λ t. RunsBlock t l true Nothing x.body no_names last lists part in subst F same r)
 
   -- It ran inside a section.
-  pub phrase-inside : (s1 s2 : State ℕ) (a b : Option Log) → w % 2 ≡ 1 → RanScript types l true None s1 x a b → GrewBy (Say l (HandlerPhrase s x.name w)) s2 a b
-  phrase-inside s1 s2 a None odd r = tt
-  phrase-inside s1 s2 a (Some now) odd r =
-      let q = ran-own types l s1 x a now r in
-      grew-say l (HandlerPhrase s x.name w) q.run s2 a (Some now) q.records (handled a (Some now) q q.run (sym (enclosed-inside w q.run odd)))
+  pub runs-inside : (lists : State ℕ) (a b : Option Log) → w % 2 ≡ 1 → RanScript types l true None lists x a b → GrewBy (HandlerRun s l x.name w) lists a b
+  runs-inside lists a b odd r =
+      grew-map (RunsBlock types l true Nothing x.body no_names r.after) (HandlerRun s l x.name w) lists a b
+      (λ part h. handled r.after lists part r.owns_nothing (rw (inside-odd w odd) (in-types r.after lists part h))) r.grew
 
   -- It ran in a section of its own.
-  pub phrase-outside : (s1 s2 : State ℕ) (v : ℕ) (a b c d : Option Log) → w % 2 ≡ 0 → v ≡ w + 1 → Appends a l (entry.In Plain (w + 1)) b → RanScript types l true None s1 x b c → Appends c l (entry.Out Plain (v + 1)) d → GrewBy (Say l (HandlerPhrase s x.name w)) s2 a d
-  phrase-outside s1 s2 v a b c None even e f r g = tt
-  phrase-outside s1 s2 v a b c (Some now) even e f r g =
-      let R : Option Log → Type 0 = λ o. RanScript types l true None s1 x b o in
-      let q = ran-own types l s1 x b g.log (subst R g.told r) in
-      let F : Option Log → Type 0 = λ o. Records l q.run b o in
-      let W : ℕ → Type 0 = λ n. Records l (entry.Out Plain n ∷ []) c (Some now) in
-      let two : v + 1 ≡ w + 2 = omega (arith, e) in
-      let begins = Records-one l (entry.In Plain (w + 1)) a b f in
-      let ends = subst W two (Records-one l (entry.Out Plain (v + 1)) c (Some now) g) in
-      let es : List Entry = entry.In Plain (w + 1) ∷ q.run ++ entry.Out Plain (w + 2) ∷ [] in
-      let all : Records l es a (Some now) = Records-join l (entry.In Plain (w + 1) ∷ []) (q.run ++ entry.Out Plain (w + 2) ∷ []) a b (Some now) begins (Records-join l q.run (entry.Out Plain (w + 2) ∷ []) b c (Some now) (subst F (sym g.told) q.records) ends) in
-      grew-say l (HandlerPhrase s x.name w) es s2 a (Some now) all (handled b (Some g.log) q es (sym (enclosed-outside w q.run even)))
+  pub runs-outside : (p : ℕ) (s1 s2 s3 : State ℕ) (v : ℕ) (a b c d : Option Log) → w % 2 ≡ 0 → v ≡ w + 1 → IfSome a (λ es. Leaves p es s1) → IfSome b (λ es. Leaves p es s2) → IfSome c (λ es. Leaves p es s3) →
+      Appends a l (entry.In Plain (w + 1)) b → RanScript types l true None s2 x b c → Appends c l (entry.Out Plain (v + 1)) d → GrewBy (HandlerRun s l x.name w) s1 a d
+  runs-outside p s1 s2 s3 v a b c d even e in_a in_b in_c f r g =
+      let begins : Part = Stand l (entry.In Plain (w + 1) ∷ []) in
+      let ends : Part = Stand l (entry.Out Plain (w + 1 + 1) ∷ []) in
+      let W : ℕ → Type 0 = λ n. Records l (entry.Out Plain n ∷ []) c d in
+      let out : Records l (entry.Out Plain (w + 1 + 1) ∷ []) c d = subst W (ap (λ n. n + 1) e) (Records-one l (entry.Out Plain (v + 1)) c d g) in
+      let rest : GrewBy (Then (Block r.after) ends) s2 b d =
+      grew-join (RunsBlock types l true Nothing x.body no_names r.after) ends (Then (Block r.after) ends) p s2 s3 b c d (λ one two h k. record { one = one; two = two; part_is = refl; is_first = in-types r.after s2 one h; is_second = k }) in_b in_c r.grew (grew-stand l (entry.Out Plain (w + 1 + 1) ∷ []) s3 c d out) in
+      grew-join begins (Then (Block r.after) ends) (HandlerRun s l x.name w) p s1 s2 a b d
+      (λ one two h k. handled r.after s1 (one ++ two) r.owns_nothing (rw (outside-even w even) (record { one = one; two = two; part_is = refl; is_first = h; is_second = k }))) in_a in_b (grew-stand l (entry.In Plain (w + 1) ∷ []) s1 a b (Records-one l (entry.In Plain (w + 1)) a b f)) rest
 
 -- ---- its names
 

@@ -2,7 +2,6 @@
 use Rattle.std.specs.Prelude.{IfSome, slice_get}
 use Rattle.std.proofs.Common.{◌≡◌, ℕ, ◌+◌, ◌*◌, ◌%◌, List, [], ◌∷◌, ◌++◌, length, Option, Some, None, sym, ap, ◌∙◌, subst, arith, append_assoc}
 use Rattle.bm_journal.specs.declared.ids.Domain.TheVariants.{Plain, Tracing}
-use Rattle.bm_journal.specs.declared.entry.Entry.{Entry}
 use Rattle.bm_journal.specs.declared.entry.Entry.TheVariants as entry
 use Rattle.bm_journal.specs.Recording.{Appends, Gains}
 use Rattle.bm_lang.specs.Limits.{script_cost}
@@ -10,14 +9,13 @@ use Rattle.bm_lang.specs.declared.scenario.Parts.{Parts}
 use Rattle.bm_lang.specs.declared.scenario.Script.{Script}
 use Rattle.bm_due.specs.declared.planned.Due.{Due}
 use Rattle.bm_grace.specs.Known.{Known, side}
-use Rattle.bm_law.specs.Lists.{Log}
-use Rattle.bm_law.specs.Spans.{own_entries}
+use Rattle.bm_law.specs.Lists.{Leaves, Log}
 use Rattle.bm_law.specs.State.{State}
 use Rattle.bm_law_work.specs.Grown.{GrewBy}
-use Rattle.bm_law_work.specs.Parts.{Say}
 use Rattle.bm_work.specs.Still.{goes-still}
-use Rattle.bm_law_scenario.specs.Handlers.{HandlerPhrase}
+use Rattle.bm_law_scenario.specs.Handlers.{HandlerPhrase, HandlerRun}
 use Rattle.bm_law_scenario.specs.SectionWords.{word_after}
+use Rattle.bm_law_scenario.proofs.RanThere.{phrase-of-run}
 use Rattle.bm_exec_levels.specs.AtProcessor.{Between, CameAt, FineAt, HasPhrase, Stays, due_cost}
 use Rattle.bm_exec_levels.specs.Hosting.{goes-joined}
 use Rattle.bm_exec_levels.specs.Logged.{Tells}
@@ -32,21 +30,27 @@ use Rattle.bm_grace.specs.declared.grace.Knows.{Ghosts as Knows}
 pub cost-is : (p : Program) (due : Due) (x : Script) → slice_get p.scenario.now.scripts due.script.0 ≡ Some x → due_cost p due ≡ 2 * script_cost (Some x)
 cost-is p due x f = ap (λ (o : Option Script). 2 * script_cost o) f
 
-pub has-phrase : (j l : ℕ) (s : Parts) (name : List ℕ) (k : Known) (w : ℕ) (lists : State ℕ) (before mid now : Option Log) → l ≡ j → w ≡ (side Plain k).word → IfSome before (Tells s k) → Appends before l (entry.Handler name) mid → GrewBy (Say j (HandlerPhrase s name w)) lists mid now → IfSome now (HasPhrase l s name)
-has-phrase j l s name k w lists before mid None q e t a g = tt
-has-phrase j l s name k w lists before mid (Some es) q e t a g =
+-- It left its phrase after its begin, and ran there: the lists that a log leaves are the only ones that it leaves.
+pub has-phrase : (p j l : ℕ) (s : Parts) (name : List ℕ) (k : Known) (w : ℕ) (lists : State ℕ) (before mid now : Option Log) → l ≡ j → w ≡ (side Plain k).word → IfSome before (Tells s k) → Appends before l (entry.Handler name) mid → IfSome mid (λ es. Leaves p es lists) → GrewBy (HandlerRun s j name w) lists mid now → IfSome now (HasPhrase p l s name)
+has-phrase p j l s name k w lists before mid None q e t a x g = tt
+has-phrase p j l s name k w lists before mid (Some es) q e t a x g =
     let A : Option Log → Type 0 = λ o. Appends before l (entry.Handler name) o in
     let T : Option Log → Type 0 = λ o. IfSome o (Tells s k) in
+    let L : Option Log → Type 0 = λ o. IfSome o (λ log. Leaves p log lists) in
     let h : Gains before l (entry.Handler name) g.log = subst A g.told a in
     let u : Tells s k h.log = subst T h.told t in
+    let N : Log → Type 0 = λ log. Leaves p log lists in
+    let here : Leaves p (h.log ++ (l, entry.Handler name) ∷ []) lists = subst N h.more (subst L g.told x) in
     let word : w ≡ word_after Plain h.log = e ∙ sym (u.last Plain) in
-    let own : own_entries l g.added ≡ g.is_part.0 = ap (λ n. own_entries n g.added) q ∙ g.is_part.2.own_is in
-    let P : ℕ → List Entry → Type 0 = λ n own. HandlerPhrase s name n own in
+    let R : ℕ → ℕ → State ℕ → Type 0 = λ k n v. HandlerRun s k name n v g.added in
+    let ran : HandlerRun s l name (word_after Plain h.log) lists g.added = subst (λ n. R l n lists) word (subst (λ k. R k w lists) (sym q) g.is_part) in
+    let said = phrase-of-run s l name (word_after Plain h.log) lists g.added ran in
     record {
       front = h.log;
       part = g.added;
       log_is = g.now_is ∙ ap (λ (v : Log). v ++ g.added) h.more ∙ append_assoc h.log ((l, entry.Handler name) ∷ []) g.added;
-      phrase = subst (λ n. P n (own_entries l g.added)) word (subst (P w) (sym own) g.is_part.1);
+      phrase = subst (HandlerPhrase s name (word_after Plain h.log)) (sym said.2.own_is) said.1;
+      runs = λ v y. subst (R l (word_after Plain h.log)) (sym here.lists ∙ y.lists) ran;
     }
 
 module _ {W : Type 0} (knows : Knows W) where

@@ -79,17 +79,18 @@ module _ {W : Type 0} (knows : Knows W) where
       }
 
   -- behind the end of a handler that left its phrase
-  tells-back : (s : Parts) (known : Known) (log : Log) (l : ℕ) (name : List ℕ) → Tells s known log → HasPhrase l s name log → Tells s known (log ++ (l, entry.Back name) ∷ [])
+  tells-back : (s : Parts) (known : Known) (log : Log) (l : ℕ) (name : List ℕ) → Tells s known log → HasPhrase known.grace.processor l s name log → Tells s known (log ++ (l, entry.Back name) ∷ [])
   tells-back s known log l name t h =
-      let F : Log → Type 0 = λ es. HandlersDone s (es ++ (l, entry.Back name) ∷ []) in
-      let G : Log → Type 0 = λ es. HandlersDone s es in
+      let p = known.grace.processor in
+      let F : Log → Type 0 = λ es. HandlersDone s p (es ++ (l, entry.Back name) ∷ []) in
+      let G : Log → Type 0 = λ es. HandlersDone s p es in
       record {
-        done = subst F (sym h.log_is) (done-back s h.front h.part l name (subst G h.log_is t.done) h.phrase);
+        done = subst F (sym h.log_is) (done-back s p h.front h.part l name (subst G h.log_is t.done) h.phrase h.runs);
         last = λ d. word-append d 0 log ((l, entry.Back name) ∷ []) ∙ t.last d;
       }
 
   -- the handler has gone back, and what it interrupted goes on
-  pub left : (k : ℕ) (p : Program) (due : Due) (x : Script) (was m : Processor W) (b : Processor W) → IsDue knows k p due was → slice_get p.scenario.now.scripts due.script.0 ≡ Some x → IsAt knows StandsAt due.level p m → IfSome (log_of m) (HasPhrase due.level p.scenario.now x.name) → b.caches.processor ≡ m.caches.processor → Appends (log_of m) due.level (entry.Back x.name) (log_of b) → m.running.items ≡ was.running.items ++ due ∷ [] → b.running.items ≡ was.running.items → vec_capacity b.running ≡ vec_capacity m.running → length b.tables.items ≡ length m.tables.items + 1 → vec_capacity m.tables ≤ vec_capacity b.tables → All (BindsAll p.scenario.now.scripts) b.tables.items → IsAt knows AboutTo k p (turned m b)
+  pub left : (k : ℕ) (p : Program) (due : Due) (x : Script) (was m : Processor W) (b : Processor W) → IsDue knows k p due was → slice_get p.scenario.now.scripts due.script.0 ≡ Some x → IsAt knows StandsAt due.level p m → IfSome (log_of m) (HasPhrase (known_of knows m).grace.processor due.level p.scenario.now x.name) → b.caches.processor ≡ m.caches.processor → Appends (log_of m) due.level (entry.Back x.name) (log_of b) → m.running.items ≡ was.running.items ++ due ∷ [] → b.running.items ≡ was.running.items → vec_capacity b.running ≡ vec_capacity m.running → length b.tables.items ≡ length m.tables.items + 1 → vec_capacity m.tables ≤ vec_capacity b.tables → All (BindsAll p.scenario.now.scripts) b.tables.items → IsAt knows AboutTo k p (turned m b)
   left k p due x was m b d i g f same a e q v n w h =
       let s : Parts = p.scenario.now in
       let known : Known = known_of knows m in
@@ -100,7 +101,7 @@ module _ {W : Type 0} (knows : Knows W) where
       let runs : inner.running ≡ due ∷ reverse dues = ap (λ (y : List Due). reverse y) e ∙ innermost-first dues due in
       let here : At dues = told-more (StandsAt inner) (AboutTo outer) (log_of m) (log_of b) due.level (entry.Back x.name) (λ es u. returns-here inner es due (reverse dues) x.name runs (name-of s.scripts due.script.0 x i) u) a g.at.at in
       let T : Log → Type 0 = Tells s known in
-      let P : Log → Type 0 = λ es. T es × HasPhrase due.level s x.name es in
+      let P : Log → Type 0 = λ es. T es × HasPhrase known.grace.processor due.level s x.name es in
       let said : IfSome (log_of m) P = both (log_of m) (λ es u h. (u, h)) g.tells f in
       let long = ap (λ (y : List Due). length y) e in
       let long' = ap (λ (y : List Due). length y) q in

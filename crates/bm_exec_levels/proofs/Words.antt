@@ -9,6 +9,7 @@ use Rattle.bm_journal.specs.Recording.{Appends, Kept as Recorded}
 use Rattle.bm_lang.specs.declared.scenario.Parts.{Parts}
 use Rattle.bm_grace.specs.Calls.{moved}
 use Rattle.bm_grace.specs.Known.{Known, Objects, side}
+use Rattle.bm_law_scenario.specs.Handlers.{HandlersDone}
 use Rattle.bm_grace.specs.declared.step.StepKind.{StepKind}
 use Rattle.bm_law.specs.Begun.{for_domain}
 use Rattle.bm_law.specs.Lists.{Log}
@@ -73,12 +74,17 @@ moved-named kind tells Plain Tracing k e names = names.next_other Tracing (side 
 moved-named kind tells Tracing Plain k e names = names.next_other Plain (side Plain k).word (λ q. cc)
 moved-named kind tells Tracing Tracing k e names = names.next
 
+-- the word that moved is another one than the processor's number
+pub moved-grace : (kind : StepKind) (tells : Bool) (d : Domain) (k : Known) → ((moved kind tells d k).grace.processor ≡ k.grace.processor) × ((moved kind tells d k).grace.processors ≡ k.grace.processors)
+moved-grace kind tells Plain k = (refl, refl)
+moved-grace kind tells Tracing k = (refl, refl)
+
 -- what the log tells, where the side's word of a domain moved and the entry names it
 pub tells-moved : (kind : StepKind) (tells : Bool) (d : Domain) (s : Parts) (k n : Known) (log : Log) (l : ℕ) (e : Entry) → n ≡ moved kind tells d k → NamesWord d (side d k).word e → Tells s k log → Tells s n (log ++ (l, e) ∷ [])
 tells-moved kind tells d s k n log l e q names t =
     let F : Known → Type 0 = λ x. Tells s x (log ++ (l, e) ∷ []) in
     subst F (sym q) (record {
-      done = done-grow s log l e names.no_back t.done;
+      done = (let G : ℕ → Type 0 = λ p. HandlersDone s p (log ++ (l, e) ∷ []) in subst G (sym (moved-grace kind tells d k).0) (done-grow s k.grace.processor log l e names.no_back t.done));
       last = λ o. word-append o 0 log ((l, e) ∷ []) ∙ ap (λ w. word_next o w e) (t.last o) ∙ moved-named kind tells d o k e names;
     })
 
@@ -91,10 +97,6 @@ plain-most kind tells Tracing k = omega arith
 inside-moved : (kind : StepKind) (tells : Bool) (d : Domain) (k n : Known) (a b c : Bool) → n ≡ moved kind tells d k → (side d n).word % 2 ≡ (if b then 1 else 0) → c ≡ for_domain Plain d b a → (side Plain k).word % 2 ≡ (if a then 1 else 0) → (side Plain n).word % 2 ≡ (if c then 1 else 0)
 inside-moved kind tells Plain k n a b c q h e r = h ∙ ap (λ (x : Bool). if x then 1 else 0) (sym e)
 inside-moved kind tells Tracing k n a b c q h e r = ap (λ (x : Known). (side Plain x).word % 2) q ∙ (r ∙ ap (λ (x : Bool). if x then 1 else 0) (sym e))
-
-pub moved-grace : (kind : StepKind) (tells : Bool) (d : Domain) (k : Known) → ((moved kind tells d k).grace.processor ≡ k.grace.processor) × ((moved kind tells d k).grace.processors ≡ k.grace.processors)
-moved-grace kind tells Plain k = (refl, refl)
-moved-grace kind tells Tracing k = (refl, refl)
 
 pub moved-here : (kind : StepKind) (tells : Bool) (d : Domain) (k : Known) → (side d (moved kind tells d k)).word ≡ (side d k).word + 1
 moved-here kind tells Plain k = refl

@@ -12,7 +12,7 @@ use Rattle.bm_law.specs.Spans.{own_entries}
 use Rattle.bm_law.specs.State.{State, seen}
 use Rattle.bm_cache.specs.Shown.{shown}
 use Rattle.bm_cache.specs.Tokens.{number_of}
-use Rattle.bm_law_scenario.specs.Handlers.{HandlerPhrase}
+use Rattle.bm_law_scenario.specs.Handlers.{HandlerPhrase, RunsThere}
 use Rattle.bm_law_scenario.specs.SectionWords.{word_after}
 use Rattle.bm_lang.specs.declared.scenario.Parts.{Parts}
 use Rattle.bm_cache.specs.Span.{Came, Fine}
@@ -40,12 +40,13 @@ lists_of m = seen number_of (shown m.caches)
 abbrev pub due_cost : Program → Due → ℕ
 due_cost p due = 2 * script_cost (slice_get p.scenario.now.scripts due.script.0)
 
--- Behind the begin of the innermost handler, which is of level l, the log has its phrase.
-pub record HasPhrase (l : ℕ) (s : Parts) (name : List ℕ) (log : Log) : Type 0 where
+-- After the begin of the innermost handler, which is of level l, the log of processor p has its phrase, which ran there.
+pub record HasPhrase (p l : ℕ) (s : Parts) (name : List ℕ) (log : Log) : Type 0 where
   pub front : Log
   pub part : Log
   pub log_is : log ≡ front ++ (l, entry.Handler name) ∷ part
   pub phrase : HandlerPhrase s name (word_after Plain front) (own_entries l part)
+  pub runs : RunsThere s p l name front part
 
 module _ {W : Type 0} (knows : Knows W) where
   -- what its side tells of units

@@ -61,4 +61,4 @@ pub word-inner : (d : Domain) (log : Log) (l : ℕ) (e : Entry) → IsInner e �
 word-inner d log l e i = word-append d 0 log ((l, e) ∷ []) ∙ inner-next d (word_after d log) e i
 
 pub tells-inner : (s : Parts) (known : Known) (log : Log) (l : ℕ) (e : Entry) → IsInner e → Tells s known log → Tells s known (log ++ (l, e) ∷ [])
-tells-inner s known log l e i t = record { done = done-grow s log l e (no-back e i) t.done; last = λ d. word-inner d log l e i ∙ t.last d }
+tells-inner s known log l e i t = record { done = done-grow s known.grace.processor log l e (no-back e i) t.done; last = λ d. word-inner d log l e i ∙ t.last d }

@@ -8,6 +8,7 @@ use Rattle.bm_journal.specs.Recording.{Appends, Kept as Recorded}
 use Rattle.bm_due.specs.Standing as standing
 use Rattle.bm_due.specs.Standing.{kind_of}
 use Rattle.bm_grace.specs.Known.{Known, Objects}
+use Rattle.bm_law_scenario.specs.Handlers.{HandlersDone}
 use Rattle.bm_lang.specs.declared.scenario.Parts.{Parts}
 use Rattle.bm_law.specs.Lists.{Log}
 use Rattle.bm_law.specs.Phrases.{given}
@@ -34,7 +35,7 @@ with_side m w = record m { side = w }
 
 tells-sided : (s : Parts) (k n : Known) (o : Option Log) → Alike k n → IfSome o (Tells s k) → IfSome o (Tells s n)
 tells-sided s k n None a h = tt
-tells-sided s k n (Some es) a h = record { done = h.done; last = λ d. h.last d ∙ sym (a.words d) }
+tells-sided s k n (Some es) a h = record { done = (let F : ℕ → Type 0 = λ p. HandlersDone s p es in subst F (sym a.processor) h.done); last = λ d. h.last d ∙ sym (a.words d) }
 
 pub goes-joined : (a b c : Known) → GoesOn a b → GoesOn b c → GoesOn a c
 goes-joined a b c x y = record {

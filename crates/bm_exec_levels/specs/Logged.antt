@@ -7,7 +7,7 @@ use Rattle.bm_law.specs.Lists.{Log}
 use Rattle.bm_law_scenario.specs.Handlers.{HandlersDone}
 use Rattle.bm_law_scenario.specs.SectionWords.{word_after}
 
--- Each handler that has gone back left its phrase, and the last words of sections that the log names are those that the side knows.
+-- Each handler that has gone back left its phrase where it stands, and the last words of sections that the log names are those that the side knows.
 pub record Tells (s : Parts) (known : Known) (log : Log) : Type 0 where
-  pub done : HandlersDone s log
+  pub done : HandlersDone s known.grace.processor log
   pub last : (d : Domain) → word_after d log ≡ (side d known).word

@@ -6,7 +6,7 @@ ghost use Rattle.bm_journal.specs.Recording.{Appends};
 ghost use Rattle.bm_due.specs.declared.planned.Due.{Due as DueValue};
 ghost use Rattle.bm_exec_levels.specs.AtProcessor.{Between, CameAt, FineAt, HasPhrase, IsAt, IsBegun, IsDue, SameLives, due_cost, log_of};
 ghost use Rattle.bm_exec_levels.specs.AtTie.{TiedAt};
-ghost use Rattle.bm_exec_levels.specs.Ready.{BindsAll, left_of};
+ghost use Rattle.bm_exec_levels.specs.Ready.{BindsAll, known_of, left_of};
 ghost use Rattle.bm_exec_levels.specs.declared.processor.Processor.{Processor as ProcessorValue};
 ghost use Rattle.bm_plan.specs.Position.{AboutTo, AskedAt, StandsAt};
 
@@ -108,7 +108,8 @@ fn end_handler<'s, W: Lives>(
 )
     requires at { IsAt W.Knows StandsAt due.now.level program.now own.old }
     requires found { slice_get program.now.scenario.now.scripts due.now.script.0 ≡ Some script.now }
-    requires phrase { IfSome (log_of own.old) (HasPhrase due.now.level program.now.scenario.now script.now.name) }
+    requires phrase { IfSome (log_of own.old)
+        (HasPhrase (known_of W.Knows own.old).grace.processor due.now.level program.now.scenario.now script.now.name) }
     requires fine { FineAt W.Knows due.now.level own.old }
     requires runs { (dues : List DueValue) × (own.old.running.items ≡ dues ++ due.now ∷ []) }
     requires bound { BindsAll program.now.scenario.now.scripts table }

@@ -2,12 +2,11 @@
 
 ghost use Rattle.std.specs.Prelude.{◌≡◌, ◌+◌, ◌*◌, ◌^◌, ◌<◌, ℕ, None, Some, length, slice_get, true};
 ghost use Rattle.bm_law_work.specs.Grown.{GrewBy};
-ghost use Rattle.bm_law_work.specs.Parts.{Say};
 ghost use Rattle.bm_journal.specs.declared.ids.Domain.TheVariants.{Plain};
 ghost use Rattle.bm_exec.specs.Running.{RanScript};
 ghost use Rattle.bm_lang.specs.Limits.{script_cost};
 ghost use Rattle.bm_lang.specs.declared.scenario.ScriptKind.TheVariants as kind;
-ghost use Rattle.bm_law_scenario.specs.Handlers.{HandlerPhrase};
+ghost use Rattle.bm_law_scenario.specs.Handlers.{HandlerRun};
 ghost use Rattle.bm_exec_levels.specs.AtProcessor.{Between, FineAt, IsAt, SameLives, lists_of, log_of};
 ghost use Rattle.bm_exec_levels.specs.AtTie.{TiedAt};
 ghost use Rattle.bm_exec_levels.specs.Ready.{BindsAll, asked_of, left_of, word_of};
@@ -75,7 +74,8 @@ pub(crate) fn run_inside<'s, W: Lives, B: Since<W>, L: Rank>(
     requires asks { asked_of W.Knows program.now.scenario.now own.old + 2 * script_cost (Some script.now) < 2 ^ 22 }
     requires words { word_of W.Knows Plain own.old + 2 * length (left_of own.old) + 2 < 2 ^ 28 }
     requires bound { BindsAll program.now.scenario.now.scripts table.old }
-    ensures phrase { GrewBy (Say L.number (HandlerPhrase program.now.scenario.now script.now.name (word_of W.Knows Plain own.old))) (lists_of own.old) (log_of own.old) (log_of own.new) }
+    ensures runs { GrewBy (HandlerRun program.now.scenario.now L.number script.now.name (word_of W.Knows Plain own.old))
+        (lists_of own.old) (log_of own.old) (log_of own.new) }
     ensures at { IsAt W.Knows StandsAt L.number program.now own.new }
     ensures tied { TiedAt W.Knows B.since B.start own.new }
     ensures between { Between W.Knows (2 * script_cost (Some script.now)) 2 L.number program.now own.old own.new }

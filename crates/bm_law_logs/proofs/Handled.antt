@@ -56,7 +56,7 @@ rows-all c (e ∷ es) s h k = elim (eqb_tells e.0 0) [
       rows-all c es (next s e) g k.1 ∙ k.0 (above-zero e.0 y.1) e.0 (brought e.1 s) s
 ]
 
-pub rows-handled : (s : Parts) (p : ℕ) (front : Log) → HandlersStand s p front → HandlersDone s front → Front s p (opening p) front → (c : ℕ) → list_any (uses_class c) s.types ≡ false → (after (opening p) front).rows c ≡ (opening p).rows c
+pub rows-handled : (s : Parts) (p : ℕ) (front : Log) → HandlersStand s p front → HandlersDone s p front → Front s p (opening p) front → (c : ℕ) → list_any (uses_class c) s.types ≡ false → (after (opening p) front).rows c ≡ (opening p).rows c
 rows-handled s p front stand done f c e =
     let above : AllAbove (Spares c) front = each-above (Spares c) front (λ l up. each-spares c (own_entries l front) (handlers-have s (AllSpare c) (frame-spared s c e) (own_entries l front) (levels s p front stand done l up))) in
     rows-all c front (opening p) (front-has s (AllSpare c) (spared s c e) p (opening p) front f) above
@@ -70,7 +70,7 @@ frame-replied s = record {
   ends = λ name. record { replies = (tt, tt); owed = refl };
 }
 
-pub replies-handled : (s : Parts) (p : ℕ) (log : Log) → HandlersStand s p log → HandlersDone s log → (l : ℕ) → 0 < l → AllReplied (own_entries l log)
+pub replies-handled : (s : Parts) (p : ℕ) (log : Log) → HandlersStand s p log → HandlersDone s p log → (l : ℕ) → 0 < l → AllReplied (own_entries l log)
 replies-handled s p log stand done l up = handlers-have s AllReplied (frame-replied s) (own_entries l log) (levels s p log stand done l up)
 
 closing-apart : (e : Entry) → IsOfClosing e → is_apart e ≡ true
@@ -94,7 +94,7 @@ ordinary-replies s p log i =
     let parts : own_entries 0 log ≡ own_entries 0 i.front ++ own_entries 0 i.closing = ap (own_entries 0) i.log_is ∙ own-append 0 i.front i.closing in
     subst (λ (es : List Entry). RepliesFit Nothing es) (sym parts) (replies-append Nothing (own_entries 0 i.front) (own_entries 0 i.closing) front.replies (subst (λ (k : Asked). RepliesFit k (own_entries 0 i.closing)) (sym front.owed) behind))
 
-pub null-handled : (s : Parts) (p : ℕ) (log : Log) (last : State ℕ) → HandlersStand s p log → HandlersDone s log → IsLog s p log → Leaves p log last → NullLaw p log
+pub null-handled : (s : Parts) (p : ℕ) (log : Log) (last : State ℕ) → HandlersStand s p log → HandlersDone s p log → IsLog s p log → Leaves p log last → NullLaw p log
 null-handled s p log last stand done i leaves = record {
   pops = pops-fit (opening p) log leaves.named;
   replies = at_level;

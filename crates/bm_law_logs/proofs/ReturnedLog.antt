@@ -101,7 +101,7 @@ closing-by p classes log =
 none-stands : (p : ℕ) → Stood (opening p) (λ c. [])
 none-stands p k x u e = absurd (cc)
 
-pub returned-log : (s : Parts) (p : ℕ) (log : Log) (last : State ℕ) → HandlersStand s p log → HandlersDone s log → IsLog s p log → Leaves p log last → ReturnsFit (opening p) None (λ c. []) log
+pub returned-log : (s : Parts) (p : ℕ) (log : Log) (last : State ℕ) → HandlersStand s p log → HandlersDone s p log → IsLog s p log → Leaves p log last → ReturnsFit (opening p) None (λ c. []) log
 returned-log s p log last stand done i leaves =
     let classes = opened_classes s.types in
     let closes : Part = Closing p classes i.front in

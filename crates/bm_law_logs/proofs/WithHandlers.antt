@@ -39,7 +39,7 @@ handler-quiet _ h = tt
 pub closing-begins : (classes : List ℕ) (log : Log) (boxes : Inboxes) (s : State ℕ) (closing : Log) (h : ClosingTold 0 classes log boxes s closing) → own_entries 0 closing ≡ entry.Ended ∷ (close_of 0 ++ own_entries 0 h.two)
 closing-begins classes log boxes s closing h = ap (own_entries 0) h.part_is ∙ own-append 0 h.one h.two ∙ ap (λ v. v ++ own_entries 0 h.two) h.is_first.own_is
 
-pub parcels-handled : (s : Parts) (fills scripts closing : Log) (boxes : Inboxes) → HandlersStand s 0 ((fills ++ scripts) ++ closing) → HandlersDone s ((fills ++ scripts) ++ closing) → Say 0 (AreFills (opened_classes s.types) (fresh_stock s.pages)) (opening 0) fills → AreScripts s (lines_of 0 s.runs) (after (opening 0) fills) scripts →
+pub parcels-handled : (s : Parts) (fills scripts closing : Log) (boxes : Inboxes) → HandlersStand s 0 ((fills ++ scripts) ++ closing) → HandlersDone s 0 ((fills ++ scripts) ++ closing) → Say 0 (AreFills (opened_classes s.types) (fresh_stock s.pages)) (opening 0) fills → AreScripts s (lines_of 0 s.runs) (after (opening 0) fills) scripts →
     LeavesParcels (fills ++ scripts) boxes → ClosingTold 0 (opened_classes s.types) (fills ++ scripts) boxes (after (opening 0) (fills ++ scripts)) closing → ParcelLaw 0 ((fills ++ scripts) ++ closing)
 parcels-handled s fills scripts closing boxes stand done f x d c =
     let classes : List ℕ = opened_classes s.types in

@@ -59,7 +59,7 @@ module _ (types : List TypeDeclaration) (L : Part → Type 0) (k : Laws L) (c : 
   mutual
     law-action : (i : Bool) (a : Action) → LawRun L (RunsAction types 0 i behind a)
     law-action i (New x t values) = λ names after. c.new x t values names after
-    law-action i (Drop x) = λ names after. law-as L k (Say 0 (λ own. RunsDrop types x any_batch names own after)) (RunsAction types 0 i behind (Drop x) names after) (c.dropped x names after) (λ s part h. (h.0, loosened types x (batch_in 0 s) names after h.0 h.1, h.2))
+    law-action i (Drop x) = λ names after. law-as L k (Say 0 (λ own. RunsDrop types x any_batch names own after)) (RunsAction types 0 i behind (Drop x) names after) (c.dropped x names after) (λ s part h. (h.0, loosened types x (batch_in s) names after h.0 h.1, h.2))
     law-action i (If' x body otherwise) = λ names after. law-chosen (names x) (RunsBlock types 0 i behind body) (RunsElse types 0 i behind otherwise) (law-block i body) (law-else i otherwise) names after
     law-action i (Repeat n body) = law-times (RunsBlock types 0 i behind body) n (law-block i body)
     law-action i (Section body) = law-within i (RunsBlock types 0 true behind body) (law-block true body)

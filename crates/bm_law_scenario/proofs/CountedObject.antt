@@ -1,5 +1,5 @@
 -- The journal of a counted object made and dropped is lawful.
-use Rattle.std.proofs.Common.{◌≡◌, ◌∙◌, ℕ, inl, inr, cond, true, false, List, [], ◌∷◌, ◌++◌, refl, sym, ap, subst, arith, bytes_eq, codes, lit≤, Some, None}
+use Rattle.std.proofs.Common.{ℕ, inl, inr, cond, true, false, List, [], ◌∷◌, ◌++◌, refl, sym, ap, subst, bytes_eq, codes, lit≤, Some, None}
 use Rattle.std.proofs.lemmas.Bool.Decides.{eqb_tells}
 use Rattle.bm_class.specs.Sizes.{class_of_size, size_of_class}
 use Rattle.bm_class.specs.Watermarks.{low_of_size, high_of_size, batch_of_size}
@@ -166,7 +166,7 @@ words Tracing = refl
 log-lawful : LawfulLog counted_object 0 counted_log
 log-lawful = record {
   handlers = refl;
-  phrases = done-ordinary _ _ (all-ordinary counted_entries) refl;
+  phrases = done-ordinary _ 0 _ (all-ordinary counted_entries) refl;
   is_log = is-log;
   words = words;
   last = last;

@@ -66,7 +66,7 @@ of-handlers s =
       ends = λ name. (tt, tt);
     }
 
-pub handler-entries : (s : Parts) (p : ℕ) (log : Log) → HandlersStand s p log → HandlersDone s log → (l : ℕ) → 0 < l → AllOf IsOfHandler (own_entries l log)
+pub handler-entries : (s : Parts) (p : ℕ) (log : Log) → HandlersStand s p log → HandlersDone s p log → (l : ℕ) → 0 < l → AllOf IsOfHandler (own_entries l log)
 handler-entries s p log stand done l up = handlers-have s (λ es. AllOf IsOfHandler es) (of-handlers s) (own_entries l log) (levels s p log stand done l up)
 
 -- ---- entries of all levels above
@@ -99,5 +99,5 @@ above-back I [] two h = h
 above-back I (e ∷ es) two h = above-back I es two h.1
 
 -- of a log where handlers stand and left their phrases
-pub handlers-above : (s : Parts) (p : ℕ) (log : Log) → HandlersStand s p log → HandlersDone s log → AllAbove IsOfHandler log
+pub handlers-above : (s : Parts) (p : ℕ) (log : Log) → HandlersStand s p log → HandlersDone s p log → AllAbove IsOfHandler log
 handlers-above s p log stand done = each-above IsOfHandler log (handler-entries s p log stand done)

@@ -1,6 +1,6 @@
 -- The free of a drop, plain or with delay.
 use Rattle.std.specs.Prelude.{◌≡◌, ℕ, zero, suc, Bool, true, false, is_some, List, [], ◌∷◌, Some, slice_get}
-use Rattle.std.proofs.Common.{◌∙◌, ap, refl, subst, sym}
+use Rattle.std.proofs.Common.{◌∙◌, ap, refl, sym}
 use Rattle.bm_journal.specs.declared.entry.Entry.{Entry}
 use Rattle.bm_lang.specs.declared.scenario.TypeDeclaration.{TypeDeclaration}
 use Rattle.bm_law.specs.Phrases.{DelayPhrase, FreePhrase}
@@ -61,7 +61,7 @@ other-batch false c u home b d own e h = h
 other-batch true c u home b d own e h = absurd (cc)
 
 -- the free of a type without a count says nothing of batches
-pub uncounted : (types : List TypeDeclaration) (x : List ℕ) (s : State ℕ) (names after : Names) (own : List Entry) (h : RunsDrop types x any_batch names own after) → h.declared.counted ≡ false → RunsDrop types x (batch_in 0 s) names own after
+pub uncounted : (types : List TypeDeclaration) (x : List ℕ) (s : State ℕ) (names after : Names) (own : List Entry) (h : RunsDrop types x any_batch names own after) → h.declared.counted ≡ false → RunsDrop types x (batch_in s) names own after
 uncounted types x s names after own h e = record {
   type = h.type;
   unit = h.unit;
@@ -94,7 +94,6 @@ pub plainly : (counted : Bool) (c u home : ℕ) (batch : Bool) (own : List Entry
 plainly false c u home batch own e h = h
 plainly true c u home batch own e h = absurd (cc)
 
--- ordinary code knows of batches by the lists
-pub knows-batch : (l : ℕ) (s : State ℕ) (c : ℕ) → batch_in l s c (is_some (s.rows c).deferred.plain)
-knows-batch zero s c = refl
-knows-batch (suc l) s c = tt
+-- code knows of batches by the lists
+pub knows-batch : (s : State ℕ) (c : ℕ) → batch_in s c (is_some (s.rows c).deferred.plain)
+knows-batch s c = refl

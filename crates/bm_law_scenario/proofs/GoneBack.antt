@@ -11,7 +11,7 @@ use Rattle.bm_law.proofs.Spans.{own-append}
 use Rattle.bm_law_scenario.specs.CallEntries.{IsOfStatement}
 use Rattle.bm_law_scenario.specs.Held.{no_names}
 use Rattle.bm_law_scenario.specs.SectionWords.{is_outside, word_after}
-use Rattle.bm_law_scenario.specs.Handlers.{Handled, HandlerPhrase, HandlersDone, all_within, enclosed, is_within}
+use Rattle.bm_law_scenario.specs.Handlers.{Handled, HandlerPhrase, HandlersDone, RunsThere, all_within, enclosed, is_within}
 use Rattle.bm_law_scenario.proofs.Cuts.{Before, cuts, last-cut}
 use Rattle.bm_law_scenario.proofs.OfCall.{OfCalls, of-calls}
 use Rattle.bm_law_scenario.proofs.RunsAll.{block-all}
@@ -76,16 +76,16 @@ phrase-within s name w own h = subst (λ es. all_within es ≡ true) (sym h.own_
 
 -- ---- entry by entry
 
-pub done-none : (s : Parts) → HandlersDone s []
-done-none s h = absurd (empty (h.front ++ (h.level, entry.Handler h.name) ∷ h.part) (h.level, entry.Back h.back) h.rest h.log_is)
+pub done-none : (s : Parts) (p : ℕ) → HandlersDone s p []
+done-none s p h = absurd (empty (h.front ++ (h.level, entry.Handler h.name) ∷ h.part) (h.level, entry.Back h.back) h.rest h.log_is)
   where
     empty : (v : Log) (e : ℕ × Entry) (w : Log) → [] ≡ v ++ e ∷ w → ⊥
     empty [] e w q = cc
     empty (x ∷ v) e w q = cc
 
 -- a handler of the log before is one of the log that has grown
-pub done-front : (s : Parts) (one two : Log) → HandlersDone s (one ++ two) → HandlersDone s one
-done-front s one two done h =
+pub done-front : (s : Parts) (p : ℕ) (one two : Log) → HandlersDone s p (one ++ two) → HandlersDone s p one
+done-front s p one two done h =
     done (record {
       level = h.level;
       name = h.name;
@@ -98,9 +98,9 @@ done-front s one two done h =
     })
 
 -- a handler that went back before the last entry
-done-before : (s : Parts) (log : Log) (b : ℕ × Entry) → HandlersDone s log → (h : Handled (log ++ b ∷ [])) →
-    Before log (h.front ++ (h.level, entry.Handler h.name) ∷ h.part) (h.level, entry.Back h.back) b h.rest → (h.back ≡ h.name) × HandlerPhrase s h.name (word_after Plain h.front) (own_entries h.level h.part)
-done-before s log b done h k =
+done-before : (s : Parts) (p : ℕ) (log : Log) (b : ℕ × Entry) → HandlersDone s p log → (h : Handled (log ++ b ∷ [])) →
+    Before log (h.front ++ (h.level, entry.Handler h.name) ∷ h.part) (h.level, entry.Back h.back) b h.rest → (h.back ≡ h.name) × HandlerPhrase s h.name (word_after Plain h.front) (own_entries h.level h.part) × RunsThere s p h.level h.name h.front h.part
+done-before s p log b done h k =
     done (record {
       level = h.level;
       name = h.name;
@@ -113,19 +113,19 @@ done-before s log b done h k =
     })
 
 -- an entry that ends no handler
-pub done-grow : (s : Parts) (log : Log) (l : ℕ) (e : Entry) → ((name : List ℕ) → e ≡ entry.Back name → ⊥) → HandlersDone s log → HandlersDone s (log ++ (l, e) ∷ [])
-done-grow s log l e ne done h =
+pub done-grow : (s : Parts) (p : ℕ) (log : Log) (l : ℕ) (e : Entry) → ((name : List ℕ) → e ≡ entry.Back name → ⊥) → HandlersDone s p log → HandlersDone s p (log ++ (l, e) ∷ [])
+done-grow s p log l e ne done h =
     elim (last-cut log (h.front ++ (h.level, entry.Handler h.name) ∷ h.part) h.rest (l, e) (h.level, entry.Back h.back) h.log_is) [
       | inl k ↦ absurd (ne h.back (entry-is k.same))
-      | inr k ↦ done-before s log (l, e) done h k
+      | inr k ↦ done-before s p log (l, e) done h k
     ]
   where
     entry-is : {l k : ℕ} {e f : Entry} → ◌≡◌ {A = ℕ × Entry} (l, e) (k, f) → e ≡ f
     entry-is q = ap (λ (z : ℕ × Entry). z.1) q
 
 -- The begin of the handler that ends now, found twice.
-pub done-back : (s : Parts) (front part : Log) (l : ℕ) (name : List ℕ) → HandlersDone s (front ++ (l, entry.Handler name) ∷ part) → HandlerPhrase s name (word_after Plain front) (own_entries l part) → HandlersDone s (front ++ (l, entry.Handler name) ∷ part ++ (l, entry.Back name) ∷ [])
-done-back s front part l name done phrase = whole
+pub done-back : (s : Parts) (p : ℕ) (front part : Log) (l : ℕ) (name : List ℕ) → HandlersDone s p (front ++ (l, entry.Handler name) ∷ part) → HandlerPhrase s name (word_after Plain front) (own_entries l part) → RunsThere s p l name front part → HandlersDone s p (front ++ (l, entry.Handler name) ∷ part ++ (l, entry.Back name) ∷ [])
+done-back s p front part l name done phrase runs = whole
   where
     log : Log
     log = front ++ (l, entry.Handler name) ∷ part
@@ -147,23 +147,25 @@ done-back s front part l name done phrase = whole
         false-true : false ≡ true → ⊥
         false-true q = cc
 
-    found : (h : Handled (log ++ (l, entry.Back name) ∷ [])) → l ≡ h.level → name ≡ h.back → log ≡ h.front ++ (h.level, entry.Handler h.name) ∷ h.part → (h.back ≡ h.name) × HandlerPhrase s h.name (word_after Plain h.front) (own_entries h.level h.part)
+    found : (h : Handled (log ++ (l, entry.Back name) ∷ [])) → l ≡ h.level → name ≡ h.back → log ≡ h.front ++ (h.level, entry.Handler h.name) ∷ h.part → (h.back ≡ h.name) × HandlerPhrase s h.name (word_after Plain h.front) (own_entries h.level h.part) × RunsThere s p h.level h.name h.front h.part
     found h e f q =
         let here : all_within (own_entries l h.part) ≡ true = subst (λ k. all_within (own_entries k h.part) ≡ true) (sym e) h.within in
         let q' : log ≡ h.front ++ (l, entry.Handler h.name) ∷ h.part = subst (λ k. log ≡ h.front ++ (k, entry.Handler h.name) ∷ h.part) (sym e) q in
         elim (cuts front part h.front h.part (l, entry.Handler name) (l, entry.Handler h.name) q') [
           | inl k ↦
               let n : name ≡ h.name = same-name k.at in
-              let p : HandlerPhrase s h.name (word_after Plain h.front) (own_entries l h.part) =
+              let left : HandlerPhrase s h.name (word_after Plain h.front) (own_entries l h.part) =
               subst (λ v. HandlerPhrase s h.name (word_after Plain h.front) (own_entries l v)) k.rest (subst (λ v. HandlerPhrase s h.name (word_after Plain v) (own_entries l part)) k.front (subst (λ x. HandlerPhrase s x (word_after Plain front) (own_entries l part)) n phrase)) in
-              (sym f ∙ n, subst (λ k. HandlerPhrase s h.name (word_after Plain h.front) (own_entries k h.part)) e p)
+              let ran : RunsThere s p l h.name h.front h.part =
+              subst (λ v. RunsThere s p l h.name h.front v) k.rest (subst (λ v. RunsThere s p l h.name v part) k.front (subst (λ x. RunsThere s p l x front part) n runs)) in
+              (sym f ∙ n, subst (λ k. HandlerPhrase s h.name (word_after Plain h.front) (own_entries k h.part)) e left, subst (λ k. RunsThere s p k h.name h.front h.part) e ran)
           | inr (inl k) ↦ absurd (apart part k.between h.part l h.name k.rest_is (phrase-within s name (word_after Plain front) (own_entries l part) phrase))
           | inr (inr k) ↦ absurd (apart h.part k.between part l name k.rest_is here)
         ]
 
-    whole : HandlersDone s (log ++ (l, entry.Back name) ∷ [])
+    whole : HandlersDone s p (log ++ (l, entry.Back name) ∷ [])
     whole h =
         elim (last-cut log (h.front ++ (h.level, entry.Handler h.name) ∷ h.part) h.rest (l, entry.Back name) (h.level, entry.Back h.back) h.log_is) [
           | inl k ↦ let q = same-level k.same in found h q.0 q.1 k.log_is
-          | inr k ↦ done-before s log (l, entry.Back name) done h k
+          | inr k ↦ done-before s p log (l, entry.Back name) done h k
         ]

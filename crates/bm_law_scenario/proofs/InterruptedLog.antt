@@ -150,8 +150,8 @@ is-log = record {
       (then-of _ _ _ [] (ordinary (swept (3 ∷ 2 ∷ 1 ∷ 0 ∷ []))) (then-of _ _ _ [] [] refl refl) ([], then-of _ _ _ (ordinary (swept (3 ∷ 2 ∷ 1 ∷ 0 ∷ []))) [] (ordinary-say _ (swept (3 ∷ 2 ∷ 1 ∷ 0 ∷ [])) _ _ (record { phrase = sweep; taken = refl; waited = lit≤ tt; given = refl }) refl) refl));
 }
 
-phrases : HandlersDone (handled (makes_and_drops 7 8 9)) interrupted_log
-phrases = done-stretch (handled (makes_and_drops 7 8 9)) (ordinary (entry.Close ∷ swept (3 ∷ 2 ∷ 1 ∷ 0 ∷ []))) interrupted refl interrupted-done
+phrases : HandlersDone (handled (makes_and_drops 7 8 9)) 0 interrupted_log
+phrases = done-stretch (handled (makes_and_drops 7 8 9)) 0 (ordinary (entry.Close ∷ swept (3 ∷ 2 ∷ 1 ∷ 0 ∷ []))) interrupted refl interrupted-done
 
 words : SectionWords interrupted_log
 words Plain = refl

@@ -117,8 +117,8 @@ come-begin s l line xs done name t up c = elim (eqb_tells l line.level) [
 ]
 
 -- the handler that runs goes back
-whole : (s : Parts) (l : ℕ) (done : Log) (name : List ℕ) → HandlersDone s (done ++ (l, entry.Back name) ∷ []) → Runs s l done → AreHandlers s (own_entries l (done ++ (l, entry.Back name) ∷ []))
-whole s l done name h r =
+whole : (s : Parts) (processor : ℕ) (l : ℕ) (done : Log) (name : List ℕ) → HandlersDone s processor (done ++ (l, entry.Back name) ∷ []) → Runs s l done → AreHandlers s (own_entries l (done ++ (l, entry.Back name) ∷ []))
+whole s processor l done name h r =
     let p = h (record { level = l; name = r.name; back = name; front = r.front; part = r.part; rest = []; log_is = ap (λ z. z ++ (l, entry.Back name) ∷ []) r.done_is; within = r.within }) in
     let begin : own_entries l ((l, entry.Handler r.name) ∷ r.part) ≡ entry.Handler r.name ∷ own_entries l r.part = rw (eq-eqb l l refl) refl in
     let parts : own_entries l (done ++ (l, entry.Back name) ∷ []) ≡ (own_entries l r.front ++ (entry.Handler r.name ∷ own_entries l r.part)) ++ entry.Back r.name ∷ [] =
@@ -127,14 +127,14 @@ whole s l done name h r =
     let last : AreHandlers s ((entry.Handler r.name ∷ own_entries l r.part) ++ entry.Back r.name ∷ []) = more r.name _ p.1 none in
     subst (AreHandlers s) (sym (parts ∙ append_assoc (own_entries l r.front) (entry.Handler r.name ∷ own_entries l r.part) (entry.Back r.name ∷ []))) (are-append s (own_entries l r.front) _ r.before last)
 
-come-back : (s : Parts) (l : ℕ) (line : AtLine) (xs : List AtLine) (done : Log) (name : List ℕ) → Tower (line ∷ xs) → HandlersDone s (done ++ (line.level, entry.Back name) ∷ []) → Come s l (has_level l (line ∷ xs)) done → Come s l (has_level l xs) (done ++ (line.level, entry.Back name) ∷ [])
-come-back s l line xs done name t h c = elim (eqb_tells l line.level) [
+come-back : (s : Parts) (processor : ℕ) (l : ℕ) (line : AtLine) (xs : List AtLine) (done : Log) (name : List ℕ) → Tower (line ∷ xs) → HandlersDone s processor (done ++ (line.level, entry.Back name) ∷ []) → Come s l (has_level l (line ∷ xs)) done → Come s l (has_level l xs) (done ++ (line.level, entry.Back name) ∷ [])
+come-back s processor l line xs done name t h c = elim (eqb_tells l line.level) [
   | inl y ↦
       let e : l ≡ line.level = y.1 in
       let runs : Runs s l done = subst (λ b. Come s l b done) (here l line xs e) c in
-      let h' : HandlersDone s (done ++ (l, entry.Back name) ∷ []) = subst (λ z. HandlersDone s (done ++ (z, entry.Back name) ∷ [])) (sym e) h in
+      let h' : HandlersDone s processor (done ++ (l, entry.Back name) ∷ []) = subst (λ z. HandlersDone s processor (done ++ (z, entry.Back name) ∷ [])) (sym e) h in
       let off : has_level l xs ≡ false = below l xs t.1 (subst (λ z. level_of xs < z) (sym e) t.0) in
-      subst (λ b. Come s l b (done ++ (line.level, entry.Back name) ∷ [])) (sym off) (subst (λ z. AreHandlers s (own_entries l (done ++ (z, entry.Back name) ∷ []))) e (whole s l done name h' runs))
+      subst (λ b. Come s l b (done ++ (line.level, entry.Back name) ∷ [])) (sym off) (subst (λ z. AreHandlers s (own_entries l (done ++ (z, entry.Back name) ∷ []))) e (whole s processor l done name h' runs))
   | inr y ↦
       let apart : own_entries l ((line.level, entry.Back name) ∷ []) ≡ [] = other-own l line.level (entry.Back name) (λ q. y.1 (sym q)) in
       come-apart s l (has_level l xs) done (line.level, entry.Back name) apart (subst (λ b. Come s l b done) (elsewhere l line xs y.1) c)
@@ -171,31 +171,31 @@ record At (s : Parts) (l : ℕ) (a : Standing) (done : Log) : Type 0 where
 moved : (s : Parts) (l : ℕ) (a b : Standing) (xs : List AtLine) (done : Log) → b.running ≡ xs → Tower xs → Come s l (has_level l xs) done → At s l b done
 moved s l a b xs done e t c = record { tower = subst Tower (sym e) t; come = subst (λ ys. Come s l (has_level l ys) done) (sym e) c }
 
-one-entry : (s : Parts) (names : List (List ℕ)) (l k : ℕ) (e : Entry) (a b : Standing) (done : Log) → 0 < l → HandlersDone s (done ++ (k, e) ∷ []) → after_kind names k (kind_of e) a ≡ Some b → At s l a done → At s l b (done ++ (k, e) ∷ [])
-one-entry s names l k (entry.Handler name) a b done p h q at =
+one-entry : (s : Parts) (processor : ℕ) (names : List (List ℕ)) (l k : ℕ) (e : Entry) (a b : Standing) (done : Log) → 0 < l → HandlersDone s processor (done ++ (k, e) ∷ []) → after_kind names k (kind_of e) a ≡ Some b → At s l a done → At s l b (done ++ (k, e) ∷ [])
+one-entry s processor names l k (entry.Handler name) a b done p h q at =
     let w = begun-tells names k name (due_in a) a b q in
     let up : level_of a.running < w.0.level = due-above a.ended (a.steps + 1) (level_of a.running) a.left w.0 w.1 in
     subst (λ z. At s l b (done ++ (z, entry.Handler name) ∷ [])) (sym w.2) (moved s l a b (w.0 ∷ a.running) (done ++ (w.0.level, entry.Handler name) ∷ []) (ap (λ (z : Standing). z.running) w.4) (up, at.tower) (come-begin s l w.0 a.running done name at.tower up at.come))
-one-entry s names l k (entry.Back name) a b done p h q at =
+one-entry s processor names l k (entry.Back name) a b done p h q at =
     let w = returned-tells names k name a.running a b q in
     let t : Tower (w.0 ∷ w.1) = subst Tower w.2 at.tower in
     let c : Come s l (has_level l (w.0 ∷ w.1)) done = subst (λ ys. Come s l (has_level l ys) done) w.2 at.come in
-    let h' : HandlersDone s (done ++ (w.0.level, entry.Back name) ∷ []) = subst (λ z. HandlersDone s (done ++ (z, entry.Back name) ∷ [])) w.3 h in
-    subst (λ z. At s l b (done ++ (z, entry.Back name) ∷ [])) (sym w.3) (moved s l a b w.1 (done ++ (w.0.level, entry.Back name) ∷ []) (ap (λ (z : Standing). z.running) w.6) t.1 (come-back s l w.0 w.1 done name t h' c))
-one-entry s names l k e a b done p h q at =
+    let h' : HandlersDone s processor (done ++ (w.0.level, entry.Back name) ∷ []) = subst (λ z. HandlersDone s processor (done ++ (z, entry.Back name) ∷ [])) w.3 h in
+    subst (λ z. At s l b (done ++ (z, entry.Back name) ∷ [])) (sym w.3) (moved s l a b w.1 (done ++ (w.0.level, entry.Back name) ∷ []) (ap (λ (z : Standing). z.running) w.6) t.1 (come-back s processor l w.0 w.1 done name t h' c))
+one-entry s processor names l k e a b done p h q at =
     let w = by-entry names k e a b refl q in
     moved s l a b a.running (done ++ (k, e) ∷ []) w.same at.tower (come-code s l k (has_level l a.running) a.running done e p refl w.level refl at.come)
 
-all-entries : (s : Parts) (names : List (List ℕ)) (l : ℕ) (rest done : Log) (a t : Standing) → 0 < l → HandlersDone s (done ++ rest) → standing_after names rest (Some a) ≡ Some t → At s l a done → At s l t (done ++ rest)
-all-entries s names l [] done a t p h q at =
+all-entries : (s : Parts) (processor : ℕ) (names : List (List ℕ)) (l : ℕ) (rest done : Log) (a t : Standing) → 0 < l → HandlersDone s processor (done ++ rest) → standing_after names rest (Some a) ≡ Some t → At s l a done → At s l t (done ++ rest)
+all-entries s processor names l [] done a t p h q at =
     let same : a ≡ t = cc in
     subst (λ z. At s l t z) (sym (append-nil done)) (subst (λ (x : Standing). At s l x done) same at)
-all-entries s names l (e ∷ es) done a t p h q at =
+all-entries s processor names l (e ∷ es) done a t p h q at =
     let w : (m : Standing) × (after_kind names e.0 (kind_of e.1) a ≡ Some m) = split-first names es _ t q in
     let assoc : (done ++ e ∷ []) ++ es ≡ done ++ e ∷ es = append_assoc done (e ∷ []) es in
-    let h' : HandlersDone s ((done ++ e ∷ []) ++ es) = subst (HandlersDone s) (sym assoc) h in
-    let at' : At s l w.0 (done ++ e ∷ []) = one-entry s names l e.0 e.1 a w.0 done p (done-front s (done ++ e ∷ []) es h') w.1 at in
-    subst (At s l t) assoc (all-entries s names l es (done ++ e ∷ []) w.0 t p h' (sym (ap (standing_after names es) w.1) ∙ q) at')
+    let h' : HandlersDone s processor ((done ++ e ∷ []) ++ es) = subst (HandlersDone s processor) (sym assoc) h in
+    let at' : At s l w.0 (done ++ e ∷ []) = one-entry s processor names l e.0 e.1 a w.0 done p (done-front s processor (done ++ e ∷ []) es h') w.1 at in
+    subst (At s l t) assoc (all-entries s processor names l es (done ++ e ∷ []) w.0 t p h' (sym (ap (standing_after names es) w.1) ∙ q) at')
 
 -- ---- the whole log
 
@@ -212,9 +212,9 @@ nobody (Some t) e = (t, refl, empty t.running (first (is_nobody t.running) _ e))
     first true b q = refl
     first false b q = q
 
-pub levels : (s : Parts) (p : ℕ) (log : Log) → HandlersStand s p log → HandlersDone s log → (l : ℕ) → 0 < l → AreHandlers s (own_entries l log)
+pub levels : (s : Parts) (p : ℕ) (log : Log) → HandlersStand s p log → HandlersDone s p log → (l : ℕ) → 0 < l → AreHandlers s (own_entries l log)
 levels s p log stand done l up =
     let names : List (List ℕ) = map (λ (x : Script). x.name) s.scripts in
     let t = nobody (standing_after names log (Some (at_first (planned_for p s)))) stand in
-    let at : At s l t.0 log = all-entries s names l log [] (at_first (planned_for p s)) t.0 up done t.1 (record { tower = tt; come = none }) in
+    let at : At s l t.0 log = all-entries s p names l log [] (at_first (planned_for p s)) t.0 up done t.1 (record { tower = tt; come = none }) in
     subst (λ xs. Come s l (has_level l xs) log) t.2 at.come

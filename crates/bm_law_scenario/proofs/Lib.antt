@@ -11,6 +11,7 @@ pub mod SameLogs
 pub mod Taken
 pub mod Told
 pub mod Ran
+pub mod RanThere
 pub mod OneObject
 pub mod NoObject
 pub mod WorkedDropped

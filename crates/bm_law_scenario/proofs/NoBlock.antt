@@ -146,7 +146,7 @@ words Tracing = refl
 log-lawful : LawfulLog no_block 0 no_block_log
 log-lawful = record {
   handlers = refl;
-  phrases = done-ordinary _ _ (all-ordinary (entry.Fill 10 (Whole (0 ∷ [])) ∷ script ++ closes (256 ∷ 0 ∷ []))) refl;
+  phrases = done-ordinary _ 0 _ (all-ordinary (entry.Fill 10 (Whole (0 ∷ [])) ∷ script ++ closes (256 ∷ 0 ∷ []))) refl;
   words = words;
   is_log = is-log;
   last = last;

@@ -83,7 +83,7 @@ words Tracing = refl
 log-lawful : LawfulLog no_object 0 no_object_log
 log-lawful = record {
   handlers = refl;
-  phrases = done-ordinary _ _ (all-ordinary (asked [] ++ took_none ++ ended)) refl;
+  phrases = done-ordinary _ 0 _ (all-ordinary (asked [] ++ took_none ++ ended)) refl;
   is_log = is-log;
   words = words;
   last = last;

@@ -159,7 +159,7 @@ s0 = after (opening 0) (ordinary begins)
 abbrev s3 : State ℕ
 s3 = after (opening 0) (ordinary (begins ++ takes ++ work1))
 
-drop-runs : RunsDrop (block ∷ []) x_name (batch_in 0 s3) holding (drops 2) dropped
+drop-runs : RunsDrop (block ∷ []) x_name (batch_in s3) holding (drops 2) dropped
 drop-runs = record {
   type = item_id;
   unit = 0;
@@ -228,7 +228,7 @@ words Tracing = refl
 log-lawful : LawfulLog one_block 0 one_block_log
 log-lawful = record {
   handlers = refl;
-  phrases = done-ordinary _ _ (all-ordinary (entry.Fill 10 (Whole (0 ∷ [])) ∷ script ++ closes (0 ∷ 256 ∷ []))) refl;
+  phrases = done-ordinary _ 0 _ (all-ordinary (entry.Fill 10 (Whole (0 ∷ [])) ∷ script ++ closes (0 ∷ 256 ∷ []))) refl;
   words = words;
   is_log = is-log;
   last = last;

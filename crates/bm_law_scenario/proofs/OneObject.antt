@@ -104,7 +104,7 @@ words Tracing = refl
 log-lawful : LawfulLog one_object 0 one_object_log
 log-lawful = record {
   handlers = refl;
-  phrases = done-ordinary _ _ (all-ordinary (asked one_page ++ took 3 ++ gave 3 4 ++ ended ++ swept (3 ∷ 2 ∷ 1 ∷ 0 ∷ []))) refl;
+  phrases = done-ordinary _ 0 _ (all-ordinary (asked one_page ++ took 3 ++ gave 3 4 ++ ended ++ swept (3 ∷ 2 ∷ 1 ∷ 0 ∷ []))) refl;
   is_log = is-log;
   words = words;
   last = last;

@@ -17,19 +17,14 @@ use Rattle.bm_law_work.specs.Parts as part
 use Rattle.bm_law_scenario.specs.Held.{Held, Nothing, Null, Object, Names}
 use Rattle.bm_law_scenario.specs.Calls.{RunsNew, RunsDrop, any_batch, batch_in}
 use Rattle.bm_law_scenario.specs.Runs.{Run, Leaving, Done, Followed, Times, Calls, Chosen, Within, RunsAction, RunsAlone, RunsElse, RunsBlock, RunsRow}
-use Rattle.bm_law_scenario.proofs.Freed.{NoCounts, loosened, no-count, tightened, uncounted}
+use Rattle.bm_law_scenario.proofs.Freed.{NoCounts, loosened, no-count, uncounted}
 use Rattle.bm_law_scenario.proofs.OwnRuns as own
-
--- A run by entries needn't know of batches: it is of a level above ordinary code, or no type has a count.
-abbrev pub IsLoose : ℕ → List TypeDeclaration → Type 0
-IsLoose zero types = NoCounts types
-IsLoose (suc l) types = Unit {0}
 
 -- Each part of a run is of level l and above, and its entries of that level are a run by entries; and such entries alone are a
 -- run.
 pub record Same (types : List TypeDeclaration) (l : ℕ) (R : Run) (Q : own.Run) : Type 0 where
   pub owned : (names after : Names) (s : State ℕ) (log : Log) → R names after s log → AllFrom l log × Q names (own_entries l log) after
-  pub told : IsLoose l types → (names after : Names) (s : State ℕ) (es : List Entry) → Q names es after → R names after s (at_level l es)
+  pub told : NoCounts types → (names after : Names) (s : State ℕ) (es : List Entry) → Q names es after → R names after s (at_level l es)
 
 none-same : (types : List TypeDeclaration) (l : ℕ) → Same types l (λ names after s log. ⊥) (λ names es after. ⊥)
 none-same types l = record { owned = λ names after s log h. absurd h; told = λ loose names after s es h. absurd h }
@@ -46,15 +41,14 @@ calls-same types l call = record {
   told = λ loose names after s es h. (es, h, record { from = level-from l es; own_is = level-own l es });
 }
 
--- what ordinary code knows of batches its entries don't say
-told-drop : (l : ℕ) (types : List TypeDeclaration) (x : List ℕ) (s : State ℕ) (names after : Names) (own : List Entry) → IsLoose l types → RunsDrop types x any_batch names own after → RunsDrop types x (batch_in l s) names own after
-told-drop zero types x s names after own loose h = uncounted types x s names after own h (no-count types h.type.0 h.declared loose h.of_class.found)
-told-drop (suc l) types x s names after own loose h = tightened types x (batch_in (suc l) s) names after own h tt
+-- what code knows of batches its entries don't say
+told-drop : (types : List TypeDeclaration) (x : List ℕ) (s : State ℕ) (names after : Names) (own : List Entry) → NoCounts types → RunsDrop types x any_batch names own after → RunsDrop types x (batch_in s) names own after
+told-drop types x s names after own loose h = uncounted types x s names after own h (no-count types h.type.0 h.declared loose h.of_class.found)
 
-drop-same : (l : ℕ) (types : List TypeDeclaration) (x : List ℕ) → Same types l (λ names after s. Calls l (RunsDrop types x (batch_in l s)) names after s) (RunsDrop types x any_batch)
+drop-same : (l : ℕ) (types : List TypeDeclaration) (x : List ℕ) → Same types l (λ names after s. Calls l (RunsDrop types x (batch_in s)) names after s) (RunsDrop types x any_batch)
 drop-same l types x = record {
-  owned = λ names after s log h. (h.2.from, subst (λ es. RunsDrop types x any_batch names es after) (sym h.2.own_is) (loosened types x (batch_in l s) names after h.0 h.1));
-  told = λ loose names after s es h. (es, told-drop l types x s names after es loose h, record { from = level-from l es; own_is = level-own l es });
+  owned = λ names after s log h. (h.2.from, subst (λ es. RunsDrop types x any_batch names es after) (sym h.2.own_is) (loosened types x (batch_in s) names after h.0 h.1));
+  told = λ loose names after s es h. (es, told-drop types x s names after es loose h, record { from = level-from l es; own_is = level-own l es });
 }
 
 followed-same : (types : List TypeDeclaration) (l : ℕ) (R R' : Run) (Q Q' : own.Run) → Same types l R Q → Same types l R' Q' → Same types l (Followed R R') (own.Then Q Q')
@@ -215,7 +209,17 @@ mutual
 
 -- the same of a block that stands alone
 pub alone-owned : (types : List TypeDeclaration) (b : Block) (names last : Names) (es : List Entry) → RunsAlone types b names es last → own.RunsBlock types true b names es last
-alone-owned types b names last es h = subst (λ v. own.RunsBlock types true b names v last) (level-own 1 es) ((block-same 1 types true b).owned names last (opening 0) (at_level 1 es) h).1
+alone-owned types b names last es h = subst (λ v. own.RunsBlock types true b names v last) h.own_is ((block-same h.level types true b).owned names last h.lists h.log h.runs).1
 
-pub alone-told : (types : List TypeDeclaration) (b : Block) (names last : Names) (es : List Entry) → own.RunsBlock types true b names es last → RunsAlone types b names es last
-alone-told types b names last es h = (block-same 1 types true b).told tt names last (opening 0) es h
+-- Where no type has a count, these entries of a level alone are a run from any lists; and so they are those of some part.
+pub level-told : (types : List TypeDeclaration) (l : ℕ) (b : Block) (names last : Names) (s : State ℕ) (es : List Entry) → NoCounts types → own.RunsBlock types true b names es last → RunsBlock types l true part.Nothing b names last s (at_level l es)
+level-told types l b names last s es none h = (block-same l types true b).told none names last s es h
+
+pub alone-told : (types : List TypeDeclaration) (b : Block) (names last : Names) (es : List Entry) → NoCounts types → own.RunsBlock types true b names es last → RunsAlone types b names es last
+alone-told types b names last es none h = record {
+  level = 1;
+  lists = opening 0;
+  log = at_level 1 es;
+  runs = level-told types 1 b names last (opening 0) es none h;
+  own_is = level-own 1 es;
+}

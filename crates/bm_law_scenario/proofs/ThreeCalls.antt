@@ -93,7 +93,7 @@ words Tracing = refl
 log-lawful : LawfulLog three_calls 0 three_calls_log
 log-lawful = record {
   handlers = refl;
-  phrases = done-ordinary _ _ (all-ordinary (entry.Fill 0 (Whole []) ∷ twice_part ++ main_part ++ entry.Ended ∷ entry.Close ∷ [])) refl;
+  phrases = done-ordinary _ 0 _ (all-ordinary (entry.Fill 0 (Whole []) ∷ twice_part ++ main_part ++ entry.Ended ∷ entry.Close ∷ [])) refl;
   is_log = is-log;
   words = words;
   last = last;

@@ -115,11 +115,11 @@ no-back e name w q = false-true (sym (ap is_within q) ∙ w)
     false-true f = cc
 
 -- such entries keep what the handlers have left
-pub done-stretch : (s : Parts) (es log : Log) → log_within es ≡ true → HandlersDone s log → HandlersDone s (log ++ es)
-done-stretch s [] log w h = subst (HandlersDone s) (sym (append-nil log)) h
-done-stretch s (e ∷ es) log w h =
-    let p = and_parts (is_within e.1) (log_within es) w in
-    subst (HandlersDone s) (append_assoc log (e ∷ []) es) (done-stretch s es (log ++ e ∷ []) p.1 (done-grow s log e.0 e.1 (λ name q. no-back e.1 name p.0 q) h))
+pub done-stretch : (s : Parts) (p : ℕ) (es log : Log) → log_within es ≡ true → HandlersDone s p log → HandlersDone s p (log ++ es)
+done-stretch s p [] log w h = subst (HandlersDone s p) (sym (append-nil log)) h
+done-stretch s p (e ∷ es) log w h =
+    let both = and_parts (is_within e.1) (log_within es) w in
+    subst (HandlersDone s p) (append_assoc log (e ∷ []) es) (done-stretch s p es (log ++ e ∷ []) both.1 (done-grow s p log e.0 e.1 (λ name q. no-back e.1 name both.0 q) h))
 
-pub done-ordinary : (s : Parts) (log : Log) → AllAt 0 log → all_within (own_entries 0 log) ≡ true → HandlersDone s log
-done-ordinary s log a w = subst (HandlersDone s) (sym (at-own 0 log a)) (done-stretch s (at_level 0 (own_entries 0 log)) [] (level-within 0 (own_entries 0 log) ∙ w) (done-none s))
+pub done-ordinary : (s : Parts) (p : ℕ) (log : Log) → AllAt 0 log → all_within (own_entries 0 log) ≡ true → HandlersDone s p log
+done-ordinary s p log a w = subst (HandlersDone s p) (sym (at-own 0 log a)) (done-stretch s p (at_level 0 (own_entries 0 log)) [] (level-within 0 (own_entries 0 log) ∙ w) (done-none s p))

@@ -1,16 +1,17 @@
 -- Drops of objects with a count, and without one, are so, and wrong ones aren't.
-use Rattle.std.specs.Prelude.{◌≡◌, ◌≢◌, ℕ, zero, suc, Bool, true, false, is_some, List, [], ◌∷◌, ◌++◌, Option, Some, None, slice_get}
-use Rattle.std.proofs.Common.{◌∙◌, ap, inl, inr, lit<, refl, subst, sym}
+use Rattle.std.specs.Prelude.{◌≡◌, ℕ, zero, suc, Bool, true, false, is_some, List, [], ◌∷◌, ◌++◌, Some, None, slice_get}
+use Rattle.std.proofs.Common.{◌∙◌, ap, inl, inr, refl, subst, sym}
 use Rattle.bm_class.specs.Sizes.{class_of_size}
 use Rattle.bm_journal.specs.declared.entry.Entry.{Entry}
 use Rattle.bm_journal.specs.declared.entry.Entry.TheVariants as entry
 use Rattle.bm_lang.specs.declared.scenario.TypeDeclaration.{TypeDeclaration}
 use Rattle.bm_law.specs.Phrases.{DelayPhrase, FreePhrase, overtaken_delayed, raise_unless}
 use Rattle.bm_law.specs.State.{State}
+use Rattle.bm_law.proofs.Alone.{level-from, level-own}
 use Rattle.bm_law_scenario.specs.Calls.{Frees, RunsDrop, any_batch, batch_in}
 use Rattle.bm_law_scenario.specs.Opened.{OfClass}
 use Rattle.bm_law_scenario.specs.Worked.{item}
-use Rattle.bm_law_scenario.specs.WorkedDrops.{counted_types, delays, delays_and_raises, frees_plainly, holding_three, in_batch, no_batch, none_held}
+use Rattle.bm_law_scenario.specs.WorkedDrops.{DropsAbove, counted_types, delays, delays_and_raises, frees_plainly, holding_three, in_batch, no_batch, none_held}
 use Rattle.bm_law_scenario.specs.WorkedJournal.{item_id, types, x_name}
 use Rattle.bm_law_scenario.proofs.Freed.{no-count}
 
@@ -23,7 +24,7 @@ abbrev rest_of : List Entry → List Entry
 rest_of (drop ∷ last ∷ own) = own
 rest_of _ = []
 
-pub delay-of : (s : State ℕ) (part : List Entry) (batch : Bool) → batch ≡ is_some (s.rows 0).deferred.plain → part ≡ entry.Drop 3 1 ∷ entry.Last ∷ rest_of part → DelayPhrase 0 3 0 batch (rest_of part) → RunsDrop counted_types x_name (batch_in 0 s) holding_three part none_held
+pub delay-of : (s : State ℕ) (part : List Entry) (batch : Bool) → batch ≡ is_some (s.rows 0).deferred.plain → part ≡ entry.Drop 3 1 ∷ entry.Last ∷ rest_of part → DelayPhrase 0 3 0 batch (rest_of part) → RunsDrop counted_types x_name (batch_in s) holding_three part none_held
 delay-of s part batch is parts d = record {
   type = item_id;
   unit = 3;
@@ -41,10 +42,10 @@ delay-of s part batch is parts d = record {
   after_is = refl;
 }
 
-pub drops-raised : RunsDrop counted_types x_name (batch_in 0 no_batch) holding_three delays_and_raises none_held
+pub drops-raised : RunsDrop counted_types x_name (batch_in no_batch) holding_three delays_and_raises none_held
 drops-raised = delay-of no_batch delays_and_raises false refl refl (inl (0, refl))
 
-pub drops-waiting : RunsDrop counted_types x_name (batch_in 0 in_batch) holding_three delays none_held
+pub drops-waiting : RunsDrop counted_types x_name (batch_in in_batch) holding_three delays none_held
 drops-waiting = delay-of in_batch delays true refl refl (inl (0, refl))
 
 -- ---- wrong ones
@@ -108,8 +109,8 @@ none-raise : (c : ℕ) → [] ≡ entry.Raise c ∷ [] → ⊥
 none-raise c e = cc
 
 -- whether a batch is in progress decides whether the flag is raised
-flag-of : (s : State ℕ) (part es : List Entry) → rest_of part ≡ entry.Delay 3 0 ∷ entry.Enter 0 1 ∷ entry.Delayed 0 3 ∷ entry.Leave 0 0 ∷ es → (h : RunsDrop counted_types x_name (batch_in 0 s) holding_three part none_held) → es ≡ raise_unless (is_some (s.rows 0).deferred.plain) 0
-flag-of s part es parts h = elim (delay-in (batch_in 0 s) part h) [
+flag-of : (s : State ℕ) (part es : List Entry) → rest_of part ≡ entry.Delay 3 0 ∷ entry.Enter 0 1 ∷ entry.Delayed 0 3 ∷ entry.Leave 0 0 ∷ es → (h : RunsDrop counted_types x_name (batch_in s) holding_three part none_held) → es ≡ raise_unless (is_some (s.rows 0).deferred.plain) 0
+flag-of s part es parts h = elim (delay-in (batch_in s) part h) [
   | inl x ↦
       (let lines = behind-first _ _ _ _ (sym parts ∙ x.1) in
       let c = class-of h.class x.0 3 h.unit es (raise_unless h.batch h.class) lines in
@@ -118,8 +119,28 @@ flag-of s part es parts h = elim (delay-in (batch_in 0 s) part h) [
   | inr x ↦ absurd (put-not _ _ _ _ _ _ x.1 h.batch _ (behind-first _ _ _ _ (sym parts ∙ x.5)))
 ]
 
-pub unraised-wrong : RunsDrop counted_types x_name (batch_in 0 no_batch) holding_three delays none_held → ⊥
+pub unraised-wrong : RunsDrop counted_types x_name (batch_in no_batch) holding_three delays none_held → ⊥
 unraised-wrong h = none-raise 0 (flag-of no_batch delays [] refl h)
 
-pub raised_again-wrong : RunsDrop counted_types x_name (batch_in 0 in_batch) holding_three delays_and_raises none_held → ⊥
+pub raised_again-wrong : RunsDrop counted_types x_name (batch_in in_batch) holding_three delays_and_raises none_held → ⊥
 raised_again-wrong h = none-raise 0 (sym (flag-of in_batch delays_and_raises (entry.Raise 0 ∷ []) refl h))
+
+-- ---- in a handler
+
+above : (s : State ℕ) (own : List Entry) → RunsDrop counted_types x_name (batch_in s) holding_three own none_held → DropsAbove s own
+above s own h = (own, h, record { from = level-from 2 own; own_is = level-own 2 own })
+
+not-above : (s : State ℕ) (own : List Entry) → (RunsDrop counted_types x_name (batch_in s) holding_three own none_held → ⊥) → DropsAbove s own → ⊥
+not-above s own wrong h = wrong (subst (λ es. RunsDrop counted_types x_name (batch_in s) holding_three es none_held) (sym h.2.own_is ∙ level-own 2 own) h.1)
+
+pub above-raised : DropsAbove no_batch delays_and_raises
+above-raised = above no_batch delays_and_raises drops-raised
+
+pub above-waiting : DropsAbove in_batch delays
+above-waiting = above in_batch delays drops-waiting
+
+pub above-unraised : DropsAbove no_batch delays → ⊥
+above-unraised = not-above no_batch delays unraised-wrong
+
+pub above-raised_again : DropsAbove in_batch delays_and_raises → ⊥
+above-raised_again = not-above in_batch delays_and_raises raised_again-wrong

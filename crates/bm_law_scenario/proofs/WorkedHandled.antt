@@ -10,12 +10,16 @@ use Rattle.bm_lang.specs.declared.scenario.Parts.{Parts}
 use Rattle.bm_lang.specs.declared.scenario.Script.{Script}
 use Rattle.bm_lang.specs.declared.scenario.ScriptKind.TheVariants as kind
 use Rattle.bm_law.specs.Alone.{at_level}
-use Rattle.bm_law.specs.Lists.{Log}
+use Rattle.bm_law.specs.Lists.{Log, after}
+use Rattle.bm_law.specs.State.{State}
+use Rattle.bm_law.proofs.Alone.{level-from}
+use Rattle.bm_law_work.specs.Parts as part
 use Rattle.bm_law.specs.Spans.{own_entries}
 use Rattle.bm_law_scenario.specs.Calls.{Allocates, RunsNew}
-use Rattle.bm_law_scenario.specs.Handlers.{HandlerPhrase, HandlersDone, enclosed}
+use Rattle.bm_law_scenario.specs.Handlers.{HandlerPhrase, HandlersDone, InSection, RunsThere, enclosed}
 use Rattle.bm_law_scenario.specs.Held.{Names, OwnsNothing, no_names}
 use Rattle.bm_law_scenario.proofs.OwnRuns.{Done, Run, RunsBlock}
+use Rattle.bm_law_scenario.specs.Runs.{RunsBlock as RunsBlock'}
 use Rattle.bm_law_scenario.specs.SectionWords.{SectionWords, word_after}
 use Rattle.bm_law_scenario.specs.Worked.{item}
 use Rattle.bm_law_scenario.specs.WorkedJournal.{asks, drops_x_unless_null, item_id, makes_and_drops, makes_x, script_of, took, types, vector_of, x_name}
@@ -23,7 +27,7 @@ use Rattle.bm_law_scenario.specs.WorkedHandlers.{asks_too, back_as_other, behind
 use Rattle.bm_law_scenario.proofs.Blocks.{RunsList, block-runs}
 use Rattle.bm_law_scenario.proofs.GoneBack.{done-back, done-grow, done-none}
 use Rattle.bm_law_scenario.proofs.Ran.{null-owns_nothing, of-item, with_null}
-use Rattle.bm_law_scenario.proofs.SameRuns.{alone-owned, alone-told}
+use Rattle.bm_law_scenario.proofs.SameRuns.{alone-owned, alone-told, level-told}
 use Rattle.bm_law_scenario.proofs.Taken.{new-taken}
 use Rattle.bm_law_scenario.proofs.Told.{same-script}
 use Rattle.bm_law_scenario.proofs.Unplanned.{done-stretch, log_within}
@@ -65,24 +69,49 @@ handler-back : (name back : List ℕ) → entry.Handler name ≡ entry.Back back
 handler-back name back q = cc
 
 -- a whole handler, with none within it
-whole : (s : Parts) (log : Log) (l : ℕ) (name : List ℕ) (own : List Entry) → log_within (at_level l own) ≡ true → own_entries l (at_level l own) ≡ own → HandlersDone s log → HandlerPhrase s name (word_after Plain log) own → HandlersDone s ((log ++ (l, entry.Handler name) ∷ at_level l own) ++ (l, entry.Back name) ∷ [])
-whole s log l name own w o h p =
-    let begun : HandlersDone s (log ++ (l, entry.Handler name) ∷ []) = done-grow s log l (entry.Handler name) (λ back q. handler-back name back q) h in
-    let inside : HandlersDone s (log ++ (l, entry.Handler name) ∷ at_level l own) = subst (HandlersDone s) (append_assoc log ((l, entry.Handler name) ∷ []) (at_level l own)) (done-stretch s (at_level l own) (log ++ (l, entry.Handler name) ∷ []) w begun) in
-    done-back s log (at_level l own) l name inside (subst (HandlerPhrase s name (word_after Plain log)) (sym o) p)
+whole : (s : Parts) (log : Log) (l : ℕ) (name : List ℕ) (own : List Entry) → log_within (at_level l own) ≡ true → own_entries l (at_level l own) ≡ own → HandlersDone s 0 log → HandlerPhrase s name (word_after Plain log) own → RunsThere s 0 l name log (at_level l own) → HandlersDone s 0 ((log ++ (l, entry.Handler name) ∷ at_level l own) ++ (l, entry.Back name) ∷ [])
+whole s log l name own w o h p r =
+    let begun : HandlersDone s 0 (log ++ (l, entry.Handler name) ∷ []) = done-grow s 0 log l (entry.Handler name) (λ back q. handler-back name back q) h in
+    let inside : HandlersDone s 0 (log ++ (l, entry.Handler name) ∷ at_level l own) = subst (HandlersDone s 0) (append_assoc log ((l, entry.Handler name) ∷ []) (at_level l own)) (done-stretch s 0 (at_level l own) (log ++ (l, entry.Handler name) ∷ []) w begun) in
+    done-back s 0 log (at_level l own) l name inside (subst (HandlerPhrase s name (word_after Plain log)) (sym o) p) r
 
-pub interrupted-done : HandlersDone (handled (makes_and_drops 7 8 9)) interrupted
+pub interrupted-done : HandlersDone (handled (makes_and_drops 7 8 9)) 0 interrupted
 interrupted-done =
     let s = handled (makes_and_drops 7 8 9) in
-    let phrase : HandlerPhrase s (codes "h") 1 finds_busy = record { index = 1; script = _; found = refl; called = refl; handles = refl; part = finds_busy; after = with_null no_names; own_is = refl; runs = alone-told s.types (makes_and_drops 7 8 9) no_names (with_null no_names) finds_busy busy-runs; owns_nothing = null-owns_nothing } in
-    done-stretch s counted (taken ++ handler (codes "h") finds_busy) refl (whole s taken 1 (codes "h") finds_busy refl refl (done-stretch s taken [] refl (done-none s)) phrase)
+    let phrase : HandlerPhrase s (codes "h") 1 finds_busy = record { index = 1; script = _; found = refl; called = refl; handles = refl; part = finds_busy; after = with_null no_names; own_is = refl; runs = alone-told s.types (makes_and_drops 7 8 9) no_names (with_null no_names) finds_busy (refl, tt) busy-runs; owns_nothing = null-owns_nothing } in
+    let ran : RunsThere s 0 1 (codes "h") taken (at_level 1 finds_busy) = λ lists h. record {
+      index = 1;
+      script = _;
+      found = refl;
+      called = refl;
+      handles = refl;
+      after = with_null no_names;
+      runs = level-told s.types 1 (makes_and_drops 7 8 9) no_names (with_null no_names) lists finds_busy (refl, tt) busy-runs;
+      owns_nothing = null-owns_nothing;
+    } in
+    done-stretch s 0 counted (taken ++ handler (codes "h") finds_busy) refl (whole s taken 1 (codes "h") finds_busy refl refl (done-stretch s 0 taken [] refl (done-none s 0)) phrase ran)
 
-pub behind_script-done : HandlersDone (handled idle) behind_script
+pub behind_script-done : HandlersDone (handled idle) 0 behind_script
 behind_script-done =
     let s = handled idle in
     let own : List Entry = entry.In Plain 3 ∷ entry.Out Plain 4 ∷ [] in
-    let phrase : HandlerPhrase s (codes "h") 2 own = record { index = 1; script = _; found = refl; called = refl; handles = refl; part = []; after = no_names; own_is = refl; runs = alone-told s.types idle no_names no_names [] idle-runs; owns_nothing = λ x. tt } in
-    done-stretch s works_on (worked_behind ++ handler (codes "h") own) refl (whole s worked_behind 1 (codes "h") own refl refl (done-stretch s worked_behind [] refl (done-none s)) phrase)
+    let phrase : HandlerPhrase s (codes "h") 2 own = record { index = 1; script = _; found = refl; called = refl; handles = refl; part = []; after = no_names; own_is = refl; runs = alone-told s.types idle no_names no_names [] (refl, tt) idle-runs; owns_nothing = λ x. tt } in
+    let in_section : (lists : State ℕ) → InSection true 1 2 (RunsBlock' s.types 1 true part.Nothing idle) no_names no_names lists (at_level 1 own) =
+    λ lists. record {
+      one = at_level 1 (entry.In Plain 3 ∷ []);
+      two = at_level 1 (entry.Out Plain 4 ∷ []);
+      part_is = refl;
+      is_first = record { from = level-from 1 (entry.In Plain 3 ∷ []); own_is = refl };
+      is_second = record {
+        one = [];
+        two = at_level 1 (entry.Out Plain 4 ∷ []);
+        part_is = refl;
+        is_first = level-told s.types 1 idle no_names no_names (after lists (at_level 1 (entry.In Plain 3 ∷ []))) [] (refl, tt) idle-runs;
+        is_second = record { from = level-from 1 (entry.Out Plain 4 ∷ []); own_is = refl };
+      };
+    } in
+    let ran : RunsThere s 0 1 (codes "h") worked_behind (at_level 1 own) = λ lists h. record { index = 1; script = _; found = refl; called = refl; handles = refl; after = no_names; runs = in_section lists; owns_nothing = λ x. tt } in
+    done-stretch s 0 works_on (worked_behind ++ handler (codes "h") own) refl (whole s worked_behind 1 (codes "h") own refl refl (done-stretch s 0 worked_behind [] refl (done-none s 0)) phrase ran)
 
 pub interrupted-words : SectionWords interrupted
 interrupted-words Plain = refl
@@ -137,7 +166,7 @@ h-other e = omega (arith, ap (λ (v : List ℕ). slice_index v 0) e)
 g-other : codes "g" ≡ codes "h" → ⊥
 g-other e = omega (arith, ap (λ (v : List ℕ). slice_index v 0) e)
 
-pub keeps_it-wrong : HandlersDone (handled keeps) keeps_it → ⊥
+pub keeps_it-wrong : HandlersDone (handled keeps) 0 keeps_it → ⊥
 keeps_it-wrong done =
     let own : List Entry = asks ∷ took 3 in
     let d = done (record { level = 1; name = codes "h"; back = codes "h"; front = taken; part = at_level 1 own; rest = counted; log_is = refl; within = refl }) in
@@ -146,28 +175,28 @@ keeps_it-wrong done =
     let stays = new-taken Done r.part r.after [] [] list (append-nil r.part ∙ sym r.own_is) in
     subst (λ (names : Names). OwnsNothing (names x_name)) stays.runs.1 (r.owns_nothing x_name)
 
-pub asks_too-wrong : HandlersDone (handled idle) asks_too → ⊥
+pub asks_too-wrong : HandlersDone (handled idle) 0 asks_too → ⊥
 asks_too-wrong done =
     let d = done (record { level = 1; name = codes "h"; back = codes "h"; front = taken; part = at_level 1 finds_busy; rest = counted; log_is = refl; within = refl }) in
     cons-none _ _ (idle-none 1 finds_busy (ran-of idle (codes "h") 1 finds_busy d.1))
 
-pub encloses_inside-wrong : HandlersDone (handled idle) encloses_inside → ⊥
+pub encloses_inside-wrong : HandlersDone (handled idle) 0 encloses_inside → ⊥
 encloses_inside-wrong done =
     let own : List Entry = entry.In Plain 2 ∷ entry.Out Plain 3 ∷ [] in
     let d = done (record { level = 1; name = codes "h"; back = codes "h"; front = taken; part = at_level 1 own; rest = counted; log_is = refl; within = refl }) in
     cons-none _ _ (idle-none 1 own (ran-of idle (codes "h") 1 own d.1))
 
-pub no_section-wrong : HandlersDone (handled idle) no_section → ⊥
+pub no_section-wrong : HandlersDone (handled idle) 0 no_section → ⊥
 no_section-wrong done =
     let d = done (record { level = 1; name = codes "h"; back = codes "h"; front = worked_behind; part = []; rest = works_on; log_is = refl; within = refl }) in
     cons-none _ _ (sym (idle-none 2 [] (ran-of idle (codes "h") 2 [] d.1)))
 
-pub plain_script-wrong : HandlersDone (handled idle) plain_script → ⊥
+pub plain_script-wrong : HandlersDone (handled idle) 0 plain_script → ⊥
 plain_script-wrong done =
     let d = done (record { level = 1; name = codes "main"; back = codes "main"; front = taken; part = []; rest = counted; log_is = refl; within = refl }) in
     h-other (ap (λ (x : Script). x.name) (only idle d.1.index d.1.script d.1.found d.1.handles) ∙ d.1.called)
 
-pub back_as_other-wrong : HandlersDone (handled idle) back_as_other → ⊥
+pub back_as_other-wrong : HandlersDone (handled idle) 0 back_as_other → ⊥
 back_as_other-wrong done =
     let d = done (record { level = 1; name = codes "h"; back = codes "g"; front = taken; part = []; rest = counted; log_is = refl; within = refl }) in
     g-other d.0

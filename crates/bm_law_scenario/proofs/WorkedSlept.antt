@@ -47,7 +47,7 @@ asleep-replies = (tt, (tt, (tt, (tt, (tt, (tt, (tt, (tt, (tt, (tt, tt))))))))))
 asleep-log : LawfulLog asleep 0 asleep_log
 asleep-log = record {
   handlers = refl;
-  phrases = done-ordinary _ _ (all-ordinary (asleep_script ++ entry.Ended ∷ entry.Close ∷ [])) refl;
+  phrases = done-ordinary _ 0 _ (all-ordinary (asleep_script ++ entry.Ended ∷ entry.Close ∷ [])) refl;
   is_log = asleep-is;
   words = asleep-words;
   last = after (opening 0) asleep_log;
@@ -94,7 +94,7 @@ awake-replies = (tt, (tt, (tt, (tt, (tt, (tt, (tt, (tt, tt))))))))
 awake-log : LawfulLog awake 0 awake_log
 awake-log = record {
   handlers = refl;
-  phrases = done-ordinary _ _ (all-ordinary (awake_script ++ entry.Ended ∷ entry.Close ∷ [])) refl;
+  phrases = done-ordinary _ 0 _ (all-ordinary (awake_script ++ entry.Ended ∷ entry.Close ∷ [])) refl;
   is_log = awake-is;
   words = awake-words;
   last = after (opening 0) awake_log;

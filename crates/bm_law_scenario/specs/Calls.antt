@@ -1,7 +1,7 @@
 -- What the calls of a script leave at its level, and in the script's names. (This project's own language. That an
 -- allocation may answer null, that the reference given has to be given up, and that the memory is freed behind the last
 -- one, are bpf_obj_new_impl and bpf_obj_drop_impl in kernel/bpf/helpers.c.)
-use Rattle.std.specs.Prelude.{◌≡◌, ◌<◌, ◌⊎◌, ℕ, zero, suc, Bool, true, false, is_some, List, ◌∷◌, Option, Some, None}
+use Rattle.std.specs.Prelude.{◌≡◌, ◌<◌, ◌⊎◌, ℕ, Bool, true, false, is_some, List, ◌∷◌, Option, Some, None}
 use Rattle.bm_journal.specs.declared.entry.Entry.{Entry}
 use Rattle.bm_journal.specs.declared.entry.Entry.TheVariants as entry
 use Rattle.bm_lang.specs.declared.scenario.TypeDeclaration.{TypeDeclaration}
@@ -43,10 +43,9 @@ Frees true c u home batch own = DelayPhrase c u home batch own
 abbrev pub any_batch : ℕ → Bool → Type 0
 any_batch c batch = Unit {0}
 
--- the same, by these lists, where ordinary code runs. What a handler knows of it isn't said so far.
-abbrev pub batch_in : (l : ℕ) → State ℕ → ℕ → Bool → Type 0
-batch_in zero s c batch = batch ≡ is_some (s.rows c).deferred.plain
-batch_in (suc l) s c batch = Unit {0}
+-- the same, by these lists
+abbrev pub batch_in : State ℕ → ℕ → Bool → Type 0
+batch_in s c batch = batch ≡ is_some (s.rows c).deferred.plain
 
 -- `drop x`, where x holds the one reference to an object: the call, its reply, and the free of the unit. Then x holds nothing.
 pub record RunsDrop (types : List TypeDeclaration) (x : List ℕ) (known : ℕ → Bool → Type 0) (names : Names) (part : List Entry) (after : Names) : Type 0 where

@@ -7,10 +7,12 @@ use Rattle.bm_journal.specs.declared.entry.Entry.TheVariants as entry
 use Rattle.bm_lang.specs.declared.scenario.Parts.{Parts}
 use Rattle.bm_lang.specs.declared.scenario.Script.{Script}
 use Rattle.bm_lang.specs.declared.scenario.ScriptKind.TheVariants as kind
-use Rattle.bm_law.specs.Lists.{Log}
+use Rattle.bm_law.specs.Lists.{Leaves, Log}
 use Rattle.bm_law.specs.Spans.{own_entries}
+use Rattle.bm_law.specs.State.{State}
+use Rattle.bm_law_work.specs.Parts.{Nothing}
 use Rattle.bm_law_scenario.specs.Held.{Names, no_names, OwnsNothing}
-use Rattle.bm_law_scenario.specs.Runs.{RunsAlone}
+use Rattle.bm_law_scenario.specs.Runs.{Enclosed, Run, RunsAlone, RunsBlock}
 use Rattle.bm_law_scenario.specs.SectionWords.{is_outside, word_after}
 
 -- These entries, in a plain section of their own where the word before is that of none, and as they stand where it is that of
@@ -55,9 +57,36 @@ pub record Handled (log : Log) : Type 0 where
   pub log_is : log ≡ front ++ (level, entry.Handler name) ∷ part ++ (level, entry.Back back) ∷ rest
   pub within : all_within (own_entries level part) ≡ true
 
--- Each handler that has gone back went back by its name, and left its phrase. Others may still run.
-abbrev pub HandlersDone : Parts → Log → Type 0
-HandlersDone s log = (h : Handled log) → (h.back ≡ h.name) × HandlerPhrase s h.name (word_after Plain h.front) (own_entries h.level h.part)
+-- a run of level l, in a plain section of its own or in none, where the plain section's word was w before
+abbrev pub InSection : (outside : Bool) → (l w : ℕ) → Run → Run
+InSection true l w run names after = Enclosed l run (w + 1) names after
+InSection false l w run names after = run names after
+
+-- What a handler of this level and name leaves where it stands, with whatever handlers of higher levels within it: from these lists
+-- its block runs, from names that hold nothing to names that own nothing, in a plain section of its own where the plain section's word
+-- was that of none before.
+pub record HandlerRun (s : Parts) (l : ℕ) (name : List ℕ) (w : ℕ) (lists : State ℕ) (part : Log) : Type 0 where
+  pub index : ℕ
+  pub script : Script
+  pub found : slice_get s.scripts index ≡ Some script
+  pub called : script.name ≡ name
+  pub handles : script.kind ≡ kind.Handler
+  pub after : Names
+  pub runs : InSection (is_outside w) l w (RunsBlock s.types l true Nothing script.body) no_names after lists part
+  pub owns_nothing : (x : List ℕ) → OwnsNothing (after x)
+
+-- the same, from the lists that a log of processor p leaves which ends with the handler's begin
+abbrev pub RunsThere : Parts → (p l : ℕ) → (name : List ℕ) → (front part : Log) → Type 0
+RunsThere s p l name front part =
+    (lists : State ℕ) → Leaves p (front ++ (l, entry.Handler name) ∷ []) lists → HandlerRun s l name (word_after Plain front) lists part
+
+-- In a log of processor p each handler that has gone back went back by its name, left its phrase, and ran from the lists that were there.
+-- Others may still run.
+abbrev pub HandlersDone : Parts → ℕ → Log → Type 0
+HandlersDone s p log =
+    (h : Handled log) → (h.back ≡ h.name)
+    × HandlerPhrase s h.name (word_after Plain h.front) (own_entries h.level h.part)
+    × RunsThere s p h.level h.name h.front h.part
 
 -- whole handlers of one level, one after the other, by their entries
 pub data AreHandlers (s : Parts) : List Entry → Type 0 where

@@ -32,7 +32,7 @@ pub record HeadingOf (s : Parts) (j : Journal) : Type 0 where
 -- answer null; and which parcels it receives, where it alone sends any.
 pub record LawfulLog (s : Parts) (p : ℕ) (log : Log) : Type 0 where
   pub handlers : HandlersStand s p log
-  pub phrases : HandlersDone s log
+  pub phrases : HandlersDone s p log
   pub is_log : IsLog s p log
   pub words : SectionWords log
   pub last : State ℕ

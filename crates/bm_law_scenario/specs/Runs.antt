@@ -7,12 +7,13 @@ use Rattle.bm_journal.specs.declared.entry.Entry.TheVariants as entry
 use Rattle.bm_lang.specs.declared.scenario.Action.{Action, New, Drop, Acquire, Get, Exchange, If', Repeat, Section, Lock, Unlock, Yield, PushFront, PushBack, PopFront, PopBack, Add, First, Remove, Held-Action-If-2, None', Some'}
 use Rattle.bm_lang.specs.declared.scenario.Block.{Block, Block', Row_of-Statement, end_of-Statement, more_of-Statement}
 use Rattle.bm_lang.specs.declared.scenario.TypeDeclaration.{TypeDeclaration}
-use Rattle.bm_law.specs.State.{opening}
+use Rattle.bm_law.specs.State.{State}
+use Rattle.bm_law.specs.Lists.{Log}
+use Rattle.bm_law.specs.Spans.{own_entries}
 use Rattle.bm_law_work.specs.Parts.{Part, Say, Stand, Then}
 use Rattle.bm_law_work.specs.Parts as part
 use Rattle.bm_law_scenario.specs.Held.{Held, Nothing, Null, Object, Names}
 use Rattle.bm_law_scenario.specs.Calls.{RunsNew, RunsDrop, batch_in}
-use Rattle.bm_law.specs.Alone.{at_level}
 
 -- from these names to those names, a part of a log
 abbrev pub Run : Type 1
@@ -59,7 +60,7 @@ Within false l block = λ names after s part. (w : ℕ) × Enclosed l block w na
 abbrev mutual
   pub RunsAction : List TypeDeclaration → ℕ → (inside : Bool) → Part → Action → Run
   RunsAction types l i behind (New x t values) = Calls l (RunsNew types x t values)
-  RunsAction types l i behind (Drop x) = λ names after s. Calls l (RunsDrop types x (batch_in l s)) names after s
+  RunsAction types l i behind (Drop x) = λ names after s. Calls l (RunsDrop types x (batch_in s)) names after s
   RunsAction types l i behind (If' x body otherwise) = λ names. Chosen (names x) (RunsBlock types l i behind body) (RunsElse types l i behind otherwise) names
   RunsAction types l i behind (Repeat n body) = Times (RunsBlock types l i behind body) n
   RunsAction types l i behind (Section body) = Within i l (RunsBlock types l true behind body)
@@ -90,7 +91,11 @@ abbrev mutual
   RunsRow types l i behind end_of-Statement = Done
   RunsRow types l i behind (more_of-Statement line action rest) = Followed (Followed (RunsAction types l i behind action) (Leaving behind)) (RunsRow types l i behind rest)
 
--- A block in a plain section leaves these entries of a level above ordinary code, where nothing stands after a statement: of which one,
--- and from which lists, doesn't matter then.
-abbrev pub RunsAlone : List TypeDeclaration → Block → Names → List Entry → Names → Type 0
-RunsAlone types body names own after = RunsBlock types 1 true part.Nothing body names after (opening 0) (at_level 1 own)
+-- A block in a plain section leaves these entries of its level, where nothing stands after a statement: they are those of some part of a
+-- log, of some level and begun with some lists, that is a run of the block.
+pub record RunsAlone (types : List TypeDeclaration) (body : Block) (names : Names) (own : List Entry) (after : Names) : Type 0 where
+  pub level : ℕ
+  pub lists : State ℕ
+  pub log : Log
+  pub runs : RunsBlock types level true part.Nothing body names after lists log
+  pub own_is : own_entries level log ≡ own

@@ -1,6 +1,6 @@
 -- Worked drops of objects with a count and without one, and a whole journal with a counted object: `type item counted { }`, and a plain
 -- script `new x item` with `if x { drop x }`, on one processor with one page.
-use Rattle.std.specs.Prelude.{ℕ, true, false, refl, Bool, Option, Some, None, List, [], ◌∷◌, ◌++◌, codes}
+use Rattle.std.specs.Prelude.{ℕ, true, refl, Some, List, [], ◌∷◌, ◌++◌, codes}
 use Rattle.std.proofs.Common.{lit≤}
 use Rattle.bm_journal.specs.declared.ids.Domain.TheVariants.{Plain}
 use Rattle.bm_journal.specs.declared.units.Units.TheVariants.{Whole}
@@ -15,10 +15,14 @@ use Rattle.bm_lang.specs.declared.scenario.TypeDeclaration.{TypeDeclaration}
 use Rattle.bm_law.specs.Lists.{Log}
 use Rattle.bm_law.specs.Ordinary.{ordinary}
 use Rattle.bm_law.specs.State.{State, on_row, opening}
+use Rattle.bm_lang.specs.declared.scenario.Action.{Drop}
+use Rattle.bm_law.specs.Alone.{at_level}
+use Rattle.bm_law_work.specs.Parts as part
+use Rattle.bm_law_scenario.specs.Runs.{RunsAction}
 use Rattle.bm_law_scenario.specs.Held.{Names, Object, no_names, with_name}
 use Rattle.bm_law_scenario.specs.Held as held
 use Rattle.bm_law_scenario.specs.Worked.{item}
-use Rattle.bm_law_scenario.specs.WorkedJournal.{block_of, drops_x_unless_null, ended, item_id, journal_of, one_page, scenario_of, script_of, swept, took, x_name}
+use Rattle.bm_law_scenario.specs.WorkedJournal.{block_of, drops_x_unless_null, ended, item_id, journal_of, one_page, scenario_of, swept, took, x_name}
 
 -- ---- single drops
 
@@ -73,3 +77,7 @@ counted_log = ordinary counted_entries
 -- two flags are raised, by the allocation and by the free
 abbrev pub counted_journal : Journal
 counted_journal = journal_of 1 (counted_log ∷ []) refl (13 ∷ 1 ∷ 0 ∷ 0 ∷ 1 ∷ 0 ∷ 0 ∷ 0 ∷ 0 ∷ 0 ∷ 0 ∷ 0 ∷ 2 ∷ 0 ∷ 4 ∷ 4 ∷ 0 ∷ 1 ∷ 0 ∷ [])
+
+-- the drop at level 2, as a handler has it: these entries alone, from these lists
+abbrev pub DropsAbove : State ℕ → List Entry → Type 0
+DropsAbove s own = RunsAction counted_types 2 true part.Nothing (Drop x_name) holding_three none_held s (at_level 2 own)

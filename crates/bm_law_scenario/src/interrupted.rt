@@ -12,10 +12,10 @@ ghost use Rattle.bm_law_scenario.specs.WorkedJournal.{makes_and_drops};
 /// answers null; and one in the deferred work behind a script, in a section of its own. The journal with the first of them is
 /// lawful.
 pub fn worked_handlers()
-    ensures interrupted { HandlersDone (handled (makes_and_drops 7 8 9)) interrupted }
+    ensures interrupted { HandlersDone (handled (makes_and_drops 7 8 9)) 0 interrupted }
     ensures words { SectionWords interrupted }
     ensures journal { LawfulLogs (handled (makes_and_drops 7 8 9)) interrupted_journal }
-    ensures behind { HandlersDone (handled idle) behind_script }
+    ensures behind { HandlersDone (handled idle) 0 behind_script }
     ensures words_behind { SectionWords behind_script }
 {}
 
@@ -23,12 +23,12 @@ pub fn worked_handlers()
 /// section, and one that begins none outside; a plain script; and one that goes back by another name. Nor is a journal lawful in
 /// which a handler stands that isn't planned, or none stands though one is due.
 pub fn wrong_handlers()
-    ensures keeps { ¬ HandlersDone (handled keeps) keeps_it }
-    ensures asks { ¬ HandlersDone (handled idle) asks_too }
-    ensures encloses { ¬ HandlersDone (handled idle) encloses_inside }
-    ensures bare { ¬ HandlersDone (handled idle) no_section }
-    ensures plain { ¬ HandlersDone (handled idle) plain_script }
-    ensures back { ¬ HandlersDone (handled idle) back_as_other }
+    ensures keeps { ¬ HandlersDone (handled keeps) 0 keeps_it }
+    ensures asks { ¬ HandlersDone (handled idle) 0 asks_too }
+    ensures encloses { ¬ HandlersDone (handled idle) 0 encloses_inside }
+    ensures bare { ¬ HandlersDone (handled idle) 0 no_section }
+    ensures plain { ¬ HandlersDone (handled idle) 0 plain_script }
+    ensures back { ¬ HandlersDone (handled idle) 0 back_as_other }
     ensures unplanned { ¬ LawfulLogs (record (handled (makes_and_drops 7 8 9)) { ats = [] }) interrupted_journal }
     ensures left_out { ¬ LawfulLogs (handled (makes_and_drops 7 8 9)) uninterrupted_journal }
 {}

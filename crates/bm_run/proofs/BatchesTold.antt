@@ -432,7 +432,7 @@ late-none (e ∷ es) at late = (let own : IsLate e.1 × AllOf IsLate (own_entrie
     late-no _ h = tt
 
 -- A delayed free in the log of any processor puts its unit where it waits: in its front, at its end, in what is late, and in handlers.
-pub log-puts : (s : Parts) (p : ℕ) (log front ended late : Log) → log ≡ (front ++ ended) ++ late → Front s p (opening p) front → AllOf IsLate (own_entries 0 late) → AllOf IsUndelayed (own_entries 0 ended) → HandlersStand s p log → HandlersDone s log → (l : ℕ) → ArePut (own_entries l log)
+pub log-puts : (s : Parts) (p : ℕ) (log front ended late : Log) → log ≡ (front ++ ended) ++ late → Front s p (opening p) front → AllOf IsLate (own_entries 0 late) → AllOf IsUndelayed (own_entries 0 ended) → HandlersStand s p log → HandlersDone s p log → (l : ℕ) → ArePut (own_entries l log)
 log-puts s p log front ended late parts is_front late_own ended_own stands done l =
     let early : Log = front ++ ended in
     let inner : ArePutWithin (own_entries 0 early) = subst ArePutWithin (sym (own-append 0 front ended)) (within-append (own_entries 0 front) (own_entries 0 ended) (front-has s ArePutWithin (written-within s) p (opening p) front is_front) (undelayed-within (own_entries 0 ended) ended_own)) in

@@ -29,7 +29,7 @@ stands-filled names lines fs =
 
 -- nothing is told before the first entry
 tells-none : (s : Parts) (known : Known) → ((d : Domain) → (side d known).word ≡ 0) → Tells s known []
-tells-none s known words = record { done = done-none s; last = λ d. sym (words d) }
+tells-none s known words = record { done = done-none s known.grace.processor; last = λ d. sym (words d) }
 
 -- the fills tell of no section and no handler
 pub tells-filled : (s : Parts) (known : Known) (fs : Fills) → ((d : Domain) → (side d known).word ≡ 0) → Tells s known (fill_log fs)

@@ -124,7 +124,7 @@ handler-quiet (entry.Sweep c us) h = absurd h
 handler-quiet _ h = tt
 
 -- The log of a processor whose front runs its scripts, and behind whose end late entries stand, sends no class that no type uses.
-pub log-sends : (s : Parts) (p c : ℕ) (front late : Log) → among c (opened_classes s.types) ≡ false → HandlersStand s p front → HandlersDone s front → Front s p (opening p) front → AllAt 0 late → AllOf IsLate (own_entries 0 late) → NoneSends c ((front ++ (0, entry.Ended) ∷ []) ++ late)
+pub log-sends : (s : Parts) (p c : ℕ) (front late : Log) → among c (opened_classes s.types) ≡ false → HandlersStand s p front → HandlersDone s p front → Front s p (opening p) front → AllAt 0 late → AllOf IsLate (own_entries 0 late) → NoneSends c ((front ++ (0, entry.Ended) ∷ []) ++ late)
 log-sends s p c front late none stand done is at h =
     let cs : List ℕ = opened_classes s.types in
     let own : AllSendOf cs (own_entries 0 front) = front-has s (AllSendOf cs) (front-sends s) p (opening p) front is in

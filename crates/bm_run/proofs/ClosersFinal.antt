@@ -177,7 +177,7 @@ one-final g p seats world log x classes finishes sweeps closes same =
     let at : AllAt 0 more = at-append given (finishes ++ sweeps) (close-at p) (at-append finishes sweeps closes.finishes_at closes.sweeps_at) in
     let late : AllOf IsLate (own_entries 0 more) =
     late-append given (finishes ++ sweeps) (close-late p) (late-append finishes sweeps (periods-late front lists finishes closes.finishes_are) (sweeps-late classes closes.boxes (after lists finishes) sweeps closes.sweeps_are)) in
-    let goes : LawfulSoFar (here g m) s (log ++ more) = late-goes-on (here g m) s log more (runs-none g m x.sound) h.ended at late (tells-here g m log x.sound x.told) in
+    let goes : LawfulSoFar p (here g m) s (log ++ more) = late-goes-on p (here g m) s log more (runs-none g m x.sound) h.ended at late (tells-here g m log x.sound x.told) in
     let all : log ++ more ≡ (log ++ given) ++ (finishes ++ sweeps) = sym (append_assoc log given (finishes ++ sweeps)) in
     record {
       scripts = h.scripts;
@@ -188,7 +188,7 @@ one-final g p seats world log x classes finishes sweeps closes same =
       lists = lists;
       front_leaves = h.leaves;
       stands = subst (HandlersStand s p) all (whole (here g m) (log ++ more) (runs-none g m x.sound) goes.stands);
-      done = subst (HandlersDone s) all goes.done;
+      done = subst (HandlersDone s p) all goes.done;
       closes = subst (λ cs. ClosesAs cs front lists p ((log ++ given) ++ (finishes ++ sweeps)) finishes sweeps) same closes;
     }
 

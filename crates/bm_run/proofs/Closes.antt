@@ -74,10 +74,10 @@ sweeps-late (c ∷ cs) boxes s part h = part-then IsLate 0 (SweepWhere c (seven_
 
 -- ---- how the log goes on then
 
--- The log stands at this position, and each handler that has gone back left its phrase.
-pub record LawfulSoFar (x : Position) (s : Parts) (log : Log) : Type 0 where
+-- The log of processor p stands at this position, and each handler that has gone back left its phrase there.
+pub record LawfulSoFar (p : ℕ) (x : Position) (s : Parts) (log : Log) : Type 0 where
   pub stands : StandsAt x log
-  pub done : HandlersDone s log
+  pub done : HandlersDone s p log
 
 late-inner : (e : Entry) → IsLate e → IsInner e
 late-inner (entry.Handler name) h = absurd h
@@ -113,21 +113,21 @@ late-stands x log e none ended late h =
       | inr k ↦ stays-here x log e k h
     ])
 
-late-one : (x : Position) (s : Parts) (log : Log) (e : Entry) → x.running ≡ [] → x.plan.ended ≡ true → IsLate e → LawfulSoFar x s log → LawfulSoFar x s (log ++ (0, e) ∷ [])
-late-one x s log e none ended late h =
+late-one : (p : ℕ) (x : Position) (s : Parts) (log : Log) (e : Entry) → x.running ≡ [] → x.plan.ended ≡ true → IsLate e → LawfulSoFar p x s log → LawfulSoFar p x s (log ++ (0, e) ∷ [])
+late-one p x s log e none ended late h =
     let inner : IsInner e = late-inner e late in
     record {
       stands = late-stands x log e none ended late h.stands;
-      done = done-grow s log 0 e (no-back e inner) h.done;
+      done = done-grow s p log 0 e (no-back e inner) h.done;
     }
 
-late-all : (x : Position) (s : Parts) (log : Log) (es : List Entry) → x.running ≡ [] → x.plan.ended ≡ true → AllOf IsLate es → LawfulSoFar x s log → LawfulSoFar x s (log ++ at_level 0 es)
-late-all x s log [] none ended late h = subst (LawfulSoFar x s) (sym (append-nil log)) h
-late-all x s log (e ∷ es) none ended late h = subst (LawfulSoFar x s) (append_assoc log ((0, e) ∷ []) (at_level 0 es)) (late-all x s (log ++ (0, e) ∷ []) es none ended late.1 (late-one x s log e none ended late.0 h))
+late-all : (p : ℕ) (x : Position) (s : Parts) (log : Log) (es : List Entry) → x.running ≡ [] → x.plan.ended ≡ true → AllOf IsLate es → LawfulSoFar p x s log → LawfulSoFar p x s (log ++ at_level 0 es)
+late-all p x s log [] none ended late h = subst (LawfulSoFar p x s) (sym (append-nil log)) h
+late-all p x s log (e ∷ es) none ended late h = subst (LawfulSoFar p x s) (append_assoc log ((0, e) ∷ []) (at_level 0 es)) (late-all p x s (log ++ (0, e) ∷ []) es none ended late.1 (late-one p x s log e none ended late.0 h))
 
 -- entries of ordinary code that has ended
-pub late-goes-on : (x : Position) (s : Parts) (log more : Log) → x.running ≡ [] → x.plan.ended ≡ true → AllAt 0 more → AllOf IsLate (own_entries 0 more) → LawfulSoFar x s log → LawfulSoFar x s (log ++ more)
-late-goes-on x s log more none ended at late h = subst (λ z. LawfulSoFar x s (log ++ z)) (sym (at-own 0 more at)) (late-all x s log (own_entries 0 more) none ended late h)
+pub late-goes-on : (p : ℕ) (x : Position) (s : Parts) (log more : Log) → x.running ≡ [] → x.plan.ended ≡ true → AllAt 0 more → AllOf IsLate (own_entries 0 more) → LawfulSoFar p x s log → LawfulSoFar p x s (log ++ more)
+late-goes-on p x s log more none ended at late h = subst (λ z. LawfulSoFar p x s (log ++ z)) (sym (at-own 0 more at)) (late-all p x s log (own_entries 0 more) none ended late h)
 
 -- ---- what is said of the inboxes gives the closing
 

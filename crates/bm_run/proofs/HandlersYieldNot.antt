@@ -225,5 +225,5 @@ handlers-unyielding s accepted _ (more {own = own} {rest = rest} name w p h) = (
 )
 
 -- So no entry above ordinary code is a yield, where the handlers of a checked scenario stand where they are due and leave their phrases.
-pub handlers-yield-not : (s : Parts) (p : ℕ) (log : Log) → AllAccepted s → HandlersStand s p log → HandlersDone s log → AllAbove IsInTurn log
+pub handlers-yield-not : (s : Parts) (p : ℕ) (log : Log) → AllAccepted s → HandlersStand s p log → HandlersDone s p log → AllAbove IsInTurn log
 handlers-yield-not s p log accepted stand done = each-above IsInTurn log (λ l up. handlers-unyielding s accepted (own_entries l log) (levels s p log stand done l up))

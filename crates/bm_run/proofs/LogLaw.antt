@@ -55,7 +55,7 @@ are-fills (c ∷ cs) pool = let f = fetched c (prefill c) pool in (fill_entries 
 abbrev pub here : Program → Processor LivingState → Position
 here p m = position_of (known_of knows_living m).grace.processor p.scenario.now m.handlers.planned m.running.items
 
-pub tells-here : (p : Program) (m : Processor LivingState) (log : Log) → Sound knows_living p m → log_of m ≡ Some log → LawfulSoFar (here p m) p.scenario.now log
+pub tells-here : (p : Program) (m : Processor LivingState) (log : Log) → Sound knows_living p m → log_of m ≡ Some log → LawfulSoFar (known_of knows_living m).grace.processor (here p m) p.scenario.now log
 tells-here p m log s told =
     let at : StandsAt (here p m) log = subst (λ (x : Option Log). IfSome x (StandsAt (here p m))) told s.at.at.at in
     let t : Tells p.scenario.now (known_of knows_living m) log = subst (λ (x : Option Log). IfSome x (Tells p.scenario.now (known_of knows_living m))) told s.at.tells in
@@ -73,7 +73,7 @@ never-used s c none false e = e
 
 -- Of the front of a log: the cache of a class that no type uses stays as it was.
 abbrev pub RowsKept : Type 0
-RowsKept = (s : Parts) (p : ℕ) (front : Log) → HandlersStand s p front → HandlersDone s front → Front s p (opening p) front → (c : ℕ) → list_any (uses_class c) s.types ≡ false → (after (opening p) front).rows c ≡ (opening p).rows c
+RowsKept = (s : Parts) (p : ℕ) (front : Log) → HandlersStand s p front → HandlersDone s p front → Front s p (opening p) front → (c : ℕ) → list_any (uses_class c) s.types ≡ false → (after (opening p) front).rows c ≡ (opening p).rows c
 
 -- ---- all together
 
@@ -86,7 +86,7 @@ lists-end s c last false e f g = g e
 
 -- Of a whole log with handlers: its allocations answer null where the law says so.
 abbrev pub NullKept : Type 0
-NullKept = (s : Parts) (p : ℕ) (log : Log) (last : State ℕ) → HandlersStand s p log → HandlersDone s log → IsLog s p log → Leaves p log last → NullLaw p log
+NullKept = (s : Parts) (p : ℕ) (log : Log) (last : State ℕ) → HandlersStand s p log → HandlersDone s p log → IsLog s p log → Leaves p log last → NullLaw p log
 
 abbrev pub ToldSweeps : Type 0
 ToldSweeps = (classes : List ℕ) (boxes : Inboxes) (t : State ℕ) (part : Log) → SweepsTold classes boxes t part → AreSweeps classes t part

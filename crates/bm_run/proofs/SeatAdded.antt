@@ -46,7 +46,7 @@ own-unswept [] h = tt
 own-unswept (e ∷ own) h = (turn-unswept e h.0, own-unswept own h.1)
 
 -- of a log in which handlers stand and left their phrases
-added-so : (ends : Bool) (s : Parts) (p : ℕ) (since added log : Log) → HandlersStand s p log → HandlersDone s log → log ≡ since ++ added → IsPiece ends added → AllOf IsUnswept (own_entries 0 added) → Added ends since log
+added-so : (ends : Bool) (s : Parts) (p : ℕ) (since added log : Log) → HandlersStand s p log → HandlersDone s p log → log ≡ since ++ added → IsPiece ends added → AllOf IsUnswept (own_entries 0 added) → Added ends since log
 added-so ends s p since added log stand done is piece own =
     let handlers : AllAbove IsOfHandler added = above-back IsOfHandler since added (subst (AllAbove IsOfHandler) is (handlers-above s p log stand done)) in
     record {
@@ -68,8 +68,8 @@ module _ (g : Program) (p : ℕ) (m n : Processor LivingState) (r r' : Remaining
   stand : HandlersStand s p log
   stand = stands-here g p n log first sound now
 
-  done : HandlersDone s log
-  done = done-here g n log sound now
+  done : HandlersDone s p log
+  done = done-here g p n log first sound now
 
   yielded-added : HasYielded g m r n r' → Added false since log
   yielded-added h =
@@ -88,7 +88,7 @@ module _ (g : Program) (p : ℕ) (m n : Processor LivingState) (r r' : Remaining
       let is : front ≡ since ++ k.added = k.now_is ∙ ap (λ (z : Log). z ++ k.added) (sym (same-log since k.log k.told)) in
       let end : Log = (0, entry.Ended) ∷ [] in
       let all : log ≡ since ++ (k.added ++ end) = said.2 ∙ (ap (λ (z : Log). z ++ end) is ∙ append_assoc since k.added end) in
-      let piece = ended-turn s p since k.added front accepted (stands-here g p h.last front (last-of g p m n r r' h first) h.sound said.1) (done-here g h.last front h.sound said.1) is t in
+      let piece = ended-turn s p since k.added front accepted (stands-here g p h.last front (last-of g p m n r r' h first) h.sound said.1) (done-here g p h.last front (last-of g p m n r r' h first) h.sound said.1) is t in
       let own : AllOf IsUnswept (own_entries 0 (k.added ++ end)) =
       subst (AllOf IsUnswept) (sym (own-append 0 k.added end ∙ ap (λ (z : List Entry). z ++ entry.Ended ∷ []) k.owned)) (of-append IsUnswept t.own (entry.Ended ∷ []) (own-unswept t.own t.none) (tt, tt)) in
       added-so true s p since (k.added ++ end) log stand done all piece own

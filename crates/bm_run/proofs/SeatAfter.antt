@@ -70,8 +70,8 @@ stands-here g p m log first s told =
     let at : StandsAt here log = subst (λ (o : Option Log). IfSome o (StandsAt here)) told s.at.at.at in
     subst (λ (n : ℕ). HandlersStand g.scenario.now n log) first (whole here log (runs-none g m s) at)
 
-pub done-here : (g : Program) (m : Processor LivingState) (log : Log) → Sound knows_living g m → log_of m ≡ Some log → HandlersDone g.scenario.now log
-done-here g m log s told = (let t : Tells g.scenario.now (known_of knows_living m) log = subst (λ (o : Option Log). IfSome o (Tells g.scenario.now (known_of knows_living m))) told s.at.tells in t.done)
+pub done-here : (g : Program) (p : ℕ) (m : Processor LivingState) (log : Log) → (known_of knows_living m).grace.processor ≡ p → Sound knows_living g m → log_of m ≡ Some log → HandlersDone g.scenario.now p log
+done-here g p m log first s told = (let t : Tells g.scenario.now (known_of knows_living m) log = subst (λ (o : Option Log). IfSome o (Tells g.scenario.now (known_of knows_living m))) told s.at.tells in subst (λ (n : ℕ). HandlersDone g.scenario.now n log) first t.done)
 
 -- ---- before the turn
 
@@ -136,7 +136,7 @@ module _ (g : Program) (p : ℕ) (m n : Processor LivingState) (r r' : Remaining
         are_scripts = part.is_part;
         leaves = subst (λ (z : Log). Leaves p z (lists_of n)) front_is (subst (Leaves p front) (ap (seen number_of) (sym h.lists)) (leaves-here g p h.last front first_last h.sound said.1));
         stands = subst (HandlersStand s p) front_is (stands-here g p h.last front first_last h.sound said.1);
-        done = subst (HandlersDone s) front_is (done-here g h.last front h.sound said.1);
+        done = subst (HandlersDone s p) front_is (done-here g p h.last front first_last h.sound said.1);
         outside = λ d. subst (λ (x : LivingState). word_of knows_living d (let y : Processor LivingState = record h.last { side = x } in y) % 2 ≡ 0) (sym last-side) (outside.words d);
         ended = ap (λ (x : Plan). x.ended) h.planned;
         nothing = h.none;

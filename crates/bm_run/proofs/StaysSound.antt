@@ -27,6 +27,7 @@ use Rattle.bm_world.specs.Slots.{unit_at}
 use Rattle.bm_world.specs.Standings.{counts_for, has_waited, is_waiting, standing_at}
 use Rattle.bm_world.specs.ToldLiving.{knows_living}
 use Rattle.bm_plan.specs.Position.{StandsAt}
+use Rattle.bm_law_scenario.specs.Handlers.{HandlersDone}
 use Rattle.bm_exec_levels.specs.AtProcessor.{FineAt, log_of}
 use Rattle.bm_exec_levels.specs.Here.{Running}
 use Rattle.bm_exec_levels.specs.Hosting.{with_side}
@@ -113,9 +114,9 @@ module _ (before now : LivingState) where
 
 -- ---- the processor
 
-tells-words : (s : Parts) (a b : Known) (log : Option Log) → ((d : Domain) → (side d b).word ≡ (side d a).word) → IfSome log (Tells s a) → IfSome log (Tells s b)
-tells-words s a b None w t = tt
-tells-words s a b (Some es) w t = record { done = t.done; last = λ d. t.last d ∙ sym (w d) }
+tells-words : (s : Parts) (a b : Known) (log : Option Log) → b.grace.processor ≡ a.grace.processor → ((d : Domain) → (side d b).word ≡ (side d a).word) → IfSome log (Tells s a) → IfSome log (Tells s b)
+tells-words s a b None q w t = tt
+tells-words s a b (Some es) q w t = record { done = subst (λ (n : ℕ). HandlersDone s n es) (sym q) t.done; last = λ d. t.last d ∙ sym (w d) }
 
 ready-alone : (p : Program) (m : Processor LivingState) (w : LivingState) → w.side.grace.processor ≡ m.side.side.grace.processor → word_of knows_living Plain (with_side m w) ≡ word_of knows_living Plain m → asked_of knows_living p.scenario.now (with_side m w) < 2 ^ 22 → IsReady knows_living p m → IsReady knows_living p (with_side m w)
 ready-alone p m w same word asks r = record {
@@ -145,7 +146,7 @@ pub sound-alone : (p : Program) (m : Processor LivingState) (w : LivingState) �
 sound-alone p m w a asks s = record {
   at = record {
     at = (let F : ℕ → Type 0 = λ n. Running StandsAt 0 n p.scenario.now m.handlers.planned m.running.items (log_of m) in subst F (sym a.processor) s.at.at);
-    tells = tells-words p.scenario.now (known_of knows_living m) (known_living w) (log_of m) a.words s.at.tells;
+    tells = tells-words p.scenario.now (known_of knows_living m) (known_living w) (log_of m) a.processor a.words s.at.tells;
     ready = ready-alone p m w a.processor (a.words Plain) asks s.at.ready;
   };
   fine = fine-alone m w a s.fine;

@@ -127,7 +127,7 @@ same-rest since log added more e k = append_cancel_left since more added (ap (λ
 -- ---- turns
 
 -- A turn that ends with a yield adds the piece of one.
-pub yielded-turn : (s : Parts) (p : ℕ) (since added log : Log) → AllAccepted s → HandlersStand s p log → HandlersDone s log → log ≡ since ++ added → YieldsLast 0 (Some since) (Some log) → IsPiece false added
+pub yielded-turn : (s : Parts) (p : ℕ) (since added log : Log) → AllAccepted s → HandlersStand s p log → HandlersDone s p log → log ≡ since ++ added → YieldsLast 0 (Some since) (Some log) → IsPiece false added
 yielded-turn s p since added log accepted stand done is t =
     let rest = same-rest since t.records.log added t.records.added t.records.told (sym t.records.now_is ∙ is) in
     let own : own_entries 0 added ≡ t.own ++ entry.Yield ∷ [] = ap (own_entries 0) (sym rest) ∙ t.records.owned in
@@ -136,7 +136,7 @@ yielded-turn s p since added log accepted stand done is t =
     subst (IsPiece false) (sym last.1) (stopped-piece false last.0 (subst AllInTurn (sym last.2) t.none) (above-front IsInTurn last.0 ((0, entry.Yield) ∷ []) above))
 
 -- One that ends without a yield adds the piece of the processor's end, once its end is recorded.
-pub ended-turn : (s : Parts) (p : ℕ) (since added log : Log) → AllAccepted s → HandlersStand s p log → HandlersDone s log → log ≡ since ++ added → Unyielding 0 (Some since) (Some log) → IsPiece true (added ++ (0, entry.Ended) ∷ [])
+pub ended-turn : (s : Parts) (p : ℕ) (since added log : Log) → AllAccepted s → HandlersStand s p log → HandlersDone s p log → log ≡ since ++ added → Unyielding 0 (Some since) (Some log) → IsPiece true (added ++ (0, entry.Ended) ∷ [])
 ended-turn s p since added log accepted stand done is t =
     let rest = same-rest since t.records.log added t.records.added t.records.told (sym t.records.now_is ∙ is) in
     let own : own_entries 0 added ≡ t.own = ap (own_entries 0) (sym rest) ∙ t.records.owned in

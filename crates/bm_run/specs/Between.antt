@@ -97,11 +97,11 @@ pub record IsFinal (s : Parts) (p : ℕ) (final finishes sweeps : Log) : Type 0 
   pub final_is : final ≡ (opening_log s p ++ scripts) ++ ((0, entry.Ended) ∷ (at_level 0 (close_of p) ++ (finishes ++ sweeps)))
   pub are_scripts : AreScripts s (lines_of p s.runs) (opening_lists s p) scripts
   pub front_stands : HandlersStand s p (opening_log s p ++ scripts)
-  pub front_done : HandlersDone s (opening_log s p ++ scripts)
+  pub front_done : HandlersDone s p (opening_log s p ++ scripts)
   pub lists : State ℕ
   pub front_leaves : Leaves p (opening_log s p ++ scripts) lists
   pub stands : HandlersStand s p final
-  pub done : HandlersDone s final
+  pub done : HandlersDone s p final
   pub closes : ClosesAs (opened_classes s.types) (opening_log s p ++ scripts) lists p final finishes sweeps
 
 -- All processors of a scenario have closed, and these are their logs: the turns made this order; then processor 0 began the closing; then

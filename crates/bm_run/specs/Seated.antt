@@ -51,7 +51,7 @@ pub record HasStopped (s : Parts) (p : ℕ) (log : Log) (m : Processor LivingSta
   pub are_scripts : AreScripts s (lines_of p s.runs) (opening_lists s p) scripts
   pub leaves : Leaves p (opening_log s p ++ scripts) (lists_of m)
   pub stands : HandlersStand s p (opening_log s p ++ scripts)
-  pub done : HandlersDone s (opening_log s p ++ scripts)
+  pub done : HandlersDone s p (opening_log s p ++ scripts)
   pub outside : (d : Domain) → word_of knows_living d m % 2 ≡ 0
   pub ended : m.handlers.planned.ended ≡ true
   pub nothing : r.begun ≡ None

@@ -1,4 +1,5 @@
-use Rattle.std.proofs.Common.{◌≡◌, ◌*◌, ◌++◌, ◌∷◌, [], Some, ap, refl, ◌∙◌}
+use Rattle.std.proofs.Common.{◌≡◌, ◌*◌, ◌++◌, ◌∷◌, [], ℕ, Some, IfSome, ap, refl, subst, sym, ◌∙◌}
+use Rattle.bm_law.specs.Lists.{Leaves}
 use Rattle.bm_journal.specs.declared.entry.Entry.TheVariants as entry
 use Rattle.bm_journal.specs.declared.ids.Domain.TheVariants.{Plain}
 use Rattle.bm_lang.specs.Limits.{script_cost}
@@ -16,7 +17,11 @@ end_handler-requires-clause-phrase g c =
     let b = c.begin_handler-table.new.own in
     let e = c.begin_handler-table.ensures in
     let l = c.args.due.now.level in
-    has-phrase g.L.Rank.number l s c.script_of-script.result.now.name (known_of g.W.Knows m) (word_of g.W.Knows Plain b) (lists_of b) (log_of m) (log_of b) (log_of c.run_inside.new.own) c.requires.level (ap (λ (y : Processor g.row.W.Denot). word_of g.W.Knows Plain y) e.same) c.requires.due.1.tells e.said c.run_inside.ensures.phrase
+    let z = c.run_inside.new.own in
+    let q = (known_of g.W.Knows z).grace.processor in
+    let P : ℕ → Type 0 = λ p. IfSome (log_of b) (λ es. Leaves p es (lists_of b)) in
+    let here : P q = subst P (e.at.ready.here ∙ sym c.run_inside.ensures.between.stays.processor) e.fine.placed.told in
+    has-phrase q g.L.Rank.number l s c.script_of-script.result.now.name (known_of g.W.Knows m) (word_of g.W.Knows Plain b) (lists_of b) (log_of m) (log_of b) (log_of c.run_inside.new.own) c.requires.level (ap (λ (y : Processor g.row.W.Denot). word_of g.W.Knows Plain y) e.same) c.requires.due.1.tells e.said here c.run_inside.ensures.runs
 
 pub returns-clause-at : goal.returns-clause-at
 returns-clause-at g c k d =
