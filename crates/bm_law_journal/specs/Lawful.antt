@@ -1,6 +1,6 @@
 -- When a journal is lawful for a scenario, and when it is laid: what the program promises of the journals that it prints. One field a law;
--- behind each stands the file that states it. Types and values of objects, slots, lists and trees have no law so far: no form that
--- runs so far names them. (This project's own: journals are.)
+-- behind each stands the file that states it. Lists and trees have no law so far: no form that runs so far names them. The last three
+-- laws of `Lawful` speak of forms that don't run so far, but for replies to `drop`. (This project's own: journals are.)
 use Rattle.std.specs.Prelude.{ℕ, List, [], Option, None, Some}
 use Rattle.bm_journal.specs.declared.journal.Journal.{Journal}
 use Rattle.bm_lang.specs.declared.scenario.Parts.{Parts}
@@ -14,6 +14,9 @@ use Rattle.bm_law_lives.specs.GraceLaw.{WholeGrace}
 use Rattle.bm_law_lives.specs.Lives.{WholeLives}
 use Rattle.bm_law_lives.specs.Returns.{ReturnsLaw}
 use Rattle.bm_law_lives.specs.StampLaw.{StampLaw}
+use Rattle.bm_law_objects.specs.ReadsLaw.{ReadsLaw}
+use Rattle.bm_law_objects.specs.ReferenceLaw.{ReferenceLaw}
+use Rattle.bm_law_objects.specs.SlotChain.{SlotChain}
 
 -- ---- lawful
 
@@ -30,6 +33,12 @@ pub record Lawful (s : Parts) (j : Journal) : Type 0 where
   pub grace : WholeGrace j.logs
   -- What waits for a grace period waits for one that began after it, and is given again with its number. (bm_law_lives, specs/StampLaw)
   pub stamps : StampLaw j.logs
+  -- Of each life as many acquires saw a count of k as drops were answered that there were k + 1. (bm_law_objects, specs/ReferenceLaw)
+  pub references : ReferenceLaw j.logs
+  -- The exchanges of each slot form one chain, in which each takes what the one before put. (bm_law_objects, specs/SlotChain)
+  pub slots : (slot : List ℕ) → SlotChain slot j.logs
+  -- Each read of a field finds a value with which that life of the unit was made. (bm_law_objects, specs/ReadsLaw)
+  pub reads : ReadsLaw j.logs
 
 -- ---- laid
 

@@ -6,7 +6,7 @@
 //! - `worked_lawful`, `worked_laid`: a journal that is lawful, and one that is laid, made by hand, and logs that no such journal has.
 //! - `worked_turns`: a journal of two processors that take turns, which is laid, and wrong ones beside it.
 //!
-//! The laws themselves are stated in `bm_law_scenario`, `bm_law_lives` and `bm_law_order`, each with worked examples, right ones and wrong
+//! The laws themselves are stated in `bm_law_scenario`, `bm_law_lives`, `bm_law_objects` and `bm_law_order`, each with worked examples, right ones and wrong
 //! ones. Nothing in this crate runs. That a run's journal is lawful and laid is proved where the run is (`bm_run`).
 #![tactic(auto)]
 

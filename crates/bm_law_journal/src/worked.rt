@@ -7,16 +7,21 @@ ghost use Rattle.bm_law_scenario.specs.WorkedDeferred.{one_block as block_made_a
 ghost use Rattle.bm_law_journal.specs.Lawful.{Laid, Lawful};
 ghost use Rattle.bm_law_lives.specs.Worked.{both_stages};
 ghost use Rattle.bm_law_lives.specs.Wrong.{ends_in_section, given_twice, never_ended, never_received, never_returned, no_seal, other_home, other_stamp, returned_too_early, sealed_though_plain, sent_too_early, sent_unseen};
+ghost use Rattle.bm_law_objects.specs.Worked.{asked_within, logs_of};
+ghost use Rattle.bm_law_objects.specs.Wrong.{lost_exchange, other_count, other_field, other_object, still_twice, two_first, unknown_tag};
 ghost use Rattle.bm_law_places.specs.WorkedPlaces.{sweeps_from_stock};
 
 use bm_law_laid::{worked_journal, worked_polls, worked_seals};
 use bm_law_lives::{worked_grace, worked_lives, worked_returns, worked_stamps};
+use bm_law_objects::wrong_laws;
 use bm_law_places::worked_journal_places;
 use bm_law_scenario::worked_deferred;
 
 /// Lawful is the journal of a block that is made and dropped, with deferred work. Whatever its scenario, a journal isn't whose logs
 /// give a life twice, leave a life without its end, free a unit to another home, don't return a unit, send a parcel that nobody
-/// receives, end a grace period within a section, give a unit a seal after a plain free, or return a batch too early.
+/// receives, end a grace period within a section, give a unit a seal after a plain free, or return a batch too early; nor is one whose
+/// logs see a reference too many in an acquire or a drop, take a slot's content twice or at its start twice, name a call that no log has or
+/// take what another one put, or read another field or another object's.
 pub fn worked_lawful()
     ensures one_block { Lawful block_made_and_dropped one_block_journal }
     ensures given_twice { (s : Parts) (j : Journal) → j.logs ≡ given_twice → ¬ Lawful s j }
@@ -27,12 +32,21 @@ pub fn worked_lawful()
     ensures ends_in_section { (s : Parts) (j : Journal) → j.logs ≡ ends_in_section → ¬ Lawful s j }
     ensures sealed_though_plain { (s : Parts) (j : Journal) → j.logs ≡ sealed_though_plain → ¬ Lawful s j }
     ensures returned_too_early { (s : Parts) (j : Journal) → j.logs ≡ returned_too_early → ¬ Lawful s j }
+    ensures other_count { (s : Parts) (j : Journal) → j.logs ≡ logs_of other_count → ¬ Lawful s j }
+    ensures still_twice { (s : Parts) (j : Journal) → j.logs ≡ logs_of still_twice → ¬ Lawful s j }
+    ensures two_first { (s : Parts) (j : Journal) → j.logs ≡ logs_of two_first → ¬ Lawful s j }
+    ensures lost_exchange { (s : Parts) (j : Journal) → j.logs ≡ logs_of lost_exchange → ¬ Lawful s j }
+    ensures unknown_tag { (s : Parts) (j : Journal) → j.logs ≡ logs_of unknown_tag → ¬ Lawful s j }
+    ensures other_object { (s : Parts) (j : Journal) → j.logs ≡ logs_of other_object → ¬ Lawful s j }
+    ensures other_field { (s : Parts) (j : Journal) → j.logs ≡ logs_of other_field → ¬ Lawful s j }
+    ensures handlers_object { (s : Parts) (j : Journal) → j.logs ≡ logs_of (asked_within 2) → ¬ Lawful s j }
 {
     worked_deferred();
     worked_lives();
     worked_returns();
     worked_grace();
     worked_stamps();
+    wrong_laws();
 }
 
 /// Laid is the journal of one processor in which a unit goes through both stages, is given again with its seal, and is swept at last,

@@ -4,3 +4,4 @@ pub mod Chains
 pub mod ReadsAlong
 pub mod References
 pub mod Naming
+pub mod Asked

@@ -5,3 +5,4 @@ pub mod ReferenceLaw
 pub mod ReadsLaw
 pub mod Worked
 pub mod Wrong
+pub mod Asking

@@ -44,6 +44,8 @@ IsLate (entry.Given u life) = ⊥
 IsLate (entry.GivenAfter u life stamp seen) = ⊥
 IsLate (entry.Delay u home) = ⊥
 IsLate (entry.Send c to us) = ⊥
+IsLate (entry.Get u life place value) = ⊥
+IsLate (entry.Xchg name put was by) = ⊥
 IsLate e = IsInner e
 
 finish-late : (d : Domain) (own : List Entry) → MayFinish d own → AllOf IsLate own
@@ -86,6 +88,8 @@ late-inner (entry.Given u life) h = absurd h
 late-inner (entry.GivenAfter u life stamp seen) h = absurd h
 late-inner (entry.Delay u home) h = absurd h
 late-inner (entry.Send c to us) h = absurd h
+late-inner (entry.Get u life place value) h = absurd h
+late-inner (entry.Xchg name put was by) h = absurd h
 late-inner e h = h
 
 by-count : (n : ℕ) → (step_or_not n ≡ Steps) ⊎ (step_or_not n ≡ Stays)

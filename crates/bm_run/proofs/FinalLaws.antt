@@ -1,5 +1,5 @@
 -- The logs of a run and their whole order keep the laws of journals.
-use Rattle.std.specs.Prelude.{None, get_or, length, nat_eq}
+use Rattle.std.specs.Prelude.{None, Option, Some, get_or, length, nat_eq}
 use Rattle.std.proofs.Common.{◌≡◌, ◌≢◌, ◌<◌, ◌≤◌, ◌+◌, ℕ, zero, suc, Bool, true, false, List, [], ◌∷◌, ◌++◌, arith, refl, sym, ◌∙◌, ap, subst, append_assoc, eq-eqb, inl, inr}
 use Rattle.std.proofs.lemmas.Bool.{cases_lt}
 use Rattle.std.proofs.lemmas.Bool.Decides.{eqb_tells}
@@ -23,7 +23,8 @@ use Rattle.bm_law_laid.proofs.Parts.{boxes-fit}
 use Rattle.bm_law_logs.specs.LeavesParcels.{no_boxes}
 use Rattle.bm_law_order.specs.Polls.{IsPolled}
 use Rattle.bm_law_order.specs.Seals.{GivesNo, IsSealed, SealFits, Waiting, nobody_waits, waiting_after}
-use Rattle.bm_law_order.specs.Shared.{fresh}
+use Rattle.bm_law_order.specs.Shared.{Shared, fresh}
+use Rattle.bm_page.specs.UnitState.{UnitState}
 use Rattle.bm_law_order.specs.Whole.{whole}
 use Rattle.bm_law_order.proofs.Along.{fit-append}
 use Rattle.bm_law_work.proofs.Each.{AllOf, of-append, of-map, part-then}
@@ -41,6 +42,11 @@ use Rattle.bm_law_seals.specs.Batches.{BatchFits, GivesNoMore, SweepsLast, Waits
 use Rattle.bm_run.specs.Between.{AllClosed, all_openings}
 use Rattle.bm_run.specs.InTurns.{one_by_one}
 use Rattle.bm_run.specs.Seated.{opening_lists, opening_log}
+use Rattle.bm_law_objects.specs.Asking.{AskOnly}
+use Rattle.bm_world.specs.LivingState.{living_of}
+use Rattle.bm_world.specs.Slots.{unit_at}
+use Rattle.bm_world.specs.ToldLiving.{life_of}
+use Rattle.bm_run.proofs.Asking.{IsUngiven, log-asks}
 use Rattle.bm_run.proofs.BatchesTold.{IsUndelayed, all-answered, handler-sends, late-batches, late-none, log-puts, no-more, no-more-append, sweeps-last}
 use Rattle.bm_run.proofs.Closes.{IsLate, ends-late, sweeps-late}
 use Rattle.bm_run.proofs.FinalLog.{final-front, opening-said}
@@ -159,6 +165,15 @@ close-unsent : (p : ℕ) → AllOf IsUnsent (entry.Ended ∷ close_of p)
 close-unsent zero = (tt, (tt, tt))
 close-unsent (suc p) = (tt, tt)
 
+close-ungiven : (p : ℕ) → AllOf IsUngiven (entry.Ended ∷ close_of p)
+close-ungiven zero = (tt, (tt, tt))
+close-ungiven (suc p) = (tt, tt)
+
+-- where no object is known none is told
+none-there : (unit : Option UnitState) → living_of unit ≡ None → life_of unit ≡ None
+none-there None e = refl
+none-there (Some unit) e = cc
+
 module _ (s : Parts) (turns : List ℕ) (finals : List Log) (h : AllClosed s turns finals) where
   abbrev n : ℕ
   n = s.processors
@@ -260,6 +275,29 @@ module _ (s : Parts) (turns : List ℕ) (finals : List Log) (h : AllClosed s tur
     batches = subst (λ (z : Order). AllFit waiting_after BatchFits z nobody_waits) (sym apart) (fit-append waiting_after BatchFits front (one_by_one 0 h.given ++ closing_order s turns finals h) nobody_waits h.waits.batches (closing-batches (over waiting_after front nobody_waits)));
     swept = subst SweepsLast (sym apart) (sweeps-last front (one_by_one 0 h.given ++ closing_order s turns finals h) h.waits.unswept none-given);
   })
+
+  -- ---- objects
+
+  final-asks : (p l : ℕ) → p < n → AskOnly false (own_entries l (get_or finals p []))
+  final-asks p l lt =
+      let f = h.logs p lt in
+      log-asks s p (get_or finals p []) (opening_log s p ++ f.scripts) (ended_at_last p) (late_of p) (final-parts p lt) (final-front s p _ _ _ f) (late-own p lt) (subst (AllOf IsUngiven) (sym (level-own 0 (entry.Ended ∷ close_of p))) (close-ungiven p)) f.stands f.done l
+
+  asks-any : (p l : ℕ) → AskOnly false (own_entries l (get_or finals p []))
+  asks-any p l = elim (cases_lt p (length finals)) [
+    | inl lt ↦ final-asks p l (subst (λ k. p < k) h.so_far.many lt)
+    | inr le ↦ subst (λ (z : Log). AskOnly false (own_entries l z)) (sym (no-log p finals le)) tt
+  ]
+
+  -- each level asks for what it is given
+  pub asks-are : (p l : ℕ) → AskOnly false (own_entries l (part_of p (whole turns finals)))
+  asks-are p l = subst (λ (z : Log). AskOnly false (own_entries l z)) (sym (part-any finals (whole turns finals) order-is p)) (asks-any p l)
+
+  -- no unit is alive at last
+  pub none-alive : (u : ℕ) → (shared_over (whole turns finals) (fresh n s.pages)).lives.holds u ≡ None
+  none-alive u =
+      let last = ap (λ (x : Shared). x.lives.holds u) h.so_far.so_far.leads.now_is ∙ none-there (unit_at h.world.slots u) (h.lives u) in
+      in-whole (λ z. (shared_over z (fresh n s.pages)).lives.holds u ≡ None) last
 
   -- ---- parcels
 

@@ -66,3 +66,4 @@ pub mod ClosersLists
 pub mod ClosersEnd
 pub mod ClosersFinal
 pub mod ClosersBoxes
+pub mod Asking

@@ -26,6 +26,7 @@ use bm_journal::{Histories, Journal, Log, Logs, Names, Opened, totals_of};
 use bm_lang::{Parts, Scenario, Script, TypeDeclaration};
 use bm_law_laid::journal_law;
 use bm_law_logs::{handled_law, lives_law, returned_law, returns_law, sweeps_law};
+use bm_law_objects::{asked_law, counts_law, reads_law, slots_law};
 use bm_law_seals::seals_law;
 use bm_word::NoMemory;
 use std::alloc::Global;
@@ -75,6 +76,10 @@ fn journal_of(
     returned_law();
     journal_law();
     seals_law();
+    asked_law();
+    counts_law();
+    slots_law();
+    reads_law();
     let types = type_names(alloc, scenario.types.as_slice())?;
     let scripts = script_names(alloc, scenario.scripts.as_slice())?;
     let classes = Opened::new(with_marks(alloc, classes)?);

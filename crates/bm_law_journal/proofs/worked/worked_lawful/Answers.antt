@@ -1,9 +1,19 @@
-use Rattle.std.proofs.Common.{subst}
+use Rattle.std.proofs.Common.{◌≡◌, ℕ, List, [], refl, subst, suc, zero}
+use Rattle.std.specs.Prelude.{get_or}
+use Rattle.bm_law_objects.specs.ReadsLaw.{ReadsLaw}
+use Rattle.bm_law_objects.specs.ReferenceLaw.{ReferenceLaw}
+use Rattle.bm_law_objects.specs.SlotChain.{SlotChain, exchanges, of_processor}
+use Rattle.bm_law_objects.specs.Worked.{one_slot}
+use Rattle.bm_law_scenario.specs.WorkedDeferred.{one_block_journal}
 use Rattle.bm_law_lives.specs.GraceLaw.{WholeGrace}
 use Rattle.bm_law_lives.specs.Lives.{WholeLives}
 use Rattle.bm_law_lives.specs.Returns.{ReturnsLaw}
 use Rattle.bm_law_lives.specs.StampLaw.{StampLaw}
 use Rattle.bm_law_journal.proofs.worked.worked_lawful.Goals as goal
+
+no-exchange : (slot : List ℕ) (p : ℕ) → of_processor p [] ≡ exchanges slot p (get_or one_block_journal.logs p [])
+no-exchange slot zero = refl
+no-exchange slot (suc p) = refl
 
 pub returns-clause-one_block : goal.returns-clause-one_block
 returns-clause-one_block c = record {
@@ -12,6 +22,9 @@ returns-clause-one_block c = record {
   returns = c.worked_returns.ensures.one_block;
   grace = c.worked_grace.ensures.one_block;
   stamps = c.worked_stamps.ensures.one_block;
+  references = λ u life k. refl;
+  slots = λ slot. record { chain = []; follow = tt; parts = no-exchange slot };
+  reads = tt;
 }
 
 pub returns-clause-given_twice : goal.returns-clause-given_twice
@@ -37,3 +50,27 @@ returns-clause-sealed_though_plain c s j e h = c.worked_stamps.ensures.sealed_th
 
 pub returns-clause-returned_too_early : goal.returns-clause-returned_too_early
 returns-clause-returned_too_early c s j e h = c.worked_stamps.ensures.returned_too_early (subst StampLaw e h.stamps)
+
+pub returns-clause-other_count : goal.returns-clause-other_count
+returns-clause-other_count c s j e h = c.wrong_laws.ensures.count (subst ReferenceLaw e h.references)
+
+pub returns-clause-still_twice : goal.returns-clause-still_twice
+returns-clause-still_twice c s j e h = c.wrong_laws.ensures.still (subst ReferenceLaw e h.references)
+
+pub returns-clause-two_first : goal.returns-clause-two_first
+returns-clause-two_first c s j e h = c.wrong_laws.ensures.two_first (subst (SlotChain one_slot) e (h.slots one_slot))
+
+pub returns-clause-lost_exchange : goal.returns-clause-lost_exchange
+returns-clause-lost_exchange c s j e h = c.wrong_laws.ensures.lost (subst (SlotChain one_slot) e (h.slots one_slot))
+
+pub returns-clause-unknown_tag : goal.returns-clause-unknown_tag
+returns-clause-unknown_tag c s j e h = c.wrong_laws.ensures.unknown (subst (SlotChain one_slot) e (h.slots one_slot))
+
+pub returns-clause-other_object : goal.returns-clause-other_object
+returns-clause-other_object c s j e h = c.wrong_laws.ensures.object (subst (SlotChain one_slot) e (h.slots one_slot))
+
+pub returns-clause-other_field : goal.returns-clause-other_field
+returns-clause-other_field c s j e h = c.wrong_laws.ensures.field (subst ReadsLaw e h.reads)
+
+pub returns-clause-handlers_object : goal.returns-clause-handlers_object
+returns-clause-handlers_object c s j e h = c.wrong_laws.ensures.within (subst ReadsLaw e h.reads)

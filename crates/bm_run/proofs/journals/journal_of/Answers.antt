@@ -20,6 +20,10 @@ use Rattle.bm_law_scenario.specs.Opened.{opened}
 use Rattle.bm_law_scenario.specs.Short.{JournalShort}
 use Rattle.bm_law_lives.specs.GraceLaw.{WholeGrace}
 use Rattle.bm_law_lives.specs.Lives.{WholeLives}
+use Rattle.bm_law_objects.specs.Objects.{IsOwned}
+use Rattle.bm_law_objects.specs.ReadsLaw.{ReadsLaw}
+use Rattle.bm_law_objects.specs.ReferenceLaw.{ReferenceLaw}
+use Rattle.bm_law_objects.specs.SlotChain.{SlotChain}
 use Rattle.bm_law_order.specs.Polls.{IsPolled}
 use Rattle.bm_law_order.specs.Seals.{IsSealed}
 use Rattle.bm_law_places.specs.Placed.{IsPlaced}
@@ -27,7 +31,7 @@ use Rattle.bm_law_scenario.specs.SectionWords.{SectionWords}
 use Rattle.bm_exec.specs.Living.{home_of}
 use Rattle.bm_world.specs.LivingState.{known_living}
 use Rattle.bm_run.specs.LogsSoFar.{lived_in}
-use Rattle.bm_run.proofs.FinalLaws.{batched-is, each-log, found-is, idle-is, inbox-is, inboxes-are, laid-is, log-of-each, order-is, parcels-are, placed-is, polled-is, sealed-is}
+use Rattle.bm_run.proofs.FinalLaws.{asks-are, batched-is, each-log, found-is, idle-is, inbox-is, inboxes-are, laid-is, log-of-each, none-alive, order-is, parcels-are, placed-is, polled-is, sealed-is}
 use Rattle.bm_run.proofs.FinalLog.{final-lawful}
 use Rattle.bm_run.proofs.ParcelsArrive.{parcels-arrive}
 use Rattle.bm_run.proofs.journals.journal_of.Goals as goal
@@ -70,6 +74,7 @@ returns-clause-lawful c =
     let freed = c.lives_law.ensures.freed (lived_in (known_living h.world).objects) logs h.so_far.lived none in
     let nothing = each-log LeavesNothing logs (λ p lt. (let l = each-lawful c p lt in (l.last, l.lists, l.emptied))) in
     let receivers = subst (λ k. Each (λ p. p < k) (named receiver logs)) (sym many) (laws.receivers n s.pages logs order of-logs laid) in
+    let owned : IsOwned order = c.asked_law.ensures order (asks-are s turns logs h) in
     let arrive = parcels-arrive n s.pages logs order of-logs laid (inbox-is s turns logs h) (inboxes-are s turns logs h) in
     record {
       logs = record {
@@ -103,6 +108,9 @@ returns-clause-lawful c =
         seals = c.seals_law.ensures n s.pages logs order of-logs (found-is s turns logs h) (sealed-is s turns logs h) (batched-is s turns logs h) lives.law;
         returns = each-log (λ p log. ReturnsFit (opening p) None (λ c. []) log) logs (λ p lt. (let l = each-lawful c p lt in c.returned_law.ensures s p (get_or logs p []) l.last l.handlers l.phrases l.is_log l.lists));
       });
+      references = subst ReferenceLaw one (c.counts_law.ensures.laid n s.pages logs order of-logs laid (none-alive s turns logs h));
+      slots = λ slot. subst (SlotChain slot) one (c.slots_law.ensures.logs slot logs order of-logs owned);
+      reads = subst ReadsLaw one (c.reads_law.ensures.logs logs order of-logs owned);
     }
 
 pub returns-clause-laid : goal.returns-clause-laid
