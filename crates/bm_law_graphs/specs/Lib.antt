@@ -1,0 +1,10 @@
+pub mod Calls
+pub mod Shelves
+pub mod History
+pub mod Refusals
+pub mod Takes
+pub mod Locks
+pub mod Keys
+pub mod GraphLaws
+pub mod Worked
+pub mod Wrong
