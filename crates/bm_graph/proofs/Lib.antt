@@ -4,3 +4,4 @@ pub mod Lists
 pub mod Spending
 pub mod Rows
 pub mod Trees
+pub mod Shelves

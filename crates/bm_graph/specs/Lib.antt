@@ -6,4 +6,5 @@ pub mod Refused
 pub mod Index
 pub mod Sound
 pub mod Spending
+pub mod Shelved
 pub mod Worked

@@ -4,6 +4,9 @@
 //! is an object in one of them: the reference that the list or tree owns, of any type `T`, also one whose values have to be
 //! spent; the object's id; and its key.
 //!
+//! A `Shelf` has graphs by number, each with a page. It takes a `Visit` to one of them, from its lock to its unlock;
+//! `PlainShelf` is the shelf for one thread.
+//!
 //! Who calls it: a program's statements on lists and trees. Each call takes a `Tag`, which names the program's call, and
 //! answers its position in the history, so that the journal of a processor and the history of a list or tree name each
 //! other. `history` and `item` only look. One call after the other is made on a list or tree; whoever shares one among
@@ -18,7 +21,7 @@
 //! Documentation/bpf/graph_ds_impl.rst. That a tree orders its nodes by one number, and that a history ends after 2^32 - 1
 //! entries, is this project's own.
 //!
-//! What isn't here: the locks, which list or tree an object is in, who may push it, and what becomes of a reference whose
+//! What isn't here: a shelf that threads share, with its locks; what a page holds; which list or tree an object is in, who may push it, and what becomes of a reference whose
 //! push is refused.
 #![tactic(auto)]
 
@@ -27,7 +30,9 @@ mod graph;
 mod index;
 mod item;
 mod list;
+mod plain_shelf;
 mod record;
+mod shelf;
 mod tree;
 mod worked;
 
@@ -35,5 +40,7 @@ pub use call::GraphCall;
 pub use graph::Graph;
 pub use item::Item;
 pub use list::List;
+pub use plain_shelf::PlainShelf;
+pub use shelf::{Shelf, Visit};
 pub use tree::Tree;
 pub use worked::{worked_lists, worked_trees};

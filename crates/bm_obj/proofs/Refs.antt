@@ -6,9 +6,9 @@ use Rattle.std.proofs.lemmas.Bool.Decides.{eqb_tells}
 use Rattle.std.proofs.lemmas.Bool.{cases_lt}
 use Rattle.std.proofs.lemmas.List.Sums.{get_or-le-sum_by, sum_by-cons, sum_by-set}
 use mathlib.Core.Path.{fun_ext}
-use Rattle.bm_obj.specs.Known.{Held, at_unit, fewer, more, some_of}
+use Rattle.bm_obj.specs.Known.{at_unit, fewer, more, some_of}
 use Rattle.bm_obj.specs.Kept.{held_by, word_at}
-use Rattle.bm_obj.specs.Reference.{Reference}
+use Rattle.bm_obj.specs.Reference.{Held, Reference}
 use Rattle.bm_obj.specs.Table.{object_at, object_in, reference_to}
 use Rattle.bm_obj.specs.WorldState.{Word, held_in, opening_word, refs_in, times_held}
 use Rattle.bm_obj.specs.declared.object.Object.{Object}
@@ -99,21 +99,21 @@ abbrev pub refs_by : (ℕ → ℕ) → List UnitPlace → ℕ → Option Held
 refs_by times places = λ n. refs_in (times n) (object_in (slice_get places n))
 
 -- a unit is held as often as before but once less
-pub refs-gained : (r : Reference) (times less : ℕ → ℕ) (places : List UnitPlace) (object : Object) → object_at places r.unit ≡ Some object → reference_to object ≡ r → times r.unit ≡ less r.unit + 1 → times r.unit ≤ object.count → ((n : ℕ) → r.unit ≢ n → times n ≡ less n) → refs_by less places ≡ at_unit r.unit (more r (refs_by times places r.unit)) (refs_by times places)
+pub refs-gained : (r : Reference) (times less : ℕ → ℕ) (places : List UnitPlace) (object : Object) → object_at places r.unit ≡ Some object → reference_to object ≡ r → times r.unit ≡ less r.unit + 1 → times r.unit + object.noted ≤ object.count → ((n : ℕ) → r.unit ≢ n → times n ≡ less n) → refs_by less places ≡ at_unit r.unit (more r (refs_by times places r.unit)) (refs_by times places)
 refs-gained r times less places object e is once most others = fun_ext (λ n. elim (eqb_tells r.unit n) [
   | inl y ↦ (let F : ℕ → Type 0 = λ k. refs_by less places k ≡ more r (refs_by times places r.unit) in let h : F n = subst F y.1 here in rw y.0 h)
   | inr y ↦ (let h : refs_by less places n ≡ refs_by times places n = ap (λ t. refs_in t (object_at places n)) (sym (others n y.1)) in rw y.0 h)
 ])
   where
     here : refs_by less places r.unit ≡ more r (refs_by times places r.unit)
-    here = rw (e, is) (more-of r (object.count - times r.unit) (object.count - less r.unit) (omega arith))
+    here = rw (e, is) (more-of r (object.count - (times r.unit + object.noted)) (object.count - (less r.unit + object.noted)) (omega arith))
 
 -- .. or once more
-pub refs-spent : (r : Reference) (times most : ℕ → ℕ) (places : List UnitPlace) (object : Object) → object_at places r.unit ≡ Some object → reference_to object ≡ r → most r.unit ≡ times r.unit + 1 → times r.unit < object.count → ((n : ℕ) → r.unit ≢ n → most n ≡ times n) → refs_by most places ≡ at_unit r.unit (fewer (refs_by times places r.unit)) (refs_by times places)
+pub refs-spent : (r : Reference) (times most : ℕ → ℕ) (places : List UnitPlace) (object : Object) → object_at places r.unit ≡ Some object → reference_to object ≡ r → most r.unit ≡ times r.unit + 1 → times r.unit + object.noted < object.count → ((n : ℕ) → r.unit ≢ n → most n ≡ times n) → refs_by most places ≡ at_unit r.unit (fewer (refs_by times places r.unit)) (refs_by times places)
 refs-spent r times most places object e is once room others = fun_ext (λ n. elim (eqb_tells r.unit n) [
   | inl y ↦ (let F : ℕ → Type 0 = λ k. refs_by most places k ≡ fewer (refs_by times places r.unit) in let h : F n = subst F y.1 here in rw y.0 h)
   | inr y ↦ (let h : refs_by most places n ≡ refs_by times places n = ap (λ t. refs_in t (object_at places n)) (others n y.1) in rw y.0 h)
 ])
   where
     here : refs_by most places r.unit ≡ fewer (refs_by times places r.unit)
-    here = rw (e, is) (fewer-of r (object.count - times r.unit) (object.count - most r.unit) (omega arith))
+    here = rw (e, is) (fewer-of r (object.count - (times r.unit + object.noted)) (object.count - (most r.unit + object.noted)) (omega arith))

@@ -1,10 +1,15 @@
 -- References that a side has once it gained or spent some. For callers.
-use Rattle.std.proofs.Common.{◌≡◌, ◌≢◌, ◌∙◌, ℕ, suc, zero, ◌+◌, ◌-◌, ◌<◌, refl, sym, ap, subst, inl, inr, Option, Some, None, arith}
-use Rattle.std.specs.Prelude.{eqb, if◌then◌else◌}
+use Rattle.std.proofs.Common.{◌≡◌, ◌≢◌, ◌∙◌, ℕ, suc, zero, ◌+◌, ◌-◌, ◌<◌, refl, ap, inl, inr, Option, Some, None, arith}
 use Rattle.std.specs.Option.{option_map, option_map_or}
 use Rattle.std.proofs.lemmas.Bool.Decides.{eqb_tells}
-use Rattle.bm_obj.specs.Known.{Has, Held, Known, at_unit, count_had, fewer, gained, more, some_of, spent, told_released}
-use Rattle.bm_obj.specs.Reference.{Reference}
+use Rattle.bm_obj.specs.Known.{Has, HasPage, Known, MayEnd, at_unit, count_had, fewer, gained, more, some_of, spent, told_claimed, told_released}
+use Rattle.bm_journal.specs.declared.ids.ObjId.{ObjId}
+use Rattle.bm_obj.specs.Reference.{Held, Reference, id_of}
+use Rattle.bm_obj.specs.Waits.{NoOtherWaits, after_claim}
+use Rattle.bm_obj.specs.declared.answer.Claimed.{Claimed}
+use Rattle.bm_obj.specs.declared.answer.Claimed.TheVariants.{Won, Taken}
+use Rattle.bm_obj.specs.declared.waiting.Waiting.{Waiting}
+use Rattle.bm_obj.specs.declared.waiting.Waiting.TheVariants.{Claim, Unclaim}
 use Rattle.bm_obj.specs.declared.answer.Released.{Released}
 use Rattle.bm_obj.specs.declared.answer.Released.TheVariants.{Still, Last}
 
@@ -57,3 +62,25 @@ count-gained r k = ap (λ held. option_map_or (λ h. h.count) held 0) (there r.u
 pub has-released-other : (r q : Reference) (answer : Released) (k : Known) → q.unit ≢ r.unit → Has r k → Has r (told_released q answer k)
 has-released-other r q (Still count) k ne h = has-spent-other r q k ne h
 has-released-other r q (Last unit) k ne h = has-spent-other r q (record k { mine = at_unit q.unit (Some q.life) k.mine }) ne h
+
+-- ---- claims, for callers
+
+-- References and pages stay over a claim.
+pub has-claimed : (r q : Reference) (graph : ℕ) (answer : Claimed) (k : Known) → Has r k → Has r (told_claimed q graph answer k)
+has-claimed r q graph Won k h = h
+has-claimed r q graph (Taken owner) k h = h
+
+pub page-claimed : (g : ℕ) (q : Reference) (graph : ℕ) (answer : Claimed) (k : Known) → HasPage g k → HasPage g (told_claimed q graph answer k)
+page-claimed g q graph Won k h = h
+page-claimed g q graph (Taken owner) k h = h
+
+no-others : (id : ObjId) (waits : Option Waiting) → NoOtherWaits id (after_claim id waits)
+no-others id None = refl
+no-others id (Some (Claim other)) = refl
+no-others id (Some (Unclaim other)) = tt
+
+-- A claim that was won may be ended.
+pub may-end-claimed : (r : Reference) (graph : ℕ) (answer : Claimed) (k : Known) → k.claims r.unit ≡ None → HasPage graph k → MayEnd r (told_claimed r graph answer k)
+may-end-claimed r graph Won k none page =
+    rw (there r.unit (Some graph) k.claims, there graph (after_claim (id_of r) (k.waits graph)) k.waits) (page, no-others (id_of r) (k.waits graph))
+may-end-claimed r graph (Taken owner) k none page = rw none tt

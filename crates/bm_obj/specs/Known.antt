@@ -1,25 +1,27 @@
 -- What one side knows of all objects, and how each call changes it. (This project's own.)
-use Rattle.std.specs.Prelude.{◌≡◌, ℕ, zero, suc, ◌+◌, ◌-◌, ◌<◌, ◌≤◌, eqb, if◌then◌else◌, true, false, List, Option, None, Some, is_some, slice_index_or}
+use Rattle.std.specs.Prelude.{◌≡◌, ℕ, zero, suc, ◌+◌, ◌-◌, ◌<◌, ◌≤◌, eqb, if◌then◌else◌, true, false, List, Option, None, Some, IfSome, is_some, length, slice_index, slice_index_or}
 use Rattle.std.specs.Option.{option_map, option_map_or}
+use Rattle.bm_journal.specs.declared.ids.ObjId.{ObjId}
+use Rattle.bm_journal.specs.declared.ids.Tag.{Tag}
 use Rattle.bm_page.specs.UnitState.{UnitState}
 use Rattle.bm_class.specs.Sizes.{class_of_size}
-use Rattle.bm_obj.specs.Reference.{Reference}
+use Rattle.bm_obj.specs.Notes.{Noted, Page}
+use Rattle.bm_obj.specs.Reference.{Held, Reference, id_of}
 use Rattle.bm_obj.specs.TypeSize.{type_size}
+use Rattle.bm_obj.specs.Waits.{NoOtherWaits, after_claim, after_unclaim}
 use Rattle.bm_obj.specs.declared.answer.Claimed.{Claimed}
 use Rattle.bm_obj.specs.declared.answer.Claimed.TheVariants.{Won, Taken}
 use Rattle.bm_obj.specs.declared.answer.Released.{Released}
 use Rattle.bm_obj.specs.declared.answer.Released.TheVariants.{Still, Last}
 use Rattle.bm_obj.specs.declared.type_def.TypeDef.{TypeDef}
 use Rattle.bm_obj.specs.declared.type_def.Node.TheVariants.{Bare}
-
--- References to one life: how they all look, and how many there are, at least one.
-pub record Held : Type 0 where
-  pub to : Reference
-  pub count : ℕ
+use Rattle.bm_obj.specs.declared.waiting.Waiting.{Waiting}
 
 -- What a side knows: its processor; by unit the references that it has, to one life of the unit at a time; of each unit that
 -- is its own, so that it may make an object of it, how many lives the unit has begun; by unit the graph for which it has the
--- claim; by slot and by graph the number of its type; the types; and how many references it may still acquire.
+-- claim; by slot and by graph the number of its type; the types; how many references it may still acquire; by graph its page, if
+-- the side has it; by unit what notes carry, where the side tells it; by graph what waits for its history; and the tag of the last
+-- call that was marked.
 pub record Known : Type 0 where
   pub processor : ℕ
   pub refs : ℕ → Option Held
@@ -29,10 +31,23 @@ pub record Known : Type 0 where
   pub graphs : List ℕ
   pub defs : List TypeDef
   pub acquires : ℕ
+  pub pages : ℕ → Option Page
+  pub notes : Option (ℕ → Noted)
+  pub waits : ℕ → Option Waiting
+  pub last : Option Tag
 
 -- the type of a number, and one without anything where there is none
 abbrev pub type_at : List TypeDef → ℕ → TypeDef
 type_at defs d = slice_index_or defs d (record { fields = 0; counted = false; node = Bare; pad = 0 })
+
+-- A graph of a type: there is one of this number, and its objects are of that type.
+abbrev pub IsGraphOf : List ℕ → ℕ → ℕ → Type 0
+IsGraphOf graphs def g = (g < length graphs) × (def ≡ slice_index graphs g)
+
+-- A graph that owns an object is of the object's type.
+abbrev pub IsOwnerOf : List ℕ → ℕ → Claimed → Type 0
+IsOwnerOf graphs def Won = Unit {0}
+IsOwnerOf graphs def (Taken owner) = IsGraphOf graphs def owner
 
 -- This is one of the references that the side has.
 abbrev pub Has : Reference → Known → Type 0
@@ -45,6 +60,14 @@ count_had n k = option_map_or (λ held. held.count) (k.refs n) 0
 -- While the side has the claim of a life, it keeps a reference to it.
 abbrev pub MayGo : Reference → Known → Type 0
 MayGo r k = is_some (k.claims r.unit) ≡ true → 1 < count_had r.unit k
+
+-- The side has the page of a graph.
+abbrev pub HasPage : ℕ → Known → Type 0
+HasPage graph k = is_some (k.pages graph) ≡ true
+
+-- Where the side has the claim of an object, it has the graph's page too, and no change of another object's owner waits there.
+abbrev pub MayEnd : Reference → Known → Type 0
+MayEnd r k = IfSome (k.claims r.unit) (λ graph. HasPage graph k × NoOtherWaits (id_of r) (k.waits graph))
 
 -- The unit of this number is the side's own, and has begun so many lives.
 abbrev pub IsMine : UnitState → Known → Type 0
@@ -97,13 +120,24 @@ abbrev pub told_exchanged : {T : Type 0} → (T → Reference) → (put old : Op
 told_exchanged reference put old k =
     option_map_or (λ r. spent (reference r)) put (λ known. known) (option_map_or (λ r. gained (reference r)) old (λ known. known) k)
 
--- A claim that is won is the side's.
+-- A claim that is won is the side's, and waits for its entry.
 abbrev pub told_claimed : Reference → ℕ → Claimed → Known → Known
-told_claimed r graph Won k = record k { claims = at_unit r.unit (Some graph) k.claims }
+told_claimed r graph Won k = record k {
+  claims = at_unit r.unit (Some graph) k.claims;
+  waits = at_unit graph (after_claim (id_of r) (k.waits graph)) k.waits;
+}
 told_claimed r graph (Taken owner) k = k
 
+-- .. and so does its end
+abbrev pub waits_unclaimed : ObjId → Option ℕ → (ℕ → Option Waiting) → ℕ → Option Waiting
+waits_unclaimed id None waits = waits
+waits_unclaimed id (Some graph) waits = at_unit graph (after_unclaim id (waits graph)) waits
+
 abbrev pub told_unclaimed : Reference → Known → Known
-told_unclaimed r k = record k { claims = at_unit r.unit None k.claims }
+told_unclaimed r k = record k {
+  claims = at_unit r.unit None k.claims;
+  waits = waits_unclaimed (id_of r) (k.claims r.unit) k.waits;
+}
 
 -- The unit of an object that ended: of the number and the life of the last reference, with its maker as home, and without a
 -- seal.

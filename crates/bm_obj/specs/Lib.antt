@@ -1,7 +1,12 @@
 pub mod TypeSize
 pub mod Reference
 pub mod Table
+pub mod Waits
+pub mod GraphState
+pub mod Notes
 pub mod Known
+pub mod Carrying
 pub mod WorldState
 pub mod Kept
+pub mod NoteShows
 pub mod Worked

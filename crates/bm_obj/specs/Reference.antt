@@ -9,6 +9,11 @@ pub record Reference : Type 0 where
   pub def : ℕ
   pub maker : ℕ
 
+-- References to one life: how they all look, and how many there are, at least one.
+pub record Held : Type 0 where
+  pub to : Reference
+  pub count : ℕ
+
 -- the object: the unit and its life
 abbrev pub id_of : Reference → ObjId
 id_of r = record { unit = r.unit; life = r.life }

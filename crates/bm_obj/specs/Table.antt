@@ -1,5 +1,5 @@
 -- Objects by the numbers of their units.
-use Rattle.std.specs.Prelude.{ℕ, List, Option, None, Some, slice_get, slice_set}
+use Rattle.std.specs.Prelude.{ℕ, Bool, List, Option, None, Some, slice_get, slice_set}
 use Rattle.bm_obj.specs.Reference.{Reference}
 use Rattle.bm_obj.specs.declared.object.Object.{Object}
 use Rattle.bm_obj.specs.declared.object.UnitPlace.{UnitPlace}
@@ -29,12 +29,15 @@ changed_in f (Some (Lives object)) n places = slice_set places n (Lives (f objec
 abbrev pub changed : ℕ → (Object → Object) → List UnitPlace → List UnitPlace
 changed n f places = changed_in f (slice_get places n) n places
 
--- an object with another count, or another owner
+-- an object with another count, another owner, or otherwise in notes
 abbrev pub with_count : ℕ → Object → Object
 with_count count object = record object { count = count }
 
 abbrev pub with_owner : Option ℕ → Object → Object
 with_owner owner object = record object { owner = owner }
+
+abbrev pub with_noted : ℕ → Bool → Object → Object
+with_noted noted carried object = record object { noted = noted; carried = carried }
 
 -- the references to an object all look so
 abbrev pub reference_to : Object → Reference

@@ -1,17 +1,16 @@
 -- Worked examples: sizes of types, and one object over its calls.
-use Rattle.std.specs.Prelude.{◌≡◌, ◌≢◌, ℕ, Bool, true, false, List, [], ◌∷◌, Option, None, Some, length, slice_get}
+use Rattle.std.specs.Prelude.{List, true, false, [], ◌∷◌, None, Some}
+use Rattle.bm_journal.specs.declared.ids.ObjId.{ObjId}
 use Rattle.bm_journal.specs.declared.ids.Tag.{Tag}
+use Rattle.bm_journal.specs.declared.past.PastCall.TheVariants.{PopFront, PushBack}
 use Rattle.bm_page.specs.UnitState.{UnitState}
-use Rattle.bm_obj.specs.Known.{Held}
-use Rattle.bm_obj.specs.Reference.{Reference}
-use Rattle.bm_obj.specs.TypeSize.{type_size}
-use Rattle.bm_obj.specs.WorldState.{World, acquired, claimed, count_of, exchanged, known_of, made, opening_word, owner_of, released, unclaimed, values_of}
-use Rattle.bm_obj.specs.declared.answer.Displaced.{Displaced}
-use Rattle.bm_obj.specs.declared.object.UnitPlace.{UnitPlace}
+use Rattle.bm_obj.specs.Notes.{Carried, Entered}
+use Rattle.bm_obj.specs.Reference.{Reference, id_of}
+use Rattle.bm_obj.specs.WorldState.{World, acquired, claimed, exchanged, made, opening_word}
 use Rattle.bm_obj.specs.declared.object.UnitPlace.TheVariants.{Free}
 use Rattle.bm_obj.specs.declared.type_def.TypeDef.{TypeDef}
 use Rattle.bm_obj.specs.declared.type_def.Node.{Node}
-use Rattle.bm_obj.specs.declared.type_def.Node.TheVariants.{Bare, List as ListNode, Tree}
+use Rattle.bm_obj.specs.declared.type_def.Node.TheVariants.{Bare, List as ListNode}
 
 -- a type with two fields, and one with a count and a node
 abbrev pub pair : TypeDef
@@ -30,6 +29,8 @@ opened = record {
   defs = shared ListNode ∷ [];
   processor = 0;
   acquires = 8;
+  waits = None ∷ [];
+  last = None;
 }
 
 -- unit 1, which has begun four lives, as an object with the value 7; and the references to it
@@ -48,3 +49,18 @@ tag_3 = record { processor = 0; serial = 3 }
 
 abbrev pub one_put : World
 one_put = exchanged 0 (Some x) tag_3 (acquired x one_made)
+
+-- .. and, in place of that, is claimed for the graph
+abbrev pub one_claimed : World
+one_claimed = claimed x 0 one_made
+
+abbrev pub x_claimed : Carried
+x_claimed = record { to = x; claim = Some 0 }
+
+-- a history in which x is pushed and another life of its unit is popped
+abbrev pub other : ObjId
+other = record { unit = 1; life = 4 }
+
+abbrev pub x_stays : List Entered
+x_stays =
+    record { at = 0; past = record { tag = tag_3; call = PushBack other } } ∷ record { at = 1; past = record { tag = tag_3; call = PushBack (id_of x) } } ∷ record { at = 2; past = record { tag = tag_3; call = PopFront other } } ∷ []

@@ -1,7 +1,7 @@
 //! Objects by the numbers of their units.
 
 ghost use Rattle.std.specs.Prelude.{◌≡◌, ◌<◌, ◌≤◌, ℕ, IfOk, None, Some, is_some, true, length, replicate, slice_get, slice_set};
-ghost use Rattle.bm_obj.specs.Table.{changed, object_at, with_count, with_owner};
+ghost use Rattle.bm_obj.specs.Table.{changed, object_at, with_count, with_noted, with_owner};
 ghost use Rattle.bm_obj.specs.declared.object.UnitPlace.TheVariants.{Free, Lives};
 
 use bm_journal::Values;
@@ -10,14 +10,16 @@ use bm_word::NoMemory;
 use std::alloc::Global;
 use std::mem;
 
-/// An object: the unit that it is, with its life, how many references there are, the number of its type, its values, and the
-/// graph that owns it, if one does.
+/// An object: the unit that it is, with its life, how many references there are, the number of its type, its values, the graph
+/// that owns it, if one does, how many of the references are in notes, and whether the graph's claim is in one of these.
 pub struct Object {
     pub unit: Unit,
     pub count: u32,
     pub def: u8,
     pub values: Values,
     pub owner: Option<u8>,
+    pub noted: u32,
+    pub carried: bool,
 }
 
 impl Object {
@@ -31,6 +33,8 @@ impl Object {
             def: _,
             values: _,
             owner: _,
+            noted: _,
+            carried: _,
         } = self;
         unit
     }
@@ -128,6 +132,20 @@ pub(crate) fn set_owner(places: &mut Vec<UnitPlace>, unit: u16, owner: Option<u8
 {
     match &mut places[unit as usize] {
         UnitPlace::Lives(object) => object.owner = owner,
+        UnitPlace::Free(_) => unreachable!(),
+    }
+}
+
+/// Sets how many references to the object in a place are in notes, and whether its claim is in one of these.
+pub(crate) fn set_noted(places: &mut Vec<UnitPlace>, unit: u16, noted: u32, carried: bool)
+    requires { is_some (object_at places.old.items unit) ≡ true }
+    ensures { places.new.items ≡ changed unit (with_noted noted carried) places.old.items }
+{
+    match &mut places[unit as usize] {
+        UnitPlace::Lives(object) => {
+            object.noted = noted;
+            object.carried = carried;
+        }
         UnitPlace::Free(_) => unreachable!(),
     }
 }

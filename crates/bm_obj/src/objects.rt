@@ -2,9 +2,10 @@
 
 ghost use Rattle.std.specs.Prelude.{◌≡◌, ◌<◌, ◌≤◌, ◌^◌, ℕ, true, false, None, Some, is_some, length, slice_index, IfSome};
 ghost use Rattle.bm_class.specs.Sizes.{class_of_size};
-ghost use Rattle.bm_obj.specs.Known.{Has, IsLast, IsLastUnit, IsMine, IsSeen, Known, MayGo, count_had, first_reference, told_acquired, told_claimed, told_exchanged, told_made, told_released, told_unclaimed, type_at};
+ghost use Rattle.bm_obj.specs.Known.{Has, HasPage, IsLast, IsLastUnit, IsMine, IsOwnerOf, IsSeen, Known, MayEnd, MayGo, count_had, first_reference, told_acquired, told_claimed, told_exchanged, told_made, told_released, told_unclaimed, type_at};
 ghost use Rattle.bm_obj.specs.Reference.{Reference, id_of};
 ghost use Rattle.bm_obj.specs.TypeSize.{type_size};
+ghost use Rattle.bm_obj.specs.Waits.{NoOtherWaits};
 ghost use Rattle.bm_obj.specs.declared.answer.Claimed.TheVariants.{Won, Taken};
 
 use crate::answer::{Claimed, Displaced, Released};
@@ -82,23 +83,29 @@ pub trait Objects {
             ≡ slice_index (known self.old).slots slot) }
         ensures known { known self.new ≡ told_exchanged reference put result.old (known self.old) };
 
-    /// Claims an object for a graph of its type. It is Won where no graph owned the object, and then this one does; else the
-    /// answer is the graph that owns it. From the exchange of a node's owner in `__bpf_list_add` and `__bpf_rbtree_add` of
+    /// Claims an object for a graph of its type, whose page this side has. No won claim of another object for the graph, nor the end
+    /// of one, waits for its entry in the graph's history. It is Won where no graph owned the object, and then this one does; else the
+    /// answer is the graph that owns it, which is of the object's type too. From the exchange of a node's owner in `__bpf_list_add` and `__bpf_rbtree_add` of
     /// kernel/bpf/helpers.c.
     fn claim(&mut self, r: &Self::Ref, graph: u8) -> Claimed
         requires has { Has (reference r.now) (known self.old) }
         requires graph { graph < length (known self.old).graphs }
         requires of_type { (reference r.now).def ≡ slice_index (known self.old).graphs graph }
+        requires page { HasPage graph (known self.old) }
+        requires waits { NoOtherWaits (id_of (reference r.now)) ((known self.old).waits graph) }
         ensures mine { (g : ℕ) → (known self.old).claims (reference r.now).unit ≡ Some g
             → result ≡ Taken g }
         ensures single { (type_at (known self.old).defs (reference r.now).def).counted ≡ false
             → (known self.old).claims (reference r.now).unit ≡ None → result ≡ Won }
+        ensures owner { IsOwnerOf (known self.old).graphs (reference r.now).def result }
         ensures known { known self.new
             ≡ told_claimed (reference r.now) graph result (known self.old) };
 
-    /// Ends the claim of an object, which this side has. From `__bpf_list_del` and `bpf_rbtree_remove` of kernel/bpf/helpers.c.
+    /// Ends the claim of an object, which this side has, and so the page of its graph, for which no change of another object's owner
+    /// waits. From `__bpf_list_del` and `bpf_rbtree_remove` of kernel/bpf/helpers.c.
     fn unclaim(&mut self, r: &Self::Ref)
         requires has { Has (reference r.now) (known self.old) }
         requires claimed { is_some ((known self.old).claims (reference r.now).unit) ≡ true }
+        requires ends { MayEnd (reference r.now) (known self.old) }
         ensures known { known self.new ≡ told_unclaimed (reference r.now) (known self.old) };
 }

@@ -1,11 +1,15 @@
 //! Worked examples of the rules, as theorems by computing.
 
 ghost use Rattle.std.specs.Prelude.{◌≡◌, ◌∷◌, [], None, Some, slice_get};
+ghost use Rattle.bm_obj.specs.Carrying.{carried_from};
+ghost use Rattle.bm_obj.specs.Notes.{LeavesItem};
+ghost use Rattle.bm_obj.specs.Reference.{id_of};
 ghost use Rattle.bm_obj.specs.TypeSize.{type_size};
-ghost use Rattle.bm_obj.specs.Worked.{one_made, one_put, opened, pair, shared, tag_3, x};
-ghost use Rattle.bm_obj.specs.WorldState.{acquired, claimed, count_of, exchanged, known_of, opening_word, owner_of, released, unclaimed, values_of};
+ghost use Rattle.bm_obj.specs.Worked.{one_claimed, one_made, one_put, opened, other, pair, shared, tag_3, x, x_claimed, x_stays};
+ghost use Rattle.bm_obj.specs.WorldState.{acquired, claimed, count_of, entered, exchanged, known_of, opening_word, owner_of, put_in, released, taken_out, unclaimed, values_of};
 ghost use Rattle.bm_obj.specs.declared.object.UnitPlace.TheVariants.{Free};
 ghost use Rattle.bm_obj.specs.declared.type_def.Node.TheVariants.{Bare, List, Tree};
+ghost use Rattle.bm_obj.specs.declared.waiting.Waiting.TheVariants.{Claim, Unclaim};
 
 /// Sizes: two fields take 16 bytes; a field, a count and 3 bytes more take 19 without a node, 43 with one of a list and 51 with
 /// one of a tree. A node of a list isn't as large as one of a tree.
@@ -54,4 +58,33 @@ pub fn worked_slots()
     ensures empty { slice_get (exchanged 0 None tag_3 opened).words 0
         ≡ Some (record { old = None; by = Some tag_3 }) }
     ensures not_opening { ¬ slice_get (exchanged 0 None tag_3 opened).words 0 ≡ Some opening_word }
+{}
+
+/// A claimed object goes into a note with its claim: the side then has neither, the note is one of those that are out, and what
+/// comes out of it gives back both.
+pub fn worked_notes()
+    ensures carried { carried_from x (known_of one_claimed) ≡ x_claimed }
+    ensures refs { (known_of (put_in x one_claimed)).refs 1 ≡ None }
+    ensures claims { (known_of (put_in x one_claimed)).claims 1 ≡ None }
+    ensures owner { owner_of x (put_in x one_claimed) ≡ Some 0 }
+    ensures back { taken_out x_claimed (put_in x one_claimed) ≡ one_claimed }
+    ensures not_without { ¬ carried_from x (known_of one_claimed) ≡ carried_from x (known_of one_made) }
+    ensures not_out { ¬ put_in x one_claimed ≡ one_claimed }
+{}
+
+/// A won claim waits until the graph's history has its entry, or until the claim ends; the end of a claim whose entry is there
+/// waits too.
+pub fn worked_waits()
+    ensures claim { (known_of one_claimed).waits 0 ≡ Some (Claim (id_of x)) }
+    ensures ended { (known_of (unclaimed x one_claimed)).waits 0 ≡ None }
+    ensures entry { (known_of (entered 0 one_claimed)).waits 0 ≡ None }
+    ensures unclaim { (known_of (unclaimed x (entered 0 one_claimed))).waits 0
+        ≡ Some (Unclaim (id_of x)) }
+    ensures not_claim { ¬ (known_of (unclaimed x one_claimed)).waits 0 ≡ Some (Claim (id_of x)) }
+{}
+
+/// A history leaves an object as an item that was pushed and not popped; a pop of another life of its unit doesn't matter.
+pub fn worked_items()
+    ensures stays { LeavesItem (id_of x) x_stays }
+    ensures popped { ¬ LeavesItem other x_stays }
 {}

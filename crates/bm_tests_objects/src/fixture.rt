@@ -1,12 +1,13 @@
 //! A world and units for tests.
 
-ghost use Rattle.std.specs.Prelude.{◌≡◌, ◌^◌, ◌∷◌, [], None, replicate, true};
+ghost use Rattle.std.specs.Prelude.{◌≡◌, ◌^◌, ◌∷◌, [], None, length, replicate, true};
 ghost use Rattle.bm_obj.specs.WorldState.{known_of, opening_word};
 ghost use Rattle.bm_obj.specs.declared.object.UnitPlace.TheVariants.{Free};
-ghost use Rattle.bm_obj.specs.declared.type_def.Node.TheVariants.{List};
+ghost use Rattle.bm_obj.specs.declared.type_def.Node.TheVariants.{List as ListNode};
 
 use bm_class::Class;
-use bm_obj::{Node, OneWorld, TypeDef};
+use bm_graph::{Graph, List, PlainShelf};
+use bm_obj::{Node, Note, OneWorld, TypeDef};
 use bm_page::{Pool, Unit};
 use std::process::Abort;
 
@@ -19,7 +20,7 @@ const ITEM: TypeDef = TypeDef {
 };
 
 /// One value.
-fn one_of<T: Copy>(rt: &(impl Abort + AllocGlobal), item: T) -> Vec<T>
+fn one_of<T>(rt: &(impl Abort + AllocGlobal), item: T) -> Vec<T>
     ensures { result.items ≡ item ∷ [] }
 {
     let mut items = Vec::with_capacity(rt.alloc(), 1).expect(rt, "memory");
@@ -36,9 +37,11 @@ pub(crate) fn one_world(rt: &(impl Abort + AllocGlobal)) -> OneWorld
       words = opening_word ∷ [];
       slots = 0 ∷ [];
       graphs = 0 ∷ [];
-      defs = record { fields = 1; counted = true; node = List; pad = 0 } ∷ [];
+      defs = record { fields = 1; counted = true; node = ListNode; pad = 0 } ∷ [];
       processor = 0;
       acquires = 2 ^ 30;
+      waits = None ∷ [];
+      last = None;
     } }
 {
     let slots = one_of(rt, 0);
@@ -71,4 +74,11 @@ pub(crate) fn next_unit(rt: &(impl Abort + AllocGlobal), pool: &mut Pool, number
     assert!(rt; unit.class().index() == 2);
     assert!(rt; unit.life() == 0);
     unit
+}
+
+/// A shelf of one empty list, with this page.
+pub(crate) fn one_shelf(rt: &(impl Abort + AllocGlobal), page: Note) -> PlainShelf<Note>
+    ensures { length result ≡ 1 }
+{
+    PlainShelf::new(one_of(rt, (Graph::List(List::new(rt.alloc())), page)))
 }

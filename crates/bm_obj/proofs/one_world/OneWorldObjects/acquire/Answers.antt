@@ -31,13 +31,13 @@ invariant_of-self c =
     let was = (c.self.invariant.alive r.unit f.object f.at).room in
     let some = subst (λ (w : World). 0 < w.acquires) (sym c.self.view_is) c.requires.room in
     rw (c.set_count.ensures, c.unit-2.ensures)
-    (kept-counted i.places.items i.words.items i.slots.items i.defs.items i.acquires (i.acquires - 1) r f (c.look_at.result.now.count + 1) c.self.invariant (omega arith) (omega arith) (omega arith) (λ h. omega arith) (λ h. absurd (cc)) (omega arith))
+    (kept-counted i.places.items i.words.items i.slots.items i.graphs.types i.defs.items i.acquires (i.acquires - 1) r f (c.look_at.result.now.count + 1) c.self.invariant (omega arith) (omega arith) (omega arith) (λ h. omega arith) (λ h. absurd (cc)) (omega arith))
 
 pub returns-clause-known : goal.returns-clause-known
 returns-clause-known c =
     let i = c.self.inside in
     let r = c.args.r.now in
-    let w : World = record { places = i.places.items; words = i.words.items; slots = i.slots.items; graphs = i.graphs.items; defs = i.defs.items; processor = i.processor; acquires = i.acquires } in
+    let w : World = record { places = i.places.items; words = i.words.items; slots = i.slots.items; graphs = i.graphs.types; defs = i.defs.items; processor = i.processor; acquires = i.acquires; waits = i.graphs.waits; last = i.last } in
     let has = subst (λ (w : World). Has r (known_of w)) (sym c.self.view_is) c.requires.has in
     let f = finds i.places.items i.words.items r has in
     let at : object_at i.places.items r.unit ≡ Some c.look_at.result.now = rw (← c.unit.ensures) c.look_at.ensures in

@@ -18,7 +18,7 @@ invariant_of-self c =
     let e : slice_get i.words.items c.args.slot ≡ Some c.replace.result = slice_get-get_or i.words.items c.args.slot c.index_mut.result.now inside ∙ ap (λ x. Some x) (sym c.index_mut.ensures.value ∙ sym c.replace.ensures.value) in
     let has = λ (r : Reference) (p : c.args.put ≡ Some r). (let h = subst (λ (w : World). Has r (known_of w)) (sym c.self.view_is) (if-some c.args.put (λ q. Has q (known_of c.args.self.now)) c.requires.has r p) in finds i.places.items i.words.items r h) in
     rw c.replace.ensures.after
-    (word-written i.places.items i.words.items i.slots.items i.defs.items i.acquires c.args.slot c.replace.result (record { old = c.args.put; by = Some c.args.tag }) c.self.invariant e
+    (word-written i.places.items i.words.items i.slots.items i.graphs.types i.defs.items i.acquires c.args.slot c.replace.result (record { old = c.args.put; by = Some c.args.tag }) c.self.invariant e
     (λ r p. (
     let type = subst (λ (w : World). r.def ≡ slice_index w.slots c.args.slot) (sym c.self.view_is) (if-some c.args.put (λ q. q.def ≡ slice_index c.args.self.now.slots c.args.slot) c.requires.of_type r p) in
     let keeps = subst (λ (w : World). MayGo r (known_of w)) (sym c.self.view_is) (if-some c.args.put (λ q. MayGo q (known_of c.args.self.now)) c.requires.keeps r p) in
@@ -50,7 +50,7 @@ returns-clause-known c =
     let inside : c.args.slot < length i.words.items = omega arith in
     let e : slice_get i.words.items c.args.slot ≡ Some c.replace.result = slice_get-get_or i.words.items c.args.slot c.index_mut.result.now inside ∙ ap (λ x. Some x) (sym c.index_mut.ensures.value ∙ sym c.replace.ensures.value) in
     let has = λ (r : Reference) (p : c.args.put ≡ Some r). (let h = subst (λ (w : World). Has r (known_of w)) (sym c.self.view_is) (if-some c.args.put (λ q. Has q (known_of c.args.self.now)) c.requires.has r p) in finds i.places.items i.words.items r h) in
-    let w : World = record { places = i.places.items; words = i.words.items; slots = i.slots.items; graphs = i.graphs.items; defs = i.defs.items; processor = i.processor; acquires = i.acquires } in
+    let w : World = record { places = i.places.items; words = i.words.items; slots = i.slots.items; graphs = i.graphs.types; defs = i.defs.items; processor = i.processor; acquires = i.acquires; waits = i.graphs.waits; last = i.last } in
     let new : Word = record { old = c.args.put; by = Some c.args.tag } in
     rw (← c.self.view_is, c.replace.ensures.after)
     (told-exchanged w c.args.slot c.replace.result new e (λ r p. c.self.invariant.lives c.args.slot r (ap held_by e ∙ p)) (λ n object at. (c.self.invariant.alive n object at).slots) has)

@@ -29,14 +29,14 @@ invariant_of-self c =
     let values = subst (λ (w : World). length c.args.values.now ≡ (type_at w.defs c.args.def).fields) (sym c.self.view_is) c.requires.values in
     let few = c.self.invariant.few in
     rw (c.put_object.ensures, c.begin_life.ensures, c.kept_values.ensures)
-    (kept-made i.places.items i.words.items i.slots.items i.defs.items i.acquires unit c.args.def c.args.values.now mine c.requires.room class values (omega arith) c.self.invariant)
+    (kept-made i.places.items i.words.items i.slots.items i.graphs.types i.defs.items i.acquires unit c.args.def c.args.values.now mine c.requires.room class values (omega arith) c.self.invariant)
 
 pub returns-clause-known : goal.returns-clause-known
 returns-clause-known c =
     let i = c.self.inside in
     let unit = c.args.unit in
-    let w : World = record { places = i.places.items; words = i.words.items; slots = i.slots.items; graphs = i.graphs.items; defs = i.defs.items; processor = i.processor; acquires = i.acquires } in
+    let w : World = record { places = i.places.items; words = i.words.items; slots = i.slots.items; graphs = i.graphs.types; defs = i.defs.items; processor = i.processor; acquires = i.acquires; waits = i.graphs.waits; last = i.last } in
     let mine = subst (λ (w : World). IsMine unit (known_of w)) (sym c.self.view_is) c.requires.mine in
-    let none = none-held i.places.items i.words.items i.slots.items i.defs.items i.acquires unit.number c.self.invariant (mine-none i.places.items unit.number unit.life mine) in
+    let none = none-held i.places.items i.words.items i.slots.items i.graphs.types i.defs.items i.acquires unit.number c.self.invariant (mine-none i.places.items unit.number unit.life mine) in
     let places = rw (c.begin_life.ensures, c.kept_values.ensures) at c.put_object.ensures in
     rw (← c.self.view_is, c.new-r.ensures, c.number.ensures, c.life.ensures, c.home.ensures, c.begin_life.ensures) (ap (λ ps. known_of (record w { places = ps })) places ∙ told-made w unit c.args.def c.args.values.now mine none)
