@@ -17,7 +17,7 @@ use Rattle.bm_law.proofs.Folds.{after-append}
 use Rattle.bm_law_work.specs.Grown.{GrewBy}
 use Rattle.bm_law_work.proofs.Grown.{grew-say, grew-none, grew-stand, grew-map, grew-join}
 use Rattle.bm_law_scenario.proofs.Freed.{knows-batch}
-use Rattle.bm_law_scenario.specs.Calls.{answered, RunsNew, RunsDrop, batch_in}
+use Rattle.bm_law_scenario.specs.Calls.{answered, RunsNew, RunsDrop, RunsGivingUp, batch_in}
 use Rattle.bm_law_work.specs.Parts.{Say, Stand}
 use Rattle.bm_law_scenario.specs.Runs.{Done, Followed, Leaving, Times, Within, RunsAction, RunsBlock}
 use Rattle.bm_check.specs.Statements.{Setting}
@@ -75,9 +75,9 @@ pub drop-performed : (types : List TypeDeclaration) (classes : List ℕ) (l : �
     lives'' ≡ lives' → GrewBy (Behind w) s1 log1 log' → Behind w s' [] → (os : List Open) → Performed types l z z w s s' (Drop x) names names' os os lives lives'' asked asked' log log'
 drop-performed types classes l z w p s s1 s' x t o names names' lives lives' lives'' asked asked' log log1 log' c d leaves leaves1 leaves' cs of held gone e n same work down os = record {
   grew = called types l z w p (Drop x) s s1 s' names names' os log log1 log' leaves leaves1 leaves'
-      (grew-map (Say l (λ own. RunsDrop types x (batch_in s) names own names')) (RunsAction types l (is_inside z) (Behind w) (Drop x) names names') s log log1 (λ part y. y)
-      (grew-say l (λ own. RunsDrop types x (batch_in s) names own names') (entry.Drop o.unit o.life ∷ entry.Last ∷ gone.own) s log log1 gone.records
-      (record { type = t; unit = o.unit; life = o.life; held = held; class = c; declared = d; of_class = of; home = gone.home; batch = is_some (s.rows c).deferred.plain; batch_is = knows-batch s c; own = gone.own; part_is = refl; frees = gone.frees; after_is = e }))) work;
+      (grew-map (Say l (λ own. RunsGivingUp types x (batch_in s) names own names')) (RunsAction types l (is_inside z) (Behind w) (Drop x) names names') s log log1 (λ part y. y)
+      (grew-say l (λ own. RunsGivingUp types x (batch_in s) names own names') (entry.Drop o.unit o.life ∷ entry.Last ∷ gone.own) s log log1 gone.records
+      (inr (record { type = t; unit = o.unit; life = o.life; held = held; class = c; declared = d; of_class = of; home = gone.home; batch = is_some (s.rows c).deferred.plain; batch_is = knows-batch s c; own = gone.own; part_is = refl; frees = gone.frees; after_is = e })))) work;
   safe = λ s y. rw e (rw (store-with x Nothing names) y.1.3);
   holds = λ base h. rw same (rw e (holds-less types base lives lives' names x t o.unit o.life held gone.ends h));
   meets = λ p h a b. b;

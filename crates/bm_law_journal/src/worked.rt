@@ -4,6 +4,7 @@ ghost use Rattle.std.specs.Prelude.{◌≡◌, None};
 ghost use Rattle.bm_journal.specs.declared.journal.Journal.{Journal};
 ghost use Rattle.bm_lang.specs.declared.scenario.Parts.{Parts};
 ghost use Rattle.bm_law_scenario.specs.WorkedDeferred.{one_block as block_made_and_dropped, one_block_journal};
+ghost use Rattle.bm_law_scenario.specs.WorkedDrops.{counted_journal, counted_object};
 ghost use Rattle.bm_law_journal.specs.Lawful.{Laid, Lawful};
 ghost use Rattle.bm_law_lives.specs.Worked.{both_stages};
 ghost use Rattle.bm_law_lives.specs.Wrong.{ends_in_section, given_twice, never_ended, never_received, never_returned, no_seal, other_home, other_stamp, returned_too_early, sealed_though_plain, sent_too_early, sent_unseen};
@@ -15,15 +16,17 @@ use bm_law_laid::{worked_journal, worked_polls, worked_seals};
 use bm_law_lives::{worked_grace, worked_lives, worked_returns, worked_stamps};
 use bm_law_objects::wrong_laws;
 use bm_law_places::worked_journal_places;
-use bm_law_scenario::worked_deferred;
+use bm_law_scenario::{worked_deferred, worked_drops};
 
-/// Lawful is the journal of a block that is made and dropped, with deferred work. Whatever its scenario, a journal isn't whose logs
+/// Lawful is the journal of a block that is made and dropped, with deferred work, and that of a counted object to which a second
+/// reference is acquired before both are given up. Whatever its scenario, a journal isn't whose logs
 /// give a life twice, leave a life without its end, free a unit to another home, don't return a unit, send a parcel that nobody
 /// receives, end a grace period within a section, give a unit a seal after a plain free, or return a batch too early; nor is one whose
 /// logs see a reference too many in an acquire or a drop, take a slot's content twice or at its start twice, name a call that no log has or
 /// take what another one put, or read another field or another object's.
 pub fn worked_lawful()
     ensures one_block { Lawful block_made_and_dropped one_block_journal }
+    ensures shared { Lawful counted_object counted_journal }
     ensures given_twice { (s : Parts) (j : Journal) → j.logs ≡ given_twice → ¬ Lawful s j }
     ensures never_ended { (s : Parts) (j : Journal) → j.logs ≡ never_ended → ¬ Lawful s j }
     ensures other_home { (s : Parts) (j : Journal) → j.logs ≡ other_home → ¬ Lawful s j }
@@ -42,6 +45,7 @@ pub fn worked_lawful()
     ensures handlers_object { (s : Parts) (j : Journal) → j.logs ≡ logs_of (asked_within 2) → ¬ Lawful s j }
 {
     worked_deferred();
+    worked_drops();
     worked_lives();
     worked_returns();
     worked_grace();

@@ -12,7 +12,7 @@ use Rattle.bm_law.specs.State.{State, opening, seven_lists}
 use Rattle.bm_law_work.specs.Parts.{Part, Nothing, Say, Stand, Then}
 use Rattle.bm_law_work.proofs.Each.{AllOf, of-map, part-say, part-stand}
 use Rattle.bm_law_scenario.specs.CallEntries.{IsOfStatement, IsOfHandler}
-use Rattle.bm_law_scenario.specs.Calls.{RunsDrop, RunsNew, any_batch}
+use Rattle.bm_law_scenario.specs.Calls.{RunsAcquire, RunsDrop, RunsNew, RunsStill, any_batch}
 use Rattle.bm_law_scenario.specs.Closing.{AreSweeps, Closing, EndsOne, EndsPeriods, IsEnd, SweepWhere, close_of, in_progress}
 use Rattle.bm_law_scenario.specs.Fills.{AreFills, prefill}
 use Rattle.bm_law_scenario.specs.Grammar.{Front, IsLog}
@@ -61,6 +61,8 @@ front-by s =
       calls = record {
         new = λ x t values names after. says (λ own. RunsNew s.types x t values names own after) (λ own h. of-map IsOfStatement KeepsBatch call-keeps own (calls.new x t values names own after h));
         dropped = λ x names after. says (λ own. RunsDrop s.types x any_batch names own after) (λ own h. of-map IsOfStatement KeepsBatch call-keeps own (calls.dropped x names own after h));
+        still = λ x names after. says (λ own. RunsStill s.types x names own after) (λ own h. of-map IsOfStatement KeepsBatch call-keeps own (calls.still x names own after h));
+        acquired = λ y x names after. says (λ own. RunsAcquire s.types y x names own after) (λ own h. of-map IsOfStatement KeepsBatch call-keeps own (calls.acquired y x names own after h));
         enters = λ w. stands (entry.In Plain w ∷ []) (tt, tt);
         leaves = λ w. stands (entry.Out Plain w ∷ []) (tt, tt);
         yields = stands (entry.Yield ∷ []) (tt, tt);

@@ -1,5 +1,5 @@
 -- A block has what its calls and the deferred work behind its statements have.
-use Rattle.std.proofs.Common.{ℕ, zero, suc, ◌+◌, Bool, true, false, List, [], ◌∷◌}
+use Rattle.std.proofs.Common.{ℕ, zero, suc, ◌+◌, Bool, true, false, List, [], ◌∷◌, inl, inr}
 use Rattle.bm_journal.specs.declared.ids.Domain.TheVariants.{Plain}
 use Rattle.bm_journal.specs.declared.entry.Entry.TheVariants as entry
 use Rattle.bm_lang.specs.declared.scenario.Action.{Action, New, Drop, Acquire, Get, Exchange, If', Repeat, Section, Lock, Unlock, Yield, PushFront, PushBack, PopFront, PopBack, Add, First, Remove, Held-Action-If-2, None', Some'}
@@ -10,8 +10,8 @@ use Rattle.bm_law.specs.Lists.{Log}
 use Rattle.bm_law.specs.State.{State}
 use Rattle.bm_law_work.specs.Parts.{Part, Nothing, Say, Stand, Then}
 use Rattle.bm_law_scenario.specs.Held.{Held, Nothing as Nothing_held, Null, Object, Names}
-use Rattle.bm_law_scenario.specs.Calls.{RunsNew, RunsDrop, any_batch, batch_in}
-use Rattle.bm_law_scenario.specs.Runs.{Run, Leaving, Done, Followed, Times, Chosen, Enclosed, Within, RunsAction, RunsElse, RunsBlock, RunsRow}
+use Rattle.bm_law_scenario.specs.Calls.{RunsAcquire, RunsDrop, RunsGivingUp, RunsNew, RunsStill, any_batch, batch_in}
+use Rattle.bm_law_scenario.specs.Runs.{Run, Calls, Leaving, Done, Followed, Times, Chosen, Enclosed, Within, RunsAction, RunsElse, RunsBlock, RunsRow}
 use Rattle.bm_law_scenario.proofs.PartLaws.{Laws, law-as, law-never}
 use Rattle.bm_law_scenario.proofs.Freed.{loosened}
 
@@ -19,6 +19,8 @@ use Rattle.bm_law_scenario.proofs.Freed.{loosened}
 pub record Called (types : List TypeDeclaration) (L : Part → Type 0) : Type 0 where
   pub new : (x : List ℕ) (t : TypeId) (values : List ℕ) (names after : Names) → L (Say 0 (λ own. RunsNew types x t values names own after))
   pub dropped : (x : List ℕ) (names after : Names) → L (Say 0 (λ own. RunsDrop types x any_batch names own after))
+  pub still : (x : List ℕ) (names after : Names) → L (Say 0 (λ own. RunsStill types x names own after))
+  pub acquired : (y x : List ℕ) (names after : Names) → L (Say 0 (λ own. RunsAcquire types y x names own after))
   pub enters : (w : ℕ) → L (Stand 0 (entry.In Plain w ∷ []))
   pub leaves : (w : ℕ) → L (Stand 0 (entry.Out Plain w ∷ []))
   pub yields : L (Stand 0 (entry.Yield ∷ []))
@@ -52,6 +54,21 @@ module _ (types : List TypeDeclaration) (L : Part → Type 0) (k : Laws L) (c : 
       k.cases ℕ (λ w. Enclosed 0 R w names after) (Within false 0 R names after)
       (λ w. k.both (Stand 0 (entry.In Plain w ∷ [])) (Then (R names after) (Stand 0 (entry.Out Plain (w + 1) ∷ []))) (c.enters w) (k.both (R names after) (Stand 0 (entry.Out Plain (w + 1) ∷ [])) (f names after) (c.leaves (w + 1)))) (λ s part h. h)
 
+  -- a reference that is given up, the last or another one
+  abbrev given-up : (x : List ℕ) (names after : Names) → Bool → Part
+  given-up x names after true = Say 0 (λ own. RunsStill types x names own after)
+  given-up x names after false = Say 0 (λ own. RunsDrop types x any_batch names own after)
+
+  given-up-law : (x : List ℕ) (names after : Names) (b : Bool) → L (given-up x names after b)
+  given-up-law x names after true = c.still x names after
+  given-up-law x names after false = c.dropped x names after
+
+  given-up-some : (x : List ℕ) (names after : Names) (s : State ℕ) (part : Log) → Calls 0 (RunsGivingUp types x (batch_in s)) names after s part → (b : Bool) × given-up x names after b s part
+  given-up-some x names after s part h = elim h.1 [
+    | inl r ↦ (true, (h.0, r, h.2))
+    | inr r ↦ (false, (h.0, loosened types x (batch_in s) names after h.0 r, h.2))
+  ]
+
   -- a statement that no journal has so far
   never : (i : Bool) (a : Action) → ((names after : Names) (s : State ℕ) (part : Log) → RunsAction types 0 i behind a names after s part → ⊥) → LawRun L (RunsAction types 0 i behind a)
   never i a f names after = law-never L k (RunsAction types 0 i behind a names after) (f names after)
@@ -59,12 +76,12 @@ module _ (types : List TypeDeclaration) (L : Part → Type 0) (k : Laws L) (c : 
   mutual
     law-action : (i : Bool) (a : Action) → LawRun L (RunsAction types 0 i behind a)
     law-action i (New x t values) = λ names after. c.new x t values names after
-    law-action i (Drop x) = λ names after. law-as L k (Say 0 (λ own. RunsDrop types x any_batch names own after)) (RunsAction types 0 i behind (Drop x) names after) (c.dropped x names after) (λ s part h. (h.0, loosened types x (batch_in s) names after h.0 h.1, h.2))
+    law-action i (Drop x) = λ names after. k.cases Bool (given-up x names after) (RunsAction types 0 i behind (Drop x) names after) (given-up-law x names after) (given-up-some x names after)
+    law-action i (Acquire y x) = λ names after. c.acquired y x names after
     law-action i (If' x body otherwise) = λ names after. law-chosen (names x) (RunsBlock types 0 i behind body) (RunsElse types 0 i behind otherwise) (law-block i body) (law-else i otherwise) names after
     law-action i (Repeat n body) = law-times (RunsBlock types 0 i behind body) n (law-block i body)
     law-action i (Section body) = law-within i (RunsBlock types 0 true behind body) (law-block true body)
     law-action i Yield = law-leaving (Stand 0 (entry.Yield ∷ [])) c.yields
-    law-action i (Acquire y x) = never i (Acquire y x) (λ names after s part h. h)
     law-action i (Get x field) = never i (Get x field) (λ names after s part h. h)
     law-action i (Exchange y slot x) = never i (Exchange y slot x) (λ names after s part h. h)
     law-action i (Lock graph) = never i (Lock graph) (λ names after s part h. h)

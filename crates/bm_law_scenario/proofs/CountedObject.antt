@@ -1,5 +1,5 @@
--- The journal of a counted object made and dropped is lawful.
-use Rattle.std.proofs.Common.{ℕ, inl, inr, cond, true, false, List, [], ◌∷◌, ◌++◌, refl, sym, ap, subst, bytes_eq, codes, lit≤, Some, None}
+-- The journal of a counted object that is made, referred to twice and dropped twice is lawful.
+use Rattle.std.proofs.Common.{◌≡◌, Bool, is_some, lit<, ℕ, inl, inr, cond, true, false, List, [], ◌∷◌, ◌++◌, refl, sym, ap, subst, bytes_eq, codes, lit≤, Some, None}
 use Rattle.std.proofs.lemmas.Bool.Decides.{eqb_tells}
 use Rattle.bm_class.specs.Sizes.{class_of_size, size_of_class}
 use Rattle.bm_class.specs.Watermarks.{low_of_size, high_of_size, batch_of_size}
@@ -18,7 +18,7 @@ use Rattle.bm_law.proofs.Agree.{leaves-lists}
 use Rattle.bm_law.proofs.Null.{pops-fit}
 use Rattle.bm_law_work.specs.Parts as part
 use Rattle.bm_law_work.proofs.Pages.{short-named}
-use Rattle.bm_law_scenario.specs.Calls.{Allocates, RunsNew}
+use Rattle.bm_law_scenario.specs.Calls.{Allocates, RunsAcquire, RunsDrop, RunsNew, batch_in}
 use Rattle.bm_law_scenario.specs.Grammar.{IsLog}
 use Rattle.bm_law_scenario.specs.Held.{Null, Object, OwnsNothing, no_names}
 use Rattle.bm_law_scenario.specs.Held as held
@@ -28,14 +28,15 @@ use Rattle.bm_law_scenario.specs.Runs.{Run, RunsBlock}
 use Rattle.bm_law_scenario.specs.SectionWords.{SectionWords}
 use Rattle.bm_law_scenario.specs.Short.{all_entries}
 use Rattle.bm_law_scenario.specs.Worked.{item}
-use Rattle.bm_law_scenario.specs.WorkedDrops.{counted_call, counted_entries, counted_journal, counted_log, counted_object, counted_types, delays_and_raises, holding_three, makes_and_drops_counted, makes_counted, none_held}
-use Rattle.bm_law_scenario.specs.WorkedJournal.{block_of, drops_x, drops_x_unless_null, item_id, one_page, swept, sweep_period, took, vector_of, x_name}
+use Rattle.bm_law_scenario.specs.WorkedDrops.{acquires, acquires_and_drops, both_hold, counted_call, counted_entries, counted_journal, counted_log, counted_object, counted_types, delays_and_raises, gives_one_up, holding_three, makes_and_shares, makes_counted, neither_holds, shared, shares_unless_null, y_holds, y_name}
+use Rattle.bm_law_scenario.specs.WorkedJournal.{block_of, item_id, one_page, swept, sweep_period, took, vector_of, x_name}
 use Rattle.bm_law_scenario.proofs.BlockParts.{RunsList, block-parts}
 use Rattle.bm_law_scenario.proofs.Opening.{first-four}
 use Rattle.bm_law_scenario.proofs.Ordinary.{all-ordinary, says, stands, then-of}
 use Rattle.bm_law_scenario.proofs.Told.{one-log}
 use Rattle.bm_law_scenario.proofs.Unplanned.{done-ordinary}
-use Rattle.bm_law_scenario.proofs.WorkedDropped.{delay-of, of-counted}
+use Rattle.bm_law_scenario.proofs.WorkedDropped.{of-counted}
+use Rattle.bm_law_scenario.proofs.WorkedShared.{acquires-seen, left-seen}
 
 abbrev last : State ℕ
 last = after (opening 0) counted_log
@@ -51,7 +52,7 @@ emptied = record {
 }
 
 replies : RepliesFit Nothing (own_entries 0 counted_log)
-replies = (tt, (tt, (tt, (refl, (tt, (tt, (tt, (tt, (tt, (refl, (tt, (tt, (tt, (tt, (tt, (tt, (tt, (tt, (tt, (tt, (tt, (tt, (tt, (tt, (tt, (tt, (tt, tt)))))))))))))))))))))))))))
+replies = (tt, (tt, (tt, (refl, (tt, (tt, (tt, (tt, (tt, (refl, (tt, (tt, (tt, (tt, (tt, (tt, (tt, (tt, (tt, (tt, (tt, (tt, (tt, (tt, (tt, (tt, (tt, (tt, (tt, (tt, tt))))))))))))))))))))))))))))))
 
 null : NullLaw 0 counted_log
 null = record {
@@ -60,7 +61,7 @@ null = record {
 }
 
 parcels : ParcelLaw 0 counted_log
-parcels = (tt, (tt, (tt, (tt, (tt, (tt, (tt, (tt, (tt, (tt, (tt, (tt, (tt, (tt, (tt, (tt, (tt, (tt, (tt, (tt, (tt, (refl, (tt, (tt, (tt, (tt, (tt, λ c. elim (eqb_tells c 0) [ inl y ↦ rw y.1 refl | inr y ↦ rw y.0 refl ])))))))))))))))))))))))))))
+parcels = (tt, (tt, (tt, (tt, (tt, (tt, (tt, (tt, (tt, (tt, (tt, (tt, (tt, (tt, (tt, (tt, (tt, (tt, (tt, (tt, (tt, (tt, (tt, (tt, (refl, (tt, (tt, (tt, (tt, (tt, λ c. elim (eqb_tells c 0) [ inl y ↦ rw y.1 refl | inr y ↦ rw y.0 refl ]))))))))))))))))))))))))))))))
 
 heading : HeadingOf counted_object counted_journal
 unfolding class_of_size size_of_class low_of_size high_of_size batch_of_size
@@ -105,27 +106,65 @@ new-runs = record {
 abbrev at_call : State ℕ
 at_call = after (opening 0) (ordinary (entry.Fill 0 (Whole one_page) ∷ entry.Script (codes "main") ∷ entry.In Plain 1 ∷ []))
 
-abbrev at_drop : State ℕ
-at_drop = after at_call (ordinary counted_call)
+abbrev at_drops : State ℕ
+at_drops = after at_call (ordinary counted_call)
 
-inner-runs : RunsBlock counted_types 0 true part.Nothing (block_of (drops_x 8 ∷ []) (lit≤ tt) 8) holding_three none_held at_drop (ordinary delays_and_raises)
+abbrev at_last : State ℕ
+at_last = after (after at_drops (ordinary (acquires 1))) (ordinary (gives_one_up 2))
+
+acquire-runs : RunsAcquire counted_types y_name x_name holding_three (acquires 1) both_hold
+acquire-runs = acquires-seen 1 (lit< tt)
+
+-- the drop of y, which holds the last reference
+last-runs : (s : State ℕ) → is_some (s.rows 0).deferred.plain ≡ false → RunsDrop counted_types y_name (batch_in s) y_holds delays_and_raises neither_holds
+last-runs s none = record {
+  type = item_id;
+  unit = 3;
+  life = 1;
+  held = refl;
+  class = 0;
+  declared = record item { line = 5; counted = true; fields = [] };
+  of_class = of-counted;
+  home = 0;
+  batch = false;
+  batch_is = sym none;
+  own = entry.Delay 3 0 ∷ entry.Enter 0 1 ∷ entry.Delayed 0 3 ∷ entry.Leave 0 0 ∷ entry.Raise 0 ∷ [];
+  part_is = refl;
+  frees = inl (0, refl);
+  after_is = refl;
+}
+
+inner-runs : RunsBlock counted_types 0 true part.Nothing (block_of (acquires_and_drops 8) (lit≤ tt) 8) holding_three neither_holds at_drops (ordinary shared)
 inner-runs =
-    let list : RunsList counted_types 0 part.Nothing (drops_x 8 ∷ []) holding_three none_held at_drop (ordinary delays_and_raises) =
-    (none_held, then-of _ _ _ delays_and_raises [] (none_held, then-of _ _ _ delays_and_raises [] (says _ _ _ (delay-of at_drop delays_and_raises false refl refl (inl (0, refl)))) (refl, refl)) (refl, refl)) in
-    subst (λ (run : Run). run holding_three none_held at_drop (ordinary delays_and_raises)) (sym (block-parts counted_types 0 part.Nothing (vector_of (drops_x 8 ∷ []) (lit≤ tt)) 8)) list
-
-body-runs : RunsBlock counted_types 0 true part.Nothing makes_and_drops_counted no_names none_held at_call (ordinary (counted_call ++ delays_and_raises))
-body-runs =
-    let list : RunsList counted_types 0 part.Nothing (makes_counted ∷ drops_x_unless_null 8 ∷ []) no_names none_held at_call (ordinary (counted_call ++ delays_and_raises)) = (
-      holding_three,
-      then-of _ _ at_call counted_call delays_and_raises
-          (holding_three, then-of _ _ _ counted_call [] (says _ _ _ new-runs) (refl, refl))
-          (none_held, then-of _ _ _ delays_and_raises [] (none_held, then-of _ _ _ delays_and_raises [] inner-runs (refl, refl)) (refl, refl)),
+    let list : RunsList counted_types 0 part.Nothing (acquires_and_drops 8) holding_three neither_holds at_drops (ordinary shared) = (
+      both_hold,
+      then-of _ _ at_drops (acquires 1) (gives_one_up 2 ++ delays_and_raises)
+          (both_hold, then-of _ _ _ (acquires 1) [] (says _ _ _ acquire-runs) (refl, refl)) (
+            y_holds,
+            then-of _ _ _ (gives_one_up 2) delays_and_raises
+                (y_holds, then-of _ _ _ (gives_one_up 2) [] (says _ _ _ (inl (left-seen 2 (lit< tt)))) (refl, refl))
+                (neither_holds, then-of _ _ _ delays_and_raises [] (neither_holds, then-of _ _ _ delays_and_raises [] (says _ _ _ (inr (last-runs at_last refl))) (refl, refl)) (refl, refl)),
+          ),
     ) in
-    subst (λ (run : Run). run no_names none_held at_call (ordinary (counted_call ++ delays_and_raises))) (sym (block-parts counted_types 0 part.Nothing (vector_of (makes_counted ∷ drops_x_unless_null 8 ∷ []) (lit≤ tt)) 9)) list
+    subst (λ (run : Run). run holding_three neither_holds at_drops (ordinary shared)) (sym (block-parts counted_types 0 part.Nothing (vector_of (acquires_and_drops 8) (lit≤ tt)) 8)) list
 
-owns-nothing : (y : List ℕ) → OwnsNothing (none_held y)
-owns-nothing y = elim (bytes_eq x_name y) as (λ b. OwnsNothing (cond b held.Nothing (cond b (held.Object item_id 3 1) held.Nothing))) [ true ↦ tt | false ↦ tt ]
+body-runs : RunsBlock counted_types 0 true part.Nothing makes_and_shares no_names neither_holds at_call (ordinary (counted_call ++ shared))
+body-runs =
+    let list : RunsList counted_types 0 part.Nothing (makes_counted ∷ shares_unless_null 8 ∷ []) no_names neither_holds at_call (ordinary (counted_call ++ shared)) = (
+      holding_three,
+      then-of _ _ at_call counted_call shared
+          (holding_three, then-of _ _ _ counted_call [] (says _ _ _ new-runs) (refl, refl))
+          (neither_holds, then-of _ _ _ shared [] (neither_holds, then-of _ _ _ shared [] inner-runs (refl, refl)) (refl, refl)),
+    ) in
+    subst (λ (run : Run). run no_names neither_holds at_call (ordinary (counted_call ++ shared))) (sym (block-parts counted_types 0 part.Nothing (vector_of (makes_counted ∷ shares_unless_null 8 ∷ []) (lit≤ tt)) 9)) list
+
+owns-nothing : (y : List ℕ) → OwnsNothing (neither_holds y)
+owns-nothing y = both (bytes_eq y_name y) (bytes_eq x_name y)
+  where
+    both : (a b : Bool) → OwnsNothing (cond a held.Nothing (cond b held.Nothing (cond a (held.Object item_id 3 1) (cond b (held.Object item_id 3 1) held.Nothing))))
+    both true b = tt
+    both false true = tt
+    both false false = tt
 
 -- ---- the log
 
@@ -136,7 +175,7 @@ abbrev stops : List Entry
 stops = entry.Out Plain 2 ∷ entry.Done (codes "main") ∷ []
 
 abbrev script : List Entry
-script = begins ++ ((counted_call ++ delays_and_raises) ++ stops)
+script = begins ++ ((counted_call ++ shared) ++ stops)
 
 abbrev sweeps : List Entry
 sweeps = swept (2 ∷ 1 ∷ 0 ∷ 3 ∷ [])
@@ -151,8 +190,8 @@ is-log = record {
     _,
     refl,
     1,
-    then-of _ _ _ script [] (then-of _ _ _ begins ((counted_call ++ delays_and_raises) ++ stops) (stands _ _)
-        (then-of _ _ _ (counted_call ++ delays_and_raises) stops (none_held, body-runs, owns-nothing) (then-of _ _ _ stops [] (stands _ _) refl)))
+    then-of _ _ _ script [] (then-of _ _ _ begins ((counted_call ++ shared) ++ stops) (stands _ _)
+        (then-of _ _ _ (counted_call ++ shared) stops (neither_holds, body-runs, owns-nothing) (then-of _ _ _ stops [] (stands _ _) refl)))
         refl,
   );
   is_closing = then-of _ _ _ (entry.Ended ∷ entry.Close ∷ []) sweeps (stands _ _)

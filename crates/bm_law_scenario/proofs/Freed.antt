@@ -1,12 +1,13 @@
 -- The free of a drop, plain or with delay.
 use Rattle.std.specs.Prelude.{◌≡◌, ℕ, zero, suc, Bool, true, false, is_some, List, [], ◌∷◌, Some, slice_get}
-use Rattle.std.proofs.Common.{◌∙◌, ap, refl, sym}
+use Rattle.std.proofs.Common.{◌∙◌, ap, inl, inr, refl, sym}
+use Rattle.std.proofs.lemmas.Bool.{false≢true}
 use Rattle.bm_journal.specs.declared.entry.Entry.{Entry}
 use Rattle.bm_lang.specs.declared.scenario.TypeDeclaration.{TypeDeclaration}
 use Rattle.bm_law.specs.Phrases.{DelayPhrase, FreePhrase}
 use Rattle.bm_law.specs.State.{State}
 use Rattle.bm_law_scenario.specs.Held.{Names}
-use Rattle.bm_law_scenario.specs.Calls.{Frees, RunsDrop, any_batch, batch_in}
+use Rattle.bm_law_scenario.specs.Calls.{Frees, RunsDrop, RunsGivingUp, any_batch, batch_in}
 
 -- what is known of batches needn't be
 pub loosened : (types : List TypeDeclaration) (x : List ℕ) (known : ℕ → Bool → Type 0) (names after : Names) (own : List Entry) → RunsDrop types x known names own after → RunsDrop types x any_batch names own after
@@ -26,6 +27,10 @@ loosened types x known names after own h = record {
   frees = h.frees;
   after_is = h.after_is;
 }
+
+pub loosely : (types : List TypeDeclaration) (x : List ℕ) (known : ℕ → Bool → Type 0) (names after : Names) (own : List Entry) → RunsGivingUp types x known names own after → RunsGivingUp types x any_batch names own after
+loosely types x known names after own (inl h) = inl h
+loosely types x known names after own (inr h) = inr (loosened types x known names after own h)
 
 -- and where it is known it may be said
 pub tightened : (types : List TypeDeclaration) (x : List ℕ) (known : ℕ → Bool → Type 0) (names after : Names) (own : List Entry) (h : RunsDrop types x any_batch names own after) → known h.class h.batch → RunsDrop types x known names own after
@@ -88,6 +93,11 @@ pub no-count : (types : List TypeDeclaration) (t : ℕ) (d : TypeDeclaration) �
 no-count [] t d h f = absurd (cc)
 no-count (x ∷ xs) zero d h f = (let q : x ≡ d = cc in ap (λ (y : TypeDeclaration). y.counted) (sym q) ∙ h.0)
 no-count (x ∷ xs) (suc t) d h f = no-count xs t d h.1 f
+
+-- where no type has a count each reference is the last one
+pub only-last : (types : List TypeDeclaration) (x : List ℕ) (known : ℕ → Bool → Type 0) (names after : Names) (own : List Entry) → NoCounts types → RunsGivingUp types x known names own after → RunsDrop types x known names own after
+only-last types x known names after own loose (inr h) = h
+only-last types x known names after own loose (inl h) = absurd (false≢true (sym (no-count types h.type.0 h.of_type.declared loose h.of_type.found) ∙ h.of_type.counted))
 
 -- the free of a type without a count is a plain one
 pub plainly : (counted : Bool) (c u home : ℕ) (batch : Bool) (own : List Entry) → counted ≡ false → FreePhrase c u home own → Frees counted c u home batch own

@@ -12,7 +12,7 @@ use Rattle.bm_page.specs.Stock.{Stock, fetched}
 use Rattle.bm_law_work.specs.Parts.{Part, Nothing, Say, Stand, Then}
 use Rattle.bm_law_work.specs.WorkPhrases.{Work}
 use Rattle.bm_law_scenario.specs.Fills.{AreFills, numbers_of, prefill}
-use Rattle.bm_law_scenario.specs.Calls.{RunsDrop, RunsNew, any_batch}
+use Rattle.bm_law_scenario.specs.Calls.{RunsAcquire, RunsDrop, RunsNew, RunsStill, any_batch}
 use Rattle.bm_law_scenario.specs.Held.{Names, no_names}
 use Rattle.bm_law_scenario.specs.Runs.{RunsBlock}
 use Rattle.bm_law_scenario.specs.Opened.{opened_classes}
@@ -83,6 +83,8 @@ module _ (s : Parts) (P : List Entry → Type 0) (k : Written s P) where
         calls = record {
           new = λ x t values names after. has-say P (λ own. RunsNew s.types x t values names own after) (λ own h. k.closed.new x t values names own after h);
           dropped = λ x names after. has-say P (λ own. RunsDrop s.types x any_batch names own after) (λ own h. k.closed.dropped x names own after h);
+          still = λ x names after. has-say P (λ own. RunsStill s.types x names own after) (λ own h. k.closed.still x names own after h);
+          acquired = λ y x names after. has-say P (λ own. RunsAcquire s.types y x names own after) (λ own h. k.closed.acquired y x names own after h);
           enters = λ w. has-stand P (entry.In Plain w ∷ []) (k.closed.enters w);
           leaves = λ w. has-stand P (entry.Out Plain w ∷ []) (k.closed.leaves w);
           yields = has-stand P (entry.Yield ∷ []) k.closed.yields;

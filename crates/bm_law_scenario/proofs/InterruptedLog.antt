@@ -108,7 +108,7 @@ stops = ordinary (entry.Out Plain 2 ∷ entry.Done (codes "main") ∷ [])
 inner-runs : (s : State ℕ) → RunsBlock types 0 true part.Nothing (block_of (drops_x 8 ∷ []) (lit≤ tt) 8) holding dropped s drop
 inner-runs s =
     let list : RunsList types 0 part.Nothing (drops_x 8 ∷ []) holding dropped s drop =
-    (dropped, then-of _ _ s drop [] (dropped, then-of _ _ s drop [] (ordinary-say _ (gave 3 4) s drop (uncounted types x_name s holding dropped (gave 3 4) drop-runs (no-count types drop-runs.type.0 drop-runs.declared (refl, tt) drop-runs.of_class.found)) refl) (refl, refl)) (refl, refl)) in
+    (dropped, then-of _ _ s drop [] (dropped, then-of _ _ s drop [] (ordinary-say _ (gave 3 4) s drop (inr (uncounted types x_name s holding dropped (gave 3 4) drop-runs (no-count types drop-runs.type.0 drop-runs.declared (refl, tt) drop-runs.of_class.found))) refl) (refl, refl)) (refl, refl)) in
     subst (λ (run : Run). run holding dropped s drop) (sym (block-parts types 0 part.Nothing (vector_of (drops_x 8 ∷ []) (lit≤ tt)) 8)) list
 
 body-runs : (s : State ℕ) → RunsBlock types 0 true part.Nothing (makes_and_drops 7 8 9) no_names dropped s (call ++ drop)

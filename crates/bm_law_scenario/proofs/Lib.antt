@@ -15,6 +15,7 @@ pub mod RanThere
 pub mod OneObject
 pub mod NoObject
 pub mod WorkedDropped
+pub mod WorkedShared
 pub mod CountedObject
 pub mod ThreeCalls
 pub mod Wrong

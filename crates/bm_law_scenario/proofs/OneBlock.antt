@@ -183,7 +183,7 @@ until = UntilDown (10 ∷ [])
 inner-runs : RunsBlock (block ∷ []) 0 true until (block_of (drops_x 8 ∷ []) (lit≤ tt) 8) holding dropped s3 (ordinary (drops 2))
 inner-runs =
     let list : RunsList (block ∷ []) 0 until (drops_x 8 ∷ []) holding dropped s3 (ordinary (drops 2)) =
-    (dropped, then-of _ _ _ (drops 2) [] (dropped, then-of _ _ _ (drops 2) [] (says _ _ _ drop-runs) (refl, (0, (refl, refl)))) (refl, refl)) in
+    (dropped, then-of _ _ _ (drops 2) [] (dropped, then-of _ _ _ (drops 2) [] (says _ _ _ (inr drop-runs)) (refl, (0, (refl, refl)))) (refl, refl)) in
     subst (λ (run : Run). run holding dropped s3 (ordinary (drops 2))) (sym (block-parts (block ∷ []) 0 until (vector_of (drops_x 8 ∷ []) (lit≤ tt)) 8)) list
 
 body-runs : RunsBlock (block ∷ []) 0 true until makes_and_drops_block no_names dropped s0 (ordinary (takes ++ work1 ++ drops 2))

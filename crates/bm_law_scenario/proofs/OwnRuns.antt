@@ -8,7 +8,7 @@ use Rattle.bm_lang.specs.declared.scenario.Action.{Action, New, Drop, Acquire, G
 use Rattle.bm_lang.specs.declared.scenario.Block.{Block, Block', Row_of-Statement, end_of-Statement, more_of-Statement}
 use Rattle.bm_lang.specs.declared.scenario.TypeDeclaration.{TypeDeclaration}
 use Rattle.bm_law_scenario.specs.Held.{Held, Nothing, Null, Object, Names}
-use Rattle.bm_law_scenario.specs.Calls.{RunsNew, RunsDrop, any_batch}
+use Rattle.bm_law_scenario.specs.Calls.{RunsAcquire, RunsGivingUp, RunsNew, any_batch}
 
 -- from these names, this part of a log, to those names
 abbrev pub Run : Type 1
@@ -51,12 +51,12 @@ Within false block = λ names part after. (w : ℕ) × Then (Leaving (entry.In P
 abbrev mutual
   pub RunsAction : List TypeDeclaration → (inside : Bool) → Action → Run
   RunsAction types i (New x t values) = RunsNew types x t values
-  RunsAction types i (Drop x) = RunsDrop types x any_batch
+  RunsAction types i (Drop x) = RunsGivingUp types x any_batch
+  RunsAction types i (Acquire y x) = RunsAcquire types y x
   RunsAction types i (If' x body otherwise) = λ names. Chosen (names x) (RunsBlock types i body) (RunsElse types i otherwise) names
   RunsAction types i (Repeat n body) = Times (RunsBlock types i body) n
   RunsAction types i (Section body) = Within i (RunsBlock types true body)
   RunsAction types i Yield = Leaving (entry.Yield ∷ [])
-  RunsAction types i (Acquire y x) = λ names part after. ⊥
   RunsAction types i (Get x field) = λ names part after. ⊥
   RunsAction types i (Exchange y slot x) = λ names part after. ⊥
   RunsAction types i (Lock graph) = λ names part after. ⊥

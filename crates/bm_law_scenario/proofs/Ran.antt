@@ -1,5 +1,5 @@
 -- What the worked scripts leave in a log.
-use Rattle.std.proofs.Common.{ℕ, inl, true, false, cond, List, [], ◌∷◌, ◌++◌, Some, None, refl, sym, subst, lit≤, bytes_eq}
+use Rattle.std.proofs.Common.{inr, ℕ, inl, true, false, cond, List, [], ◌∷◌, ◌++◌, Some, None, refl, sym, subst, lit≤, bytes_eq}
 use Rattle.bm_class.specs.Sizes.{class_of_size, size_of_class}
 use Rattle.bm_class.specs.Watermarks.{low_of_size, high_of_size}
 use Rattle.bm_journal.specs.declared.entry.Entry.{Entry}
@@ -69,7 +69,7 @@ drop-runs = record {
 
 inner-runs : (line : ℕ) → RunsBlock types true (block_of (drops_x line ∷ []) (lit≤ tt) line) holding (gave 3 4) dropped
 inner-runs line =
-    let list : RunsList types (drops_x line ∷ []) holding (gave 3 4) dropped = record { middle = dropped; one = gave 3 4; two = []; part_is = refl; first_runs = drop-runs; second_runs = (refl, refl) } in
+    let list : RunsList types (drops_x line ∷ []) holding (gave 3 4) dropped = record { middle = dropped; one = gave 3 4; two = []; part_is = refl; first_runs = inr drop-runs; second_runs = (refl, refl) } in
     subst (λ (run : Run). run holding (gave 3 4) dropped) (sym (block-runs types (vector_of (drops_x line ∷ []) (lit≤ tt)) line)) list
 
 pub object-runs : (first second end : ℕ) → RunsBlock types true (makes_and_drops first second end) no_names (asks ∷ took 3 ++ gave 3 4) dropped

@@ -1,5 +1,5 @@
 -- What holds of all that a block leaves in a log.
-use Rattle.std.proofs.Common.{ℕ, suc, zero, ◌+◌, Bool, true, false, List, [], ◌∷◌, ◌++◌, sym, subst}
+use Rattle.std.proofs.Common.{ℕ, suc, zero, ◌+◌, Bool, true, false, List, [], ◌∷◌, ◌++◌, inl, inr, sym, subst}
 use Rattle.bm_journal.specs.declared.ids.Domain.TheVariants.{Plain}
 use Rattle.bm_journal.specs.declared.entry.Entry.{Entry}
 use Rattle.bm_journal.specs.declared.entry.Entry.TheVariants as entry
@@ -8,18 +8,26 @@ use Rattle.bm_lang.specs.declared.scenario.Block.{Block, Block', Row_of-Statemen
 use Rattle.bm_lang.specs.declared.scenario.TypeDeclaration.{TypeDeclaration}
 use Rattle.bm_lang.specs.declared.scenario.TypeId.{TypeId}
 use Rattle.bm_law_scenario.specs.Held.{Held, Nothing, Null, Object, Names}
-use Rattle.bm_law_scenario.specs.Calls.{RunsNew, RunsDrop, any_batch}
+use Rattle.bm_law_scenario.specs.Calls.{RunsAcquire, RunsDrop, RunsGivingUp, RunsNew, RunsStill, any_batch}
 use Rattle.bm_law_scenario.proofs.OwnRuns.{Times, Chosen, Within, RunsAction, RunsElse, RunsBlock, RunsRow}
 
--- a property of stretches that joins, and that each `new` and each `drop` has, each begin and end of a plain section and each `yield`
+-- A property of stretches that joins, and that each `new`, each `acquire` and each `drop` has, by its reply, each begin and end of a plain
+-- section and each `yield`.
 pub record Closed (types : List TypeDeclaration) (P : List Entry → Type 0) : Type 0 where
   pub none : P []
   pub join : (v w : List Entry) → P v → P w → P (v ++ w)
   pub new : (x : List ℕ) (t : TypeId) (values : List ℕ) (names : Names) (part : List Entry) (after : Names) → RunsNew types x t values names part after → P part
   pub dropped : (x : List ℕ) (names : Names) (part : List Entry) (after : Names) → RunsDrop types x any_batch names part after → P part
+  pub still : (x : List ℕ) (names : Names) (part : List Entry) (after : Names) → RunsStill types x names part after → P part
+  pub acquired : (y x : List ℕ) (names : Names) (part : List Entry) (after : Names) → RunsAcquire types y x names part after → P part
   pub enters : (w : ℕ) → P (entry.In Plain w ∷ [])
   pub leaves : (w : ℕ) → P (entry.Out Plain w ∷ [])
   pub yields : P (entry.Yield ∷ [])
+
+-- a reference that is given up, the last or another one
+gives-up-all : (types : List TypeDeclaration) (P : List Entry → Type 0) (k : Closed types P) (x : List ℕ) (names : Names) (part : List Entry) (after : Names) → RunsGivingUp types x any_batch names part after → P part
+gives-up-all types P k x names part after (inl r) = k.still x names part after r
+gives-up-all types P k x names part after (inr r) = k.dropped x names part after r
 
 chosen-all : (P : List Entry → Type 0) (v : Held) (first second : Names → List Entry → Names → Type 0) (names : Names) (part : List Entry) (after : Names) → (first names part after → P part) → (second names part after → P part) → Chosen v first second names part after → P part
 chosen-all P Nothing first second names part after f g r = absurd r
@@ -41,11 +49,11 @@ within-all types P k false run names part after f r =
 mutual
   action-all : (types : List TypeDeclaration) (P : List Entry → Type 0) (k : Closed types P) (i : Bool) (a : Action) (names : Names) (part : List Entry) (after : Names) → RunsAction types i a names part after → P part
   action-all types P k i (New x t values) names part after r = k.new x t values names part after r
-  action-all types P k i (Drop x) names part after r = k.dropped x names part after r
+  action-all types P k i (Drop x) names part after r = gives-up-all types P k x names part after r
+  action-all types P k i (Acquire y x) names part after r = k.acquired y x names part after r
   action-all types P k i (If' x body otherwise) names part after r = chosen-all P (names x) (RunsBlock types i body) (RunsElse types i otherwise) names part after (λ y. block-all types P k i body names part after y) (λ y. else-all types P k i otherwise names part after y) r
   action-all types P k i (Repeat n body) names part after r = times-all types P k (RunsBlock types i body) n names part after (λ a p b y. block-all types P k i body a p b y) r
   action-all types P k i (Section body) names part after r = within-all types P k i (RunsBlock types true body) names part after (λ a p b y. block-all types P k true body a p b y) r
-  action-all types P k i (Acquire y x) names part after r = absurd r
   action-all types P k i (Get x field) names part after r = absurd r
   action-all types P k i (Exchange y slot x) names part after r = absurd r
   action-all types P k i (Lock graph) names part after r = absurd r

@@ -1,6 +1,6 @@
 -- Where no deferred work runs, the entries of its level that a run leaves are a run by entries, and entries of a run by entries
 -- are a run.
-use Rattle.std.proofs.Common.{◌≡◌, ℕ, zero, suc, Bool, true, false, List, [], ◌∷◌, ◌++◌, refl, sym, ap, subst, ◌∙◌, append-nil}
+use Rattle.std.proofs.Common.{◌≡◌, ℕ, zero, suc, Bool, true, false, List, [], ◌∷◌, ◌++◌, refl, sym, ap, subst, ◌∙◌, append-nil, inl, inr}
 use Rattle.bm_journal.specs.declared.entry.Entry.{Entry}
 use Rattle.bm_journal.specs.declared.entry.Entry.TheVariants as entry
 use Rattle.bm_lang.specs.declared.scenario.Action.{Action, New, Drop, Acquire, Get, Exchange, If', Repeat, Section, Lock, Unlock, Yield, PushFront, PushBack, PopFront, PopBack, Add, First, Remove, Held-Action-If-2, None', Some'}
@@ -15,9 +15,9 @@ use Rattle.bm_law.proofs.Alone.{level-append, level-from, level-own}
 use Rattle.bm_law_work.specs.Parts.{Part, Stand, Then}
 use Rattle.bm_law_work.specs.Parts as part
 use Rattle.bm_law_scenario.specs.Held.{Held, Nothing, Null, Object, Names}
-use Rattle.bm_law_scenario.specs.Calls.{RunsNew, RunsDrop, any_batch, batch_in}
+use Rattle.bm_law_scenario.specs.Calls.{RunsAcquire, RunsGivingUp, RunsNew, any_batch, batch_in}
 use Rattle.bm_law_scenario.specs.Runs.{Run, Leaving, Done, Followed, Times, Calls, Chosen, Within, RunsAction, RunsAlone, RunsElse, RunsBlock, RunsRow}
-use Rattle.bm_law_scenario.proofs.Freed.{NoCounts, loosened, no-count, uncounted}
+use Rattle.bm_law_scenario.proofs.Freed.{NoCounts, loosely, no-count, uncounted}
 use Rattle.bm_law_scenario.proofs.OwnRuns as own
 
 -- Each part of a run is of level l and above, and its entries of that level are a run by entries; and such entries alone are a
@@ -42,12 +42,13 @@ calls-same types l call = record {
 }
 
 -- what code knows of batches its entries don't say
-told-drop : (types : List TypeDeclaration) (x : List ℕ) (s : State ℕ) (names after : Names) (own : List Entry) → NoCounts types → RunsDrop types x any_batch names own after → RunsDrop types x (batch_in s) names own after
-told-drop types x s names after own loose h = uncounted types x s names after own h (no-count types h.type.0 h.declared loose h.of_class.found)
+told-drop : (types : List TypeDeclaration) (x : List ℕ) (s : State ℕ) (names after : Names) (own : List Entry) → NoCounts types → RunsGivingUp types x any_batch names own after → RunsGivingUp types x (batch_in s) names own after
+told-drop types x s names after own loose (inl h) = inl h
+told-drop types x s names after own loose (inr h) = inr (uncounted types x s names after own h (no-count types h.type.0 h.declared loose h.of_class.found))
 
-drop-same : (l : ℕ) (types : List TypeDeclaration) (x : List ℕ) → Same types l (λ names after s. Calls l (RunsDrop types x (batch_in s)) names after s) (RunsDrop types x any_batch)
+drop-same : (l : ℕ) (types : List TypeDeclaration) (x : List ℕ) → Same types l (λ names after s. Calls l (RunsGivingUp types x (batch_in s)) names after s) (RunsGivingUp types x any_batch)
 drop-same l types x = record {
-  owned = λ names after s log h. (h.2.from, subst (λ es. RunsDrop types x any_batch names es after) (sym h.2.own_is) (loosened types x (batch_in s) names after h.0 h.1));
+  owned = λ names after s log h. (h.2.from, subst (λ es. RunsGivingUp types x any_batch names es after) (sym h.2.own_is) (loosely types x (batch_in s) names after h.0 h.1));
   told = λ loose names after s es h. (es, told-drop types x s names after es loose h, record { from = level-from l es; own_is = level-own l es });
 }
 
@@ -177,10 +178,10 @@ mutual
   action-same : (l : ℕ) (types : List TypeDeclaration) (i : Bool) (a : Action) → Same types l (RunsAction types l i part.Nothing a) (own.RunsAction types i a)
   action-same l types i (New x t values) = calls-same types l (RunsNew types x t values)
   action-same l types i (Drop x) = drop-same l types x
+  action-same l types i (Acquire y x) = calls-same types l (RunsAcquire types y x)
   action-same l types i (If' x body otherwise) = if-same types l (RunsBlock types l i part.Nothing body) (RunsElse types l i part.Nothing otherwise) (own.RunsBlock types i body) (own.RunsElse types i otherwise) x (block-same l types i body) (else-same l types i otherwise)
   action-same l types i (Repeat n body) = times-same types l (RunsBlock types l i part.Nothing body) (own.RunsBlock types i body) n (block-same l types i body)
   action-same l types i (Section body) = within-same types l (RunsBlock types l true part.Nothing body) (own.RunsBlock types true body) i (block-same l types true body)
-  action-same l types i (Acquire y x) = none-same types l
   action-same l types i (Get x field) = none-same types l
   action-same l types i (Exchange y slot x) = none-same types l
   action-same l types i (Lock graph) = none-same types l

@@ -1,5 +1,5 @@
 -- What is left of a log behind a part of it that a statement of the worked scripts left.
-use Rattle.std.proofs.Common.{Bool, true, false, ◌≡◌, ℕ, inl, inr, List, [], ◌∷◌, ◌++◌, Option, Some, None, sym, ap, subst, ◌∙◌, append_assoc, append-nil, lit≤}
+use Rattle.std.proofs.Common.{refl, Bool, true, false, ◌≡◌, ℕ, inl, inr, List, [], ◌∷◌, ◌++◌, Option, Some, None, sym, ap, subst, ◌∙◌, append_assoc, append-nil, lit≤}
 use Rattle.bm_journal.specs.declared.entry.Entry.{Entry}
 use Rattle.bm_journal.specs.declared.entry.Entry.TheVariants as entry
 use Rattle.bm_class.specs.Sizes.{class_of_size, size_of_class}
@@ -10,7 +10,8 @@ use Rattle.bm_law.specs.Phrases.{raise_below, raise_above, given, overtaken, all
 use Rattle.bm_law_scenario.specs.Held.{Object, Names, no_names, with_name}
 use Rattle.bm_law_scenario.specs.Opened.{object_size}
 use Rattle.bm_law_scenario.specs.Worked.{item}
-use Rattle.bm_law_scenario.specs.Calls.{Allocates, answered, Frees, RunsNew, RunsDrop, any_batch}
+use Rattle.bm_law_scenario.specs.Calls.{Allocates, answered, Frees, RunsGivingUp, RunsNew, RunsDrop, any_batch}
+use Rattle.bm_law_scenario.proofs.Freed.{only-last}
 use Rattle.bm_law_scenario.proofs.OwnRuns.{Run, Done, Then}
 use Rattle.bm_law_scenario.specs.WorkedJournal.{types, x_name, item_id, drops_x, drops_x_unless_null, vector_of, asks, took, gave}
 use Rattle.bm_law_scenario.proofs.Blocks.{RunsList, block-runs}
@@ -113,7 +114,18 @@ if-taken line after tail more h =
     record {
       part = r.one;
       more_is = h.more_is ∙ ap (λ p. p ++ tail) (r.part_is ∙ (ap (λ t. r.one ++ t) r.second_runs.0 ∙ append-nil r.one));
-      runs = subst (λ m. Then (RunsDrop types x_name any_batch) Done holding r.one m) (sym r.second_runs.1) inner;
+      runs = subst (λ m. Then (RunsDrop types x_name any_batch) Done holding r.one m) (sym r.second_runs.1) (lasts r.one r.middle inner);
+    }
+  where
+    -- no type has a count, so the reference that is given up is the last one
+    lasts : (part : List Entry) (last : Names) → Then (RunsGivingUp types x_name any_batch) Done holding part last → Then (RunsDrop types x_name any_batch) Done holding part last
+    lasts part last t = record {
+      middle = t.middle;
+      one = t.one;
+      two = t.two;
+      part_is = t.part_is;
+      first_runs = only-last types x_name any_batch holding t.middle t.one (refl, tt) t.first_runs;
+      second_runs = t.second_runs;
     }
 
 -- ---- a drop

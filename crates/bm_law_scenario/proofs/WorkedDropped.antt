@@ -8,7 +8,7 @@ use Rattle.bm_lang.specs.declared.scenario.TypeDeclaration.{TypeDeclaration}
 use Rattle.bm_law.specs.Phrases.{DelayPhrase, FreePhrase, overtaken_delayed, raise_unless}
 use Rattle.bm_law.specs.State.{State}
 use Rattle.bm_law.proofs.Alone.{level-from, level-own}
-use Rattle.bm_law_scenario.specs.Calls.{Frees, RunsDrop, any_batch, batch_in}
+use Rattle.bm_law_scenario.specs.Calls.{Frees, RunsDrop, RunsGivingUp, any_batch, batch_in}
 use Rattle.bm_law_scenario.specs.Opened.{OfClass}
 use Rattle.bm_law_scenario.specs.Worked.{item}
 use Rattle.bm_law_scenario.specs.WorkedDrops.{DropsAbove, counted_types, delays, delays_and_raises, frees_plainly, holding_three, in_batch, no_batch, none_held}
@@ -21,7 +21,7 @@ of-counted = record { found = refl; class = refl }
 
 -- what stands behind the drop and its reply
 abbrev rest_of : List Entry → List Entry
-rest_of (drop ∷ last ∷ own) = own
+rest_of (drop ∷ reply ∷ own) = own
 rest_of _ = []
 
 pub delay-of : (s : State ℕ) (part : List Entry) (batch : Bool) → batch ≡ is_some (s.rows 0).deferred.plain → part ≡ entry.Drop 3 1 ∷ entry.Last ∷ rest_of part → DelayPhrase 0 3 0 batch (rest_of part) → RunsDrop counted_types x_name (batch_in s) holding_three part none_held
@@ -128,10 +128,18 @@ raised_again-wrong h = none-raise 0 (sym (flag-of in_batch delays_and_raises (en
 -- ---- in a handler
 
 above : (s : State ℕ) (own : List Entry) → RunsDrop counted_types x_name (batch_in s) holding_three own none_held → DropsAbove s own
-above s own h = (own, h, record { from = level-from 2 own; own_is = level-own 2 own })
+above s own h = (own, inr h, record { from = level-from 2 own; own_is = level-own 2 own })
 
-not-above : (s : State ℕ) (own : List Entry) → (RunsDrop counted_types x_name (batch_in s) holding_three own none_held → ⊥) → DropsAbove s own → ⊥
-not-above s own wrong h = wrong (subst (λ es. RunsDrop counted_types x_name (batch_in s) holding_three es none_held) (sym h.2.own_is ∙ level-own 2 own) h.1)
+-- the drop of the one reference isn't answered that others are left
+last-still : (u n k v m : ℕ) (es : List Entry) → entry.Drop u n ∷ entry.Last ∷ es ≡ entry.Drop v m ∷ entry.Still k ∷ [] → ⊥
+last-still u n k v m es e = cc
+
+not-above : (s : State ℕ) (own : List Entry) → own ≡ entry.Drop 3 1 ∷ entry.Last ∷ rest_of own → (RunsDrop counted_types x_name (batch_in s) holding_three own none_held → ⊥) → DropsAbove s own → ⊥
+not-above s own parts wrong h =
+    elim (subst (λ es. RunsGivingUp counted_types x_name (batch_in s) holding_three es none_held) (sym h.2.own_is ∙ level-own 2 own) h.1) [
+      | inl r ↦ last-still 3 1 r.seen r.unit r.life (rest_of own) (sym parts ∙ r.part_is)
+      | inr r ↦ wrong r
+    ]
 
 pub above-raised : DropsAbove no_batch delays_and_raises
 above-raised = above no_batch delays_and_raises drops-raised
@@ -140,7 +148,7 @@ pub above-waiting : DropsAbove in_batch delays
 above-waiting = above in_batch delays drops-waiting
 
 pub above-unraised : DropsAbove no_batch delays → ⊥
-above-unraised = not-above no_batch delays unraised-wrong
+above-unraised = not-above no_batch delays refl unraised-wrong
 
 pub above-raised_again : DropsAbove in_batch delays_and_raises → ⊥
-above-raised_again = not-above in_batch delays_and_raises raised_again-wrong
+above-raised_again = not-above in_batch delays_and_raises refl raised_again-wrong

@@ -1,7 +1,7 @@
 -- What the calls of a script leave at its level, and in the script's names. (This project's own language. That an
--- allocation may answer null, that the reference given has to be given up, and that the memory is freed behind the last
+-- allocation may answer null, that the reference given has to be given up, and that the memory is freed after the last
 -- one, are bpf_obj_new_impl and bpf_obj_drop_impl in kernel/bpf/helpers.c.)
-use Rattle.std.specs.Prelude.{◌≡◌, ◌<◌, ◌⊎◌, ℕ, Bool, true, false, is_some, List, ◌∷◌, Option, Some, None}
+use Rattle.std.specs.Prelude.{◌≡◌, ◌<◌, ◌⊎◌, ℕ, Bool, true, false, is_some, List, [], ◌∷◌, Option, Some, None, slice_get}
 use Rattle.bm_journal.specs.declared.entry.Entry.{Entry}
 use Rattle.bm_journal.specs.declared.entry.Entry.TheVariants as entry
 use Rattle.bm_lang.specs.declared.scenario.TypeDeclaration.{TypeDeclaration}
@@ -47,12 +47,16 @@ any_batch c batch = Unit {0}
 abbrev pub batch_in : State ℕ → ℕ → Bool → Type 0
 batch_in s c batch = batch ≡ is_some (s.rows c).deferred.plain
 
--- `drop x`, where x holds the one reference to an object: the call, its reply, and the free of the unit. Then x holds nothing.
+-- a name holds a reference to this object
+abbrev pub RefersTo : List ℕ → TypeId → (u life : ℕ) → Names → Type 0
+RefersTo x type u life names = names x ≡ Object type u life
+
+-- `drop x`, where x holds the last reference to an object: the call, its reply, and the free of the unit. Then x holds nothing.
 pub record RunsDrop (types : List TypeDeclaration) (x : List ℕ) (known : ℕ → Bool → Type 0) (names : Names) (part : List Entry) (after : Names) : Type 0 where
   pub type : TypeId
   pub unit : ℕ
   pub life : ℕ
-  pub held : names x ≡ Object type unit life
+  pub held : RefersTo x type unit life names
   pub class : ℕ
   pub declared : TypeDeclaration
   pub of_class : OfClass types type.0 class declared
@@ -63,3 +67,39 @@ pub record RunsDrop (types : List TypeDeclaration) (x : List ℕ) (known : ℕ �
   pub part_is : part ≡ entry.Drop unit life ∷ entry.Last ∷ own
   pub frees : Frees declared.counted class unit home batch own
   pub after_is : after ≡ with_name x Nothing names
+
+-- type t is declared so, and its objects carry a count of references
+pub record IsCounted (types : List TypeDeclaration) (t : ℕ) : Type 0 where
+  pub declared : TypeDeclaration
+  pub found : slice_get types t ≡ Some declared
+  pub counted : declared.counted ≡ true
+
+-- `acquire y x`, where x holds a reference to an object of a type with a count: the call, which names how many references it saw. Then y
+-- holds one more. (bpf_refcount_acquire_impl in kernel/bpf/helpers.c.)
+pub record RunsAcquire (types : List TypeDeclaration) (y x : List ℕ) (names : Names) (part : List Entry) (after : Names) : Type 0 where
+  pub type : TypeId
+  pub unit : ℕ
+  pub life : ℕ
+  pub held : RefersTo x type unit life names
+  pub of_type : IsCounted types type.0
+  pub seen : ℕ
+  pub some : 0 < seen
+  pub part_is : part ≡ entry.Acquire unit life seen ∷ []
+  pub after_is : after ≡ with_name y (Object type unit life) names
+
+-- `drop x`, where x holds a reference to an object that has others: the call, and its reply, which names how many references there were.
+-- The object stays. Then x holds nothing.
+pub record RunsStill (types : List TypeDeclaration) (x : List ℕ) (names : Names) (part : List Entry) (after : Names) : Type 0 where
+  pub type : TypeId
+  pub unit : ℕ
+  pub life : ℕ
+  pub held : RefersTo x type unit life names
+  pub of_type : IsCounted types type.0
+  pub seen : ℕ
+  pub others : 1 < seen
+  pub part_is : part ≡ entry.Drop unit life ∷ entry.Still seen ∷ []
+  pub after_is : after ≡ with_name x Nothing names
+
+-- `drop x`: the reference that x holds is given up, and it is the last, or it isn't
+abbrev pub RunsGivingUp : List TypeDeclaration → (x : List ℕ) → (known : ℕ → Bool → Type 0) → Names → List Entry → Names → Type 0
+RunsGivingUp types x known names part after = RunsStill types x names part after ⊎ RunsDrop types x known names part after

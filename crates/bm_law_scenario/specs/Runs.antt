@@ -13,7 +13,7 @@ use Rattle.bm_law.specs.Spans.{own_entries}
 use Rattle.bm_law_work.specs.Parts.{Part, Say, Stand, Then}
 use Rattle.bm_law_work.specs.Parts as part
 use Rattle.bm_law_scenario.specs.Held.{Held, Nothing, Null, Object, Names}
-use Rattle.bm_law_scenario.specs.Calls.{RunsNew, RunsDrop, batch_in}
+use Rattle.bm_law_scenario.specs.Calls.{RunsAcquire, RunsGivingUp, RunsNew, batch_in}
 
 -- from these names to those names, a part of a log
 abbrev pub Run : Type 1
@@ -55,17 +55,17 @@ abbrev pub Within : Bool → ℕ → Run → Run
 Within true l block = block
 Within false l block = λ names after s part. (w : ℕ) × Enclosed l block w names after s part
 
--- The statements that run so far, each at level l, in a plain section or in none. No journal has any of the others. After each
+-- What statements leave, each at level l, in a plain section or in none. The others leave nothing that is lawful: they don't run so far. After each
 -- statement, also one that holds others, stands what `behind` says: deferred work, or nothing.
 abbrev mutual
   pub RunsAction : List TypeDeclaration → ℕ → (inside : Bool) → Part → Action → Run
   RunsAction types l i behind (New x t values) = Calls l (RunsNew types x t values)
-  RunsAction types l i behind (Drop x) = λ names after s. Calls l (RunsDrop types x (batch_in s)) names after s
+  RunsAction types l i behind (Drop x) = λ names after s. Calls l (RunsGivingUp types x (batch_in s)) names after s
+  RunsAction types l i behind (Acquire y x) = Calls l (RunsAcquire types y x)
   RunsAction types l i behind (If' x body otherwise) = λ names. Chosen (names x) (RunsBlock types l i behind body) (RunsElse types l i behind otherwise) names
   RunsAction types l i behind (Repeat n body) = Times (RunsBlock types l i behind body) n
   RunsAction types l i behind (Section body) = Within i l (RunsBlock types l true behind body)
   RunsAction types l i behind Yield = Leaving (Stand l (entry.Yield ∷ []))
-  RunsAction types l i behind (Acquire y x) = λ names after s part. ⊥
   RunsAction types l i behind (Get x field) = λ names after s part. ⊥
   RunsAction types l i behind (Exchange y slot x) = λ names after s part. ⊥
   RunsAction types l i behind (Lock graph) = λ names after s part. ⊥

@@ -8,8 +8,8 @@ ghost use Rattle.bm_law_scenario.specs.WorkedJournal.{types, x_name};
 
 /// A counted object is freed with delay: where no plain batch of its class is in progress the flag is raised, and where one is it isn't. A
 /// plain free isn't its free, nor is one that leaves the flag down, or raises it, where it shouldn't. So it is of a handler too. An object without a count isn't
-/// freed with delay, whatever is known of batches. And the journal of a script that makes a counted object and drops it is lawful, in
-/// which the sweep takes the unit off Delayed.
+/// freed with delay, whatever is known of batches. And the journal of a script that makes a counted object, acquires a second reference
+/// to it and gives both up is lawful, in which the sweep takes the unit off Delayed.
 pub fn worked_drops()
     ensures raised { RunsDrop counted_types x_name (batch_in no_batch) holding_three delays_and_raises none_held }
     ensures waiting { RunsDrop counted_types x_name (batch_in in_batch) holding_three delays none_held }

@@ -124,6 +124,8 @@ closed-asks types = record {
   new = λ x t values names part after r. subst (AskOnly false) (sym r.part_is) (tt, alloc-asks r.class r.own r.reply r.allocates);
   dropped = λ x names part after r.
       subst (AskOnly false) (sym r.part_is) (tt, (tt, ungiven-asks false r.own (either-free (AllOf IsUngiven) r.declared.counted r.class r.unit r.home r.batch r.own (free-ungiven r.class r.unit r.home r.own) (delay-ungiven r.class r.unit r.home r.batch r.own) r.frees)));
+  still = λ x names part after r. subst (AskOnly false) (sym r.part_is) (tt, (tt, tt));
+  acquired = λ y x names part after r. subst (AskOnly false) (sym r.part_is) (tt, tt);
   enters = λ w. (tt, tt);
   leaves = λ w. (tt, tt);
   yields = (tt, tt);

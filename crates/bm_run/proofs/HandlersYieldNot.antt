@@ -170,7 +170,8 @@ module _ (types : List TypeDeclaration) where
   mutual
     action-unyielding : (i : Bool) (a : Action) → NeverYields a → (names : Names) (part : List Entry) (last : Names) → RunsAction types i a names part last → AllUnyielding part
     action-unyielding i (New x t values) h names part last r = subst AllUnyielding (sym r.part_is) (tt, alloc-unyielding r.class r.own r.reply r.allocates)
-    action-unyielding i (Drop x) h names part last r =
+    action-unyielding i (Drop x) h names part last (inl r) = subst AllUnyielding (sym r.part_is) (tt, (tt, tt))
+    action-unyielding i (Drop x) h names part last (inr r) =
         subst AllUnyielding (sym r.part_is)
         (tt, (tt, either-free AllUnyielding r.declared.counted r.class r.unit r.home r.batch r.own (free-unyielding r.class r.unit r.home r.own) (delay-unyielding r.class r.unit r.home r.batch r.own) r.frees))
     action-unyielding i (If' x body otherwise) h names part last r =
@@ -178,7 +179,7 @@ module _ (types : List TypeDeclaration) where
     action-unyielding i (Repeat n body) h names part last r = times-unyielding (RunsBlock types i body) n names part last (block-unyielding i body h) r
     action-unyielding i (Section body) h names part last r = within-unyielding i (RunsBlock types true body) names part last (block-unyielding true body h) r
     action-unyielding i Yield h names part last r = absurd h
-    action-unyielding i (Acquire y x) h names part last r = absurd r
+    action-unyielding i (Acquire y x) h names part last r = subst AllUnyielding (sym r.part_is) (tt, tt)
     action-unyielding i (Get x field) h names part last r = absurd r
     action-unyielding i (Exchange y slot x) h names part last r = absurd r
     action-unyielding i (Lock graph) h names part last r = absurd r

@@ -5,10 +5,12 @@ use Rattle.bm_law_objects.specs.ReferenceLaw.{ReferenceLaw}
 use Rattle.bm_law_objects.specs.SlotChain.{SlotChain, exchanges, of_processor}
 use Rattle.bm_law_objects.specs.Worked.{one_slot}
 use Rattle.bm_law_scenario.specs.WorkedDeferred.{one_block_journal}
+use Rattle.bm_law_scenario.specs.WorkedDrops.{counted_journal}
 use Rattle.bm_law_lives.specs.GraceLaw.{WholeGrace}
 use Rattle.bm_law_lives.specs.Lives.{WholeLives}
 use Rattle.bm_law_lives.specs.Returns.{ReturnsLaw}
 use Rattle.bm_law_lives.specs.StampLaw.{StampLaw}
+use Rattle.bm_law_journal.proofs.Shared.{shared-grace, shared-lives, shared-references, shared-returns, shared-stamps}
 use Rattle.bm_law_journal.proofs.worked.worked_lawful.Goals as goal
 
 no-exchange : (slot : List ℕ) (p : ℕ) → of_processor p [] ≡ exchanges slot p (get_or one_block_journal.logs p [])
@@ -24,6 +26,22 @@ returns-clause-one_block c = record {
   stamps = c.worked_stamps.ensures.one_block;
   references = λ u life k. refl;
   slots = λ slot. record { chain = []; follow = tt; parts = no-exchange slot };
+  reads = tt;
+}
+
+no-exchange-shared : (slot : List ℕ) (p : ℕ) → of_processor p [] ≡ exchanges slot p (get_or counted_journal.logs p [])
+no-exchange-shared slot zero = refl
+no-exchange-shared slot (suc p) = refl
+
+pub returns-clause-shared : goal.returns-clause-shared
+returns-clause-shared c = record {
+  logs = c.worked_drops.ensures.journal;
+  lives = shared-lives;
+  returns = shared-returns;
+  grace = shared-grace;
+  stamps = shared-stamps;
+  references = shared-references;
+  slots = λ slot. record { chain = []; follow = tt; parts = no-exchange-shared slot };
   reads = tt;
 }
 
