@@ -1,6 +1,13 @@
 pub mod Acceptance
+pub mod AlikeBlocks
+pub mod AlikeParts
 pub mod Conditions
 pub mod LimitLemmas
+pub mod LineLemmas
+pub mod Pairs
 pub mod ReadBackLemmas
+pub mod ServedLemmas
+pub mod SizeLemmas
 pub mod TextLemmas
+pub mod WordSorts
 pub mod WorkedLemmas

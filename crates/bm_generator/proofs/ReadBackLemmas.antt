@@ -24,7 +24,7 @@ use Rattle.bm_generator.specs.Generated.{generated, room, x, o, g, q, t, spare, 
 use Rattle.bm_generator.proofs.TextLemmas.{known_types, known_maps, words, words-append, block_words, fits}
 use Rattle.bm_generator.proofs.Conditions.{has_conditions}
 
-bool_cases : {P : Type 0} (b : Bool) → (b ≡ true → P) → (b ≡ false → P) → P
+pub bool_cases : {P : Type 0} (b : Bool) → (b ≡ true → P) → (b ≡ false → P) → P
 bool_cases true p r = p refl
 bool_cases false p r = r refl
 
@@ -79,7 +79,7 @@ IsSmall piece.Pick = Unit {0}
 IsSmall (piece.Swap v) = nat_lt v (2 ^ 32) ≡ true
 IsSmall piece.Yield = Unit {0}
 
-below : (k s : ℕ) → 0 < k → drawn k s < k
+pub below : (k s : ℕ) → 0 < k → drawn k s < k
 unfolding drawn
 below k s some = mod-lt (s / 2 ^ 33) some
 
@@ -168,8 +168,10 @@ says_of (w ∷ ws) (m ∷ ms) h =
     let r : sorts ms ≡ word_sorts ws = cc in
     (m.place, ms, ap (λ (t : Sort). let x : Mark = record { sort = t; place = m.place } in x ∷ ms) e, says_of ws ms r)
 
+pub scenario_printed : (n s : ℕ) → n ≤ 2000 → ArePrinted (spell_scenario (generated n s))
+scenario_printed n s few = are_printed (spell_scenario (generated n s)) (fine_scenario n s few)
+
 pub reads_back : (n s : ℕ) → n ≤ 2000 → ReadsButLines (printed (spell_scenario (generated n s))) (generated n s)
 reads_back n s few =
     let ws = spell_scenario (generated n s) in
-    let p = are_printed ws (fine_scenario n s few) in
-    record { said = says_of (ws ++ any End ∷ []) (tokens start (printed ws)) (printed_tokens ws start p); conditions = has_conditions n s few }
+    record { said = says_of (ws ++ any End ∷ []) (tokens start (printed ws)) (printed_tokens ws start (scenario_printed n s few)); conditions = has_conditions n s few }

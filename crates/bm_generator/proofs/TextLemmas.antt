@@ -121,7 +121,7 @@ text_of l Yield = refl
 pub words-append : (xs ys : List Statement) → words (xs ++ ys) ≡ words xs ++ words ys
 words-append xs ys = flat_map-append _ xs ys
 
-body_begins : (l : ℕ) (ps : List Piece) → begins (words (body l ps)) ≡ true
+pub body_begins : (l : ℕ) (ps : List Piece) → begins (words (body l ps)) ≡ true
 body_begins l [] = refl
 body_begins l (Push a b ∷ ps) = refl
 body_begins l (Pop ∷ ps) = refl
@@ -183,7 +183,7 @@ handler_is l =
     ∙ ap (λ (t : List ℕ). codes "script h handler " ++ t) (block_text ss (l + 8) (lit≤ tt))
     ∙ ap (λ (t : List ℕ). codes "script h handler {\n" ++ (t ++ 125 ∷ 10 ∷ [])) (text_of (l + 1) (Swap 7))
 
-scripts_begin : (k p n s l : ℕ) → begins (flat_map (spell_script known_types known_maps) (scripts k p n s l)) ≡ true
+pub scripts_begin : (k p n s l : ℕ) → begins (flat_map (spell_script known_types known_maps) (scripts k p n s l)) ≡ true
 scripts_begin zero p n s l = refl
 scripts_begin (suc k) p n s l = refl
 
