@@ -5,3 +5,4 @@ pub mod RefusalsAlong
 pub mod Content
 pub mod LocksAlong
 pub mod KeysAlong
+pub mod UncalledAlong

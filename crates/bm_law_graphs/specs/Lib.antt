@@ -8,3 +8,4 @@ pub mod Keys
 pub mod GraphLaws
 pub mod Worked
 pub mod Wrong
+pub mod Uncalled

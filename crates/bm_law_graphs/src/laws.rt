@@ -1,6 +1,6 @@
 //! The laws, over an order and over its logs.
 
-ghost use Rattle.std.specs.Prelude.{◌≡◌, ℕ, ◌+◌, Option, None, Some, false, List, ◌++◌};
+ghost use Rattle.std.specs.Prelude.{◌≡◌, ℕ, ◌+◌, Option, None, Some, false, List, [], ◌++◌};
 ghost use Rattle.bm_journal.specs.declared.ids.ObjId.{ObjId};
 ghost use Rattle.bm_journal.specs.declared.past.Past.{Past};
 ghost use Rattle.bm_graph.specs.Objects.{Node, has_object, ids_of, list_object, tree_object};
@@ -17,6 +17,7 @@ ghost use Rattle.bm_law_graphs.specs.GraphLaws.{GraphLaws};
 ghost use Rattle.bm_law_graphs.specs.Keys.{KeysLaw};
 ghost use Rattle.bm_law_graphs.specs.Locks.{LocksLaw};
 ghost use Rattle.bm_law_graphs.specs.Takes.{TakesLaw, life_within, put_by, taken_by};
+ghost use Rattle.bm_law_graphs.specs.Uncalled.{CallNone};
 
 /// Over an order each history grows by the calls that name it, each at the position that its log names; and so the history of
 /// each list and tree has right replies, and has the calls of all logs.
@@ -80,4 +81,14 @@ pub fn graphs_law()
         IsShelved names o → ((u : ℕ) →
         (over (shelved_after names) o nothing_shelved).shelves.within u ≡ None) →
         GraphLaws names (over (shelved_after names) o nothing_shelved).shelves.histories logs }
+{}
+
+/// In an order that calls no list or tree and takes no lock each entry finds what it needs of them; none of them has a history, and
+/// nothing stands in one.
+pub fn uncalled_law()
+    ensures shelved { (names : List (List ℕ)) (o : Order) → CallNone o → IsShelved names o }
+    ensures histories { (names : List (List ℕ)) (o : Order) → CallNone o → (name : List ℕ) →
+        (over (shelved_after names) o nothing_shelved).shelves.histories name ≡ [] }
+    ensures within { (names : List (List ℕ)) (o : Order) → CallNone o → (u : ℕ) →
+        (over (shelved_after names) o nothing_shelved).shelves.within u ≡ None }
 {}

@@ -28,5 +28,6 @@ mod worked;
 
 pub use laws::{
     content_law, graphs_law, histories_law, keys_law, locks_law, refusals_law, takes_law,
+    uncalled_law,
 };
 pub use worked::{worked_laws, worked_orders, wrong_laws, wrong_orders};

@@ -1,3 +1,4 @@
 pub mod Lent
 pub mod LentLaws
 pub mod Shared
+pub mod Ungraphed

@@ -1,10 +1,12 @@
 -- When a journal is lawful for a scenario, and when it is laid: what the program promises of the journals that it prints. One field a law;
--- behind each stands the file that states it. Lists and trees have no law so far: no form that runs so far names them. The last three
--- laws of `Lawful` speak of forms that don't run so far, but for replies to `drop`. (This project's own: journals are.)
-use Rattle.std.specs.Prelude.{ℕ, List, [], Option, None, Some}
+-- behind each stands the file that states it. The last four laws of `Lawful`, and the last two of `Laid`, speak of forms that don't run so
+-- far, but for replies to `drop`. (This project's own: journals are.)
+use Rattle.std.specs.Prelude.{◌≡◌, ℕ, if◌then◌else◌, List, [], ◌∷◌, Option, None, Some}
+use Rattle.std.specs.Str.{bytes_eq}
 use Rattle.bm_journal.specs.declared.journal.Journal.{Journal}
+use Rattle.bm_journal.specs.declared.past.Past.{Past}
 use Rattle.bm_lang.specs.declared.scenario.Parts.{Parts}
-use Rattle.bm_law_order.specs.Orders.{IsLaid, Order}
+use Rattle.bm_law_order.specs.Orders.{IsLaid, Order, over}
 use Rattle.bm_law_order.specs.Polls.{IsPolled}
 use Rattle.bm_law_order.specs.Seals.{IsSealed}
 use Rattle.bm_law_order.specs.Whole.{whole}
@@ -17,6 +19,13 @@ use Rattle.bm_law_lives.specs.StampLaw.{StampLaw}
 use Rattle.bm_law_objects.specs.ReadsLaw.{ReadsLaw}
 use Rattle.bm_law_objects.specs.ReferenceLaw.{ReferenceLaw}
 use Rattle.bm_law_objects.specs.SlotChain.{SlotChain}
+use Rattle.bm_law_graphs.specs.GraphLaws.{GraphLaws}
+use Rattle.bm_law_graphs.specs.Shelves.{IsShelved, nothing_shelved, shelved_after}
+
+-- the history that a journal has of the list or tree of a name
+abbrev pub history_of : List (List ℕ × List Past) → List ℕ → List Past
+history_of [] name = []
+history_of (h ∷ hs) name = if bytes_eq h.0 name then h.1 else history_of hs name
 
 -- ---- lawful
 
@@ -39,6 +48,9 @@ pub record Lawful (s : Parts) (j : Journal) : Type 0 where
   pub slots : (slot : List ℕ) → SlotChain slot j.logs
   -- Each read of a field finds a value with which that life of the unit was made. (bm_law_objects, specs/ReadsLaw)
   pub reads : ReadsLaw j.logs
+  -- The replies of each list and tree are right; each call on it of each log stands once in its history, at the position that the log
+  -- names; a refused push names the one in which its object is; and what is put in is taken out. (bm_law_graphs, specs/GraphLaws)
+  pub graphs : GraphLaws j.maps (history_of j.graphs) j.logs
 
 -- ---- laid
 
@@ -61,3 +73,7 @@ pub record Laid (s : Parts) (j : Journal) : Type 0 where
   pub polled : IsPolled j.processors j.pages (order_of s j)
   -- Each unit is given with what it has waited for. (bm_law_order, specs/Seals)
   pub sealed : IsSealed (order_of s j)
+  -- Each call on a list or tree is made under its lock, or in the closing, and finds what it needs of them. (bm_law_graphs, specs/Shelves)
+  pub shelved : IsShelved j.maps (order_of s j)
+  -- The histories are those that the order makes.
+  pub histories : (name : List ℕ) → history_of j.graphs name ≡ (over (shelved_after j.maps) (order_of s j) nothing_shelved).shelves.histories name

@@ -1,10 +1,14 @@
 -- When a journal is lawful for a scenario, as far as its forms have laws by now. (This project's own.)
-use Rattle.std.specs.Prelude.{◌≡◌, ℕ, true, [], Some, length, map, slice_get}
+use Rattle.std.specs.Prelude.{◌≡◌, ℕ, Bool, true, false, List, Some, length, map, slice_get}
+use Rattle.std.specs.List.{filter}
 use Rattle.bm_journal.specs.declared.journal.Journal.{Journal}
+use Rattle.bm_journal.specs.declared.past.Past.{Past}
 use Rattle.bm_journal.specs.Totals.{totals_of}
 use Rattle.bm_lang.specs.declared.scenario.Parts.{Parts}
 use Rattle.bm_lang.specs.declared.scenario.Script.{Script}
 use Rattle.bm_lang.specs.declared.scenario.MapDeclaration.{MapDeclaration}
+use Rattle.bm_lang.specs.declared.scenario.MapKind.{MapKind}
+use Rattle.bm_lang.specs.declared.scenario.MapKind.TheVariants.{Slot}
 use Rattle.bm_lang.specs.declared.scenario.TypeDeclaration.{TypeDeclaration}
 use Rattle.bm_law.specs.State.{State}
 use Rattle.bm_law.specs.Lists.{Log, Leaves}
@@ -41,12 +45,21 @@ pub record LawfulLog (s : Parts) (p : ℕ) (log : Log) : Type 0 where
   pub null : NullLaw p log
   pub parcels : sends_alone s ≡ true → ParcelLaw p log
 
+-- a slot is none of the lists and trees
+abbrev pub is_graph_kind : MapKind → Bool
+is_graph_kind Slot = false
+is_graph_kind _ = true
+
+-- the names of the lists and trees that are declared, in order
+abbrev pub graph_names : List MapDeclaration → List (List ℕ)
+graph_names maps = map (λ (m : MapDeclaration). m.name) (filter (λ (m : MapDeclaration). is_graph_kind m.kind) maps)
+
 -- A journal: its heading; its logs, of which there is one a processor; where its caches and refills got fewer units than they
--- wanted; no histories; and its totals.
+-- wanted; a history for each list and tree; and its totals.
 pub record LawfulLogs (s : Parts) (j : Journal) : Type 0 where
   pub heading : HeadingOf s j
   pub count : length j.logs ≡ s.processors
   pub logs : (p : ℕ) (log : Log) → slice_get j.logs p ≡ Some log → LawfulLog s p log
   pub short : JournalShort j.pages j.logs
-  pub graphs : j.graphs ≡ []
+  pub graphs : map (λ (h : List ℕ × List Past). h.0) j.graphs ≡ graph_names s.maps
   pub totals : j.totals ≡ totals_of j.logs

@@ -35,5 +35,5 @@ pub use interrupted::{worked_handlers, wrong_handlers, wrong_words};
 pub use openings::worked_openings;
 pub use references::worked_references;
 pub use sections::{worked_sections, wrong_sections};
-pub use worked::{worked_classes, worked_names};
+pub use worked::{worked_classes, worked_graphs, worked_names};
 pub use worked_journal::{worked_journals, wrong_journals};

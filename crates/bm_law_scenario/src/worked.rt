@@ -5,7 +5,8 @@ ghost use Rattle.bm_law.specs.State.{State};
 ghost use Rattle.bm_law_scenario.specs.Held.{Nothing, Null, no_names, with_name};
 ghost use Rattle.bm_law_scenario.specs.Opened.{object_size, opened_classes};
 ghost use Rattle.bm_law_scenario.specs.Runs.{Done};
-ghost use Rattle.bm_law_scenario.specs.Worked.{item, page, pair};
+ghost use Rattle.bm_law_scenario.specs.Lawful.{graph_names};
+ghost use Rattle.bm_law_scenario.specs.Worked.{item, page, pair, three_maps};
 ghost use Rattle.std.specs.Prelude.{codes};
 
 /// The classes that some types use, computed: an object of one field is served from the least class, one of two fields
@@ -24,4 +25,10 @@ pub fn worked_names()
     ensures same { with_name (codes "x") Null no_names (codes "x") ≡ Null }
     ensures other { with_name (codes "x") Null no_names (codes "y") ≡ Nothing }
     ensures done { (s : State ℕ) → Done no_names no_names s [] }
+{}
+
+/// The lists and trees among the maps of a scenario, computed: slots aren't among them.
+pub fn worked_graphs()
+    ensures none { graph_names [] ≡ [] }
+    ensures two { graph_names three_maps ≡ codes "q" ∷ codes "t" ∷ [] }
 {}

@@ -46,6 +46,18 @@ IsLate (entry.Delay u home) = ⊥
 IsLate (entry.Send c to us) = ⊥
 IsLate (entry.Get u life place value) = ⊥
 IsLate (entry.Xchg name put was by) = ⊥
+IsLate (entry.Lock name) = ⊥
+IsLate (entry.Unlock name) = ⊥
+IsLate (entry.PushFront name u life pos) = ⊥
+IsLate (entry.PushBack name u life pos) = ⊥
+IsLate (entry.Add name u life pos) = ⊥
+IsLate (entry.PushFrontAlready name u life owner pos) = ⊥
+IsLate (entry.PushBackAlready name u life owner pos) = ⊥
+IsLate (entry.AddAlready name u life owner pos) = ⊥
+IsLate (entry.PopFront name item pos) = ⊥
+IsLate (entry.PopBack name item pos) = ⊥
+IsLate (entry.First name item pos) = ⊥
+IsLate (entry.Remove name u life pos) = ⊥
 IsLate e = IsInner e
 
 finish-late : (d : Domain) (own : List Entry) → MayFinish d own → AllOf IsLate own

@@ -42,6 +42,7 @@ use Rattle.bm_law_seals.specs.Batches.{BatchFits, GivesNoMore, SweepsLast, Waits
 use Rattle.bm_run.specs.Between.{AllClosed, all_openings}
 use Rattle.bm_run.specs.InTurns.{one_by_one}
 use Rattle.bm_run.specs.Seated.{opening_lists, opening_log}
+use Rattle.bm_law_graphs.specs.Uncalled.{CallNone, CallsNone}
 use Rattle.bm_law_objects.specs.Asking.{AskOnly}
 use Rattle.bm_world.specs.LivingState.{living_of}
 use Rattle.bm_world.specs.Slots.{unit_at}
@@ -54,6 +55,7 @@ use Rattle.bm_run.proofs.FinalOrder.{closing_order, final_order, whole-is}
 use Rattle.bm_run.proofs.OwnParcels.{AllSendApart, IsUnsent, OrderUnsent, one-sends-apart, own-parcels, unsent-apart}
 use Rattle.bm_run.proofs.PiecesKnown.{IsFill, level-at, opening-own}
 use Rattle.bm_run.proofs.SealsTold.{LowSend}
+use Rattle.bm_run.proofs.Uncalled.{above-uncalled, ordinary-uncalled}
 use Rattle.bm_run.proofs.Unsent.{scripts-unsent}
 
 -- ---- orders
@@ -126,18 +128,30 @@ have-all I (e ∷ es) own above = elim (eqb_tells e.0 0) [
   | inr y ↦ (above.0 (zero-or e.0 y.1), have-all I es (rw y.0 at own) above.1)
 ]
 
-order-unsent : (o : Order) → ((p : ℕ) → AllHave IsUnsent (part_of p o)) → OrderUnsent o
-order-unsent [] h = tt
-order-unsent (e ∷ o) h = (first (h e.processor), order-unsent o (λ p. rest p (h p)))
-  where
-    first : AllHave IsUnsent (part_of e.processor (e ∷ o)) → IsUnsent e.entry
-    first k = (let own : IsUnsent e.entry × AllHave IsUnsent (part_of e.processor o) = rw (eq-eqb e.processor e.processor refl) at k in own.0)
+abbrev OrderHas : (Entry → Type 0) → Order → Type 0
+OrderHas I [] = Unit {0}
+OrderHas I (e ∷ o) = I e.entry × OrderHas I o
 
-    rest : (p : ℕ) → AllHave IsUnsent (part_of p (e ∷ o)) → AllHave IsUnsent (part_of p o)
+order-has : (I : Entry → Type 0) (o : Order) → ((p : ℕ) → AllHave I (part_of p o)) → OrderHas I o
+order-has I [] h = tt
+order-has I (e ∷ o) h = (first (h e.processor), order-has I o (λ p. rest p (h p)))
+  where
+    first : AllHave I (part_of e.processor (e ∷ o)) → I e.entry
+    first k = (let own : I e.entry × AllHave I (part_of e.processor o) = rw (eq-eqb e.processor e.processor refl) at k in own.0)
+
+    rest : (p : ℕ) → AllHave I (part_of p (e ∷ o)) → AllHave I (part_of p o)
     rest p k = elim (eqb_tells e.processor p) [
-      | inl y ↦ (let own : IsUnsent e.entry × AllHave IsUnsent (part_of p o) = rw y.0 at k in own.1)
+      | inl y ↦ (let own : I e.entry × AllHave I (part_of p o) = rw y.0 at k in own.1)
       | inr y ↦ rw y.0 at k
     ]
+
+order-unsent : (o : Order) → OrderHas IsUnsent o → OrderUnsent o
+order-unsent [] h = tt
+order-unsent (e ∷ o) h = (h.0, order-unsent o h.1)
+
+order-uncalled : (o : Order) → OrderHas CallsNone o → CallNone o
+order-uncalled [] h = tt
+order-uncalled (e ∷ o) h = (h.0, order-uncalled o h.1)
 
 -- ---- a closed run
 
@@ -293,6 +307,24 @@ module _ (s : Parts) (turns : List ℕ) (finals : List Log) (h : AllClosed s tur
   pub asks-are : (p l : ℕ) → AskOnly false (own_entries l (part_of p (whole turns finals)))
   asks-are p l = subst (λ (z : Log). AskOnly false (own_entries l z)) (sym (part-any finals (whole turns finals) order-is p)) (asks-any p l)
 
+  -- ---- lists and trees
+
+  final-uncalled : (p : ℕ) → p < n → AllHave CallsNone (get_or finals p [])
+  final-uncalled p lt =
+      let f = h.logs p lt in
+      let log = get_or finals p [] in
+      have-all CallsNone log (ordinary-uncalled s p log (opening_log s p ++ f.scripts) (ended_at_last p) (late_of p) (final-parts p lt) (final-front s p _ _ _ f) (level-own 0 (entry.Ended ∷ close_of p)) (late-own p lt)) (above-uncalled s p log f.stands f.done)
+
+  uncalled-any : (p : ℕ) → AllHave CallsNone (get_or finals p [])
+  uncalled-any p = elim (cases_lt p (length finals)) [
+    | inl lt ↦ final-uncalled p (subst (λ k. p < k) h.so_far.many lt)
+    | inr le ↦ subst (AllHave CallsNone) (sym (no-log p finals le)) tt
+  ]
+
+  -- no list or tree is called
+  pub uncalled-is : CallNone (whole turns finals)
+  uncalled-is = order-uncalled (whole turns finals) (order-has CallsNone (whole turns finals) (λ p. subst (AllHave CallsNone) (sym (part-any finals (whole turns finals) order-is p)) (uncalled-any p)))
+
   -- no unit is alive at last
   pub none-alive : (u : ℕ) → (shared_over (whole turns finals) (fresh n s.pages)).lives.holds u ≡ None
   none-alive u =
@@ -323,7 +355,7 @@ module _ (s : Parts) (turns : List ℕ) (finals : List Log) (h : AllClosed s tur
   ]
 
   sends-apart : (p : ℕ) → p < n → (b : Bool) → s.deferred ≡ b → sends_alone s ≡ true → AllSendApart p o
-  sends-apart p lt false off alone = unsent-apart p o (order-unsent o (λ q. subst (AllHave IsUnsent) (sym (part-any finals o h.so_far.order_of q)) (unsent-any q off)))
+  sends-apart p lt false off alone = unsent-apart p o (order-unsent o (order-has IsUnsent o (λ q. subst (AllHave IsUnsent) (sym (part-any finals o h.so_far.order_of q)) (unsent-any q off))))
   sends-apart p lt true on alone =
       let one : n ≡ 1 = elim (eqb_tells n 1) [
         | inl y ↦ y.1

@@ -50,6 +50,7 @@ pub mod OwnParcels
 pub mod Unsent
 pub mod FinalLog
 pub mod FinalOrder
+pub mod Uncalled
 pub mod FinalLaws
 pub mod AllTurns
 pub mod AllTurnsBegin

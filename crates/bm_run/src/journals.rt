@@ -24,6 +24,7 @@ use bm_exec::Types;
 use bm_exec_levels::{Deferred, Program};
 use bm_journal::{Histories, Journal, Log, Logs, Names, Opened, totals_of};
 use bm_lang::{Parts, Scenario, Script, TypeDeclaration};
+use bm_law_graphs::{graphs_law, uncalled_law};
 use bm_law_laid::journal_law;
 use bm_law_logs::{handled_law, lives_law, returned_law, returns_law, sweeps_law};
 use bm_law_objects::{asked_law, counts_law, reads_law, slots_law};
@@ -80,6 +81,8 @@ fn journal_of(
     counts_law();
     slots_law();
     reads_law();
+    graphs_law();
+    uncalled_law();
     let types = type_names(alloc, scenario.types.as_slice())?;
     let scripts = script_names(alloc, scenario.scripts.as_slice())?;
     let classes = Opened::new(with_marks(alloc, classes)?);

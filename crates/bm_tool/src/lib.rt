@@ -20,5 +20,6 @@ mod prepare;
 mod refusal;
 mod top;
 
+pub use generate::generated_texts_are_servable;
 pub use refusal::Refusal;
 pub use top::{Answer, bpfmem, out_of_memory};

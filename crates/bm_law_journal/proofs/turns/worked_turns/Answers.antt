@@ -11,7 +11,8 @@ use Rattle.bm_law_order.specs.Polls.{IsPolled}
 use Rattle.bm_law_order.specs.Seals.{IsSealed}
 use Rattle.bm_law_order.specs.Whole.{whole}
 use Rattle.bm_law_places.specs.Placed.{IsPlaced}
-use Rattle.bm_law_journal.specs.Lawful.{named_turns, order_of}
+use Rattle.bm_law_graphs.specs.Uncalled.{CallNone}
+use Rattle.bm_law_journal.specs.Lawful.{history_of, named_turns, order_of}
 use Rattle.bm_law_journal.specs.WorkedTurns.{HasTurns, ended_by_other, ended_in_section, freed_to_itself, given_unsealed, lent, opened_twice, other_turns, sent_in_period, sent_to_itself, turns}
 use Rattle.bm_law_journal.proofs.Lent.{lent-laid, lent-placed, lent-polled, lent-sealed, one-waits}
 use Rattle.bm_law_journal.proofs.LentLaws.{lent-grace, lent-lives, lent-returns, lent-stamps}
@@ -27,12 +28,17 @@ on-journal P ts logs s j x h = subst (λ o. P j.processors j.pages o) (sym (orde
 of-journal : (P : ℕ → ℕ → Order → Type 0) (ts : List ℕ) (logs : List Log) (s : Parts) (j : Journal) → HasTurns ts logs s j → P j.processors j.pages (order_of s j) → P 2 1 (whole ts logs)
 of-journal P ts logs s j x h = subst (λ n. P 2 n (whole ts logs)) x.pages (subst (λ n. P n j.pages (whole ts logs)) x.processors (subst (λ o. P j.processors j.pages o) (order-is ts logs s j x) h))
 
+uncalled : (s : Parts) (j : Journal) → HasTurns turns lent s j → CallNone (order_of s j)
+uncalled s j x = subst CallNone (sym (order-is turns lent s j x)) (search tt)
+
 pub returns-clause-lent : goal.returns-clause-lent
-returns-clause-lent c s j x = record {
+returns-clause-lent c s j x g = record {
   laid = on-journal IsLaid turns lent s j x lent-laid;
   placed = on-journal IsPlaced turns lent s j x lent-placed;
   polled = on-journal IsPolled turns lent s j x lent-polled;
   sealed = on-journal (λ n m o. IsSealed o) turns lent s j x lent-sealed;
+  shelved = c.uncalled_law.ensures.shelved j.maps (order_of s j) (uncalled s j x);
+  histories = λ name. ap (λ graphs. history_of graphs name) g ∙ sym (c.uncalled_law.ensures.histories j.maps (order_of s j) (uncalled s j x) name);
 }
 
 first-same : (x y : ℕ) (xs ys : List ℕ) → x ∷ xs ≡ y ∷ ys → x ≡ y

@@ -10,7 +10,8 @@ use Rattle.bm_law_lives.specs.Worked.{both_stages}
 use Rattle.bm_law_places.specs.Placed.{IsPlaced}
 use Rattle.bm_law_places.specs.WorkedPlaces.{sweeps_from_stock}
 use Rattle.bm_law_lives.specs.Wrong.{no_seal, other_stamp, sealed_though_plain, sent_too_early, sent_unseen}
-use Rattle.bm_law_journal.specs.Lawful.{Laid, named_turns, order_of}
+use Rattle.bm_law_graphs.specs.Uncalled.{CallNone}
+use Rattle.bm_law_journal.specs.Lawful.{Laid, history_of, named_turns, order_of}
 use Rattle.bm_law_journal.proofs.worked.worked_laid.Goals as goal
 
 order-is : (s : Parts) (j : Journal) (logs : List Log) → s.turns ≡ None → j.logs ≡ logs → order_of s j ≡ whole [] logs
@@ -23,12 +24,17 @@ on-journal P s j logs e p q f h = subst (λ o. P j.processors j.pages o) (sym (o
 sealed : (s : Parts) (j : Journal) (logs : List Log) → s.turns ≡ None → j.logs ≡ logs → Laid s j → IsSealed (whole [] logs)
 sealed s j logs e f h = subst IsSealed (order-is s j logs e f) h.sealed
 
+uncalled : (s : Parts) (j : Journal) → s.turns ≡ None → j.logs ≡ both_stages → CallNone (order_of s j)
+uncalled s j e f = subst CallNone (sym (order-is s j both_stages e f)) (search tt)
+
 pub returns-clause-both_stages : goal.returns-clause-both_stages
-returns-clause-both_stages c s j e p q f = record {
+returns-clause-both_stages c s j e p q f g = record {
   laid = on-journal IsLaid s j both_stages e p q f c.worked_journal.ensures;
   placed = on-journal IsPlaced s j both_stages e p q f c.worked_journal_places.ensures.both_stages;
   polled = on-journal IsPolled s j both_stages e p q f c.worked_polls.ensures.both_stages;
   sealed = on-journal (λ n m o. IsSealed o) s j both_stages e p q f c.worked_seals.ensures.both_stages;
+  shelved = c.uncalled_law.ensures.shelved j.maps (order_of s j) (uncalled s j e f);
+  histories = λ name. ap (λ graphs. history_of graphs name) g ∙ sym (c.uncalled_law.ensures.histories j.maps (order_of s j) (uncalled s j e f) name);
 }
 
 pub returns-clause-no_seal : goal.returns-clause-no_seal

@@ -12,14 +12,17 @@ use Rattle.bm_law_lives.specs.Returns.{ReturnsLaw, receiver}
 use Rattle.bm_law_lives.specs.StampLaw.{ReturnsFit, StampLaw}
 use Rattle.bm_law_lives.specs.Together.{Each, named}
 use Rattle.bm_law_logs.specs.UnitsMoved.{LeavesNothing}
-use Rattle.bm_law_order.specs.Orders.{IsLaid, Order}
+use Rattle.bm_law_order.specs.Orders.{IsLaid, Order, over}
 use Rattle.bm_law_order.specs.Whole.{whole}
 use Rattle.bm_law_journal.specs.Lawful.{named_turns}
-use Rattle.bm_law_scenario.specs.Lawful.{LawfulLog}
+use Rattle.bm_law_scenario.specs.Lawful.{LawfulLog, graph_names}
 use Rattle.bm_law_scenario.specs.Opened.{opened}
 use Rattle.bm_law_scenario.specs.Short.{JournalShort}
 use Rattle.bm_law_lives.specs.GraceLaw.{WholeGrace}
 use Rattle.bm_law_lives.specs.Lives.{WholeLives}
+use Rattle.bm_law_graphs.specs.GraphLaws.{GraphLaws}
+use Rattle.bm_law_graphs.specs.History.{GraphHistory}
+use Rattle.bm_law_graphs.specs.Shelves.{IsShelved, nothing_shelved, shelved_after}
 use Rattle.bm_law_objects.specs.Objects.{IsOwned}
 use Rattle.bm_law_objects.specs.ReadsLaw.{ReadsLaw}
 use Rattle.bm_law_objects.specs.ReferenceLaw.{ReferenceLaw}
@@ -31,7 +34,7 @@ use Rattle.bm_law_scenario.specs.SectionWords.{SectionWords}
 use Rattle.bm_exec.specs.Living.{home_of}
 use Rattle.bm_world.specs.LivingState.{known_living}
 use Rattle.bm_run.specs.LogsSoFar.{lived_in}
-use Rattle.bm_run.proofs.FinalLaws.{asks-are, batched-is, each-log, found-is, idle-is, inbox-is, inboxes-are, laid-is, log-of-each, none-alive, order-is, parcels-are, placed-is, polled-is, sealed-is}
+use Rattle.bm_run.proofs.FinalLaws.{asks-are, batched-is, each-log, found-is, idle-is, inbox-is, inboxes-are, laid-is, log-of-each, none-alive, order-is, parcels-are, placed-is, polled-is, sealed-is, uncalled-is}
 use Rattle.bm_run.proofs.FinalLog.{final-lawful}
 use Rattle.bm_run.proofs.ParcelsArrive.{parcels-arrive}
 use Rattle.bm_run.proofs.journals.journal_of.Goals as goal
@@ -54,6 +57,22 @@ each-lawful c p lt =
 
 classes-are : (c : goal.After-result-1) → c.new-classes.result ≡ opened c.args.scenario.now.types
 classes-are c = c.new-classes.ensures ∙ (c.in_ok-with_marks.ensures ∙ ap (λ (cs : List ℕ). map (λ k. (k, marks_of_size (size_of_class k))) cs) c.requires.classes)
+
+-- no list or tree has a history, and none is called
+no-graphs : (c : goal.After-result-1) → GraphLaws [] (λ name. []) c.args.logs.items
+no-graphs c =
+    let s = c.args.scenario.now in
+    let logs : List Log = c.args.logs.items in
+    let order : Order = whole (named_turns s.turns) logs in
+    let none = uncalled-is s (named_turns s.turns) logs c.requires.closed in
+    let laws = c.graphs_law.ensures [] logs order (order-is s (named_turns s.turns) logs c.requires.closed) (c.uncalled_law.ensures.shelved [] order none) (c.uncalled_law.ensures.within [] order none) in
+    record {
+      each = λ name. subst (λ history. GraphHistory [] name history logs) (c.uncalled_law.ensures.histories [] order none name) (laws.each name);
+      keys = λ name. tt;
+      refusals = λ name. tt;
+      locks = laws.locks;
+      takes = laws.takes;
+    }
 
 pub returns-clause-lawful : goal.returns-clause-lawful
 returns-clause-lawful c =
@@ -89,7 +108,7 @@ returns-clause-lawful c =
         count = subst (λ (x : List Log). length x ≡ n) one many;
         logs = subst (λ (x : List Log). (p : ℕ) (log : Log) → slice_get x p ≡ Some log → LawfulLog s p log) one
             (λ p log e. subst (LawfulLog s p) (get_or_from_slice_get logs p log [] e) (each-lawful c p (slice_get_within logs p log e)));
-        graphs = search rules;
+        graphs = subst (λ maps. [] ≡ graph_names maps) (sym c.requires.yet.no_maps) refl;
         totals = search rules;
         short = subst (JournalShort s.pages) one (laws.short n s.pages logs order of-logs laid);
       };
@@ -111,6 +130,7 @@ returns-clause-lawful c =
       references = subst ReferenceLaw one (c.counts_law.ensures.laid n s.pages logs order of-logs laid (none-alive s turns logs h));
       slots = λ slot. subst (SlotChain slot) one (c.slots_law.ensures.logs slot logs order of-logs owned);
       reads = subst ReadsLaw one (c.reads_law.ensures.logs logs order of-logs owned);
+      graphs = subst (GraphLaws [] (λ name. [])) one (no-graphs c);
     }
 
 pub returns-clause-laid : goal.returns-clause-laid
@@ -121,9 +141,12 @@ returns-clause-laid c =
     let h = c.requires.closed in
     let n = s.processors in
     let one : logs ≡ c.new-logs.result = sym c.new-logs.ensures in
+    let none = uncalled-is s turns logs h in
     record {
       laid = subst (λ (x : List Log). IsLaid n s.pages (whole turns x)) one (laid-is s turns logs h);
       placed = subst (λ (x : List Log). IsPlaced n s.pages (whole turns x)) one (placed-is s turns logs h);
       polled = subst (λ (x : List Log). IsPolled n s.pages (whole turns x)) one (polled-is s turns logs h);
       sealed = subst (λ (x : List Log). IsSealed (whole turns x)) one (sealed-is s turns logs h);
+      shelved = subst (λ (x : List Log). IsShelved [] (whole turns x)) one (c.uncalled_law.ensures.shelved [] (whole turns logs) none);
+      histories = λ name. subst (λ (x : List Log). [] ≡ (over (shelved_after []) (whole turns x) nothing_shelved).shelves.histories name) one (sym (c.uncalled_law.ensures.histories [] (whole turns logs) none name));
     }
