@@ -2,3 +2,4 @@ pub mod Lent
 pub mod LentLaws
 pub mod Shared
 pub mod Ungraphed
+pub mod Owned

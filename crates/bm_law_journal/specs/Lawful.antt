@@ -1,6 +1,6 @@
 -- When a journal is lawful for a scenario, and when it is laid: what the program promises of the journals that it prints. One field a law;
--- behind each stands the file that states it. The last four laws of `Lawful`, and the last two of `Laid`, speak of forms that don't run so
--- far, but for replies to `drop`. (This project's own: journals are.)
+-- behind each stands the file that states it. The last four laws of `Lawful`, and the last three of `Laid`, speak of forms that don't run
+-- so far, but for replies to `drop`, and for units that are given. (This project's own: journals are.)
 use Rattle.std.specs.Prelude.{◌≡◌, ℕ, if◌then◌else◌, List, [], ◌∷◌, Option, None, Some}
 use Rattle.std.specs.Str.{bytes_eq}
 use Rattle.bm_journal.specs.declared.journal.Journal.{Journal}
@@ -16,6 +16,7 @@ use Rattle.bm_law_lives.specs.GraceLaw.{WholeGrace}
 use Rattle.bm_law_lives.specs.Lives.{WholeLives}
 use Rattle.bm_law_lives.specs.Returns.{ReturnsLaw}
 use Rattle.bm_law_lives.specs.StampLaw.{StampLaw}
+use Rattle.bm_law_objects.specs.Objects.{IsOwned}
 use Rattle.bm_law_objects.specs.ReadsLaw.{ReadsLaw}
 use Rattle.bm_law_objects.specs.ReferenceLaw.{ReferenceLaw}
 use Rattle.bm_law_objects.specs.SlotChain.{SlotChain}
@@ -73,6 +74,9 @@ pub record Laid (s : Parts) (j : Journal) : Type 0 where
   pub polled : IsPolled j.processors j.pages (order_of s j)
   -- Each unit is given with what it has waited for. (bm_law_order, specs/Seals)
   pub sealed : IsSealed (order_of s j)
+  -- Each unit is given where an object was asked for; each read finds a value with which the life that the unit has was made, and each
+  -- exchange what the slot holds, and who put it there. (bm_law_objects, specs/Objects)
+  pub owned : IsOwned (order_of s j)
   -- Each call on a list or tree is made under its lock, or in the closing, and finds what it needs of them. (bm_law_graphs, specs/Shelves)
   pub shelved : IsShelved j.maps (order_of s j)
   -- The histories are those that the order makes.

@@ -1,6 +1,6 @@
 -- A worked journal of two processors that take turns, and wrong neighbours of it, by their logs. There is one page with one unit of class
--- 10, whose units have 4096 bytes. Entries of which no law of orders speaks are left out: calls for objects, scripts, flags, reads of the
--- count, receives of nothing.
+-- 10, whose units have 4096 bytes. Entries of which no law of orders speaks are left out: scripts, flags, reads of the count, receives of
+-- nothing.
 use Rattle.std.specs.Prelude.{◌≡◌, ℕ, List, [], ◌∷◌, ◌++◌, Some}
 use Rattle.bm_journal.specs.declared.ids.Domain.TheVariants.{Plain, Tracing}
 use Rattle.bm_journal.specs.declared.units.Units.TheVariants.{Whole}
@@ -10,7 +10,7 @@ use Rattle.bm_journal.specs.declared.journal.Journal.{Journal}
 use Rattle.bm_lang.specs.declared.scenario.Parts.{Parts}
 use Rattle.bm_law.specs.Lists.{Log}
 use Rattle.bm_law.specs.Ordinary.{ordinary}
-use Rattle.bm_law_lives.specs.Worked.{batches, delays, ends, frees, gives, opens, period, pushes, returns, sends, sweeps}
+use Rattle.bm_law_lives.specs.Worked.{asks, batches, delays, ends, frees, gives, opens, period, pushes, returns, sends, sweeps}
 
 -- The journal is of two processors with one page, has these logs, and its scenario names these turns.
 pub record HasTurns (turns : List ℕ) (logs : List Log) (s : Parts) (j : Journal) : Type 0 where
@@ -23,14 +23,14 @@ pub record HasTurns (turns : List ℕ) (logs : List Log) (s : Parts) (j : Journa
 
 -- It gives unit 0 in a plain section, and yields there; in its second turn it leaves that section, and yields in another one.
 abbrev pub makes : List Entry
-makes = entry.In Plain 1 ∷ gives 0 (entry.Given 0 1) ++ entry.Yield ∷ []
+makes = entry.In Plain 1 ∷ asks ∷ gives 0 (entry.Given 0 1) ++ entry.Yield ∷ []
 
 abbrev pub goes_on : List Entry
 goes_on = entry.Out Plain 2 ∷ entry.In Plain 3 ∷ entry.Yield ∷ entry.Out Plain 4 ∷ []
 
 -- In its third turn it receives the unit, gives it again by this reply, and frees it plainly.
 abbrev pub makes_again : Entry → List Entry
-makes_again reply = entry.Receive 10 (Whole (0 ∷ [])) ∷ entry.Ready 10 0 ∷ pushes 0 ++ entry.In Plain 5 ∷ gives 0 reply ++ frees 0 2 0 ++ entry.Out Plain 6 ∷ []
+makes_again reply = entry.Receive 10 (Whole (0 ∷ [])) ∷ entry.Ready 10 0 ∷ pushes 0 ++ entry.In Plain 5 ∷ asks ∷ gives 0 reply ++ frees 0 2 0 ++ entry.Out Plain 6 ∷ []
 
 abbrev pub closes : List Entry
 closes = entry.Ended ∷ entry.Close ∷ sweeps 0 2 ++ period Tracing 1 (6 ∷ 0 ∷ 4 ∷ 0 ∷ []) (6 ∷ 0 ∷ 4 ∷ 0 ∷ []) ++ returns 0 2

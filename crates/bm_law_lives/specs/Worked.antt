@@ -1,6 +1,7 @@
 -- Worked journals, by their logs. Units are of class 10, which holds 4096 bytes. Entries of which no law here speaks are left
--- out: calls for objects, scripts, flags, reads of the count, receives of nothing.
-use Rattle.std.specs.Prelude.{ℕ, ◌+◌, List, [], ◌∷◌, ◌++◌}
+-- out: scripts, flags, reads of the count, receives of nothing; and calls for objects but in the first journal by hand, which is judged
+-- by laws that speak of them too.
+use Rattle.std.specs.Prelude.{ℕ, ◌+◌, List, [], ◌∷◌, ◌++◌, codes}
 use Rattle.bm_journal.specs.declared.ids.Domain.{Domain}
 use Rattle.bm_journal.specs.declared.ids.Domain.TheVariants.{Plain, Tracing}
 use Rattle.bm_journal.specs.declared.units.Units.TheVariants.{Whole}
@@ -20,6 +21,10 @@ opens units = entry.Fill 10 (Whole units) ∷ []
 -- the one unit of Free is taken, and given by this reply
 abbrev pub gives : ℕ → Entry → List Entry
 gives u reply = entry.Enter 10 1 ∷ entry.Pop 10 u ∷ entry.Count 10 0 ∷ entry.Leave 10 0 ∷ reply ∷ []
+
+-- a call for a block without fields
+abbrev pub asks : Entry
+asks = entry.New (codes "block") []
 
 -- a unit in hand becomes the one unit of Free
 abbrev pub pushes : ℕ → List Entry
@@ -68,7 +73,7 @@ one_block = one_block_log ∷ []
 -- One processor frees unit 0 with delay. It goes through both stages to the stock, is fetched, given a second life with its
 -- seal, and swept at the end.
 abbrev pub first_life : List Entry
-first_life = opens (0 ∷ []) ++ entry.In Plain 1 ∷ gives 0 (entry.Given 0 1) ++ delays 0 1 0 ++ entry.Out Plain 2 ∷ []
+first_life = opens (0 ∷ []) ++ entry.In Plain 1 ∷ asks ∷ gives 0 (entry.Given 0 1) ++ delays 0 1 0 ++ entry.Out Plain 2 ∷ []
 
 abbrev pub first_stage : List Entry
 first_stage = batches 0 2 ++ period Plain 1 (2 ∷ []) (2 ∷ []) ++ sends 0 2 0
@@ -77,7 +82,7 @@ abbrev pub second_stage : List Entry
 second_stage = entry.Receive 10 (Whole (0 ∷ [])) ∷ seconds 0 2 ++ period Tracing 1 (2 ∷ 0 ∷ []) (2 ∷ 0 ∷ []) ++ returns 0 2
 
 abbrev pub given_second : Entry → List Entry
-given_second reply = entry.Fetch 10 3 (Whole (0 ∷ [])) ∷ pushes 0 ++ entry.In Plain 3 ∷ gives 0 reply
+given_second reply = entry.Fetch 10 3 (Whole (0 ∷ [])) ∷ pushes 0 ++ entry.In Plain 3 ∷ asks ∷ gives 0 reply
 
 abbrev pub second_life : Entry → ℕ → List Entry
 second_life reply life = given_second reply ++ frees 0 life 0 ++ entry.Out Plain 4 ∷ []

@@ -16,6 +16,8 @@ use Rattle.bm_law_journal.specs.Lawful.{history_of, named_turns, order_of}
 use Rattle.bm_law_journal.specs.WorkedTurns.{HasTurns, ended_by_other, ended_in_section, freed_to_itself, given_unsealed, lent, opened_twice, other_turns, sent_in_period, sent_to_itself, turns}
 use Rattle.bm_law_journal.proofs.Lent.{lent-laid, lent-placed, lent-polled, lent-sealed, one-waits}
 use Rattle.bm_law_journal.proofs.LentLaws.{lent-grace, lent-lives, lent-returns, lent-stamps}
+use Rattle.bm_law_objects.specs.Objects.{IsOwned}
+use Rattle.bm_law_journal.proofs.Owned.{lent-owned}
 use Rattle.bm_law_journal.proofs.turns.worked_turns.Goals as goal
 
 order-is : (ts : List ℕ) (logs : List Log) (s : Parts) (j : Journal) → HasTurns ts logs s j → order_of s j ≡ whole ts logs
@@ -37,6 +39,7 @@ returns-clause-lent c s j x g = record {
   placed = on-journal IsPlaced turns lent s j x lent-placed;
   polled = on-journal IsPolled turns lent s j x lent-polled;
   sealed = on-journal (λ n m o. IsSealed o) turns lent s j x lent-sealed;
+  owned = on-journal (λ n m o. IsOwned o) turns lent s j x lent-owned;
   shelved = c.uncalled_law.ensures.shelved j.maps (order_of s j) (uncalled s j x);
   histories = λ name. ap (λ graphs. history_of graphs name) g ∙ sym (c.uncalled_law.ensures.histories j.maps (order_of s j) (uncalled s j x) name);
 }
@@ -59,26 +62,26 @@ home_named (Some d) = or_zero d.ended
 
 not-in_section : IsLaid 2 1 (whole turns ended_in_section) → ⊥
 unfolding any_out fetched given is_stock_of least_below next_unit returned size_of_class unit_given
-not-in_section h = one-waits h.1.1.1.1.1.1.1.1.1.1.1.1.1.1.1.1.1.1.1.1.1.1.1.0.looks.passed.0
+not-in_section h = one-waits h.1.1.1.1.1.1.1.1.1.1.1.1.1.1.1.1.1.1.1.1.1.1.1.1.0.looks.passed.0
 
 pub returns-clause-in_section : goal.returns-clause-in_section
 returns-clause-in_section c s j x h = not-in_section (of-journal IsLaid turns ended_in_section s j x h.laid)
 
 not-by_other : IsLaid 2 1 (whole turns ended_by_other) → ⊥
 unfolding any_out fetched given is_stock_of least_below next_unit returned size_of_class unit_given
-not-by_other h = (let d = h.1.1.1.1.1.1.1.1.1.1.1.1.1.1.1.1.1.1.1.1.1.1.1.1.1.1.1.0.numbers.driver in absurd (cc))
+not-by_other h = (let d = h.1.1.1.1.1.1.1.1.1.1.1.1.1.1.1.1.1.1.1.1.1.1.1.1.1.1.1.1.0.numbers.driver in absurd (cc))
 
 pub returns-clause-by_other : goal.returns-clause-by_other
 returns-clause-by_other c s j x h = not-by_other (of-journal IsLaid turns ended_by_other s j x h.laid)
 
 not-unsealed : IsSealed (whole turns given_unsealed) → ⊥
-not-unsealed h = (let d = h.1.1.1.1.1.1.1.1.1.1.1.1.1.1.1.1.1.1.1.1.1.1.1.1.1.1.1.1.1.1.1.1.1.1.1.1.1.1.1.1.1.1.1.1.1.1.0 in absurd (cc))
+not-unsealed h = (let d = h.1.1.1.1.1.1.1.1.1.1.1.1.1.1.1.1.1.1.1.1.1.1.1.1.1.1.1.1.1.1.1.1.1.1.1.1.1.1.1.1.1.1.1.1.1.1.1.1.0 in absurd (cc))
 
 pub returns-clause-unsealed : goal.returns-clause-unsealed
 returns-clause-unsealed c s j x h = not-unsealed (of-journal (λ n m o. IsSealed o) turns given_unsealed s j x h.sealed)
 
 not-too_early : IsSealed (whole turns sent_in_period) → ⊥
-not-too_early h = (let d = h.1.1.1.1.1.1.1.1.1.1.1.1.1.1.1.1.1.1.1.1.1.1.1.1.1.1.1.1.1.1.1.1.1.1.1.1.1.1.1.1.1.0.1 in omega (arith, d))
+not-too_early h = (let d = h.1.1.1.1.1.1.1.1.1.1.1.1.1.1.1.1.1.1.1.1.1.1.1.1.1.1.1.1.1.1.1.1.1.1.1.1.1.1.1.1.1.1.1.0.1 in omega (arith, d))
 
 pub returns-clause-too_early : goal.returns-clause-too_early
 returns-clause-too_early c s j x h = not-too_early (of-journal (λ n m o. IsSealed o) turns sent_in_period s j x h.sealed)
@@ -92,21 +95,21 @@ returns-clause-opened c s j x h = not-opened (of-journal IsLaid turns opened_twi
 
 not-freed : IsLaid 2 1 (whole turns freed_to_itself) → ⊥
 unfolding any_out fetched given is_stock_of least_below next_unit returned size_of_class unit_given
-not-freed h = (let d : 0 ≡ 1 = ap home_named h.1.1.1.1.1.1.1.1.1.1.1.1.0.lives.under in omega (arith, d))
+not-freed h = (let d : 0 ≡ 1 = ap home_named h.1.1.1.1.1.1.1.1.1.1.1.1.1.0.lives.under in omega (arith, d))
 
 pub returns-clause-freed : goal.returns-clause-freed
 returns-clause-freed c s j x h = not-freed (of-journal IsLaid turns freed_to_itself s j x h.laid)
 
 not-sent : IsLaid 2 1 (whole turns sent_to_itself) → ⊥
 unfolding any_out fetched given is_stock_of least_below next_unit returned size_of_class unit_given
-not-sent h = (let d = h.1.1.1.1.1.1.1.1.1.1.1.1.1.1.1.1.1.1.1.1.1.1.1.1.1.1.1.1.1.1.1.1.1.1.1.0.boxes in absurd (cc))
+not-sent h = (let d = h.1.1.1.1.1.1.1.1.1.1.1.1.1.1.1.1.1.1.1.1.1.1.1.1.1.1.1.1.1.1.1.1.1.1.1.1.0.boxes in absurd (cc))
 
 pub returns-clause-sent : goal.returns-clause-sent
 returns-clause-sent c s j x h = not-sent (of-journal IsLaid turns sent_to_itself s j x h.laid)
 
 not-turned : IsLaid 2 1 (whole other_turns lent) → ⊥
 unfolding any_out fetched given is_stock_of least_below next_unit returned size_of_class unit_given
-not-turned h = (let d = first-same 1 3 (2 ∷ []) (2 ∷ []) h.1.1.1.1.1.1.1.1.1.1.1.1.1.1.1.1.1.1.1.1.1.1.1.1.1.1.1.1.1.1.0.looks.first in omega (arith, d))
+not-turned h = (let d = first-same 1 3 (2 ∷ []) (2 ∷ []) h.1.1.1.1.1.1.1.1.1.1.1.1.1.1.1.1.1.1.1.1.1.1.1.1.1.1.1.1.1.1.1.0.looks.first in omega (arith, d))
 
 pub returns-clause-turned : goal.returns-clause-turned
 returns-clause-turned c s j x h = not-turned (of-journal IsLaid other_turns lent s j x h.laid)

@@ -12,6 +12,8 @@ use Rattle.bm_law_places.specs.WorkedPlaces.{sweeps_from_stock}
 use Rattle.bm_law_lives.specs.Wrong.{no_seal, other_stamp, sealed_though_plain, sent_too_early, sent_unseen}
 use Rattle.bm_law_graphs.specs.Uncalled.{CallNone}
 use Rattle.bm_law_journal.specs.Lawful.{Laid, history_of, named_turns, order_of}
+use Rattle.bm_law_objects.specs.Objects.{IsOwned}
+use Rattle.bm_law_journal.proofs.Owned.{both_stages-owned}
 use Rattle.bm_law_journal.proofs.worked.worked_laid.Goals as goal
 
 order-is : (s : Parts) (j : Journal) (logs : List Log) → s.turns ≡ None → j.logs ≡ logs → order_of s j ≡ whole [] logs
@@ -33,6 +35,7 @@ returns-clause-both_stages c s j e p q f g = record {
   placed = on-journal IsPlaced s j both_stages e p q f c.worked_journal_places.ensures.both_stages;
   polled = on-journal IsPolled s j both_stages e p q f c.worked_polls.ensures.both_stages;
   sealed = on-journal (λ n m o. IsSealed o) s j both_stages e p q f c.worked_seals.ensures.both_stages;
+  owned = on-journal (λ n m o. IsOwned o) s j both_stages e p q f both_stages-owned;
   shelved = c.uncalled_law.ensures.shelved j.maps (order_of s j) (uncalled s j e f);
   histories = λ name. ap (λ graphs. history_of graphs name) g ∙ sym (c.uncalled_law.ensures.histories j.maps (order_of s j) (uncalled s j e f) name);
 }

@@ -9,7 +9,7 @@ one-waits (inl e) = absurd (cc)
 one-waits (inr h) = omega (arith, h)
 
 pub returns-clause-both_stages : goal.returns-clause-both_stages
-returns-clause-both_stages c = (tt, (tt, (tt, (tt, (tt, (tt, (tt, (tt, (tt, (tt, (tt, (tt, (tt, (tt, (tt, (tt, (tt, (tt, (tt, (record { class = 10; stamp = 2; waits = refl; below = lit≤ tt }, (tt, (inl (record { waits = λ k h. absurd (cc); idle = λ k. inr (lit≤ tt) }), (tt, (tt, (tt, (tt, (record { class = 10; stamp = 2; waits = refl; below = lit≤ tt }, (tt, (inl (record { waits = λ k h. absurd (cc); idle = λ k. inr (lit≤ tt) }), (tt, (tt, (tt, (tt, (tt, (tt, (tt, (tt, (tt, (tt, (tt, (tt, (tt, (tt, (tt, (tt, (tt, (tt, (tt, (tt, (tt, (tt, (tt, (tt, (record { class = 10; stamp = 4; waits = refl; below = lit≤ tt }, (tt, (inl (record { waits = λ k h. absurd (cc); idle = λ k. inr (lit≤ tt) }), (tt, tt)))))))))))))))))))))))))))))))))))))))))))))))))))))))))
+returns-clause-both_stages c = (tt, (tt, (tt, (tt, (tt, (tt, (tt, (tt, (tt, (tt, (tt, (tt, (tt, (tt, (tt, (tt, (tt, (tt, (tt, (tt, (record { class = 10; stamp = 2; waits = refl; below = lit≤ tt }, (tt, (inl (record { waits = λ k h. absurd (cc); idle = λ k. inr (lit≤ tt) }), (tt, (tt, (tt, (tt, (record { class = 10; stamp = 2; waits = refl; below = lit≤ tt }, (tt, (inl (record { waits = λ k h. absurd (cc); idle = λ k. inr (lit≤ tt) }), (tt, (tt, (tt, (tt, (tt, (tt, (tt, (tt, (tt, (tt, (tt, (tt, (tt, (tt, (tt, (tt, (tt, (tt, (tt, (tt, (tt, (tt, (tt, (tt, (tt, (record { class = 10; stamp = 4; waits = refl; below = lit≤ tt }, (tt, (inl (record { waits = λ k h. absurd (cc); idle = λ k. inr (lit≤ tt) }), (tt, tt)))))))))))))))))))))))))))))))))))))))))))))))))))))))))))
 
 pub returns-clause-at_once : goal.returns-clause-at_once
 returns-clause-at_once c = (tt, (tt, (tt, (tt, (tt, (tt, (tt, (tt, (tt, (tt, (tt, (tt, (tt, (tt, (tt, (tt, (tt, (record { class = 10; stamp = 2; waits = refl; below = lit≤ tt }, (tt, (inl (record { waits = λ k h. absurd (cc); idle = λ k. inr (lit≤ tt) }), (tt, tt)))))))))))))))))))))

@@ -17,15 +17,15 @@ use Rattle.bm_law_places.proofs.Standing.{all-placed, found-in-parts}
 use Rattle.bm_law_places.proofs.worked.worked_journal_places.Goals as goal
 
 below : AllBelow 1 (whole [] both_stages)
-below = (lit< tt, (lit< tt, (lit< tt, (lit< tt, (lit< tt, (lit< tt, (lit< tt, (lit< tt, (lit< tt, (lit< tt, (lit< tt, (lit< tt, (lit< tt, (lit< tt, (lit< tt, (lit< tt, (lit< tt, (lit< tt, (lit< tt, (lit< tt, (lit< tt, (lit< tt, (lit< tt, (lit< tt, (lit< tt, (lit< tt, (lit< tt, (lit< tt, (lit< tt, (lit< tt, (lit< tt, (lit< tt, (lit< tt, (lit< tt, (lit< tt, (lit< tt, (lit< tt, (lit< tt, (lit< tt, (lit< tt, (lit< tt, (lit< tt, (lit< tt, (lit< tt, (lit< tt, (lit< tt, (lit< tt, (lit< tt, (lit< tt, (lit< tt, (lit< tt, (lit< tt, (lit< tt, (lit< tt, (lit< tt, (lit< tt, (lit< tt, tt)))))))))))))))))))))))))))))))))))))))))))))))))))))))))
+below = (lit< tt, (lit< tt, (lit< tt, (lit< tt, (lit< tt, (lit< tt, (lit< tt, (lit< tt, (lit< tt, (lit< tt, (lit< tt, (lit< tt, (lit< tt, (lit< tt, (lit< tt, (lit< tt, (lit< tt, (lit< tt, (lit< tt, (lit< tt, (lit< tt, (lit< tt, (lit< tt, (lit< tt, (lit< tt, (lit< tt, (lit< tt, (lit< tt, (lit< tt, (lit< tt, (lit< tt, (lit< tt, (lit< tt, (lit< tt, (lit< tt, (lit< tt, (lit< tt, (lit< tt, (lit< tt, (lit< tt, (lit< tt, (lit< tt, (lit< tt, (lit< tt, (lit< tt, (lit< tt, (lit< tt, (lit< tt, (lit< tt, (lit< tt, (lit< tt, (lit< tt, (lit< tt, (lit< tt, (lit< tt, (lit< tt, (lit< tt, (lit< tt, (lit< tt, tt)))))))))))))))))))))))))))))))))))))))))))))))))))))))))))
 
 names : (p : ℕ) → p < 1 → AllName (opening p) (part_of p (whole [] both_stages))
-names zero lt = (tt, (tt, (refl, (refl, ((refl, refl), (refl, (refl, (tt, (tt, (tt, (refl, (refl, (refl, (tt, (refl, (refl, ((refl, refl), (refl, (refl, (tt, (tt, (tt, ((refl, refl), (tt, ((refl, refl), (refl, (tt, (tt, (tt, ((refl, refl), (tt, (refl, (refl, ((refl, refl), (refl, (tt, (refl, (refl, ((refl, refl), (refl, (refl, (tt, (tt, (tt, (refl, (refl, ((refl, refl), (refl, (tt, (tt, (tt, (refl, (refl, (tt, (tt, (tt, ((refl, refl), tt)))))))))))))))))))))))))))))))))))))))))))))))))))))))))
+names zero lt = (tt, (tt, (tt, (refl, (refl, ((refl, refl), (refl, (refl, (tt, (tt, (tt, (refl, (refl, (refl, (tt, (refl, (refl, ((refl, refl), (refl, (refl, (tt, (tt, (tt, ((refl, refl), (tt, ((refl, refl), (refl, (tt, (tt, (tt, ((refl, refl), (tt, (refl, (refl, ((refl, refl), (refl, (tt, (tt, (refl, (refl, ((refl, refl), (refl, (refl, (tt, (tt, (tt, (refl, (refl, ((refl, refl), (refl, (tt, (tt, (tt, (refl, (refl, (tt, (tt, (tt, ((refl, refl), tt)))))))))))))))))))))))))))))))))))))))))))))))))))))))))))
 names (suc p) lt = absurd (omega (arith, lt))
 
 sweeps : AllFit world_after SweepsInbox (whole [] both_stages) (outset 1 1)
 unfolding any_out fetched given is_stock_of least_below next_unit returned size_of_class unit_given
-sweeps = (tt, (tt, (tt, (tt, (tt, (tt, (tt, (tt, (tt, (tt, (tt, (tt, (tt, (tt, (tt, (tt, (tt, (tt, (tt, (tt, (tt, (tt, (tt, (tt, (tt, (tt, (tt, (tt, (tt, (tt, (tt, (tt, (tt, (tt, (tt, (tt, (tt, (tt, (tt, (tt, (tt, (tt, (tt, (tt, (tt, (tt, (tt, (tt, (tt, (tt, (tt, (refl, (tt, (tt, (tt, (tt, (tt, tt)))))))))))))))))))))))))))))))))))))))))))))))))))))))))
+sweeps = (tt, (tt, (tt, (tt, (tt, (tt, (tt, (tt, (tt, (tt, (tt, (tt, (tt, (tt, (tt, (tt, (tt, (tt, (tt, (tt, (tt, (tt, (tt, (tt, (tt, (tt, (tt, (tt, (tt, (tt, (tt, (tt, (tt, (tt, (tt, (tt, (tt, (tt, (tt, (tt, (tt, (tt, (tt, (tt, (tt, (tt, (tt, (tt, (tt, (tt, (tt, (tt, (tt, (refl, (tt, (tt, (tt, (tt, (tt, tt)))))))))))))))))))))))))))))))))))))))))))))))))))))))))))
 
 pub returns-clause-both_stages : goal.returns-clause-both_stages
 returns-clause-both_stages c = all-placed 1 1 (whole [] both_stages) (found-in-parts (whole [] both_stages) (outset 1 1) c.worked_journal.ensures (parts-name 1 (whole [] both_stages) below names) sweeps)

@@ -147,6 +147,7 @@ returns-clause-laid c =
       placed = subst (λ (x : List Log). IsPlaced n s.pages (whole turns x)) one (placed-is s turns logs h);
       polled = subst (λ (x : List Log). IsPolled n s.pages (whole turns x)) one (polled-is s turns logs h);
       sealed = subst (λ (x : List Log). IsSealed (whole turns x)) one (sealed-is s turns logs h);
+      owned = subst (λ (x : List Log). IsOwned (whole turns x)) one (c.asked_law.ensures (whole turns logs) (asks-are s turns logs h));
       shelved = subst (λ (x : List Log). IsShelved [] (whole turns x)) one (c.uncalled_law.ensures.shelved [] (whole turns logs) none);
       histories = λ name. subst (λ (x : List Log). [] ≡ (over (shelved_after []) (whole turns x) nothing_shelved).shelves.histories name) one (sym (c.uncalled_law.ensures.histories [] (whole turns logs) none name));
     }
