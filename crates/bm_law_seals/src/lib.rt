@@ -12,7 +12,9 @@
 #![tactic(auto)]
 
 mod laws;
+mod lives;
 mod worked;
 
 pub use laws::seals_law;
-pub use worked::worked_batches;
+pub use lives::lives_law;
+pub use worked::{worked_batches, worked_references};
