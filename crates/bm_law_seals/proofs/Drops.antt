@@ -162,9 +162,9 @@ module _ (u p : ℕ) (logs : List Log) (l : ℕ) (rest : Log) (lives : Lives) wh
       let holds : lives.holds v ≡ Some r.has.held = ap lives.holds unit ∙ r.has.holds in
       let home : ℕ = r.has.held.maker in
       let now : (answered_last p l (lives.dropping p l) lives).dropping p l ≡ Some (ending v k home) =
-          subst (λ o. (answered_last p l o lives).dropping p l ≡ Some (ending v k home)) (sym is) (rw (eq-eqb p p refl, eq-eqb l l refl) (ap (λ m. let d : Dropping = record { unit = v; life = k; ended = m } in Some d) (ap maker_of holds))) in
+      subst (λ o. (answered_last p l o lives).dropping p l ≡ Some (ending v k home)) (sym is) (rw (eq-eqb p p refl, eq-eqb l l refl) (ap (λ m. let d : Dropping = record { unit = v; life = k; ended = m } in Some d) (ap maker_of holds))) in
       let other : (j : ℕ) → j ≢ l → (answered_last p l (lives.dropping p l) lives).dropping p j ≡ None =
-          λ j ne. subst (λ o. (answered_last p l o lives).dropping p j ≡ None) (sym is) (rw (eq-eqb p p refl, ne_eqb j l ne) (none j ne)) in
+      λ j ne. subst (λ o. (answered_last p l o lives).dropping p j ≡ None) (sym is) (rw (eq-eqb p p refl, ne_eqb j l ne) (none j ne)) in
       let same : length (life_of_drop u (lives.dropping p l)) ≡ length (life_of_drop u (Some (ending v k home))) = ap (λ o. length (life_of_drop u o)) is in
       record {
         next = Ended l v k home now other a (subst (λ n. givers v n logs ≡ home ∷ []) (sym life) (made v r.has.held holds));
@@ -188,7 +188,7 @@ module _ (u p : ℕ) (logs : List Log) (l : ℕ) (rest : Log) (lives : Lives) wh
       let same : home ≡ to = ap home_or (sym is ∙ r.under) in
       let is_free : is_free_of v x ≡ true = free ∙ eq-eqb v w unit in
       let none_lacks : (if is_freed v (own_entries l ((l, x) ∷ rest)) then [] else life_of_drop u (Some (ending v k home))) ≡ [] =
-          subst (λ own. (if is_freed v own then [] else life_of_drop u (Some (ending v k home))) ≡ []) (sym (own-first x)) (rw is_free refl) in
+      subst (λ own. (if is_freed v own then [] else life_of_drop u (Some (ending v k home))) ≡ []) (sym (own-first x)) (rw is_free refl) in
       record {
         next = Calm (λ j. after j ∙ gone none j);
         fits = λ f. (subst (λ own. FreeFits v (givers v k logs) own) (sym (own-first x)) (names (givers v k logs) (sym unit) (made ∙ ap (λ h. h ∷ []) same)), fit);

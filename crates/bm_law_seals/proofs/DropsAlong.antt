@@ -37,8 +37,8 @@ module _ (logs : List Log) (lives : Lives) (made : Made logs lives) where
   gives-made : (q v life : ℕ) → life ≡ lives.begun v + 1 → givers v life logs ≡ q ∷ [] → Made logs (given_life q v lives)
   gives-made q v life next g w x h = elim (eqb_tells w v) [
     | inl y ↦
-      (let maker : Some q ≡ Some x.maker = ap maker_of (rw y.0 at h) in
-      rw y.0 (subst (λ z. givers z (lives.begun z + 1) logs ≡ x.maker ∷ []) (sym y.1) (subst (λ n. givers v n logs ≡ x.maker ∷ []) next (g ∙ ap (λ m. m ∷ []) (some-same maker)))))
+        (let maker : Some q ≡ Some x.maker = ap maker_of (rw y.0 at h) in
+        rw y.0 (subst (λ z. givers z (lives.begun z + 1) logs ≡ x.maker ∷ []) (sym y.1) (subst (λ n. givers v n logs ≡ x.maker ∷ []) next (g ∙ ap (λ m. m ∷ []) (some-same maker)))))
     | inr y ↦ rw y.0 (made w x (rw y.0 at h))
   ]
     where
@@ -168,11 +168,11 @@ along u p logs (e ∷ o) lives rest is s fit made alone a =
     let goes = made-on logs lives made e.processor e.level e.entry fit.0 alone.0 in
     elim (eqb_tells e.processor p) [
       | inl y ↦
-        subst (λ q. (rest : Log) → part_of q (e ∷ o) ≡ rest → (s : Stage q logs lives rest) → AreAnswered rest → Told u q logs (e ∷ o) lives rest s) y.1
-        (λ rest is s a. subst (λ r. (s : Stage e.processor logs lives r) → AreAnswered r → Told u e.processor logs (e ∷ o) lives r s) (sym (own-part e o) ∙ is)
-        (λ s a. let t = turn u e.processor logs e.level (part_of e.processor o) lives e.entry s fit.0 made a.0 in told-own u logs e o (part_of e.processor o) lives s t (along u e.processor logs o now (part_of e.processor o) refl t.next fit.1 goes alone.1 a.1)) s a)
-        rest is s a
+          subst (λ q. (rest : Log) → part_of q (e ∷ o) ≡ rest → (s : Stage q logs lives rest) → AreAnswered rest → Told u q logs (e ∷ o) lives rest s) y.1
+          (λ rest is s a. subst (λ r. (s : Stage e.processor logs lives r) → AreAnswered r → Told u e.processor logs (e ∷ o) lives r s) (sym (own-part e o) ∙ is)
+          (λ s a. let t = turn u e.processor logs e.level (part_of e.processor o) lives e.entry s fit.0 made a.0 in told-own u logs e o (part_of e.processor o) lives s t (along u e.processor logs o now (part_of e.processor o) refl t.next fit.1 goes alone.1 a.1)) s a)
+          rest is s a
       | inr y ↦
-        (let d = aside u p logs rest lives now s (λ j. dropping-other e.processor e.level p j e.entry lives (rw (ne_eqb p e.processor (λ z. y.1 (sym z))) refl)) in
-        told-other u p logs e o rest lives s d y.1 (along u p logs o now rest (rw y.0 at is) d.next fit.1 goes alone.1 a))
+          (let d = aside u p logs rest lives now s (λ j. dropping-other e.processor e.level p j e.entry lives (rw (ne_eqb p e.processor (λ z. y.1 (sym z))) refl)) in
+          told-other u p logs e o rest lives s d y.1 (along u p logs o now rest (rw y.0 at is) d.next fit.1 goes alone.1 a))
     ]

@@ -1,5 +1,5 @@
 -- The law of lives over all logs, from an order of them.
-use Rattle.std.specs.Prelude.{◌≡◌, ◌≢◌, ◌<◌, ◌≤◌, ◌+◌, ℕ, zero, suc, List, [], ◌∷◌, ◌++◌, None, Option, Some, get_or, length, replicate}
+use Rattle.std.specs.Prelude.{◌≡◌, ◌≢◌, ◌<◌, ◌≤◌, ◌+◌, ℕ, zero, suc, List, [], ◌∷◌, ◌++◌, None, Some, get_or, length, replicate}
 use Rattle.std.proofs.Common.{◌∙◌, ap, arith, eq-eqb, inl, inr, length-append, ne_eqb, refl, subst, sym}
 use Rattle.std.proofs.lemmas.Bool.{cases_lt}
 use Rattle.std.proofs.lemmas.Bool.Decides.{eqb_tells}
@@ -22,11 +22,11 @@ use Rattle.bm_law_laid.proofs.Sums.{sum-logs}
 use Rattle.bm_law_lives.specs.Lives.{DropsFit, LivesLaw, WholeLives, all_ended, given_object, givers, givers_from, lives_ended, lives_given, objects_ended}
 use Rattle.bm_law_lives.specs.Together.{beside, named, named_in, times}
 use Rattle.bm_law_lives.specs.Units.{FreedAsGiven, freed_units, given_units}
-use Rattle.bm_law_order.specs.Lives.{Dropping, Life, Lives, LivesFit, first_lives, lives_after}
+use Rattle.bm_law_order.specs.Lives.{Lives, LivesFit, first_lives, lives_after}
 use Rattle.bm_law_order.specs.Orders.{AllFit, Event, Order, over, part_of}
 use Rattle.bm_law_seals.specs.Answered.{AreAnswered}
 use Rattle.bm_law_seals.proofs.Born.{all-given}
-use Rattle.bm_law_seals.proofs.Drops.{Calm, Dropped, Ended, Made, Stage, held, lacked}
+use Rattle.bm_law_seals.proofs.Drops.{Calm, Dropped, Ended, Stage, held, lacked}
 use Rattle.bm_law_seals.proofs.DropsAlong.{Adds, AllGiveAlone, GivesAlone, Told, along, ended_by}
 use Rattle.bm_law_seals.proofs.Past.{Past, own-part, past-on}
 
@@ -83,7 +83,7 @@ gives-here u life l x [] rest h = subst (λ xs. 0 < times life (beside u (xs ++ 
 gives-here u life l x (e ∷ front) rest h =
     let more = gives-here u life l x front rest h in
     let s : times life (given_in u (e ∷ (front ++ (l, x) ∷ rest))) ≡ times life (beside u (given_object e.1)) + times life (given_in u (front ++ (l, x) ∷ rest)) =
-        ap (times life) (beside-append u (given_object e.1) (named_in given_object (front ++ (l, x) ∷ rest))) ∙ times-append life (beside u (given_object e.1)) (given_in u (front ++ (l, x) ∷ rest)) in
+    ap (times life) (beside-append u (given_object e.1) (named_in given_object (front ++ (l, x) ∷ rest))) ∙ times-append life (beside u (given_object e.1)) (given_in u (front ++ (l, x) ∷ rest)) in
     omega (arith, more, s)
 
 module _ (logs : List Log) (once : (u life : ℕ) → times life (lives_given u logs) ≤ 1) where

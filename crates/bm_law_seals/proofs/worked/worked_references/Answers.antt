@@ -1,8 +1,8 @@
-use Rattle.std.specs.Prelude.{◌≡◌, ◌<◌, ℕ, zero, suc, [], ◌∷◌, None, Some, get_or}
+use Rattle.std.specs.Prelude.{◌≡◌, ◌<◌, ℕ, zero, suc, [], None, get_or}
 use Rattle.std.proofs.Common.{arith, inl, inr, lit<, refl, subst, sym}
 use Rattle.std.proofs.lemmas.Bool.Decides.{eqb_tells}
 use Rattle.bm_law_laid.specs.OrderOf.{AllBelow, IsOrderOf}
-use Rattle.bm_law_order.specs.Lives.{Has, LivesFit, first_lives, lives_after}
+use Rattle.bm_law_order.specs.Lives.{LivesFit, first_lives, lives_after}
 use Rattle.bm_law_order.specs.Orders.{AllFit, over, part_of}
 use Rattle.bm_law_places.proofs.Logs.{below-none}
 use Rattle.bm_law_seals.specs.Answered.{AreAnswered}
@@ -13,15 +13,28 @@ use Rattle.bm_law_seals.proofs.worked.worked_references.Goals as goal
 -- ---- the order that is so
 
 fits : AllFit lives_after LivesFit two_references first_lives
-fits =
-    (record { none = refl; next_is = refl },
-    (record { held = record { maker = 0; count = 1 }; holds = refl; count = refl; now_is = refl },
-    (record { references = 2; has = record { held = record { maker = 0; count = 2 }; holds = refl; count = refl; now_is = refl }; none = refl },
-    ((record { unit = 3; life = 1; under = refl; has = record { held = record { maker = 0; count = 2 }; holds = refl; count = refl; now_is = refl } }, lit< tt),
-    (record { references = 1; has = record { held = record { maker = 0; count = 1 }; holds = refl; count = refl; now_is = refl }; none = refl },
-    (record { unit = 3; life = 1; under = refl; has = record { held = record { maker = 0; count = 1 }; holds = refl; count = refl; now_is = refl } },
-    (record { life = 1; under = refl },
-    tt)))))))
+fits = (
+  record { none = refl; next_is = refl },
+  (
+    record { held = record { maker = 0; count = 1 }; holds = refl; count = refl; now_is = refl },
+    (
+      record { references = 2; has = record { held = record { maker = 0; count = 2 }; holds = refl; count = refl; now_is = refl }; none = refl },
+      (
+        (record { unit = 3; life = 1; under = refl; has = record { held = record { maker = 0; count = 2 }; holds = refl; count = refl; now_is = refl } }, lit< tt),
+        (
+          record { references = 1; has = record { held = record { maker = 0; count = 1 }; holds = refl; count = refl; now_is = refl }; none = refl },
+          (
+            record { unit = 3; life = 1; under = refl; has = record { held = record { maker = 0; count = 1 }; holds = refl; count = refl; now_is = refl } },
+            (
+              record { life = 1; under = refl },
+              tt,
+            ),
+          ),
+        ),
+      ),
+    ),
+  ),
+)
 
 below : AllBelow 2 two_references
 below = (lit< tt, (lit< tt, (lit< tt, (lit< tt, (lit< tt, (lit< tt, (lit< tt, tt)))))))
