@@ -33,7 +33,6 @@ use Rattle.bm_world.specs.LivingState.{LivingState, known_living}
 use Rattle.bm_run.specs.AllTurns.{AllTold, AreSeats, IsSeatOf}
 use Rattle.bm_run.specs.Asked.{in_its_turn}
 use Rattle.bm_run.specs.Between.{AreApart, Between, all_openings, ended_of}
-use Rattle.bm_run.specs.Filling.{Filling}
 use Rattle.bm_run.specs.InTurns.{AreTaken, TurnsSoFar}
 use Rattle.bm_run.specs.Lines.{AreDeclared, lines_cost, works_for}
 use Rattle.bm_run.specs.LogsSoFar.{AnswersAll, LogsSoFar, WaitsSoFar}

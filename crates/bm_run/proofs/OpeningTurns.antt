@@ -21,7 +21,7 @@ use Rattle.bm_law_order.specs.Story.{Steady, plainly}
 use Rattle.bm_law_places.specs.World.{AllFound, SweepsInbox, World, outset, world_after}
 use Rattle.bm_law_seals.specs.Batches.{BatchFits}
 use Rattle.bm_cache.specs.Opening.{Fills, fill_log}
-use Rattle.bm_world.specs.LivingState.{LivingState, begun_at, known_living}
+use Rattle.bm_world.specs.LivingState.{LivingState, begun_at}
 use Rattle.bm_world.specs.Slots.{AllEmpty}
 use Rattle.bm_world.specs.Standings.{standing_at, told_standing}
 use Rattle.bm_world.specs.Told.{IsSideOf}
