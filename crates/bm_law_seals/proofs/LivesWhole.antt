@@ -10,7 +10,7 @@ use Rattle.bm_law.specs.Stands.{sum_to}
 use Rattle.bm_law.proofs.Stands.{sum-same, sum-update, sum-zero}
 use Rattle.bm_law_laid.specs.LivesEnded.{ended_of, ended_so_far, life_ended, lives_ended_over}
 use Rattle.bm_law_laid.specs.LivesGiven.{life_given}
-use Rattle.bm_law_laid.specs.Once.{named_by}
+use Rattle.bm_law_laid.specs.Once.{Any, Once, named_by}
 use Rattle.bm_law_laid.specs.OrderOf.{AllBelow, IsOrderOf}
 use Rattle.bm_law_laid.proofs.Each.{each-below, each-log}
 use Rattle.bm_law_laid.proofs.EndsOnce.{ends-counted, ends-once}
@@ -32,17 +32,20 @@ use Rattle.bm_law_seals.proofs.Past.{Past, own-part, past-on}
 
 -- ---- each life is given once, so by one processor
 
+most-once : (to x : ℕ) (xs : List ℕ) → Once Any 0 to xs → times x xs ≤ 1
+most-once to x xs h = elim (cases_lt 0 x) [
+  | inr low ↦ (let none = h.none x (inr (inl low)) in omega (arith, none))
+  | inl pos ↦ elim (cases_lt to x) [
+    | inl high ↦ (let none = h.none x (inr (inr high)) in omega (arith, none))
+    | inr le ↦ (let once = h.once x tt pos le in omega (arith, once))
+  ]
+]
+
 given-once : (u life : ℕ) (logs : List Log) (o : Order) → IsOrderOf logs o → AllFit lives_after LivesFit o first_lives → times life (lives_given u logs) ≤ 1
 given-once u life logs o is fit =
-    let all = (lives-once u o first_lives fit).given in
     let same : times life (lives_given u logs) ≡ times life (named_by (life_given u) o) = ap (times life) (given-of u logs) ∙ named-parts (life_given u) logs o is life in
-    elim (cases_lt 0 life) [
-      | inr low ↦ (let none = all.none life (inr (inl low)) in omega (arith, same, none))
-      | inl pos ↦ elim (cases_lt ((over lives_after o first_lives).begun u) life) [
-        | inl high ↦ (let none = all.none life (inr (inr high)) in omega (arith, same, none))
-        | inr le ↦ (let once = all.once life tt pos le in omega (arith, same, once))
-      ]
-    ]
+    let most = most-once ((over lives_after o first_lives).begun u) life (named_by (life_given u) o) (lives-once u o first_lives fit).given in
+    omega (arith, same, most)
 
 -- the lives of a unit that one log gives
 abbrev given_in : ℕ → Log → List ℕ
@@ -197,15 +200,9 @@ module _ (logs : List Log) (o : Order) (is : IsOrderOf logs o) (fit : AllFit liv
 
   ends-at-most : (u k : ℕ) → times k (lives_ended u logs) ≤ 1
   ends-at-most u k =
-      let most = ends-most u (times k) (times-adds k) in
-      let all = (ends-once u o first_lives fit tt).each in
-      elim (cases_lt 0 k) [
-        | inr low ↦ (let none = all.none k (inr (inl low)) in omega (arith, most, none))
-        | inl pos ↦ elim (cases_lt (ended_so_far u (over lives_after o first_lives)) k) [
-          | inl high ↦ (let none = all.none k (inr (inr high)) in omega (arith, most, none))
-          | inr le ↦ (let once = all.once k tt pos le in omega (arith, most, once))
-        ]
-      ]
+      let few = ends-most u (times k) (times-adds k) in
+      let most = most-once (ended_so_far u (over lives_after o first_lives)) k (lives_ended_over u o first_lives) (ends-once u o first_lives fit tt).each in
+      omega (arith, few, most)
 
   pub lives-law : LivesLaw logs
   lives-law = record {
