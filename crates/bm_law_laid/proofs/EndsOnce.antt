@@ -1,5 +1,5 @@
 -- The lives of a unit that end, over an order: each once.
-use Rattle.std.proofs.Common.{◌≡◌, ℕ, ◌+◌, ◌-◌, List, [], ◌∷◌, ◌++◌, Option, Some, None, refl, sym, ◌∙◌, ap, subst, arith, inl, inr}
+use Rattle.std.proofs.Common.{◌≡◌, ℕ, ◌+◌, ◌-◌, List, [], ◌∷◌, ◌++◌, length, length-append, Option, Some, None, refl, sym, ◌∙◌, ap, subst, arith, inl, inr}
 use Rattle.std.specs.Prelude.{eqb, if◌then◌else◌}
 use Rattle.std.proofs.lemmas.Bool.Decides.{eqb_tells}
 use Rattle.bm_journal.specs.declared.entry.Entry.{Entry}
@@ -94,3 +94,23 @@ ends-once u (e ∷ o) lives h b =
 
 pub shared-ends : (u : ℕ) (o : Order) (s : Shared) → AllShared o s → HasBegun u s.lives → AreEnded u (ended_so_far u s.lives) (ended_so_far u (shared_over o s).lives) (lives_ended_over u o s.lives)
 shared-ends u o s h b = subst (λ (x : Lives). AreEnded u (ended_so_far u s.lives) (ended_so_far u x) (lives_ended_over u o s.lives)) (sym (lives-over o s)) (ends-once u o s.lives (lives-fit o s h) b)
+
+-- ---- how many there are
+
+counted-by : (u n to : ℕ) (es xs : List ℕ) (now : Lives) → Turn u es n now → length xs + ended_so_far u now ≡ to → length (es ++ xs) + n ≡ to
+counted-by u n to es xs now (Ends e k h) a =
+    let one : length es ≡ 1 = ap length e in
+    let both = length-append es xs in
+    omega (arith, a, one, both, k)
+counted-by u n to es xs now (Same e k h) a =
+    let none : length es ≡ 0 = ap length e in
+    let both = length-append es xs in
+    omega (arith, a, none, both, k)
+
+pub ends-counted : (u : ℕ) (o : Order) (lives : Lives) → AllFit lives_after LivesFit o lives → HasBegun u lives → length (lives_ended_over u o lives) + ended_so_far u lives ≡ ended_so_far u (over lives_after o lives)
+ends-counted u [] lives h b = omega arith
+ends-counted u (e ∷ o) lives h b =
+    let now : Lives = lives_after e.processor e.level e.entry lives in
+    let t = turn u e.processor e.level e.entry lives h.0 b in
+    counted-by u (ended_so_far u lives) (ended_so_far u (over lives_after o now)) (life_ended u e.processor e.level e.entry lives) (lives_ended_over u o now) now t
+    (ends-counted u o now h.1 (begun-still u (ended_so_far u lives) (life_ended u e.processor e.level e.entry lives) now t))

@@ -8,6 +8,7 @@ pub mod ReferencesBalance
 pub mod ParcelsBalance
 pub mod Settled
 pub mod ReturnsBalance
+pub mod Sums
 pub mod NamedParts
 pub mod WholeOrder
 pub mod OverLogs

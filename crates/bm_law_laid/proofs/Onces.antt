@@ -3,7 +3,7 @@ use Rattle.std.proofs.Common.{◌≡◌, ◌≢◌, ℕ, ◌+◌, ◌≤◌, Lis
 use Rattle.std.proofs.lemmas.Bool.{cases_eq}
 use Rattle.std.proofs.lemmas.Bool.Decides.{eqb_tells}
 use Rattle.std.proofs.lemmas.List.{reverse-append}
-use Rattle.bm_law_lives.specs.Together.{times}
+use Rattle.bm_law_lives.specs.Together.{beside, times}
 use Rattle.bm_law_laid.specs.Once.{Once}
 
 pub times-here : (x : ℕ) (xs : List ℕ) → times x (x ∷ xs) ≡ times x xs + 1
@@ -17,6 +17,10 @@ times-append x [] ys = omega arith
 times-append x (y ∷ xs) ys =
     let more = times-append x xs ys in
     elim (eqb_tells x y) [ inl z ↦ rw z.0 (omega (arith, more)) | inr z ↦ rw z.0 more ]
+
+pub beside-append : (u : ℕ) (xs ys : List (ℕ × ℕ)) → beside u (xs ++ ys) ≡ beside u xs ++ beside u ys
+beside-append u [] ys = refl
+beside-append u (x ∷ xs) ys = elim (eqb_tells u x.0) [ inl y ↦ rw y.0 (ap (λ z. x.1 ∷ z) (beside-append u xs ys)) | inr y ↦ rw y.0 (beside-append u xs ys) ]
 
 pub times-reverse : (x : ℕ) (xs : List ℕ) → times x (reverse xs) ≡ times x xs
 times-reverse x [] = refl

@@ -12,7 +12,7 @@ use Rattle.bm_law_lives.specs.Lives.{given_object, lives_given}
 use Rattle.bm_law_lives.specs.Returns.{receiver, returned_units, taken_units}
 use Rattle.bm_law_order.specs.ByDomain.{of}
 use Rattle.bm_law_order.specs.Numbers.{Numbers, first_numbers, numbers_after}
-use Rattle.bm_law_order.specs.Lives.{first_lives, lives_after}
+use Rattle.bm_law_order.specs.Lives.{LivesFit, first_lives, lives_after}
 use Rattle.bm_law_order.specs.Parcels.{Boxes, BoxesFit, boxes_after}
 use Rattle.bm_law_order.specs.Shared.{fresh}
 use Rattle.bm_law_order.specs.Orders.{AllFit, IsLaid, Order, over, part_of, shared_over}
@@ -21,6 +21,7 @@ use Rattle.bm_law_laid.specs.LivesGiven.{life_given}
 use Rattle.bm_law_laid.specs.UnitsOut.{times_out}
 use Rattle.bm_law_laid.specs.OrderOf.{IsOrderOf}
 use Rattle.bm_law_laid.proofs.Each.{each-below, each-both, each-front, each-rest}
+use Rattle.bm_law_laid.proofs.Onces.{beside-append}
 use Rattle.bm_law_laid.proofs.Parts.{boxes-fit, lives-fit, numbers-fit, numbers-over}
 use Rattle.bm_law_laid.proofs.NumbersOnce.{Rests, numbers-counted, numbers-once, rests-over}
 use Rattle.bm_law_laid.proofs.LivesOnce.{lives-counted, lives-once}
@@ -77,25 +78,24 @@ logs-ended d processors pages logs o is laid none =
 
 -- ---- lives
 
-beside-append : (u : ℕ) (xs ys : List (ℕ × ℕ)) → beside u (xs ++ ys) ≡ beside u xs ++ beside u ys
-beside-append u [] ys = refl
-beside-append u (x ∷ xs) ys = elim (eqb_tells u x.0) [ inl y ↦ rw y.0 (ap (λ z. x.1 ∷ z) (beside-append u xs ys)) | inr y ↦ rw y.0 (beside-append u xs ys) ]
-
 given-in : (u : ℕ) (log : Log) → beside u (named_in given_object log) ≡ named_in (life_given u) log
 given-in u [] = refl
 given-in u (e ∷ log) = beside-append u (given_object e.1) (named_in given_object log) ∙ ap (λ z. life_given u e.1 ++ z) (given-in u log)
 
-given-of : (u : ℕ) (logs : List Log) → lives_given u logs ≡ named (life_given u) logs
+-- the lives that logs give are what their entries name
+pub given-of : (u : ℕ) (logs : List Log) → lives_given u logs ≡ named (life_given u) logs
 given-of u [] = refl
 given-of u (log ∷ logs) = beside-append u (named_in given_object log) (named given_object logs) ∙ (ap (λ z. z ++ lives_given u logs) (given-in u log) ∙ ap (λ z. named_in (life_given u) log ++ z) (given-of u logs))
 
-pub logs-lives : (u processors pages : ℕ) (logs : List Log) (o : Order) → IsOrderOf logs o → IsLaid processors pages o → AreOnce (λ k. k + 1) (lives_given u logs)
-logs-lives u processors pages logs o is laid =
-    let fit = lives-fit o (fresh processors pages) laid in
+pub fitting-lives : (u : ℕ) (logs : List Log) (o : Order) → IsOrderOf logs o → AllFit lives_after LivesFit o first_lives → AreOnce (λ k. k + 1) (lives_given u logs)
+fitting-lives u logs o is fit =
     let to : ℕ = (over lives_after o first_lives).begun u in
     let all = lives-once u o first_lives fit in
     let counts = lives-counted u o first_lives fit in
     subst (AreOnce (λ k. k + 1)) (sym (given-of u logs)) (once-named (life_given u) (λ k. k + 1) Any to logs o is all.given (λ k lt. (tt, omega arith, omega (arith, counts, lt))))
+
+pub logs-lives : (u processors pages : ℕ) (logs : List Log) (o : Order) → IsOrderOf logs o → IsLaid processors pages o → AreOnce (λ k. k + 1) (lives_given u logs)
+logs-lives u processors pages logs o is laid = fitting-lives u logs o is (lives-fit o (fresh processors pages) laid)
 
 -- ---- pages
 

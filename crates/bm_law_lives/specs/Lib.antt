@@ -1,5 +1,6 @@
 pub mod Together
 pub mod Lives
+pub mod Units
 pub mod Returns
 pub mod GraceLaw
 pub mod StampLaw

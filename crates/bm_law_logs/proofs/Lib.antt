@@ -6,14 +6,6 @@ pub mod Inside
 pub mod Front
 pub mod Closed
 pub mod WithHandlers
-pub mod Counts
-pub mod Stretches
-pub mod Grown
-pub mod Numbers
-pub mod Steps
-pub mod Follows
-pub mod RightStretches
-pub mod WrongStretches
 pub mod Held
 pub mod Balance
 pub mod Boxes

@@ -1,13 +1,6 @@
 pub mod LeavesParcels
 pub mod SweepsTold
 pub mod WorkedInboxes
-pub mod Units
-pub mod Lived
-pub mod Lifeless
-pub mod Told
-pub mod Grown
-pub mod AreLived
-pub mod WorkedStretches
 pub mod UnitsMoved
 pub mod WorkedUnits
 pub mod Owed

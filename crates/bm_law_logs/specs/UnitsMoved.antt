@@ -6,7 +6,7 @@ use Rattle.bm_journal.specs.EntryText.{unit_list}
 use Rattle.bm_law.specs.State.{State}
 use Rattle.bm_law.specs.Lists.{Leaves, Log, brought, next}
 use Rattle.bm_law.specs.Worked.{Emptied}
-pub use Rattle.bm_law_logs.specs.Units.{FreedAsGiven, freed_units, given_units}
+pub use Rattle.bm_law_lives.specs.Units.{FreedAsGiven, freed_units, given_units}
 
 -- The units that an entry sends, to whichever processor. (This project's own: parcels are.)
 abbrev pub sent_units : Entry → List ℕ

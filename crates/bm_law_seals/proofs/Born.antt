@@ -11,8 +11,9 @@ use Rattle.bm_law_laid.specs.LivesGiven.{life_given}
 use Rattle.bm_law_laid.specs.OrderOf.{IsOrderOf}
 use Rattle.bm_law_laid.proofs.LivesOnce.{lives-counted}
 use Rattle.bm_law_laid.proofs.NamedParts.{named-count}
-use Rattle.bm_law_lives.specs.Lives.{given_object, lives_given}
-use Rattle.bm_law_lives.specs.Together.{beside, named, named_in}
+use Rattle.bm_law_laid.proofs.OverLogs.{given-of}
+use Rattle.bm_law_lives.specs.Lives.{lives_given}
+use Rattle.bm_law_lives.specs.Together.{named}
 use Rattle.bm_law_lives.specs.StampLaw.{delayed_parts, part_behind, parts_behind}
 use Rattle.bm_law_order.specs.Lives.{Dropping, Life, Lives, LivesFit, answered_last, answered_still, counted, first_lives, given_life, lives_after}
 use Rattle.bm_law_order.specs.Orders.{AllFit, Order, over, part_of}
@@ -101,18 +102,6 @@ pub first-none : (u : ℕ) (logs : List Log) (o : Order) (lives : Lives) → Has
 first-none u logs o lives h f is = none-of u logs (λ p lt. none-in u (get_or logs p []) (subst (AllBorn u) (is p lt) (part-born u p o lives h f)))
 
 -- ---- lives that are given
-
-beside-append : (u : ℕ) (xs ys : List (ℕ × ℕ)) → beside u (xs ++ ys) ≡ beside u xs ++ beside u ys
-beside-append u [] ys = refl
-beside-append u (x ∷ xs) ys = elim (eqb_tells u x.0) [ inl y ↦ rw y.0 (ap (λ z. x.1 ∷ z) (beside-append u xs ys)) | inr y ↦ rw y.0 (beside-append u xs ys) ]
-
-given-in : (u : ℕ) (log : Log) → beside u (named_in given_object log) ≡ named_in (life_given u) log
-given-in u [] = refl
-given-in u (e ∷ log) = beside-append u (given_object e.1) (named_in given_object log) ∙ ap (λ z. life_given u e.1 ++ z) (given-in u log)
-
-given-of : (u : ℕ) (logs : List Log) → lives_given u logs ≡ named (life_given u) logs
-given-of u [] = refl
-given-of u (log ∷ logs) = beside-append u (named_in given_object log) (named given_object logs) ∙ (ap (λ z. z ++ lives_given u logs) (given-in u log) ∙ ap (λ z. named_in (life_given u) log ++ z) (given-of u logs))
 
 -- as many lives are given as the order begins
 pub all-given : (u : ℕ) (logs : List Log) (o : Order) → IsOrderOf logs o → AllFit lives_after LivesFit o first_lives → (over lives_after o first_lives).begun u ≡ length (lives_given u logs)

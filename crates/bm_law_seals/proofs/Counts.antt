@@ -7,6 +7,7 @@ use Rattle.bm_journal.specs.declared.entry.Entry.{Entry}
 use Rattle.bm_journal.specs.declared.entry.Entry.TheVariants as entry
 use Rattle.bm_law.specs.Lists.{Log}
 use Rattle.bm_law.specs.Spans.{own_entries}
+use Rattle.bm_law_laid.proofs.Onces.{beside-append, times-append}
 use Rattle.bm_law_lives.specs.Lives.{LivesLaw, all_ended, ended_object, ends_life, is_free_of, is_last, lives_ended, lives_given, objects_ended}
 use Rattle.bm_law_lives.specs.StampLaw.{delayed_parts, is_delay_of, is_delayed, part_behind, parts_behind}
 use Rattle.bm_law_lives.specs.Together.{EachBelow, beside, times}
@@ -37,17 +38,6 @@ only-one x xs a le = a.is ∙ bare a.front a.rest (subst (λ z. length z ≤ 1) 
 pub no-more : {A : Type 0} (xs : List A) → length xs ≤ 0 → xs ≡ []
 no-more [] le = refl
 no-more (x ∷ xs) le = absurd (omega (arith, le))
-
-beside-append : (u : ℕ) (xs ys : List (ℕ × ℕ)) → beside u (xs ++ ys) ≡ beside u xs ++ beside u ys
-beside-append u [] ys = refl
-beside-append u (x ∷ xs) ys = elim (eqb_tells u x.0) [ inl y ↦ rw y.0 (ap (λ z. x.1 ∷ z) (beside-append u xs ys)) | inr y ↦ rw y.0 (beside-append u xs ys) ]
-
-times-both : (k : ℕ) (xs ys : List ℕ) → times k (xs ++ ys) ≡ times k xs + times k ys
-times-both k [] ys = omega arith
-times-both k (x ∷ xs) ys = elim (eqb_tells k x) [
-  | inl y ↦ rw y.0 (let r = times-both k xs ys in omega (arith, r))
-  | inr y ↦ rw y.0 (times-both k xs ys)
-]
 
 -- ---- one entry
 
@@ -105,7 +95,7 @@ log-ends u k (e ∷ es) =
     let a = part-ends u k e.1 own es in
     let b = log-ends u k es in
     let n = length-append (part_behind u k e.1 own es) (parts_behind u k es) in
-    let t : times k (beside u (ended_object e.1 own ++ objects_ended es)) ≡ ends u k e.1 own + times k (beside u (objects_ended es)) = ap (times k) (beside-append u (ended_object e.1 own) (objects_ended es)) ∙ times-both k (beside u (ended_object e.1 own)) (beside u (objects_ended es)) in
+    let t : times k (beside u (ended_object e.1 own ++ objects_ended es)) ≡ ends u k e.1 own + times k (beside u (objects_ended es)) = ap (times k) (beside-append u (ended_object e.1 own) (objects_ended es)) ∙ times-append k (beside u (ended_object e.1 own)) (beside u (objects_ended es)) in
     omega (arith, a, b, n, t)
 
 -- the part behind a drop that a delayed free follows
@@ -125,7 +115,7 @@ log-spares u k l [] part h g =
     let one = ended-once u k own g in
     let n = length-append (part_behind u k (entry.Drop u k) own part) (parts_behind u k part) in
     let z : length (part_behind u k (entry.Drop u k) own part) ≡ 0 = ap length none in
-    let t : times k (beside u (ended_object (entry.Drop u k) own ++ objects_ended part)) ≡ ends u k (entry.Drop u k) own + times k (beside u (objects_ended part)) = ap (times k) (beside-append u (ended_object (entry.Drop u k) own) (objects_ended part)) ∙ times-both k (beside u (ended_object (entry.Drop u k) own)) (beside u (objects_ended part)) in
+    let t : times k (beside u (ended_object (entry.Drop u k) own ++ objects_ended part)) ≡ ends u k (entry.Drop u k) own + times k (beside u (objects_ended part)) = ap (times k) (beside-append u (ended_object (entry.Drop u k) own) (objects_ended part)) ∙ times-append k (beside u (ended_object (entry.Drop u k) own)) (beside u (objects_ended part)) in
     omega (arith, b, one, n, z, t)
 log-spares u k l (e ∷ front) part h g =
     let es = front ++ (l, entry.Drop u k) ∷ part in
@@ -133,13 +123,13 @@ log-spares u k l (e ∷ front) part h g =
     let a = part-ends u k e.1 own es in
     let b = log-spares u k l front part h g in
     let n = length-append (part_behind u k e.1 own es) (parts_behind u k es) in
-    let t : times k (beside u (ended_object e.1 own ++ objects_ended es)) ≡ ends u k e.1 own + times k (beside u (objects_ended es)) = ap (times k) (beside-append u (ended_object e.1 own) (objects_ended es)) ∙ times-both k (beside u (ended_object e.1 own)) (beside u (objects_ended es)) in
+    let t : times k (beside u (ended_object e.1 own ++ objects_ended es)) ≡ ends u k e.1 own + times k (beside u (objects_ended es)) = ap (times k) (beside-append u (ended_object e.1 own) (objects_ended es)) ∙ times-append k (beside u (ended_object e.1 own)) (beside u (objects_ended es)) in
     omega (arith, a, b, n, t)
 
 -- ---- all logs
 
 all-times : (u k : ℕ) (log : Log) (logs : List Log) → times k (lives_ended u (log ∷ logs)) ≡ times k (beside u (objects_ended log)) + times k (lives_ended u logs)
-all-times u k log logs = ap (times k) (beside-append u (objects_ended log) (all_ended logs)) ∙ times-both k (beside u (objects_ended log)) (lives_ended u logs)
+all-times u k log logs = ap (times k) (beside-append u (objects_ended log) (all_ended logs)) ∙ times-append k (beside u (objects_ended log)) (lives_ended u logs)
 
 pub all-ends : (u k : ℕ) (logs : List Log) → length (delayed_parts u k logs) ≤ times k (lives_ended u logs)
 all-ends u k [] = omega arith

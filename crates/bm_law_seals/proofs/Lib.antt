@@ -1,6 +1,10 @@
 mod Counts
 mod Born
 mod Under
+mod Past
+mod Drops
+mod DropsAlong
+mod LivesWhole
 mod Rows
 mod Stages
 mod Others

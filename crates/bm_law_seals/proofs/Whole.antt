@@ -1,6 +1,6 @@
 -- Each unit that an order gives, from the outset on.
-use Rattle.std.specs.Prelude.{◌≡◌, ◌<◌, ◌≤◌, ◌+◌, ℕ, suc, List, [], ◌∷◌, ◌++◌, Some, None, get_or, length}
-use Rattle.std.proofs.Common.{◌∙◌, ap, append_assoc, arith, eq-eqb, inl, inr, ne_eqb, refl, subst, sym}
+use Rattle.std.specs.Prelude.{◌≡◌, ◌<◌, ◌≤◌, ℕ, List, [], ◌∷◌, ◌++◌, Some, None, get_or, length}
+use Rattle.std.proofs.Common.{◌∙◌, ap, arith, eq-eqb, inl, inr, ne_eqb, refl, subst, sym}
 use Rattle.std.proofs.lemmas.Bool.Decides.{eqb_tells}
 use Rattle.bm_journal.specs.declared.entry.Entry.{Entry}
 use Rattle.bm_journal.specs.declared.entry.Entry.TheVariants as entry
@@ -9,10 +9,11 @@ use Rattle.bm_law.specs.Spans.{own_entries}
 use Rattle.bm_law.specs.State.{State}
 use Rattle.bm_law_laid.specs.LivesEnded.{HasBegun}
 use Rattle.bm_law_laid.specs.OrderOf.{AllBelow, IsOrderOf}
+use Rattle.bm_law_laid.proofs.Each.{each-log}
 use Rattle.bm_law_laid.proofs.LivesOnce.{lives-counted}
 use Rattle.bm_law_lives.specs.Lives.{LivesLaw, lives_given}
 use Rattle.bm_law_lives.specs.StampLaw.{GivenFits, SealsFit, delayed_parts}
-use Rattle.bm_law_lives.specs.Together.{EachLog, LogsFrom}
+use Rattle.bm_law_lives.specs.Together.{EachLog}
 use Rattle.bm_law_order.specs.Lives.{Dropping, Lives as LivesNow, LivesFit, first_lives, lives_after}
 use Rattle.bm_law_order.specs.Orders.{AllFit, Event, Order, over, part_of}
 use Rattle.bm_law_order.specs.Seals.{GivesNo, IsSealed, SealFits, Waiting, nobody_waits, waiting_after}
@@ -23,6 +24,7 @@ use Rattle.bm_law_seals.specs.Answered.{AreAnswered, ArePut}
 use Rattle.bm_law_seals.specs.Batches.{BatchFits, EndsGiving, GivesNoMore, SweepsLast, WaitsInBatches}
 use Rattle.bm_law_seals.proofs.Along.{Ends, Freed, GivenOne, Lives, NotSweep, Now, Step, Unborn, Waited, Waits, does, ends-step, freed-step, lives-step, other-step, own-step, unborn-step, waited-step}
 use Rattle.bm_law_seals.proofs.Born.{all-given, born-on, first-none}
+use Rattle.bm_law_seals.proofs.Past.{Past, own-part, past-on}
 use Rattle.bm_law_seals.proofs.Under.{Under, dropping-other, unders-on}
 
 -- each entry gives the unit as its logs tell
@@ -48,27 +50,14 @@ after-entry : (u : ℕ) (logs : List Log) (e : Entry) (o : Order) → EndsGiving
 after-entry u logs (entry.Sweep c us) o h k = none-more u logs o h
 after-entry u logs _ o h k = k tt
 
-own-part : (e : Event) (o : Order) → part_of e.processor (e ∷ o) ≡ (e.level, e.entry) ∷ part_of e.processor o
-own-part e o = rw (eq-eqb e.processor e.processor refl) refl
-
 module _ (u : ℕ) (logs : List Log) (law : LivesLaw logs) (first_none : delayed_parts u 0 logs ≡ []) (answered : (q : ℕ) → q < length logs → AreAnswered (get_or logs q [])) where
-  -- what stands before the entries of a log that are left
-  abbrev Past : Order → Type 0
-  Past o = (q : ℕ) → q < length logs → (front : Log) × (get_or logs q [] ≡ front ++ part_of q o)
-
   abbrev Unders : Order → LivesNow → Type 0
   Unders o lives = (q : ℕ) → q < length logs → (j : ℕ) (d : Dropping) → lives.dropping q j ≡ Some d → Under (get_or logs q []) j d (part_of q o)
 
   abbrev Puts : Order → Type 0
   Puts o = (q j : ℕ) → ArePut (own_entries j (part_of q o))
 
-  past-on : (e : Event) (o : Order) → Past (e ∷ o) → Past o
-  past-on e o past q lt = elim (eqb_tells e.processor q) [
-    | inl y ↦ (let h = past q lt in (h.0 ++ (e.level, e.entry) ∷ [], (rw y.0 at h.1) ∙ sym (append_assoc h.0 ((e.level, e.entry) ∷ []) (part_of q o))))
-    | inr y ↦ (let h = past q lt in (h.0, rw y.0 at h.1))
-  ]
-
-  unders-next : (e : Event) (o : Order) (lives : LivesNow) → LivesFit e.processor e.level e.entry lives → Past (e ∷ o) → Unders (e ∷ o) lives → Unders o (lives_after e.processor e.level e.entry lives)
+  unders-next : (e : Event) (o : Order) (lives : LivesNow) → LivesFit e.processor e.level e.entry lives → Past logs (e ∷ o) → Unders (e ∷ o) lives → Unders o (lives_after e.processor e.level e.entry lives)
   unders-next e o lives f past unders q lt j d h = elim (eqb_tells e.processor q) [
     | inr y ↦
         (let before : lives.dropping q j ≡ Some d = sym (dropping-other e.processor e.level q j e.entry lives (rw (ne_eqb q e.processor (λ s. y.1 (sym s))) refl)) ∙ h in
@@ -99,7 +88,7 @@ module _ (u : ℕ) (logs : List Log) (law : LivesLaw logs) (first_none : delayed
     | inr y ↦ rw y.0 (same q)
   ]
 
-  along : (o : Order) (w : World) (m : Waiting) → AllFound o w → IsWellPlaced w → AllFit waiting_after SealFits o m → AllFit waiting_after BatchFits o m → SweepsLast o → ((q : ℕ) → m.lists q ≡ w.lists q) → AllBelow (length logs) o → Past o → Unders o w.shared.lives → Puts o → HasBegun u w.shared.lives → (over lives_after o w.shared.lives).begun u ≡ length (lives_given u logs) → Now u logs (λ q. part_of q o) w m → AllGiven u logs o
+  along : (o : Order) (w : World) (m : Waiting) → AllFound o w → IsWellPlaced w → AllFit waiting_after SealFits o m → AllFit waiting_after BatchFits o m → SweepsLast o → ((q : ℕ) → m.lists q ≡ w.lists q) → AllBelow (length logs) o → Past logs o → Unders o w.shared.lives → Puts o → HasBegun u w.shared.lives → (over lives_after o w.shared.lives).begun u ≡ length (lives_given u logs) → Now u logs (λ q. part_of q o) w m → AllGiven u logs o
   along [] w m found well seals batches swept same below past unders puts born total now = tt
   along (e ∷ o) w m found well seals batches swept same below past unders puts born total now =
       let p = e.processor in
@@ -108,7 +97,7 @@ module _ (u : ℕ) (logs : List Log) (law : LivesLaw logs) (first_none : delayed
       let most : w.shared.lives.begun u ≤ length (lives_given u logs) = omega (arith, counts, total) in
       let s = step most now in (
         s.0,
-        after-entry u logs e.entry o swept.0 (λ n. along o (world_after p l e.entry w) (waiting_after p l e.entry m) found.1 (standing-on p l e.entry w well found.0) seals.1 batches.1 swept.1 (same-on e w m same) below.1 (past-on e o past) (unders-next e o w.shared.lives found.0.shared.lives past unders) (puts-on e o puts) (born-on u p l e.entry w.shared.lives born) total (s.1 n)),
+        after-entry u logs e.entry o swept.0 (λ n. along o (world_after p l e.entry w) (waiting_after p l e.entry m) found.1 (standing-on p l e.entry w well found.0) seals.1 batches.1 swept.1 (same-on e w m same) below.1 (past-on logs e o past) (unders-next e o w.shared.lives found.0.shared.lives past unders) (puts-on e o puts) (born-on u p l e.entry w.shared.lives born) total (s.1 n)),
       )
     where
       own-unders : (j : ℕ) (d : Dropping) → w.shared.lives.dropping e.processor j ≡ Some d → Under (get_or logs e.processor []) j d ((e.level, e.entry) ∷ part_of e.processor o)
@@ -141,10 +130,6 @@ part-fits logs p (e ∷ o) h =
       | inr y ↦ rw y.0 rest
     ]
 
-each-from : (P : ℕ → Log → Type 0) (q : ℕ) (logs : List Log) → ((p : ℕ) → p < length logs → P (q + p) (get_or logs p [])) → LogsFrom q P logs
-each-from P q [] h = tt
-each-from P q (log ∷ logs) h = (subst (λ k. P k log) (let e : q + 0 ≡ q = omega arith in e) (h 0 (omega arith)), each-from P (q + 1) logs (λ p lt. subst (λ k. P k (get_or logs p [])) (let e : q + suc p ≡ (q + 1) + p = omega arith in e) (h (suc p) (omega (arith, lt)))))
-
 pub seals-fit : (processors pages : ℕ) (logs : List Log) (o : Order) → IsOrderOf logs o → AllFound o (outset processors pages) → IsSealed o → WaitsInBatches o → LivesLaw logs → EachLog (λ p log. SealsFit logs log) logs
 seals-fit processors pages logs o is found sealed waits law =
     let w : World = outset processors pages in
@@ -153,7 +138,7 @@ seals-fit processors pages logs o is found sealed waits law =
     let whole : (q : ℕ) → q < length logs → AreAnswered (get_or logs q []) = λ q lt. subst AreAnswered (is.parts q lt) (waits.answered q) in
     let all : (u : ℕ) → AllGiven u logs o = λ u. along u logs law (none u) whole o w nobody_waits found (standing-outset processors pages) sealed waits.batches waits.swept (λ q. refl) is.below
     (λ q lt. ([], sym (is.parts q lt))) (λ q lt j d h. absurd (none-some d h)) waits.put tt (all-given u logs o is lives) (Unborn refl (record { none = refl; ended = λ p l. refl }) refl) in
-    each-from (λ p log. SealsFit logs log) 0 logs (λ p lt. subst (SealsFit logs) (is.parts p lt) (part-fits logs p o all))
+    each-log (λ p log. SealsFit logs log) logs (λ p lt. subst (SealsFit logs) (is.parts p lt) (part-fits logs p o all))
   where
     none-some : (d : Dropping) → None ≡ Some d → ⊥
     none-some d e = cc

@@ -1,5 +1,9 @@
-//! A unit that was freed with delay is given again with the stamp and the number of its batch, over the logs of any number of
-//! processors. Nothing here runs.
+//! Each life ends once, by a free to its home, and a unit that was freed with delay is given again with the stamp and the number of its
+//! batch, over the logs of any number of processors. Nothing here runs.
+//!
+//! - `lives_law`: in logs of which an order counts lives and references, the replies `last` and the frees behind them end each life once
+//!   (`WholeLives` of bm_law_lives), however many references there were.
+//! - `worked_references`: an order with two references to a life that is so, and wrong ones beside it.
 //!
 //! The one order of all entries says what each unit waits for (`IsSealed` of bm_law_order). The law of stamps says it of logs: after
 //! the drop that ended the life before stand the batch with the unit, its stamp, and, next after a pass of the batch's class, the
@@ -12,7 +16,9 @@
 #![tactic(auto)]
 
 mod laws;
+mod lives;
 mod worked;
 
 pub use laws::seals_law;
-pub use worked::worked_batches;
+pub use lives::lives_law;
+pub use worked::{worked_batches, worked_references};

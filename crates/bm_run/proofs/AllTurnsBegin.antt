@@ -15,10 +15,6 @@ use Rattle.bm_lang.specs.Limits.{first_limit}
 use Rattle.bm_law.specs.Lists.{Leaves, Log}
 use Rattle.bm_law.specs.State.{State}
 use Rattle.bm_law_laid.specs.OrderOf.{IsOrderOf}
-use Rattle.bm_law_logs.specs.AreLived.{AreLived}
-use Rattle.bm_law_logs.specs.Lived.{no_lives}
-use Rattle.bm_law_logs.proofs.Follows.{begins, grows}
-use Rattle.bm_law_logs.proofs.Stretches.{same-lived}
 use Rattle.bm_law_order.specs.Orders.{Order}
 use Rattle.bm_law_order.specs.Whole.{joined}
 use Rattle.bm_law_places.proofs.Standing.{found-in-parts}
@@ -27,7 +23,7 @@ use Rattle.bm_law_scenario.specs.Opened.{opened_classes}
 use Rattle.bm_law_work.specs.Grown.{GrewBy}
 use Rattle.bm_cache.specs.Opening.{Fills, fill_log}
 use Rattle.bm_due.specs.Due.{planned_for}
-use Rattle.bm_exec.specs.Living.{Lives, home_of}
+use Rattle.bm_exec.specs.Living.{Lives}
 use Rattle.bm_exec_levels.specs.AtProcessor.{lists_of, log_of}
 use Rattle.bm_exec_levels.specs.Ready.{left_cost, left_of}
 use Rattle.bm_exec_levels.specs.declared.kept.Kept.{Kept}
@@ -37,10 +33,9 @@ use Rattle.bm_world.specs.LivingState.{LivingState, known_living}
 use Rattle.bm_run.specs.AllTurns.{AllTold, AreSeats, IsSeatOf}
 use Rattle.bm_run.specs.Asked.{in_its_turn}
 use Rattle.bm_run.specs.Between.{AreApart, Between, all_openings, ended_of}
-use Rattle.bm_run.specs.Filling.{Filling}
 use Rattle.bm_run.specs.InTurns.{AreTaken, TurnsSoFar}
 use Rattle.bm_run.specs.Lines.{AreDeclared, lines_cost, works_for}
-use Rattle.bm_run.specs.LogsSoFar.{AnswersAll, LogsSoFar, WaitsSoFar, lived_in}
+use Rattle.bm_run.specs.LogsSoFar.{AnswersAll, LogsSoFar, WaitsSoFar}
 use Rattle.bm_run.specs.Opened.{IsOpen}
 use Rattle.bm_run.specs.Openings.{AreOpen, filling_of, openings}
 use Rattle.bm_run.specs.Seated.{IsRunning, IsSeated, opening_lists, opening_log, runs_or_stopped, seat_asks}
@@ -53,9 +48,9 @@ use Rattle.bm_run.proofs.Bounds.{Within, cost-kept, few-planned, within}
 use Rattle.bm_run.proofs.Declared.{all-declared}
 use Rattle.bm_run.proofs.GoingOn.{all-cost}
 use Rattle.bm_run.proofs.Lines.{down-when}
-use Rattle.bm_run.proofs.OpeningTurns.{openings-batched, openings-found, openings-unswept, opening-lives}
+use Rattle.bm_run.proofs.OpeningTurns.{openings-batched, openings-found, openings-unswept}
 use Rattle.bm_run.proofs.PiecesCut.{taken-begin}
-use Rattle.bm_run.proofs.Stretch.{grown-set, order-grown}
+use Rattle.bm_run.proofs.Stretch.{order-grown}
 use Rattle.bm_run.proofs.TurnsInOrder.{turns-begin}
 
 -- ---- the seats
@@ -95,7 +90,6 @@ fills-answered (f ∷ fs) rest h = (tt, fills-answered fs rest h)
 record OpenedLogs (s : Parts) (k : ℕ) (logs : List Log) : Type 0 where
   many : length logs ≡ s.processors
   order_of : IsOrderOf logs (openings (opened_classes s.types) s.pages k)
-  lived : AreLived no_lives logs
   opened : (p : ℕ) → p < k → get_or logs p [] ≡ opening_log s p
   unopened : (p : ℕ) → k ≤ p → get_or logs p [] ≡ []
 
@@ -111,14 +105,13 @@ none-opened s =
     record {
       many = length-replicate n [];
       order_of = record { below = tt; parts = λ p lt. sym (same-replicated n p no_log) };
-      lived = begins n;
       opened = λ p lt. absurd (omega (arith, lt));
       unopened = λ p le. same-replicated n p no_log;
     }
 
 -- another one opens
-one-opened : (s : Parts) (k : ℕ) (logs : List Log) → k < s.processors → s.processors ≤ 8 → OpenedLogs s k logs → OpenedLogs s (suc k) (set logs k (get_or logs k [] ++ opening_log s k))
-one-opened s k logs lt most h =
+one-opened : (s : Parts) (k : ℕ) (logs : List Log) → k < s.processors → OpenedLogs s k logs → OpenedLogs s (suc k) (set logs k (get_or logs k [] ++ opening_log s k))
+one-opened s k logs lt h =
     let classes = opened_classes s.types in
     let log = opening_log s k in
     let own : Log = get_or logs k [] ++ log in
@@ -126,7 +119,6 @@ one-opened s k logs lt most h =
     record {
       many = length-set logs k own ∙ h.many;
       order_of = order-grown k logs (openings classes s.pages k) log there h.order_of;
-      lived = subst (AreLived no_lives) (grown-set k log logs) (grows k no_lives no_lives log logs h.lived there (opening-lives s.processors s.pages k classes lt most));
       opened = λ p below. elim (cases_eq p k) [
         | inl same ↦ subst (λ q. get_or (set logs k own) q [] ≡ opening_log s q) (sym same) (get_or-set_same logs k own [] there ∙ ap (λ (z : Log). z ++ log) (h.unopened k (omega arith)))
         | inr other ↦ get_or-set_other logs k p own [] other ∙ h.opened p (omega (arith, below, other))
@@ -134,11 +126,11 @@ one-opened s k logs lt most h =
       unopened = λ p above. get_or-set_other logs k p own [] (λ e. absurd (omega (arith, above, e))) ∙ h.unopened p (omega (arith, above));
     }
 
-all-opened : (s : Parts) (k : ℕ) → k ≤ s.processors → s.processors ≤ 8 → (logs : List Log) × OpenedLogs s k logs
-all-opened s zero few most = (_, none-opened s)
-all-opened s (suc k) few most =
-    let h = all-opened s k (omega (arith, few)) most in
-    (_, one-opened s k h.0 (omega (arith, few)) most h.1)
+all-opened : (s : Parts) (k : ℕ) → k ≤ s.processors → (logs : List Log) × OpenedLogs s k logs
+all-opened s zero few = (_, none-opened s)
+all-opened s (suc k) few =
+    let h = all-opened s k (omega (arith, few)) in
+    (_, one-opened s k h.0 (omega (arith, few)) h.1)
 
 -- ---- the world
 
@@ -146,24 +138,17 @@ first-kept : (kept : List Kept) → 0 < length kept → (own : Kept) × (slice_g
 first-kept [] lt = absurd (omega (arith, lt))
 first-kept (own ∷ kept) lt = (own, refl)
 
--- no unit lives or has begun a life
-none-lived : (n p : ℕ) (g : Program) (f : Filling) (own : Kept) (world : LivingState) → IsOpen n p g f (in_its_turn own (at_turn p world)) → lived_in (known_living world).objects ≡ no_lives
-none-lived n p g f own world o = same-lived (lived_in (known_living world).objects) no_lives o.begun (λ u. ap home_of (o.none u))
-
-logs-begin : (g : Program) (logs : List Log) (kept : List Kept) (world : LivingState) → 0 < g.scenario.now.processors → AreOpen g (opened_classes g.scenario.now.types) kept world → OpenedLogs g.scenario.now g.scenario.now.processors logs →
+logs-begin : (g : Program) (logs : List Log) (kept : List Kept) (world : LivingState) → AreOpen g (opened_classes g.scenario.now.types) kept world → OpenedLogs g.scenario.now g.scenario.now.processors logs →
     LogsSoFar g.scenario.now.processors g.scenario.now.pages (all_openings g.scenario.now) logs world
-logs-begin g logs kept world some opens h =
+logs-begin g logs kept world opens h =
     let s : Parts = g.scenario.now in
     let n = s.processors in
     let classes = opened_classes s.types in
-    let first = first-kept kept (let m = opens.many in omega (arith, m, some)) in
-    let none = none-lived n 0 g (filling_of classes s.pages 0) first.0 world (opens.each 0 first.0 first.1) in
     record {
       many = h.many;
       order_of = h.order_of;
       so_far = opens.so_far;
       found = openings-found found-in-parts n s.pages classes world opens.so_far;
-      lived = subst (λ a. AreLived a logs) (sym none) h.lived;
       answers = λ p. elim (cases_lt p n) [
         | inl below ↦ subst AnswersAll (sym (h.opened p below)) (fills-answered (filling_of classes s.pages p).fills)
         | inr above ↦ subst AnswersAll (sym (h.unopened p above)) (fills-answered [])
@@ -285,7 +270,7 @@ between-begin g turns kept seats world fine limits opens tell are =
     let classes = opened_classes s.types in
     let some : 0 < n = fine.processors in
     let most : n ≤ 8 = (within s 0 some limits).processors in
-    let opened = all-opened s n (omega arith) most in
+    let opened = all-opened s n (omega arith) in
     let logs : List Log = opened.0 in
     let first = first-kept kept (let m = opens.many in omega (arith, m, some)) in
     let o = opens.each 0 first.0 first.1 in
@@ -303,7 +288,7 @@ between-begin g turns kept seats world fine limits opens tell are =
       turned = subst (λ (ended : List Bool). TurnsSoFar n turns turns (replicate n []) ended []) going (turns-begin n turns);
       pieces = subst (λ (ended : List Bool). AreTaken n (replicate n []) ended) going (taken-begin n);
       logs_are = λ p lt. opened.1.opened p lt ∙ sym (ap (λ (z : List Log). opening_log s p ++ joined z) (same-replicated n p no_pieces) ∙ append-nil (opening_log s p));
-      so_far = subst (λ (x : Order). LogsSoFar n s.pages x logs world) order (logs-begin g logs kept world some opens opened.1);
+      so_far = subst (λ (x : Order). LogsSoFar n s.pages x logs world) order (logs-begin g logs kept world opens opened.1);
       waits = subst (λ (x : Order). WaitsSoFar x world) order (waits-begin g kept world most opens);
       seated = λ p seat f.
           let lt : p < n = (let x = slice_get_within seats p seat f in omega (arith, x, all)) in

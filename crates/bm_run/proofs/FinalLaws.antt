@@ -331,6 +331,10 @@ module _ (s : Parts) (turns : List ℕ) (finals : List Log) (h : AllClosed s tur
       let last = ap (λ (x : Shared). x.lives.holds u) h.so_far.so_far.leads.now_is ∙ none-there (unit_at h.world.slots u) (h.lives u) in
       in-whole (λ z. (shared_over z (fresh n s.pages)).lives.holds u ≡ None) last
 
+  -- .. and no drop is under way
+  pub none-dropping : (p l : ℕ) → (shared_over (whole turns finals) (fresh n s.pages)).lives.dropping p l ≡ None
+  none-dropping p l = in-whole (λ z. (shared_over z (fresh n s.pages)).lives.dropping p l ≡ None) (ap (λ (x : Shared). x.lives.dropping p l) h.so_far.so_far.leads.now_is)
+
   -- ---- parcels
 
   final-unsent : (p : ℕ) → p < n → s.deferred ≡ false → AllHave IsUnsent (get_or finals p [])

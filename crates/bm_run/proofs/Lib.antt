@@ -21,7 +21,6 @@ pub mod Sections
 pub mod Written
 pub mod Laid
 pub mod Progress
-pub mod LivesTold
 pub mod ParcelsTold
 pub mod StampsBound
 pub mod PollsTold

@@ -18,12 +18,10 @@ use Rattle.bm_law_order.specs.Orders.{AllFit, AllShared, Leads, Order, by, part_
 use Rattle.bm_law_order.specs.Seals.{nobody_waits, waiting_after}
 use Rattle.bm_law_order.specs.Shared.{Shared, fresh}
 use Rattle.bm_law_order.specs.Story.{Steady, plainly}
-use Rattle.bm_law_logs.specs.Lived.{Lived, no_lives}
-use Rattle.bm_law_logs.specs.Told.{LivesOn}
 use Rattle.bm_law_places.specs.World.{AllFound, SweepsInbox, World, outset, world_after}
 use Rattle.bm_law_seals.specs.Batches.{BatchFits}
 use Rattle.bm_cache.specs.Opening.{Fills, fill_log}
-use Rattle.bm_world.specs.LivingState.{LivingState, begun_at, known_living}
+use Rattle.bm_world.specs.LivingState.{LivingState, begun_at}
 use Rattle.bm_world.specs.Slots.{AllEmpty}
 use Rattle.bm_world.specs.Standings.{standing_at, told_standing}
 use Rattle.bm_world.specs.Told.{IsSideOf}
@@ -37,17 +35,16 @@ use Rattle.bm_run.specs.LeftAlone.{AllUnswept}
 use Rattle.bm_run.specs.Opened.{fresh_world}
 use Rattle.bm_run.specs.Openings.{AreFilled, AreOpen, filling_of, openings}
 use Rattle.bm_run.specs.SoFar.{SealedSoFar, SoFar}
-use Rattle.bm_run.specs.LogsSoFar.{OrderUnswept, lived_in}
+use Rattle.bm_run.specs.LogsSoFar.{OrderUnswept}
 use Rattle.bm_run.proofs.AddedParts.{part-added, part-kept}
 use Rattle.bm_run.proofs.BatchesTold.{LowStamp, unswept-append, unswept-by}
 use Rattle.bm_run.proofs.Bounds.{within}
 use Rattle.bm_run.proofs.FreshTold.{fills-tied, first-told, fresh-told, no-lives, no-slots, no-standing}
-use Rattle.bm_run.proofs.LivesTold.{lived-is, lived_by}
 use Rattle.bm_run.proofs.OpeningLemmas.{living_side}
 use Rattle.bm_run.proofs.Opens.{filling-leaves, opens}
 use Rattle.bm_run.proofs.SealsTold.{LowSend}
 use Rattle.bm_run.proofs.SweepsTake.{unswept-take}
-use Rattle.bm_run.proofs.TurnTaken.{fresh-so-far, sealed-at, so-far-at, turn-batches, turn-lives, turn-sealed, turn-taken}
+use Rattle.bm_run.proofs.TurnTaken.{fresh-so-far, sealed-at, so-far-at, turn-batches, turn-sealed, turn-taken}
 
 -- ---- the parts of the processors
 
@@ -157,20 +154,6 @@ opened-so-far n pages classes (suc p) few most =
       sealed = sealed-at 0 (o ++ by p log) now (turn-sealed p o [] log log start now own part refl tied (fills-send fs) sealed);
       batches = turn-batches p o [] log log start now own part refl tied (fills-send fs) (fills-stamp fs) sealed h.batches;
     }
-
--- In an opening no unit begins a life, and none lives after it.
-pub opening-lives : (n pages p : ℕ) (classes : List ℕ) → p < n → n ≤ 8 → LivesOn p no_lives no_lives (fill_log (filling_of classes pages p).fills)
-opening-lives n pages p classes lt most =
-    let before = opening_stock classes pages p in
-    let pool = opening_stock classes pages (suc p) in
-    let log = fill_log (filling_of classes pages p).fills in
-    let start : LivingState = fresh_world n p before in
-    let now : LivingState = fresh_world n p pool in
-    let none : (x : Stock) → lived_in (known_living (fresh_world n p x)).objects ≡ no_lives = λ x.
-    sym (lived-is (fresh_world n p x)) ∙ ap (λ (s : Shared). lived_by s.lives) (fresh-told n p pages x [] [] [] no-slots no-lives) in
-    let tied = fills-tied n p classes before pool [] [] [] (sym (filling-leaves classes before)) no-slots no-lives no-standing in
-    let told = turn-lives false p [] log log start now (fresh-is-side n p before lt most) refl tied in
-    subst (λ (a : Lived). LivesOn p a no_lives log) (none before) (subst (λ (b : Lived). LivesOn p (lived_in (known_living start).objects) b log) (none pool) told)
 
 -- What is so far is so of a world that tells the same.
 so-far-told : (n pages : ℕ) (o : Order) (a b : LivingState) → told_living a ≡ told_living b → SoFar n pages o a → SoFar n pages o b

@@ -17,9 +17,8 @@ use Rattle.bm_law_laid.specs.Once.{named_by}
 use Rattle.bm_law_laid.specs.OrderOf.{IsOrderOf}
 use Rattle.bm_law_laid.specs.ParcelsSent.{times_sent, times_sent_over, times_taken, times_taken_over}
 use Rattle.bm_law_laid.proofs.NamedParts.{named-parts}
-use Rattle.bm_law_laid.proofs.Onces.{times-append}
+use Rattle.bm_law_laid.proofs.Onces.{beside-append, times-append}
 use Rattle.bm_law_laid.proofs.ParcelsBalance.{shared-parcels}
-use Rattle.bm_law_logs.proofs.Counts.{beside-append}
 use Rattle.bm_law_places.specs.World.{SweepsInbox, World, outset, world_after}
 
 -- ---- units of a class

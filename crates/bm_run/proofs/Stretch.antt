@@ -1,35 +1,32 @@
 -- A stretch of one processor's log goes into the order, and leaves the other processors alone.
-use Rattle.std.specs.Prelude.{◌≢◌, zero, suc, get_or, set, length}
-use Rattle.std.proofs.Common.{◌≡◌, ◌<◌, ◌⊎◌, ℕ, Bool, List, [], ◌∷◌, ◌++◌, refl, sym, ◌∙◌, ap, subst, append_assoc, inl, inr}
+use Rattle.std.specs.Prelude.{◌≢◌, get_or, set, length}
+use Rattle.std.proofs.Common.{◌≡◌, ◌<◌, ◌⊎◌, ℕ, Bool, List, [], ◌∷◌, ◌++◌, sym, ◌∙◌, ap, subst, append_assoc, inl, inr}
 use Rattle.std.proofs.lemmas.Bool.{cases_eq}
 use Rattle.std.proofs.lemmas.List.{append_cancel_left, get_or-set_other, get_or-set_same, length-set}
 use Rattle.bm_law.specs.Lists.{Leaves, Log, after}
 use Rattle.bm_law.specs.State.{State, opening, seen}
 use Rattle.bm_law_laid.specs.OrderOf.{AllBelow, IsOrderOf}
-use Rattle.bm_law_logs.specs.Grown.{grown_at}
-use Rattle.bm_law_logs.specs.AreLived.{AreLived}
 use Rattle.bm_law_order.specs.Orders.{AllFit, Order, by, part_of}
 use Rattle.bm_law_order.specs.Tie.{Tied}
 use Rattle.bm_law_order.specs.Story.{lines}
 use Rattle.bm_law_places.specs.World.{AllFound, SweepsInbox, World, outset, world_after, world_over}
 use Rattle.bm_law_places.proofs.Standing.{lists-of, shared-of, standing-outset, standing-over}
 use Rattle.bm_law_places.proofs.Logs.{found-join}
-use Rattle.bm_law_logs.proofs.Follows.{grows}
 use Rattle.bm_law_seals.specs.Answered.{AreAnswered}
 use Rattle.bm_cache.specs.Tokens.{number_of}
-use Rattle.bm_world.specs.LivingState.{LivingState, known_living}
+use Rattle.bm_world.specs.LivingState.{LivingState}
 use Rattle.bm_world.specs.Told.{IsSideOf}
 use Rattle.bm_world.specs.ToldLiving.{knows_living}
 use Rattle.bm_exec_levels.specs.AtPolls.{DoesHere, polled, tied-bare}
 use Rattle.bm_run.specs.LeftAlone.{IsTold}
-use Rattle.bm_run.specs.LogsSoFar.{AnswersAll, LogsSoFar, Stretched, lived_in}
+use Rattle.bm_run.specs.LogsSoFar.{AnswersAll, LogsSoFar, Stretched}
 use Rattle.bm_run.specs.SoFar.{SoFar, at_turn}
 use Rattle.bm_run.proofs.AddedParts.{part-added, part-kept}
 use Rattle.bm_run.proofs.BatchesTold.{tied-answers-since}
 use Rattle.bm_run.proofs.Laid.{added-lines}
 use Rattle.bm_run.proofs.LeftAlone.{turn-left}
 use Rattle.bm_run.proofs.TurnsTold.{turn-told}
-use Rattle.bm_run.proofs.TurnTaken.{next-turn, side-at, so-far-at, so-many, turn-lives}
+use Rattle.bm_run.proofs.TurnTaken.{next-turn, side-at, so-far-at, so-many}
 
 -- ---- the logs
 
@@ -55,11 +52,6 @@ order-grown p logs o added lt h =
         subst (λ r. part_of r (o ++ by p added) ≡ get_or (set logs p (get_or logs p [] ++ added)) r []) (sym same)
         (part-added p o added ∙ (ap (λ (z : Log). z ++ added) (h.parts p lt) ∙ sym (get_or-set_same logs p (get_or logs p [] ++ added) [] lt)))
     part q there (inr ne) = part-kept p q o added ne ∙ (h.parts q there ∙ sym (get_or-set_other logs p q (get_or logs p [] ++ added) [] ne))
-
-pub grown-set : (p : ℕ) (added : Log) (logs : List Log) → grown_at p added logs ≡ set logs p (get_or logs p [] ++ added)
-grown-set p added [] = refl
-grown-set zero added (log ∷ logs) = refl
-grown-set (suc p) added (log ∷ logs) = ap (λ z. log ∷ z) (grown-set p added logs)
 
 answers-grown : (p : ℕ) (logs : List Log) (added : Log) → p < length logs → ((q : ℕ) → AnswersAll (get_or logs q [])) → AnswersAll added → (q : ℕ) → AnswersAll (get_or (set logs p (get_or logs p [] ++ added)) q [])
 answers-grown p logs added lt before here q = by (cases_eq q p)
@@ -108,7 +100,6 @@ stretched closing n pages p o logs log added world now s h lt log_is tie before 
         order_of = order-grown p logs o added there h.order_of;
         so_far = subst (λ (z : Log). SoFar n pages (o ++ by p z) now) same t.so_far;
         found = found-join o (by p added) (outset n pages) h.found found;
-        lived = subst (AreLived (lived_in (known_living now).objects)) (grown-set p added logs) (grows p (lived_in (known_living start).objects) (lived_in (known_living now).objects) added logs h.lived there (turn-lives closing p since added log start now his log_is tie));
         answers = answers-grown p logs added there h.answers (tied-answers-since (polled knows_living closing since start) since added log start now log_is bare);
         turn = p;
         side = t.stays;

@@ -8,17 +8,14 @@ use Rattle.bm_law_order.specs.Story.{Steady, plainly}
 use Rattle.bm_law_order.specs.Tie.{Tied}
 use Rattle.bm_law_order.proofs.Along.{leads-join}
 use Rattle.bm_law_scenario.proofs.EachLevel.{AllAbove}
-use Rattle.bm_law_logs.specs.Told.{LivesOn}
 use Rattle.bm_law_seals.specs.Batches.{BatchFits}
-use Rattle.bm_world.specs.LivingState.{LivingState, known_living}
+use Rattle.bm_world.specs.LivingState.{LivingState}
 use Rattle.bm_world.specs.Told.{IsSideOf}
 use Rattle.bm_world.specs.ToldLiving.{knows_living, told_living}
 use Rattle.bm_exec_levels.specs.AtPolls.{DoesHere, polled, tied-bare}
 use Rattle.bm_run.specs.SoFar.{SealedSoFar, SoFar, TurnTaken, at_turn}
-use Rattle.bm_run.specs.LogsSoFar.{lived_in}
 use Rattle.bm_run.proofs.BatchesTold.{LowStamp, tied-batches-since}
 use Rattle.bm_run.proofs.Laid.{fresh-leads, fresh-steady, tied-led-since}
-use Rattle.bm_run.proofs.LivesTold.{tied-lives-since}
 use Rattle.bm_run.proofs.PollsTold.{tied-polled-since}
 use Rattle.bm_run.proofs.SealsTold.{LowSend, tied-sealed-since}
 
@@ -92,9 +89,3 @@ pub turn-batches : (p : ℕ) (o : Order) (since added log : Log) (start now : Li
     Tied (polled knows_living false since start) (DoesHere knows_living) since start 0 [] [] log now → AllAbove LowSend added → AllAbove LowStamp added → SealedSoFar o start → AllFit waiting_after BatchFits o nobody_waits → AllFit waiting_after BatchFits (o ++ by p added) nobody_waits
 turn-batches p o since added log start now own part log_is t =
     tied-batches-since p o since added log start now own.grace_is part log_is (tied-bare knows_living (polled knows_living false since start) since start 0 [] [] log now t)
-
--- The stretch tells which units live then, from those that lived when the turn began.
-pub turn-lives : (closing : Bool) (p : ℕ) (since added log : Log) (start now : LivingState) → IsSideOf p start.side → log ≡ since ++ added →
-    Tied (polled knows_living closing since start) (DoesHere knows_living) since start 0 [] [] log now → LivesOn p (lived_in (known_living start).objects) (lived_in (known_living now).objects) added
-turn-lives closing p since added log start now own log_is t =
-    tied-lives-since (polled knows_living closing since start) p since added log start now own log_is (tied-bare knows_living (polled knows_living closing since start) since start 0 [] [] log now t)

@@ -5,16 +5,12 @@ use Rattle.bm_law.specs.State.{State, opening, seen}
 use Rattle.bm_law.specs.Lists.{after}
 use Rattle.bm_cache.specs.Tokens.{Token, number_of}
 use Rattle.bm_law_laid.specs.OrderOf.{IsOrderOf}
-use Rattle.bm_law_logs.specs.AreLived.{AreLived}
-use Rattle.bm_law_logs.specs.Lived.{Lived}
 use Rattle.bm_law_order.specs.Orders.{AllFit, Order, by}
 use Rattle.bm_law_order.specs.Seals.{nobody_waits, waiting_after}
 use Rattle.bm_law_places.specs.World.{AllFound, outset}
 use Rattle.bm_law_seals.specs.Answered.{AreAnswered}
 use Rattle.bm_law_seals.specs.Batches.{BatchFits}
-use Rattle.bm_grace.specs.Known.{Objects}
-use Rattle.bm_exec.specs.Living.{home_of}
-use Rattle.bm_world.specs.LivingState.{LivingState, known_living}
+use Rattle.bm_world.specs.LivingState.{LivingState}
 use Rattle.bm_world.specs.Told.{IsSideOf}
 use Rattle.bm_run.specs.LeftAlone.{IsLeftAlone, IsUnswept}
 use Rattle.bm_run.specs.SoFar.{SealedSoFar, SoFar, at_turn}
@@ -23,19 +19,13 @@ use Rattle.bm_run.specs.SoFar.{SealedSoFar, SoFar, at_turn}
 abbrev pub AnswersAll : Log → Type 0
 AnswersAll log = (rest : Log) → AreAnswered rest → AreAnswered (log ++ rest)
 
--- what is known of the lives of units where these objects live
-abbrev pub lived_in : Objects → Lived
-lived_in o = record { begun = o.begun; homes = λ u. home_of (o.lives u) }
-
 -- These are the logs of so many processors so far, and this is their order, which leads to this world, the side of one of them: each
--- entry finds what it needs there and in the lists and hands of its processor; the logs tell which units live; and no drop of a log
--- is without its answers.
+-- entry finds what it needs there and in the lists and hands of its processor; and no drop of a log is without its answers.
 pub record LogsSoFar (processors pages : ℕ) (order : Order) (logs : List Log) (world : LivingState) : Type 0 where
   pub many : length logs ≡ processors
   pub order_of : IsOrderOf logs order
   pub so_far : SoFar processors pages order world
   pub found : AllFound order (outset processors pages)
-  pub lived : AreLived (lived_in (known_living world).objects) logs
   pub answers : (p : ℕ) → AnswersAll (get_or logs p [])
   pub turn : ℕ
   pub side : IsSideOf turn world.side

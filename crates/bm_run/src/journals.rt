@@ -26,9 +26,9 @@ use bm_journal::{Histories, Journal, Log, Logs, Names, Opened, totals_of};
 use bm_lang::{Parts, Scenario, Script, TypeDeclaration};
 use bm_law_graphs::{graphs_law, uncalled_law};
 use bm_law_laid::journal_law;
-use bm_law_logs::{handled_law, lives_law, returned_law, returns_law, sweeps_law};
+use bm_law_logs::{handled_law, returned_law, returns_law, sweeps_law};
 use bm_law_objects::{asked_law, counts_law, reads_law, slots_law};
-use bm_law_seals::seals_law;
+use bm_law_seals::{lives_law, seals_law};
 use bm_word::NoMemory;
 use std::alloc::Global;
 

@@ -83,8 +83,8 @@ pub fn others_law()
 {}
 
 /// A stretch of a processor's log that is tied to the world since its begin goes into the order: with it each entry of the order finds what
-/// it needs, the logs tell which units live, and each other processor was left alone. The stretch names what is there, and its sweeps take
-/// what waits in the inboxes.
+/// it needs, each drop has its answers, and each other processor was left alone. The stretch names what is there, and its sweeps take what
+/// waits in the inboxes.
 pub fn stretch_law()
     ensures { (closing : Bool) (n pages p : ℕ) (o : Order) (logs : List Log)
         (log added : Log) (world now : LivingState) (s : State ℕ) →

@@ -12,7 +12,10 @@ use Rattle.bm_law_lives.specs.Returns.{ReturnsLaw, receiver}
 use Rattle.bm_law_lives.specs.StampLaw.{ReturnsFit, StampLaw}
 use Rattle.bm_law_lives.specs.Together.{Each, named}
 use Rattle.bm_law_logs.specs.UnitsMoved.{LeavesNothing}
+use Rattle.bm_law_laid.proofs.Parts.{lives-fit, lives-over}
+use Rattle.bm_law_order.specs.Lives.{Lives, first_lives, lives_after}
 use Rattle.bm_law_order.specs.Orders.{IsLaid, Order, over}
+use Rattle.bm_law_order.specs.Shared.{fresh}
 use Rattle.bm_law_order.specs.Whole.{whole}
 use Rattle.bm_law_journal.specs.Lawful.{named_turns}
 use Rattle.bm_law_scenario.specs.Lawful.{LawfulLog, graph_names}
@@ -31,10 +34,7 @@ use Rattle.bm_law_order.specs.Polls.{IsPolled}
 use Rattle.bm_law_order.specs.Seals.{IsSealed}
 use Rattle.bm_law_places.specs.Placed.{IsPlaced}
 use Rattle.bm_law_scenario.specs.SectionWords.{SectionWords}
-use Rattle.bm_exec.specs.Living.{home_of}
-use Rattle.bm_world.specs.LivingState.{known_living}
-use Rattle.bm_run.specs.LogsSoFar.{lived_in}
-use Rattle.bm_run.proofs.FinalLaws.{asks-are, batched-is, each-log, found-is, idle-is, inbox-is, inboxes-are, laid-is, log-of-each, none-alive, order-is, parcels-are, placed-is, polled-is, sealed-is, uncalled-is}
+use Rattle.bm_run.proofs.FinalLaws.{asks-are, batched-is, each-log, found-is, idle-is, inbox-is, inboxes-are, laid-is, log-of-each, none-alive, none-dropping, order-is, parcels-are, placed-is, polled-is, sealed-is, uncalled-is}
 use Rattle.bm_run.proofs.FinalLog.{final-lawful}
 use Rattle.bm_run.proofs.ParcelsArrive.{parcels-arrive}
 use Rattle.bm_run.proofs.journals.journal_of.Goals as goal
@@ -88,9 +88,14 @@ returns-clause-lawful c =
     let many : length logs ≡ n = h.so_far.many in
     let few : length logs ≤ 8 = (let f = c.requires.few in omega (arith, f, many)) in
     let one : logs ≡ c.new-logs.result = sym c.new-logs.ensures in
-    let none : (u : ℕ) → home_of ((known_living h.world).objects.lives u) ≡ None = λ u. ap home_of (h.lives u) in
-    let lives = c.lives_law.ensures.whole (lived_in (known_living h.world).objects) logs h.so_far.lived none in
-    let freed = c.lives_law.ensures.freed (lived_in (known_living h.world).objects) logs h.so_far.lived none in
+    let batched = batched-is s turns logs h in
+    let outset = fresh n s.pages in
+    let fits = lives-fit order outset laid in
+    let last = lives-over order outset in
+    let none : (u : ℕ) → (over lives_after order first_lives).holds u ≡ None = λ u. subst (λ (x : Lives). x.holds u ≡ None) last (none-alive s turns logs h u) in
+    let done : (p l : ℕ) → (over lives_after order first_lives).dropping p l ≡ None = λ p l. subst (λ (x : Lives). x.dropping p l ≡ None) last (none-dropping s turns logs h p l) in
+    let lives = c.lives_law.ensures.whole logs order of-logs fits batched.answered none done in
+    let freed = c.lives_law.ensures.freed logs order of-logs fits batched.answered none done in
     let nothing = each-log LeavesNothing logs (λ p lt. (let l = each-lawful c p lt in (l.last, l.lists, l.emptied))) in
     let receivers = subst (λ k. Each (λ p. p < k) (named receiver logs)) (sym many) (laws.receivers n s.pages logs order of-logs laid) in
     let owned : IsOwned order = c.asked_law.ensures order (asks-are s turns logs h) in
@@ -124,7 +129,7 @@ returns-clause-lawful c =
         tracing_stamps = laws.stamps Tracing n s.pages logs order of-logs laid;
         plain_seen = laws.seen Plain n s.pages logs order of-logs laid;
         tracing_seen = laws.seen Tracing n s.pages logs order of-logs laid;
-        seals = c.seals_law.ensures n s.pages logs order of-logs (found-is s turns logs h) (sealed-is s turns logs h) (batched-is s turns logs h) lives.law;
+        seals = c.seals_law.ensures n s.pages logs order of-logs (found-is s turns logs h) (sealed-is s turns logs h) batched lives.law;
         returns = each-log (λ p log. ReturnsFit (opening p) None (λ c. []) log) logs (λ p lt. (let l = each-lawful c p lt in c.returned_law.ensures s p (get_or logs p []) l.last l.handlers l.phrases l.is_log l.lists));
       });
       references = subst ReferenceLaw one (c.counts_law.ensures.laid n s.pages logs order of-logs laid (none-alive s turns logs h));

@@ -1,4 +1,4 @@
--- The units that entries free, drop and give. (unit_free, unit_free_rcu and unit_alloc of kernel/bpf/memalloc.c; that a journal
+-- The units that entries free and give. (unit_free, unit_free_rcu and unit_alloc of kernel/bpf/memalloc.c; that a journal
 -- names them is this project's own.)
 use Rattle.std.specs.Prelude.{◌≡◌, ℕ, List, [], ◌∷◌}
 use Rattle.bm_journal.specs.declared.entry.Entry.{Entry}
@@ -11,11 +11,6 @@ abbrev pub freed_units : Entry → List ℕ
 freed_units (entry.Free u home) = u ∷ []
 freed_units (entry.Delay u home) = u ∷ []
 freed_units _ = []
-
--- the unit of which a reference is given up
-abbrev pub dropped_units : Entry → List ℕ
-dropped_units (entry.Drop u life) = u ∷ []
-dropped_units _ = []
 
 -- the unit that is given
 abbrev pub given_units : Entry → List ℕ
