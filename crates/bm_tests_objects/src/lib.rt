@@ -1,5 +1,6 @@
 //! Tests of objects over the public calls of bm_obj: what exchanges of one slot answer, the counts of one object from its first
-//! reference to its last, claims, and a note that goes through a list on a shelf.
+//! reference to its last, claims, a note that goes through a list on a shelf, and an object's way into a list and out again, with
+//! its claim and the list's page.
 //!
 //! What the contracts of bm_obj say is proved there. The tests are for what no contract says: that the calls answer so where
 //! there is memory, and that the words of the contracts mean what they are meant to.
@@ -11,3 +12,5 @@ mod fixture;
 mod object_tests;
 #[cfg(test)]
 mod shelf_tests;
+#[cfg(test)]
+mod visit_tests;
