@@ -79,8 +79,7 @@ MayLeave world = HasPage 0 (known_of world) × NoClaimFor 0 (known_of world) × 
 abbrev pub Finds : World → List (Item Note) → World → Graph Note → Note → Type 0
 Finds world items now lent page = (now ≡ world) × (items_in lent ≡ Some items) × (page ≡ note.Page 0)
 
--- It leaves the page there; and where the list has an entry for it, this world and a list of these
--- items.
+-- It leaves the page there; and where the list has an entry for it, this world and a list of these items.
 abbrev pub LeavesBy : {A : Type 0} → World → List (Item Note) → Option A → World → Graph Note → Note → Type 0
 LeavesBy world items at now left page = (page ≡ note.Page 0) × IfSome at (λ _. (now ≡ world) × (items_in left ≡ Some items))
 

@@ -2,7 +2,7 @@
 
 ghost use Rattle.std.specs.Prelude.{◌≡◌, ◌^◌, ◌∷◌, [], None, length, replicate, true};
 ghost use Rattle.bm_graph.specs.declared.graph.Graph.TheVariants.{List as GraphList};
-ghost use Rattle.bm_obj.specs.WorldState.{known_of, opening_word};
+ghost use Rattle.bm_obj.specs.WorldState.{opening_word};
 ghost use Rattle.bm_obj.specs.declared.object.UnitPlace.TheVariants.{Free};
 ghost use Rattle.bm_obj.specs.declared.type_def.Node.TheVariants.{List as ListNode};
 
