@@ -4,3 +4,4 @@ pub mod Alive
 pub mod Told
 pub mod Calls
 pub mod Sides
+pub mod Undoing

@@ -6,6 +6,7 @@ pub mod GraphState
 pub mod Notes
 pub mod Known
 pub mod Carrying
+pub mod Undoing
 pub mod WorldState
 pub mod Kept
 pub mod NoteShows

@@ -23,7 +23,8 @@
 //! `bpf_refcount_acquire`, `bpf_kptr_xchg`, and the owner of a graph's node in `bpf_list_push_front` and `bpf_rbtree_add`.
 //! Numbers in place of pointers, types by number, and tags are this project's own.
 //!
-//! `worked_*` compute the rules on examples (specs/Worked.antt).
+//! `notes_law` says that `put_in` and `take_out` undo each other (specs/Undoing.antt). `worked_*` compute the rules on examples
+//! (specs/Worked.antt).
 //!
 //! What isn't here: the lists and trees themselves, and objects that several threads share.
 #![tactic(auto)]
@@ -31,6 +32,7 @@
 mod answer;
 mod carry;
 mod graphs;
+mod law;
 mod note;
 mod object;
 mod objects;
@@ -42,6 +44,7 @@ mod worked;
 
 pub use answer::{Claimed, Displaced, Released};
 pub use carry::{Carry, Slip};
+pub use law::notes_law;
 pub use note::Note;
 pub use objects::Objects;
 pub use one_world::OneWorld;

@@ -1,13 +1,15 @@
 //! A world and units for tests.
 
 ghost use Rattle.std.specs.Prelude.{◌≡◌, ◌^◌, ◌∷◌, [], None, length, replicate, true};
-ghost use Rattle.bm_obj.specs.WorldState.{known_of, opening_word};
+ghost use Rattle.bm_graph.specs.declared.graph.Graph.TheVariants.{List as GraphList};
+ghost use Rattle.bm_obj.specs.WorldState.{opening_word};
 ghost use Rattle.bm_obj.specs.declared.object.UnitPlace.TheVariants.{Free};
 ghost use Rattle.bm_obj.specs.declared.type_def.Node.TheVariants.{List as ListNode};
 
 use bm_class::Class;
 use bm_graph::{Graph, List, PlainShelf};
-use bm_obj::{Node, Note, OneWorld, TypeDef};
+use bm_journal::Tag;
+use bm_obj::{Node, Note, OneWorld, Released, TypeDef};
 use bm_page::{Pool, Unit};
 use std::process::Abort;
 
@@ -78,7 +80,26 @@ pub(crate) fn next_unit(rt: &(impl Abort + AllocGlobal), pool: &mut Pool, number
 
 /// A shelf of one empty list, with this page.
 pub(crate) fn one_shelf(rt: &(impl Abort + AllocGlobal), page: Note) -> PlainShelf<Note>
-    ensures { length result ≡ 1 }
+    ensures length { length result ≡ 1 }
+    ensures shelf { result ≡ (GraphList (record { items = []; history = [] }), page) ∷ [] }
 {
     PlainShelf::new(one_of(rt, (Graph::List(List::new(rt.alloc())), page)))
+}
+
+/// A call of processor 0.
+pub(crate) fn call(serial: u32) -> Tag
+    ensures { result ≡ record { processor = 0; serial = serial } }
+{
+    Tag {
+        processor: 0,
+        serial,
+    }
+}
+
+/// The unit of the last release.
+pub(crate) fn last_unit(rt: &(impl Abort + AllocGlobal), released: Released) -> Unit {
+    match released {
+        Released::Last(unit) => unit,
+        Released::Still(_count) => panic!(rt; "there was another reference"),
+    }
 }

@@ -4,19 +4,10 @@ ghost use Rattle.std.specs.Prelude.{◌≡◌, ◌<◌, ◌^◌, None, Some, IfS
 ghost use Rattle.bm_obj.specs.Known.{Has, MayGo, told_exchanged};
 ghost use Rattle.bm_obj.specs.WorldState.{exchanged, known_of};
 
-use crate::fixture::{next_unit, one_page, one_world};
+use crate::fixture::{last_unit, next_unit, one_page, one_world};
 use bm_journal::{ObjId, Tag};
 use bm_obj::{Claimed, Displaced, Objects, OneWorld, Ref, Released};
-use bm_page::Unit;
 use std::process::Abort;
-
-/// The unit of the last release.
-fn last_unit(rt: &(impl Abort + AllocGlobal), released: Released) -> Unit {
-    match released {
-        Released::Last(unit) => unit,
-        Released::Still(_count) => panic!(rt; "there was another reference"),
-    }
-}
 
 /// One exchange of the slot, by a call of processor 0. It has to find the number of the call before, or none. The answer is what
 /// the slot held.

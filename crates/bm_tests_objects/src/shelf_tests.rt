@@ -3,7 +3,7 @@
 ghost use Rattle.std.specs.Prelude.{◌≡◌, None, Some, length, ◌<◌};
 ghost use Rattle.bm_journal.specs.declared.past.PastCall.TheVariants.{PopFront, PushBack, PushBackAlready};
 
-use crate::fixture::{next_unit, one_page, one_shelf, one_world};
+use crate::fixture::{call, next_unit, one_page, one_shelf, one_world};
 use bm_graph::{Graph, GraphCall, Item, PlainShelf, Shelf, Visit};
 use bm_journal::{ObjId, Past, PastCall, Tag};
 use bm_obj::{Carry, Note, Objects};
@@ -92,16 +92,6 @@ impl Visit<Note> for PopCall {
             None => {}
             Some(_item) => unreachable!(),
         }
-    }
-}
-
-/// A call of processor 0.
-fn call(serial: u32) -> Tag
-    ensures { result ≡ record { processor = 0; serial = serial } }
-{
-    Tag {
-        processor: 0,
-        serial,
     }
 }
 

@@ -1,5 +1,6 @@
 //! Lists and trees with their histories: a tree of keys 5, 5 and 3, and a list that both ends are pushed and popped of. Each
-//! answer and the whole history is asserted.
+//! history is a table. Each call is made as its entry says, and has to answer what the entry says, with the entry's place; and the
+//! whole history has to be the table.
 
 use bm_graph::{GraphCall, Item, List, Tree};
 use bm_journal::{ObjId, Past, PastCall, Tag};
@@ -14,42 +15,37 @@ fn object(unit: u16) -> ObjId {
     ObjId { unit, life: 1 }
 }
 
-// A call of processor 0.
-fn by(serial: u32) -> Tag {
-    Tag {
-        processor: 0,
-        serial,
-    }
-}
-
 // An entry of a call of processor 0.
 fn entry(serial: u32, call: PastCall) -> Past {
     Past {
-        tag: by(serial),
+        tag: Tag {
+            processor: 0,
+            serial,
+        },
         call,
     }
 }
 
-fn item(unit: u16, key: u32) -> Item<Reference> {
+fn item(id: ObjId, key: u32) -> Item<Reference> {
     Item {
-        reference: Reference(unit),
-        id: object(unit),
+        reference: Reference(id.unit),
+        id,
         key,
     }
 }
 
-// Spends an item, which is of this unit.
-fn spend(rt: &impl Abort, item: Item<Reference>, unit: u16) {
+// Spends an item that was taken, where this object has to be taken.
+fn spend(rt: &impl Abort, item: Item<Reference>, wanted: Option<ObjId>) {
     let Item {
         reference: Reference(spent),
         id,
         key: _,
     } = item;
-    assert_eq!(rt; spent, unit);
-    assert_eq!(rt; id, object(unit));
+    assert_eq!(rt; spent, id.unit);
+    assert_eq!(rt; Some(id), wanted);
 }
 
-// The position of a call, which has memory.
+// The position of a push or an addition, which has memory.
 fn position_of(rt: &impl Abort, answer: Result<u32, Item<Reference>>) -> u32 {
     match answer {
         Ok(position) => position,
@@ -64,48 +60,80 @@ fn position_of(rt: &impl Abort, answer: Result<u32, Item<Reference>>) -> u32 {
     }
 }
 
-// Adds an object that isn't in the tree.
-fn add(rt: &impl Abort, tree: &mut Tree<Reference>, serial: u32, unit: u16, key: u32) -> u32 {
-    let added = item(unit, key);
-    assert!(rt; tree.item(added.id).is_none());
-    let position = position_of(rt, tree.add(by(serial), added));
-    assert!(rt; tree.item(object(unit)).is_some());
+// The position of a pop, which has memory, and has to take this object or find nothing.
+fn popped(
+    rt: &impl Abort,
+    answer: Result<(u32, Option<Item<Reference>>), NoMemory>,
+    wanted: Option<ObjId>,
+) -> u32 {
+    let (position, taken) = answer.expect(rt, "there is memory");
+    match taken {
+        Some(item) => spend(rt, item, wanted),
+        None => assert!(rt; wanted.is_none()),
+    }
     position
 }
 
-// Takes an object out that is in the tree.
-fn remove(rt: &impl Abort, tree: &mut Tree<Reference>, serial: u32, unit: u16) -> u32 {
-    let id = object(unit);
-    assert!(rt; tree.item(id).is_some());
-    let (position, taken) = tree.remove(by(serial), id).expect(rt, "there is memory");
-    spend(rt, taken, unit);
-    assert!(rt; tree.item(id).is_none());
-    position
+// Makes a call on a tree, as its entry says.
+fn call_tree(rt: &impl Abort, tree: &mut Tree<Reference>, entry: Past) -> u32 {
+    let Past { tag, call } = entry;
+    match call {
+        PastCall::Add(id, key) => {
+            let added = item(id, key);
+            assert!(rt; tree.item(added.id).is_none());
+            let position = position_of(rt, tree.add(tag, added));
+            assert!(rt; tree.item(id).is_some());
+            position
+        }
+        PastCall::First(id) => {
+            let (position, first) = tree.first(tag).expect(rt, "there is memory");
+            assert_eq!(rt; first, Some(id));
+            position
+        }
+        PastCall::Remove(id) => {
+            assert!(rt; tree.item(id).is_some());
+            let (position, taken) = tree.remove(tag, id).expect(rt, "there is memory");
+            spend(rt, taken, Some(id));
+            assert!(rt; tree.item(id).is_none());
+            position
+        }
+        _ => panic!(rt; "it is in the table"),
+    }
+}
+
+// Makes a call on a list, as its entry says.
+fn call_list(rt: &impl Abort, list: &mut List<Reference>, entry: Past) -> u32 {
+    let Past { tag, call } = entry;
+    match call {
+        PastCall::PushFront(id) => {
+            let pushed = item(id, 0);
+            assert!(rt; list.item(pushed.id).is_none());
+            let position = position_of(rt, list.push_front(tag, pushed));
+            assert!(rt; list.item(id).is_some());
+            position
+        }
+        PastCall::PushBack(id) => {
+            let pushed = item(id, 0);
+            assert!(rt; list.item(pushed.id).is_none());
+            let position = position_of(rt, list.push_back(tag, pushed));
+            assert!(rt; list.item(id).is_some());
+            position
+        }
+        PastCall::PushFrontAlready(id, owner) => list
+            .already(tag, GraphCall::PushFront, id, owner)
+            .expect(rt, "there is memory"),
+        PastCall::PushBackAlready(id, owner) => list
+            .already(tag, GraphCall::PushBack, id, owner)
+            .expect(rt, "there is memory"),
+        PastCall::PopFront(id) => popped(rt, list.pop_front(tag), Some(id)),
+        PastCall::PopBack(id) => popped(rt, list.pop_back(tag), Some(id)),
+        PastCall::PopBackNone => popped(rt, list.pop_back(tag), None),
+        _ => panic!(rt; "it is in the table"),
+    }
 }
 
 #[test]
 fn equal_keys_are_taken_in_the_order_of_their_additions(rt: HostRuntime) {
-    let mut tree: Tree<Reference> = Tree::new(rt.alloc());
-    assert_eq!(rt; add(&rt, &mut tree, 5, 3, 5), 0);
-    assert_eq!(rt; add(&rt, &mut tree, 6, 2, 5), 1);
-    assert_eq!(rt; add(&rt, &mut tree, 7, 1, 3), 2);
-    assert_eq!(rt; tree.first(by(8)), Ok((3, Some(object(1)))));
-    assert_eq!(rt; remove(&rt, &mut tree, 9, 1), 4);
-    assert_eq!(rt; tree.first(by(11)), Ok((5, Some(object(3)))));
-    assert_eq!(rt; remove(&rt, &mut tree, 12, 3), 6);
-    assert_eq!(rt; tree.first(by(14)), Ok((7, Some(object(2)))));
-    assert_eq!(rt; remove(&rt, &mut tree, 15, 2), 8);
-    assert_eq!(rt; tree.history().len(), 9);
-    end_tree(&rt, tree, 17);
-}
-
-// Looks for a first node where there is none, and ends the tree.
-fn end_tree(rt: &impl Abort, tree: Tree<Reference>, serial: u32) {
-    let mut tree = tree;
-    let (position, first) = tree.first(by(serial)).expect(rt, "there is memory");
-    assert_eq!(rt; position, 9);
-    assert!(rt; first.is_none());
-    let history = tree.finish();
     let entries = [
         entry(5, PastCall::Add(object(3), 5)),
         entry(6, PastCall::Add(object(2), 5)),
@@ -118,90 +146,29 @@ fn end_tree(rt: &impl Abort, tree: Tree<Reference>, serial: u32) {
         entry(15, PastCall::Remove(object(2))),
         entry(17, PastCall::FirstNone),
     ];
+    let mut tree: Tree<Reference> = Tree::new(rt.alloc());
+    for (place, entry) in entries[..9].iter().enumerate() {
+        assert_eq!(rt;
+            call_tree(&rt, &mut tree, *entry) as usize,
+            place,
+            "at {place}"
+        );
+    }
+    end_tree(&rt, tree, &entries);
+}
+
+// Looks for a first node where there is none, by the last entry, and ends the tree.
+fn end_tree(rt: &impl Abort, tree: Tree<Reference>, entries: &[Past; 10]) {
+    let mut tree = tree;
+    let (position, first) = tree.first(entries[9].tag).expect(rt, "there is memory");
+    assert_eq!(rt; position, 9);
+    assert!(rt; first.is_none());
+    let history = tree.finish();
     assert!(rt; history.as_slice() == entries.as_slice());
-}
-
-// Pushes an object that isn't in the list, at the front or at the back.
-fn push(rt: &impl Abort, list: &mut List<Reference>, serial: u32, front: bool, unit: u16) -> u32 {
-    let pushed = item(unit, 0);
-    assert!(rt; list.item(pushed.id).is_none());
-    let answer = if front {
-        list.push_front(by(serial), pushed)
-    } else {
-        list.push_back(by(serial), pushed)
-    };
-    let position = position_of(rt, answer);
-    assert!(rt; list.item(object(unit)).is_some());
-    position
-}
-
-// Spends what a pop took: the item of this unit. Answers the position.
-fn popped(
-    rt: &impl Abort,
-    answer: Result<(u32, Option<Item<Reference>>), NoMemory>,
-    unit: u16,
-) -> u32 {
-    match answer {
-        Ok((position, Some(taken))) => {
-            spend(rt, taken, unit);
-            position
-        }
-        Ok((_, None)) => panic!(rt; "the list isn't empty"),
-        Err(NoMemory) => panic!(rt; "there is memory"),
-    }
-}
-
-// The position of a pop that found nothing.
-fn found_none(rt: &impl Abort, answer: Result<(u32, Option<Item<Reference>>), NoMemory>) -> u32 {
-    match answer {
-        Ok((position, None)) => position,
-        Ok((_, Some(taken))) => {
-            spend(rt, taken, 0);
-            panic!(rt; "the list is empty")
-        }
-        Err(NoMemory) => panic!(rt; "there is memory"),
-    }
 }
 
 #[test]
 fn both_ends_of_a_list_are_pushed_and_popped(rt: HostRuntime) {
-    let mut list: List<Reference> = List::new(rt.alloc());
-    assert_eq!(rt; push(&rt, &mut list, 1, false, 1), 0);
-    assert_eq!(rt; push(&rt, &mut list, 2, false, 2), 1);
-    assert_eq!(rt; push(&rt, &mut list, 3, true, 3), 2);
-    assert_eq!(rt;
-        list.already(by(4), GraphCall::PushBack, object(1), 7),
-        Ok(3)
-    );
-    assert_eq!(rt;
-        list.already(by(6), GraphCall::PushFront, object(4), 8),
-        Ok(4)
-    );
-    let last = list.pop_back(by(8));
-    assert_eq!(rt; popped(&rt, last, 2), 5);
-    let first = list.pop_front(by(9));
-    assert_eq!(rt; popped(&rt, first, 3), 6);
-    let only = list.pop_front(by(10));
-    assert_eq!(rt; popped(&rt, only, 1), 7);
-    end_list(&rt, list);
-}
-
-// Pops both ends of an empty list, and ends it.
-fn end_list(rt: &impl Abort, list: List<Reference>) {
-    let mut list = list;
-    let last = list.pop_back(by(11));
-    assert_eq!(rt; found_none(rt, last), 8);
-    let history = match list.pop_front(by(12)) {
-        Ok((position, None)) => {
-            assert_eq!(rt; position, 9);
-            list.finish()
-        }
-        Ok((_, Some(taken))) => {
-            spend(rt, taken, 0);
-            panic!(rt; "the list is empty")
-        }
-        Err(NoMemory) => panic!(rt; "there is memory"),
-    };
     let entries = [
         entry(1, PastCall::PushBack(object(1))),
         entry(2, PastCall::PushBack(object(2))),
@@ -214,5 +181,30 @@ fn end_list(rt: &impl Abort, list: List<Reference>) {
         entry(11, PastCall::PopBackNone),
         entry(12, PastCall::PopFrontNone),
     ];
+    let mut list: List<Reference> = List::new(rt.alloc());
+    for (place, entry) in entries[..9].iter().enumerate() {
+        assert_eq!(rt;
+            call_list(&rt, &mut list, *entry) as usize,
+            place,
+            "at {place}"
+        );
+    }
+    end_list(&rt, list, &entries);
+}
+
+// Pops an empty list, by the last entry, and ends it.
+fn end_list(rt: &impl Abort, list: List<Reference>, entries: &[Past; 10]) {
+    let mut list = list;
+    let history = match list.pop_front(entries[9].tag) {
+        Ok((position, None)) => {
+            assert_eq!(rt; position, 9);
+            list.finish()
+        }
+        Ok((_, Some(taken))) => {
+            spend(rt, taken, None);
+            panic!(rt; "the list is empty")
+        }
+        Err(NoMemory) => panic!(rt; "there is memory"),
+    };
     assert!(rt; history.as_slice() == entries.as_slice());
 }
