@@ -1,5 +1,5 @@
 -- Statements that were performed.
-use Rattle.std.proofs.Common.{◌≡◌, ◌∙◌, ◌≤◌, ℕ, suc, ◌+◌, ◌*◌, Bool, true, false, ◌&&◌, ◌||◌, if◌then◌else◌, List, [], ◌∷◌, ◌++◌, length, ◌<◌, refl, sym, ap, subst, Option, Some, None, IfSome, is_some, slice_get, append_assoc, arith, inl, max}
+use Rattle.std.proofs.Common.{◌≡◌, ◌∙◌, ◌≤◌, ℕ, suc, ◌+◌, ◌*◌, Bool, true, false, ◌&&◌, ◌||◌, if◌then◌else◌, List, [], ◌∷◌, ◌++◌, length, ◌<◌, refl, sym, ap, subst, Option, Some, None, IfSome, is_some, slice_get, append_assoc, arith, inl, inr, max}
 use Rattle.bm_journal.specs.declared.entry.Entry.TheVariants as entry
 use Rattle.bm_journal.specs.declared.ids.ObjId.{ObjId}
 use Rattle.bm_lang.specs.declared.scenario.Action.{Action, New, Drop, If', Repeat, Section, Yield, Held-Action-If-2, None', Some'}
