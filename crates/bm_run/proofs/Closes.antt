@@ -102,6 +102,18 @@ late-inner (entry.Delay u home) h = absurd h
 late-inner (entry.Send c to us) h = absurd h
 late-inner (entry.Get u life place value) h = absurd h
 late-inner (entry.Xchg name put was by) h = absurd h
+late-inner (entry.Lock name) h = absurd h
+late-inner (entry.Unlock name) h = absurd h
+late-inner (entry.PushFront name u life pos) h = absurd h
+late-inner (entry.PushBack name u life pos) h = absurd h
+late-inner (entry.Add name u life pos) h = absurd h
+late-inner (entry.PushFrontAlready name u life owner pos) h = absurd h
+late-inner (entry.PushBackAlready name u life owner pos) h = absurd h
+late-inner (entry.AddAlready name u life owner pos) h = absurd h
+late-inner (entry.PopFront name item pos) h = absurd h
+late-inner (entry.PopBack name item pos) h = absurd h
+late-inner (entry.First name item pos) h = absurd h
+late-inner (entry.Remove name u life pos) h = absurd h
 late-inner e h = h
 
 by-count : (n : ℕ) → (step_or_not n ≡ Steps) ⊎ (step_or_not n ≡ Stays)

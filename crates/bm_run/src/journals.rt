@@ -88,15 +88,17 @@ fn journal_of(
     let classes = Opened::new(with_marks(alloc, classes)?);
     let logs = Logs::new(logs);
     let totals = totals_of(&logs);
+    let maps = Names::new(Vec::new(alloc));
+    let graphs = Histories::new(Vec::new(alloc));
     Ok(Journal {
         processors: scenario.processors as u8,
         pages: scenario.pages as u16,
         types,
-        maps: Names::new(Vec::new(alloc)),
+        maps,
         scripts,
         classes,
         logs,
-        graphs: Histories::new(Vec::new(alloc)),
+        graphs,
         totals,
     })
 }

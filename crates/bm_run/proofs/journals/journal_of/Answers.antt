@@ -3,6 +3,8 @@ use Rattle.std.proofs.Common.{rules, ◌∙◌, map, ◌≡◌, ◌<◌, ◌≤�
 use Rattle.std.proofs.lemmas.List.Sums.{list_all-from_AllPass}
 use Rattle.std.proofs.lemmas.Option.{get_or_from_slice_get, slice_get_within}
 use Rattle.bm_journal.specs.WellFormed.{is_whole_log}
+use Rattle.bm_journal.specs.declared.past.Past.{Past}
+use Rattle.bm_lang.specs.declared.scenario.MapDeclaration.{MapDeclaration}
 use Rattle.bm_journal.specs.declared.ids.Domain.TheVariants.{Plain, Tracing}
 use Rattle.bm_class.specs.Sizes.{size_of_class}
 use Rattle.bm_class.specs.Watermarks.{marks_of_size}
@@ -17,7 +19,7 @@ use Rattle.bm_law_order.specs.Lives.{Lives, first_lives, lives_after}
 use Rattle.bm_law_order.specs.Orders.{IsLaid, Order, over}
 use Rattle.bm_law_order.specs.Shared.{fresh}
 use Rattle.bm_law_order.specs.Whole.{whole}
-use Rattle.bm_law_journal.specs.Lawful.{named_turns}
+use Rattle.bm_law_journal.specs.Lawful.{history_of, named_turns}
 use Rattle.bm_law_scenario.specs.Lawful.{LawfulLog, graph_names}
 use Rattle.bm_law_scenario.specs.Opened.{opened}
 use Rattle.bm_law_scenario.specs.Short.{JournalShort}
@@ -25,7 +27,7 @@ use Rattle.bm_law_lives.specs.GraceLaw.{WholeGrace}
 use Rattle.bm_law_lives.specs.Lives.{WholeLives}
 use Rattle.bm_law_graphs.specs.GraphLaws.{GraphLaws}
 use Rattle.bm_law_graphs.specs.History.{GraphHistory}
-use Rattle.bm_law_graphs.specs.Shelves.{IsShelved, nothing_shelved, shelved_after}
+use Rattle.bm_law_graphs.specs.Uncalled.{CallNone}
 use Rattle.bm_law_objects.specs.Objects.{IsOwned}
 use Rattle.bm_law_objects.specs.ReadsLaw.{ReadsLaw}
 use Rattle.bm_law_objects.specs.ReferenceLaw.{ReferenceLaw}
@@ -58,21 +60,32 @@ each-lawful c p lt =
 classes-are : (c : goal.After-result-1) → c.new-classes.result ≡ opened c.args.scenario.now.types
 classes-are c = c.new-classes.ensures ∙ (c.in_ok-with_marks.ensures ∙ ap (λ (cs : List ℕ). map (λ k. (k, marks_of_size (size_of_class k))) cs) c.requires.classes)
 
--- no list or tree has a history, and none is called
-no-graphs : (c : goal.After-result-1) → GraphLaws [] (λ name. []) c.args.logs.items
-no-graphs c =
+-- no map is declared, and no list or tree has a history
+maps-none : (c : goal.After-result-1) → c.new-maps.result ≡ []
+maps-none c = search rules
+
+graphs-none : (c : goal.After-result-1) → c.new-graphs.result ≡ []
+graphs-none c = search rules
+
+-- nor is one called
+order-none : (c : goal.After-result-1) → CallNone (whole (named_turns c.args.scenario.now.turns) c.args.logs.items)
+order-none c = uncalled-is c.args.scenario.now (named_turns c.args.scenario.now.turns) c.args.logs.items c.requires.closed
+
+graphs-lawful : (c : goal.After-result-1) → GraphLaws c.new-maps.result (history_of c.new-graphs.result) c.args.logs.items
+graphs-lawful c =
     let s = c.args.scenario.now in
     let logs : List Log = c.args.logs.items in
+    let names : List (List ℕ) = c.new-maps.result in
     let order : Order = whole (named_turns s.turns) logs in
-    let none = uncalled-is s (named_turns s.turns) logs c.requires.closed in
-    let laws = c.graphs_law.ensures [] logs order (order-is s (named_turns s.turns) logs c.requires.closed) (c.uncalled_law.ensures.shelved [] order none) (c.uncalled_law.ensures.within [] order none) in
-    record {
-      each = λ name. subst (λ history. GraphHistory [] name history logs) (c.uncalled_law.ensures.histories [] order none name) (laws.each name);
+    let none = order-none c in
+    let laws = c.graphs_law.ensures.logs names logs order (order-is s (named_turns s.turns) logs c.requires.closed) (c.uncalled_law.ensures.shelved names order none) (c.uncalled_law.ensures.within names order none) in
+    subst (λ (graphs : List (List ℕ × List Past)). GraphLaws names (history_of graphs) logs) (sym (graphs-none c)) (record {
+      each = λ name. subst (λ history. GraphHistory names name history logs) (c.uncalled_law.ensures.histories names order none name) (laws.each name);
       keys = λ name. tt;
       refusals = λ name. tt;
       locks = laws.locks;
       takes = laws.takes;
-    }
+    })
 
 pub returns-clause-lawful : goal.returns-clause-lawful
 returns-clause-lawful c =
@@ -113,7 +126,8 @@ returns-clause-lawful c =
         count = subst (λ (x : List Log). length x ≡ n) one many;
         logs = subst (λ (x : List Log). (p : ℕ) (log : Log) → slice_get x p ≡ Some log → LawfulLog s p log) one
             (λ p log e. subst (LawfulLog s p) (get_or_from_slice_get logs p log [] e) (each-lawful c p (slice_get_within logs p log e)));
-        graphs = subst (λ maps. [] ≡ graph_names maps) (sym c.requires.yet.no_maps) refl;
+        graphs = subst (λ (maps : List MapDeclaration). map (λ (h : List ℕ × List Past). h.0) c.new-graphs.result ≡ graph_names maps) (sym c.requires.yet.no_maps)
+            (ap (λ (graphs : List (List ℕ × List Past)). map (λ (h : List ℕ × List Past). h.0) graphs) (graphs-none c));
         totals = search rules;
         short = subst (JournalShort s.pages) one (laws.short n s.pages logs order of-logs laid);
       };
@@ -135,7 +149,7 @@ returns-clause-lawful c =
       references = subst ReferenceLaw one (c.counts_law.ensures.laid n s.pages logs order of-logs laid (none-alive s turns logs h));
       slots = λ slot. subst (SlotChain slot) one (c.slots_law.ensures.logs slot logs order of-logs owned);
       reads = subst ReadsLaw one (c.reads_law.ensures.logs logs order of-logs owned);
-      graphs = subst (GraphLaws [] (λ name. [])) one (no-graphs c);
+      graphs = subst (GraphLaws c.new-maps.result (history_of c.new-graphs.result)) one (graphs-lawful c);
     }
 
 pub returns-clause-laid : goal.returns-clause-laid
@@ -146,13 +160,14 @@ returns-clause-laid c =
     let h = c.requires.closed in
     let n = s.processors in
     let one : logs ≡ c.new-logs.result = sym c.new-logs.ensures in
-    let none = uncalled-is s turns logs h in
+    let order : Order = whole turns c.new-logs.result in
+    let none : CallNone order = subst (λ (x : List Log). CallNone (whole turns x)) one (order-none c) in
     record {
       laid = subst (λ (x : List Log). IsLaid n s.pages (whole turns x)) one (laid-is s turns logs h);
       placed = subst (λ (x : List Log). IsPlaced n s.pages (whole turns x)) one (placed-is s turns logs h);
       polled = subst (λ (x : List Log). IsPolled n s.pages (whole turns x)) one (polled-is s turns logs h);
       sealed = subst (λ (x : List Log). IsSealed (whole turns x)) one (sealed-is s turns logs h);
       owned = subst (λ (x : List Log). IsOwned (whole turns x)) one (c.asked_law.ensures (whole turns logs) (asks-are s turns logs h));
-      shelved = subst (λ (x : List Log). IsShelved [] (whole turns x)) one (c.uncalled_law.ensures.shelved [] (whole turns logs) none);
-      histories = λ name. subst (λ (x : List Log). [] ≡ (over (shelved_after []) (whole turns x) nothing_shelved).shelves.histories name) one (sym (c.uncalled_law.ensures.histories [] (whole turns logs) none name));
+      shelved = c.uncalled_law.ensures.shelved c.new-maps.result order none;
+      histories = λ name. ap (λ (graphs : List (List ℕ × List Past)). history_of graphs name) (graphs-none c) ∙ sym (c.uncalled_law.ensures.histories c.new-maps.result order none name);
     }
