@@ -17,7 +17,7 @@ use Rattle.bm_law.proofs.Folds.{after-append}
 use Rattle.bm_law_work.specs.Grown.{GrewBy}
 use Rattle.bm_law_work.proofs.Grown.{grew-say, grew-none, grew-stand, grew-map, grew-join}
 use Rattle.bm_law_scenario.proofs.Freed.{knows-batch}
-use Rattle.bm_law_scenario.specs.Calls.{answered, RunsNew, RunsDrop, RunsGivingUp, batch_in}
+use Rattle.bm_law_scenario.specs.Calls.{answered, RunsNew, RunsGivingUp, batch_in}
 use Rattle.bm_law_work.specs.Parts.{Say, Stand}
 use Rattle.bm_law_scenario.specs.Runs.{Done, Followed, Leaving, Times, Within, RunsAction, RunsBlock}
 use Rattle.bm_check.specs.Statements.{Setting}
