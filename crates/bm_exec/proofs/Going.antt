@@ -131,7 +131,7 @@ pub went-can : (types : List TypeDeclaration) (l : ℕ) (z z1 : Around) (v w : O
 went-can types l z z1 v w s0 s1 t0 t1 b0 b1 lives lives' a0 a1 log0 log1 k e c x = record {
   holds = (c.holds.0, x.holds c.holds.0 c.holds.1);
   may = rw (same-names t0 t1 k) (x.meets (may_run types (has_name t0)) (may-inherits types (has_name t0)) c.may);
-  accepted = (c.accepted.0, x.safe c.accepted.0 c.accepted.1);
+  accepted = (c.accepted.0, c.accepted.1, x.safe c.accepted.0 c.accepted.2);
   sections = (c.sections.0, x.sections c.sections.0 c.sections.1);
   down = rw e x.down;
 }

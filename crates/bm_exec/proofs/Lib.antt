@@ -13,3 +13,4 @@ pub mod Sounds
 pub mod Lives
 pub mod Yields
 mod Starting
+mod Counted

@@ -1,5 +1,6 @@
 -- Which statements can run on a frame, block by block.
-use Rattle.std.proofs.Common.{◌≡◌, ℕ, zero, suc, ◌-◌, ◌<◌, Bool, true, false, ◌&&◌, List, refl, subst, arith, Option, Some, None}
+use Rattle.std.proofs.Common.{◌≡◌, ℕ, zero, suc, ◌-◌, ◌<◌, Bool, true, false, ◌&&◌, List, refl, subst, arith, Option, Some, None, ap, is_some, length, nat_le, slice_get, sym, ◌∙◌}
+use Rattle.std.proofs.lemmas.Bool.{eqb-true}
 use mathlib.Core.Former.{Count}
 use Rattle.bm_lang.specs.declared.scenario.Action.{Action, If, If', Repeat, Section, Held-Action-If-2, None', Some'}
 use Rattle.bm_lang.specs.declared.scenario.Block.{Block, Block', Row_of-Statement, end_of-Statement, more_of-Statement, items-the_row-Statement}
@@ -8,7 +9,7 @@ use Rattle.bm_exec.specs.Bindings.{binds_among, binds_by, binds_else, binds_in}
 use Rattle.bm_exec.specs.Depth.{action_fits, block_fits, else_fits, row_fits}
 use Rattle.bm_exec.specs.Lists.{block_list}
 use Rattle.bm_exec.specs.Meets.{Inherits, list_meets, may_run}
-use Rattle.bm_exec.specs.Runnable.{can_run_action, can_run_block, can_run_else, can_run_row}
+use Rattle.bm_exec.specs.Runnable.{can_run_action, can_run_block, can_run_else, can_run_row, has_fields}
 
 left : (a b : Bool) → (a && b) ≡ true → a ≡ true
 left true b e = refl
@@ -96,3 +97,14 @@ module _ (types : List TypeDeclaration) (known : List ℕ → Bool) where
 -- the name that `new` binds is known
 pub new-known : (types : List TypeDeclaration) (known : List ℕ → Bool) (d : ℕ) (a : Action) → may_run types known d a ≡ true → (can_run_action types a ≡ true) × (binds_by known a ≡ true)
 new-known types known d a m = (left (can_run_action types a) (action_fits (16 - d) a && binds_by known a) m, right (action_fits (16 - d) a) (binds_by known a) (right (can_run_action types a) (action_fits (16 - d) a && binds_by known a) m))
+
+-- a type that has so many fields is declared
+pub declared-fields : (o : Option TypeDeclaration) (n : ℕ) → has_fields o n ≡ true → is_some o ≡ true
+declared-fields None n e = cc
+declared-fields (Some d) n e = refl
+
+-- an object is asked for with a value for each field of its type
+pub new-fits : (types : List TypeDeclaration) (t : ℕ) (values : List ℕ) (d : TypeDeclaration) → (has_fields (slice_get types t) (length values) && nat_le (length values) 8) ≡ true → slice_get types t ≡ Some d → length values ≡ length d.fields
+new-fits types t values d can found =
+    let has = left (has_fields (slice_get types t) (length values)) (nat_le (length values) 8) can in
+    eqb-true (length values) (length d.fields) (ap (λ (o : Option TypeDeclaration). has_fields o (length values)) (sym found) ∙ has)

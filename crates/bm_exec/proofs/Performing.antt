@@ -2,7 +2,7 @@
 use Rattle.std.proofs.Common.{◌≡◌, ◌∙◌, ◌≤◌, ℕ, suc, ◌+◌, ◌*◌, Bool, true, false, ◌&&◌, ◌||◌, if◌then◌else◌, List, [], ◌∷◌, ◌++◌, length, ◌<◌, refl, sym, ap, subst, Option, Some, None, IfSome, is_some, slice_get, append_assoc, arith, inl, inr, max}
 use Rattle.bm_journal.specs.declared.entry.Entry.TheVariants as entry
 use Rattle.bm_journal.specs.declared.ids.ObjId.{ObjId}
-use Rattle.bm_lang.specs.declared.scenario.Action.{Action, New, Drop, If', Repeat, Section, Yield, Held-Action-If-2, None', Some'}
+use Rattle.bm_lang.specs.declared.scenario.Action.{Acquire, Action, Drop, New, If', Repeat, Section, Yield, Held-Action-If-2, None', Some'}
 use Rattle.bm_lang.specs.declared.scenario.Block.{Block}
 use Rattle.bm_lang.specs.Limits.{action_cost, else_cost, block_cost}
 use Rattle.bm_lang.specs.declared.scenario.TypeDeclaration.{TypeDeclaration}
@@ -17,7 +17,7 @@ use Rattle.bm_law.proofs.Folds.{after-append}
 use Rattle.bm_law_work.specs.Grown.{GrewBy}
 use Rattle.bm_law_work.proofs.Grown.{grew-say, grew-none, grew-stand, grew-map, grew-join}
 use Rattle.bm_law_scenario.proofs.Freed.{knows-batch}
-use Rattle.bm_law_scenario.specs.Calls.{answered, RunsNew, RunsGivingUp, batch_in}
+use Rattle.bm_law_scenario.specs.Calls.{IsCounted, RunsAcquire, RunsGivingUp, RunsNew, answered, batch_in}
 use Rattle.bm_law_work.specs.Parts.{Say, Stand}
 use Rattle.bm_law_scenario.specs.Runs.{Done, Followed, Leaving, Times, Within, RunsAction, RunsBlock}
 use Rattle.bm_check.specs.Statements.{Setting}
@@ -33,9 +33,9 @@ use Rattle.bm_exec.proofs.Blocks.{block-runs, block-safe, block-cost}
 use Rattle.std.specs.Borrow.{Bor}
 use Rattle.bm_exec.specs.Meets.{Inherits, Test, body_meets, list_meets, stack_meets}
 use Rattle.bm_exec.specs.Runnable.{Classes}
-use Rattle.bm_exec.specs.Living.{Lives, Created, Disposed, reply_of}
+use Rattle.bm_exec.specs.Living.{Acquired, Created, Disposed, GivenUp, Lives, count_in, reply_of}
 use Rattle.bm_exec.specs.Running.{Performed}
-use Rattle.bm_exec.proofs.Objects.{class-at, store-with, holds-reply, holds-less}
+use Rattle.bm_exec.proofs.Objects.{class-at, holds-less, holds-more, holds-reply, holds-still, store-with}
 use Rattle.bm_lang.specs.declared.scenario.Statement.{Statement}
 use Rattle.bm_exec.proofs.Then.{undone-first, undone-last, front, map-first}
 
@@ -54,15 +54,15 @@ called types l z w p a s s1 s' names names' os log log1 log' x x1 x' y b last fi
     (λ one two i j. (names', record { one = one; two = two; part_is = refl; is_first = i; is_second = j })) x x' g more
 
 pub new-performed : (types : List TypeDeclaration) (classes : List ℕ) (l : ℕ) (z : Around) (w : Option (List ℕ)) (p : ℕ) (s s1 s' : State ℕ) (x : List ℕ) (t : TypeId) (values : List ℕ) (names names' : Names) (lives lives' lives'' : Lives) (asked asked' : ℕ) (log log1 log' : Option Log) (reply : Option ObjId) (d : TypeDeclaration) (c : ℕ) →
-    IfSome log (λ es. Leaves p es s) → IfSome log1 (λ es. Leaves p es s1) → IfSome log' (λ es. Leaves p es s') → Classes types classes → slice_get types t.0 ≡ Some d → slice_get classes t.0 ≡ Some c → safe.is_owning (value_of (names x)) ≡ false → Created l c d.name values log log1 lives lives' reply → names' ≡ with_name x (answered t (reply_of reply)) names → asked' ≤ asked + 2 →
+    IfSome log (λ es. Leaves p es s) → IfSome log1 (λ es. Leaves p es s1) → IfSome log' (λ es. Leaves p es s') → Classes types classes → slice_get types t.0 ≡ Some d → slice_get classes t.0 ≡ Some c → safe.is_owning (value_of (names x)) ≡ false → length values ≡ length d.fields → Created l c d.name values log log1 lives lives' reply → names' ≡ with_name x (answered t (reply_of reply)) names → asked' ≤ asked + 2 →
     lives'' ≡ lives' → GrewBy (Behind w) s1 log1 log' → Behind w s' [] → (os : List Open) → Performed types l z z w s s' (New x t values) names names' os os lives lives'' asked asked' log log'
-new-performed types classes l z w p s s1 s' x t values names names' lives lives' lives'' asked asked' log log1 log' reply d c leaves leaves1 leaves' cs f g free made e n same work down os =
+new-performed types classes l z w p s s1 s' x t values names names' lives lives' lives'' asked asked' log log1 log' reply d c leaves leaves1 leaves' cs f g free fits made e n same work down os =
     let of = class-at types classes t.0 d c cs f g in record {
       grew = called types l z w p (New x t values) s s1 s' names names' os log log1 log' leaves leaves1 leaves'
           (grew-say l (λ own. RunsNew types x t values names own names') (entry.New d.name values ∷ made.own) s log log1 made.records
           (record { class = c; declared = d; of_class = of; own = made.own; reply = reply_of reply; part_is = refl; allocates = made.allocates; after_is = e })) work;
       safe = λ s y. rw e (safe-reply s os names x t values reply y);
-      holds = λ base h. rw same (rw e (holds-reply types base lives lives' names x t c d reply of free made.begins h));
+      holds = λ base h. rw same (rw e (holds-reply types base lives lives' names x t c values d reply of fits free made.begins h));
       meets = λ p h a b. b;
       sections = λ base h. h;
       cost = omega (arith, n);
@@ -71,21 +71,60 @@ new-performed types classes l z w p s s1 s' x t values names names' lives lives'
     }
 
 pub drop-performed : (types : List TypeDeclaration) (classes : List ℕ) (l : ℕ) (z : Around) (w : Option (List ℕ)) (p : ℕ) (s s1 s' : State ℕ) (x : List ℕ) (t : TypeId) (o : ObjId) (names names' : Names) (lives lives' lives'' : Lives) (asked asked' : ℕ) (log log1 log' : Option Log) (c : ℕ) (d : TypeDeclaration) →
-    IfSome log (λ es. Leaves p es s) → IfSome log1 (λ es. Leaves p es s1) → IfSome log' (λ es. Leaves p es s') → Classes types classes → OfClass types t.0 c d → names x ≡ Object t o.unit o.life → Disposed l d.counted c o s log log1 lives lives' → names' ≡ with_name x Nothing names → asked' ≤ asked + 2 →
+    IfSome log (λ es. Leaves p es s) → IfSome log1 (λ es. Leaves p es s1) → IfSome log' (λ es. Leaves p es s') → Classes types classes → OfClass types t.0 c d → names x ≡ Object t o.unit o.life → count_in (lives o.unit) ≡ 1 → Disposed l d.counted c o s log log1 lives lives' → names' ≡ with_name x Nothing names → asked' ≤ asked + 2 →
     lives'' ≡ lives' → GrewBy (Behind w) s1 log1 log' → Behind w s' [] → (os : List Open) → Performed types l z z w s s' (Drop x) names names' os os lives lives'' asked asked' log log'
-drop-performed types classes l z w p s s1 s' x t o names names' lives lives' lives'' asked asked' log log1 log' c d leaves leaves1 leaves' cs of held gone e n same work down os = record {
+drop-performed types classes l z w p s s1 s' x t o names names' lives lives' lives'' asked asked' log log1 log' c d leaves leaves1 leaves' cs of held one gone e n same work down os = record {
   grew = called types l z w p (Drop x) s s1 s' names names' os log log1 log' leaves leaves1 leaves'
       (grew-map (Say l (λ own. RunsGivingUp types x (batch_in s) names own names')) (RunsAction types l (is_inside z) (Behind w) (Drop x) names names') s log log1 (λ part y. y)
       (grew-say l (λ own. RunsGivingUp types x (batch_in s) names own names') (entry.Drop o.unit o.life ∷ entry.Last ∷ gone.own) s log log1 gone.records
       (inr (record { type = t; unit = o.unit; life = o.life; held = held; class = c; declared = d; of_class = of; home = gone.home; batch = is_some (s.rows c).deferred.plain; batch_is = knows-batch s c; own = gone.own; part_is = refl; frees = gone.frees; after_is = e })))) work;
   safe = λ s y. rw e (rw (store-with x Nothing names) y.1.3);
-  holds = λ base h. rw same (rw e (holds-less types base lives lives' names x t o.unit o.life held gone.ends h));
+  holds = λ base h. rw same (rw e (holds-less types base lives lives' names x t o.unit o.life held one gone.ends h));
   meets = λ p h a b. b;
   sections = λ base h. h;
   cost = omega (arith, n);
   weight = omega arith;
   down = down;
 }
+
+-- .. and where others are left
+pub still-performed : (types : List TypeDeclaration) (l : ℕ) (z : Around) (w : Option (List ℕ)) (p : ℕ) (s s1 s' : State ℕ) (x : List ℕ) (t : TypeId) (o : ObjId) (names names' : Names) (lives lives' lives'' : Lives) (asked asked' : ℕ) (log log1 log' : Option Log) →
+    IfSome log (λ es. Leaves p es s) → IfSome log1 (λ es. Leaves p es s1) → IfSome log' (λ es. Leaves p es s') → IsCounted types t.0 → names x ≡ Object t o.unit o.life → GivenUp l o log log1 lives lives' → names' ≡ with_name x Nothing names → asked' ≤ asked + 2 →
+    lives'' ≡ lives' → GrewBy (Behind w) s1 log1 log' → Behind w s' [] → (os : List Open) → Performed types l z z w s s' (Drop x) names names' os os lives lives'' asked asked' log log'
+still-performed types l z w p s s1 s' x t o names names' lives lives' lives'' asked asked' log log1 log' leaves leaves1 leaves' of held gone e n same work down os = record {
+  grew = called types l z w p (Drop x) s s1 s' names names' os log log1 log' leaves leaves1 leaves'
+      (grew-map (Say l (λ own. RunsGivingUp types x (batch_in s) names own names')) (RunsAction types l (is_inside z) (Behind w) (Drop x) names names') s log log1 (λ part y. y)
+      (grew-say l (λ own. RunsGivingUp types x (batch_in s) names own names') (entry.Drop o.unit o.life ∷ entry.Still gone.seen ∷ []) s log log1 gone.records
+      (inl (record { type = t; unit = o.unit; life = o.life; held = held; of_type = of; seen = gone.seen; others = gone.others; part_is = refl; after_is = e })))) work;
+  safe = λ s y. rw e (rw (store-with x Nothing names) y.1.3);
+  holds = λ base h. rw same (rw e (holds-still types base lives lives' names x t o.unit o.life gone.seen held gone.counted gone.others gone.less h));
+  meets = λ p h a b. b;
+  sections = λ base h. h;
+  cost = omega (arith, n);
+  weight = omega arith;
+  down = down;
+}
+
+pub acquire-performed : (types : List TypeDeclaration) (l : ℕ) (z : Around) (w : Option (List ℕ)) (p : ℕ) (s s' : State ℕ) (y x : List ℕ) (t : TypeId) (o : ObjId) (names names' : Names) (lives lives' : Lives) (asked asked' : ℕ) (log log' : Option Log) →
+    IfSome log (λ es. Leaves p es s) → IfSome log' (λ es. Leaves p es s') → IsCounted types t.0 → names x ≡ Object t o.unit o.life → safe.is_owning (value_of (names y)) ≡ false → Acquired l o log log' lives lives' → names' ≡ with_name y (Object t o.unit o.life) names → asked' ≤ asked + 1 →
+    s' ≡ s → Behind w s [] → (os : List Open) → Performed types l z z w s s' (Acquire y x) names names' os os lives lives' asked asked' log log'
+acquire-performed types l z w p s s' y x t o names names' lives lives' asked asked' log log' leaves leaves' of held free got e n same down os =
+    let quiet : Behind w s' [] = rw same down in
+    let none : GrewBy (Behind w) s' log' log' = grew-none (Behind w) s' log' quiet in record {
+      grew = called types l z w p (Acquire y x) s s' s' names names' os log log' log' leaves leaves' leaves'
+          (grew-say l (λ own. RunsAcquire types y x names own names') (entry.Acquire o.unit o.life got.seen ∷ []) s log log' got.records
+          (record { type = t; unit = o.unit; life = o.life; held = held; of_type = of; seen = got.seen; some = got.some; part_is = refl; after_is = e })) none;
+      safe = λ b k. rw e (rw (store-with y (Object t o.unit o.life) names) (of-gives b k));
+      holds = λ base h. rw e (holds-more types base lives lives' names x y t o.unit o.life got.seen of.declared of.found of.counted held free got.counted got.more h);
+      meets = λ p h a b. b;
+      sections = λ base h. h;
+      cost = omega (arith, n);
+      weight = omega arith;
+      down = quiet;
+    }
+  where
+    of-gives : (b : Setting) → safe.SafeAction b (store_of names) (Acquire y x) (λ r. SafeStack b r os) → SafeStack b (safe.with_value (store_of names) y (value_of (Object t o.unit o.life))) os
+    of-gives b k = (let same : k.0 ≡ t = (let q = sym k.1 ∙ ap value_of held in cc) in subst (λ v. SafeStack b (safe.with_value (store_of names) y (safe.Owning v)) os) same k.3.1)
 
 -- a block that runs once
 rest-once : (types : List TypeDeclaration) (l : ℕ) (i : Bool) (w : Option (List ℕ)) (o : Open) (body : Block) → o.rest.now ≡ block_list body → o.repeats ≡ 0 → (names last : Names) (s : State ℕ) (part : Log) → RunsRest types l i w o names last s part → RunsBlock types l i (Behind w) body names last s part

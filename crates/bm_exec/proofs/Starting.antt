@@ -51,19 +51,19 @@ start-sections z b now p = rw p.now_is (sections-inner z z p.top [] p.leaves_is 
 pub start-holds : (types : List TypeDeclaration) (lives : Lives) (names : Names) → names ≡ no_names → Holds types lives lives names
 start-holds types lives names e = rw e (record {
   living = λ x t u n f. absurd (nothing-is-none t u n f);
-  once = λ x y t t' u n n' f g. absurd (nothing-is-none t u n f);
+  typed = λ x y t t' u n n' f g. absurd (nothing-is-none t u n f);
   apart = λ x t u n f. absurd (nothing-is-none t u n f);
   before = λ u l f. f;
   reached = λ u l f. inl f;
 })
 
 -- all of it
-at-start : (types : List TypeDeclaration) (e : Setting) (b : Block) (names : NameTable) (now : List Open) → names_of names ≡ no_names → Pushed [] now (block_list b) 0 false b → list_meets (may_run types (has_name names) 1) (block_list b) ≡ true → safe.SafeBlock e safe.empty_store b safe.OwnsNothing → IsAtStart types b names now
-at-start types e b names now none p meets safe = record {
+at-start : (types : List TypeDeclaration) (e : Setting) (b : Block) (names : NameTable) (now : List Open) → names_of names ≡ no_names → Pushed [] now (block_list b) 0 false b → list_meets (may_run types (has_name names) 1) (block_list b) ≡ true → e.types ≡ types → safe.SafeBlock e safe.empty_store b safe.OwnsNothing → IsAtStart types b names now
+at-start types e b names now none p meets of safe = record {
   can = λ z w s lives d. record {
     holds = (lives, start-holds types lives (names_of names) none);
     may = start-meets (may_run types (has_name names)) b now p meets;
-    accepted = (e, start-safe e b now (names_of names) none p safe);
+    accepted = (e, of, start-safe e b now (names_of names) none p safe);
     sections = (z, start-sections z b now p);
     down = d;
   };
@@ -74,9 +74,9 @@ at-start types e b names now none p meets safe = record {
   light = (let c = start-cost types b now p in let one : length now ≡ 1 = rw p.now_is refl in omega (arith, c, one));
 }
 
-pub start-bound : (types : List TypeDeclaration) (e : Setting) (b : Block) (names : NameTable) (now : List Open) → names_of names ≡ no_names → Pushed [] now (block_list b) 0 false b → can_run_block types b ≡ true → block_fits 16 b ≡ true → binds_among (has_name names) b ≡ true → safe.SafeBlock e safe.empty_store b safe.OwnsNothing → IsAtStart types b names now
-start-bound types e b names now none p can fits bound safe = at-start types e b names now none p (block-meets types (has_name names) 0 b can fits bound) safe
+pub start-bound : (types : List TypeDeclaration) (e : Setting) (b : Block) (names : NameTable) (now : List Open) → names_of names ≡ no_names → Pushed [] now (block_list b) 0 false b → can_run_block types b ≡ true → block_fits 16 b ≡ true → binds_among (has_name names) b ≡ true → e.types ≡ types → safe.SafeBlock e safe.empty_store b safe.OwnsNothing → IsAtStart types b names now
+start-bound types e b names now none p can fits bound of safe = at-start types e b names now none p (block-meets types (has_name names) 0 b can fits bound) of safe
 
 -- also with a table whose names were cleared
-pub start-cleared : (types : List TypeDeclaration) (e : Setting) (b : Block) (before names : NameTable) (now : List Open) → names.names.keys ≡ before.names.keys → names_of names ≡ no_names → Pushed [] now (block_list b) 0 false b → can_run_block types b ≡ true → block_fits 16 b ≡ true → binds_among (has_name before) b ≡ true → safe.SafeBlock e safe.empty_store b safe.OwnsNothing → IsAtStart types b names now
-start-cleared types e b before names now k none p can fits bound safe = start-bound types e b names now none p can fits (rw (same-names before names k) bound) safe
+pub start-cleared : (types : List TypeDeclaration) (e : Setting) (b : Block) (before names : NameTable) (now : List Open) → names.names.keys ≡ before.names.keys → names_of names ≡ no_names → Pushed [] now (block_list b) 0 false b → can_run_block types b ≡ true → block_fits 16 b ≡ true → binds_among (has_name before) b ≡ true → e.types ≡ types → safe.SafeBlock e safe.empty_store b safe.OwnsNothing → IsAtStart types b names now
+start-cleared types e b before names now k none p can fits bound of safe = start-bound types e b names now none p can fits (rw (same-names before names k) bound) of safe

@@ -26,7 +26,7 @@ use Rattle.bm_exec.specs.declared.names.NameTable.{NameTable}
 pub record CanGoOn (types : List TypeDeclaration) (z : Around) (w : Option (List ℕ)) (s : State ℕ) (lives : Lives) (names : NameTable) (blocks : List Open) : Type 0 where
   pub holds : (base : Lives) × Holds types base lives (names_of names)
   pub may : stack_meets (may_run types (has_name names)) blocks ≡ true
-  pub accepted : (e : Setting) × SafeStack e (store_of (names_of names)) blocks
+  pub accepted : (e : Setting) × (e.types ≡ types) × SafeStack e (store_of (names_of names)) blocks
   pub sections : (base : Around) × Sectioned base z blocks
   pub down : Behind w s []
 

@@ -1,23 +1,25 @@
 -- The objects that live, by their units.
-use Rattle.std.specs.Prelude.{◌≡◌, ◌⊎◌, ℕ, Bool, List, ◌∷◌, Option, Some, None, is_some}
+use Rattle.std.specs.Prelude.{◌≡◌, ◌⊎◌, ◌<◌, ◌+◌, ◌-◌, ℕ, zero, suc, Bool, true, false, eqb, List, [], ◌∷◌, length, Option, Some, None, is_some}
 use Rattle.bm_journal.specs.declared.entry.Entry.{Entry}
 use Rattle.bm_journal.specs.declared.entry.Entry.TheVariants as entry
 use Rattle.bm_journal.specs.declared.ids.ObjId.{ObjId}
 use Rattle.bm_lang.specs.declared.scenario.TypeDeclaration.{TypeDeclaration}
 use Rattle.bm_lang.specs.declared.scenario.TypeId.{TypeId}
 pub use Rattle.bm_grace.specs.Known.{Living, Lives}
-pub use Rattle.bm_world.specs.Lives.{with_life}
+pub use Rattle.bm_world.specs.Lives.{count_in, recounted, with_life}
 use Rattle.bm_law.specs.Lists.{Log}
 use Rattle.bm_law.specs.Spans.{Records}
 use Rattle.bm_law.specs.State.{State}
-use Rattle.bm_law_scenario.specs.Held.{Names, Object}
+use Rattle.bm_law_scenario.specs.Held.{Held, Names, Nothing, Null, Object, with_name}
 use Rattle.bm_law_scenario.specs.Opened.{OfClass}
 use Rattle.bm_law_scenario.specs.Calls.{Allocates, Frees}
 
 -- Unit u lives life n, and is of class c.
 pub record LivesAs (lives : Lives) (c u n : ℕ) : Type 0 where
   pub home : ℕ
-  pub is : lives u ≡ Some (record { class = c; life = n; home = home })
+  pub count : ℕ
+  pub values : List ℕ
+  pub is : lives u ≡ Some (record { class = c; life = n; home = home; count = count; values = values })
 
 -- the home of the life that a unit has
 abbrev pub home_of : Option Living → Option ℕ
@@ -28,25 +30,41 @@ abbrev pub reply_of : Option ObjId → Option (ℕ × ℕ)
 reply_of None = None
 reply_of (Some o) = Some (o.unit, o.life)
 
--- the life that a reply begins, where its unit had none
-pub record BeginsLife (c : ℕ) (lives lives' : Lives) (o : ObjId) : Type 0 where
+-- the life that a reply begins, where its unit had none: there is one reference to it
+pub record BeginsLife (c : ℕ) (values : List ℕ) (lives lives' : Lives) (o : ObjId) : Type 0 where
   pub none : lives o.unit ≡ None
   pub home : ℕ
-  pub now : lives' ≡ with_life o.unit (Some (record { class = c; life = o.life; home = home })) lives
+  pub now : lives' ≡ with_life o.unit (Some (record { class = c; life = o.life; home = home; count = 1; values = values })) lives
 
--- a reply that gives an object begins its life, and no unit had one; a null reply begins none
-abbrev pub Begins : ℕ → Lives → Lives → Option ObjId → Type 0
-Begins c lives lives' None = lives' ≡ lives
-Begins c lives lives' (Some o) = BeginsLife c lives lives' o
+-- a reply that gives an object begins its life, with these values of its fields, and no unit had one; a null reply begins none
+abbrev pub Begins : ℕ → (values : List ℕ) → Lives → Lives → Option ObjId → Type 0
+Begins c values lives lives' None = lives' ≡ lives
+Begins c values lives lives' (Some o) = BeginsLife c values lives lives' o
 
 -- A call for an object of class c, of a type with this name: its entries, its reply, and the object that lives now.
 pub record Created (l c : ℕ) (name values : List ℕ) (log log' : Option Log) (lives lives' : Lives) (reply : Option ObjId) : Type 0 where
   pub own : List Entry
   pub records : Records l (entry.New name values ∷ own) log log'
   pub allocates : Allocates c own (reply_of reply)
-  pub begins : Begins c lives lives' reply
+  pub begins : Begins c values lives lives' reply
 
--- The one reference to an object of a counted type, or of another one, is given up, with these lists before: its entries, of which the
+-- A call for one more reference to an object: its entry, which names how many there were, and that there is one more.
+pub record Acquired (l : ℕ) (o : ObjId) (log log' : Option Log) (lives lives' : Lives) : Type 0 where
+  pub seen : ℕ
+  pub some : 0 < seen
+  pub records : Records l (entry.Acquire o.unit o.life seen ∷ []) log log'
+  pub counted : count_in (lives o.unit) ≡ seen
+  pub more : lives' ≡ recounted o.unit (seen + 1) lives
+
+-- A reference to an object is given up, and others are left: its entries, which name how many there were, and that there is one less.
+pub record GivenUp (l : ℕ) (o : ObjId) (log log' : Option Log) (lives lives' : Lives) : Type 0 where
+  pub seen : ℕ
+  pub others : 1 < seen
+  pub records : Records l (entry.Drop o.unit o.life ∷ entry.Still seen ∷ []) log log'
+  pub counted : count_in (lives o.unit) ≡ seen
+  pub less : lives' ≡ recounted o.unit (seen - 1) lives
+
+-- The last reference to an object of a counted type, or of another one, is given up, with these lists before: its entries, of which the
 -- free goes to the object's home, and that the object lives no more.
 pub record Disposed (l : ℕ) (counted : Bool) (c : ℕ) (o : ObjId) (s : State ℕ) (log log' : Option Log) (lives lives' : Lives) : Type 0 where
   pub home : ℕ
@@ -56,12 +74,38 @@ pub record Disposed (l : ℕ) (counted : Bool) (c : ℕ) (o : ObjId) (s : State 
   pub to_home : home_of (lives o.unit) ≡ Some home
   pub ends : lives' ≡ with_life o.unit None lives
 
--- The names of a script, before which the objects of `base` lived. Each name that holds an object holds one that lives, of its
--- type's class and none of those, and no two names hold one object. Those still live as they did, and each other object that
--- lives is held by a name.
+-- whether what is held is a reference to an object of unit u
+abbrev pub refers : (u : ℕ) → Held → Bool
+refers u Nothing = false
+refers u Null = false
+refers u (Object t v n) = eqb v u
+
+-- So many names hold references to unit u: where they let go of them one after the other, none is left.
+abbrev pub Referring : (u count : ℕ) → Names → Type 0
+Referring u zero names = (x : List ℕ) → refers u (names x) ≡ false
+Referring u (suc count) names = (x : List ℕ) × (refers u (names x) ≡ true) × Referring u count (with_name x Nothing names)
+
+-- A name holds unit u in its life n: it lives so, of its type's class, with a value for each field of its type. Where its type carries no
+-- count of references, this is the only one.
+pub record IsHeld (types : List TypeDeclaration) (lives : Lives) (t : TypeId) (u n : ℕ) : Type 0 where
+  pub class : ℕ
+  pub declared : TypeDeclaration
+  pub of_class : OfClass types t.0 class declared
+  pub alive : LivesAs lives class u n
+  pub single : declared.counted ≡ false → alive.count ≡ 1
+  pub fields : length alive.values ≡ length declared.fields
+
+-- an object that lives is held by as many names as there are references to it, of which there are some
+pub record IsReached (u : ℕ) (l : Living) (names : Names) : Type 0 where
+  pub some : 0 < l.count
+  pub held : Referring u l.count names
+
+-- The names of a script, before which the objects of `base` lived. Each name that holds an object holds one that lives and is none of
+-- those; names that hold one object hold it as one of the same type. Those of `base` still live as they did, and each other object that
+-- lives is held by as many names as there are references to it.
 pub record Holds (types : List TypeDeclaration) (base lives : Lives) (names : Names) : Type 0 where
-  pub living : (x : List ℕ) (t : TypeId) (u n : ℕ) → names x ≡ Object t u n → (c : ℕ) × (d : TypeDeclaration) × OfClass types t.0 c d × LivesAs lives c u n
-  pub once : (x y : List ℕ) (t t' : TypeId) (u n n' : ℕ) → names x ≡ Object t u n → names y ≡ Object t' u n' → x ≡ y
+  pub living : (x : List ℕ) (t : TypeId) (u n : ℕ) → names x ≡ Object t u n → IsHeld types lives t u n
+  pub typed : (x y : List ℕ) (t t' : TypeId) (u n n' : ℕ) → names x ≡ Object t u n → names y ≡ Object t' u n' → t ≡ t'
   pub apart : (x : List ℕ) (t : TypeId) (u n : ℕ) → names x ≡ Object t u n → base u ≡ None
   pub before : (u : ℕ) (l : Living) → base u ≡ Some l → lives u ≡ Some l
-  pub reached : (u : ℕ) (l : Living) → lives u ≡ Some l → (base u ≡ Some l) ⊎ ((x : List ℕ) × (t : TypeId) × (n : ℕ) × (names x ≡ Object t u n))
+  pub reached : (u : ℕ) (l : Living) → lives u ≡ Some l → (base u ≡ Some l) ⊎ IsReached u l names

@@ -1,19 +1,24 @@
--- Which scripts run so far: those of `new`, `drop`, `if`, `repeat`, `section` and `yield`.
-use Rattle.std.specs.Prelude.{◌≡◌, ℕ, Bool, true, false, ◌&&◌, List, length, nat_le, is_some, slice_get, map, Some}
+-- Which scripts run so far: those of `new`, `drop`, `acquire`, `if`, `repeat`, `section` and `yield`.
+use Rattle.std.specs.Prelude.{◌≡◌, ℕ, Bool, true, false, ◌&&◌, List, length, eqb, nat_le, slice_get, map, None, Option, Some}
 use Rattle.bm_class.specs.Sizes.{class_of_size}
 use Rattle.bm_lang.specs.declared.scenario.Action.{Action, New, Drop, Acquire, Get, Exchange, If', Repeat, Section, Lock, Unlock, Yield, PushFront, PushBack, PopFront, PopBack, Add, First, Remove, Held-Action-If-2, None', Some'}
 use Rattle.bm_lang.specs.declared.scenario.Block.{Block, Block', Row_of-Statement, end_of-Statement, more_of-Statement}
 use Rattle.bm_lang.specs.declared.scenario.TypeDeclaration.{TypeDeclaration}
 use Rattle.bm_law_scenario.specs.Opened.{object_size}
 
+-- the type is declared with so many fields
+abbrev pub has_fields : Option TypeDeclaration → ℕ → Bool
+has_fields None n = false
+has_fields (Some d) n = eqb n (length d.fields)
+
 abbrev mutual
   pub can_run_action : List TypeDeclaration → Action → Bool
-  can_run_action types (New x t values) = is_some (slice_get types t.0) && nat_le (length values) 8
+  can_run_action types (New x t values) = has_fields (slice_get types t.0) (length values) && nat_le (length values) 8
   can_run_action types (Drop x) = true
   can_run_action types (If' x body otherwise) = can_run_block types body && can_run_else types otherwise
   can_run_action types (Repeat n body) = can_run_block types body
   can_run_action types (Section body) = can_run_block types body
-  can_run_action types (Acquire y x) = false
+  can_run_action types (Acquire y x) = true
   can_run_action types (Get x field) = false
   can_run_action types (Exchange y slot x) = false
   can_run_action types (Lock graph) = false

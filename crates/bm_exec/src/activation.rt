@@ -32,6 +32,7 @@ impl<'s> Activation<'s> {
         requires can { can_run_block types.now.declared.now script.now.body ≡ true }
         requires fits { block_fits 16 script.now.body ≡ true }
         requires accepted { Accepted scenario.now script.now }
+        requires types { scenario.now.types ≡ types.now.declared.now }
         ensures start { IfOk result (λ begun. IsAtStart types.now.declared.now script.now.body
             begun.names (reverse begun.frame.blocks.items)) }
     {

@@ -1,13 +1,14 @@
 //! The runner of scripts, over any machine.
 //!
-//! - `Machine` is the trait: what a statement needs of a processor. `create` asks for an object, `dispose` ends one, `enter` and
+//! - `Machine` is the trait: what a statement needs of a processor. `create` asks for an object, `acquire` for one more reference to
+//!   it, and `dispose` gives one up, and ends the object with its last one; `enter` and
 //!   `leave` are a plain section's begin and end, `pause` is a yield, `settle` is the work after a statement; `keeps` is what a call
 //!   leaves as it was.
 //! - `Frame` is where a running script stands: a position over the scenario's own blocks, with those that are open (`Open`), in
 //!   place. Beside it stands the table of its names (`NameTable`). `Holding` is what a name holds.
 //! - `Activation` is a script that has begun: its frame and its names. `resume` runs the script of a frame to its next `yield` or
-//!   its end, and `Stopped` says why it stopped; `run_script` begins a script and runs it whole, on from each `yield`; `run_handler` runs a handler's script the same way,
-//!   with names that were made beforehand, so with no memory but the recorder's.
+//!   its end, and `Stopped` says why it stopped. `run_handler` runs a handler's script whole, with names that were made beforehand, so
+//!   with no memory but the recorder's.
 //!
 //! `worked_turns` computes what a turn leaves in a log.
 //!
@@ -16,8 +17,8 @@
 //! A script that the checker accepted finds what it needs: no statement meets a name that holds nothing, and at its end the names
 //! own nothing. What it leaves in the log is a run of its block (`RunsBlock` of `bm_law_scenario`).
 //!
-//! The language is this project's own; the statements stand for bpf_obj_new and bpf_obj_drop of kernel/bpf/helpers.c. References,
-//! slots and graphs aren't here so far.
+//! The language is this project's own; the statements stand for bpf_obj_new, bpf_obj_drop and bpf_refcount_acquire of
+//! kernel/bpf/helpers.c. Slots and graphs aren't here so far.
 #![tactic(auto)]
 
 mod activation;
@@ -34,5 +35,5 @@ pub use frame::{Frame, Next, Open};
 pub use holding::Holding;
 pub use machine::Machine;
 pub use names::NameTable;
-pub use running::{Stopped, Types, resume, run_handler, run_script};
+pub use running::{Stopped, Types, resume, run_handler};
 pub use turns::worked_turns;

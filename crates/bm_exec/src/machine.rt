@@ -8,7 +8,7 @@ ghost use Rattle.bm_law.specs.Spans.{Records};
 ghost use Rattle.bm_law_work.specs.Grown.{GrewBy};
 ghost use Rattle.bm_exec.specs.Around.{Around, Entered, HasLeft, is_inside};
 ghost use Rattle.bm_exec.specs.Lists.{Behind};
-ghost use Rattle.bm_exec.specs.Living.{Lives, Created, Disposed, LivesAs};
+ghost use Rattle.bm_exec.specs.Living.{Acquired, Created, Disposed, GivenUp, Lives, LivesAs, count_in};
 ghost use Rattle.bm_exec.specs.Yields.{Unyielding};
 
 use bm_class::Class;
@@ -67,12 +67,30 @@ pub trait Machine {
         ensures around { around self.new ≡ around self.old }
         ensures keeps { keeps self.old self.new };
 
-    /// Gives up the one reference to an object that lives: its unit is freed with delay where objects of its type are counted, else
-    /// plainly. From `__bpf_obj_drop_impl` of kernel/bpf/helpers.c.
+    /// Asks for one more reference to an object that lives. It takes no memory but the recorder's. From `bpf_refcount_acquire_impl` of
+    /// kernel/bpf/helpers.c.
+    fn acquire(&mut self, object: ObjId)
+        requires sound { sound self.old }
+        requires room { asked self.old + 1 < 2 ^ 22 }
+        requires living { (c : ℕ) × LivesAs (lives self.old) c object.unit object.life }
+        ensures acquired { Acquired (level self.old) object (log self.old) (log self.new) (lives self.old) (lives self.new) }
+        ensures lists { lists self.new ≡ lists self.old }
+        ensures sound { sound self.new }
+        ensures level { level self.new ≡ level self.old }
+        ensures asked { asked self.new ≤ asked self.old + 1 }
+        ensures processor { processor self.new ≡ processor self.old }
+        ensures behind { behind self.new ≡ behind self.old }
+        ensures through { through self.new ≡ through self.old }
+        ensures around { around self.new ≡ around self.old }
+        ensures keeps { keeps self.old self.new };
+
+    /// Gives up a reference to an object that lives. If others are left, the object stays. If it is the last one, the object's unit is freed,
+    /// with delay where objects of its type are counted, else plainly. From `__bpf_obj_drop_impl` of kernel/bpf/helpers.c.
     fn dispose(&mut self, object: ObjId, counted: bool)
         requires sound { sound self.old }
         requires living { (c : ℕ) × LivesAs (lives self.old) c object.unit object.life }
-        ensures disposed { (c : ℕ) → LivesAs (lives self.old) c object.unit object.life → Disposed (level self.old) counted c object (lists self.old) (log self.old) (log self.new) (lives self.old) (lives self.new) }
+        ensures disposed { (c : ℕ) → LivesAs (lives self.old) c object.unit object.life → count_in (lives self.old object.unit) ≡ 1 → Disposed (level self.old) counted c object (lists self.old) (log self.old) (log self.new) (lives self.old) (lives self.new) }
+        ensures others { 1 < count_in (lives self.old object.unit) → GivenUp (level self.old) object (log self.old) (log self.new) (lives self.old) (lives self.new) }
         ensures sound { sound self.new }
         ensures level { level self.new ≡ level self.old }
         ensures asked { asked self.new ≤ asked self.old }

@@ -1,12 +1,14 @@
 //! Running a script.
 
-ghost use Rattle.std.specs.Prelude.{◌≡◌, ◌+◌, ◌*◌, ◌<◌, ◌≤◌, ◌^◌, ◌∷◌, [], OnOk, IsOk, true, false, Some, None, List, reverse, length};
+ghost use Rattle.std.specs.Prelude.{◌≡◌, ◌+◌, ◌*◌, ◌<◌, ◌≤◌, ◌^◌, [], OnOk, IsOk, true, false, Some, None, List, reverse, length};
 ghost use Rattle.bm_lang.specs.declared.scenario.Action.TheVariants as action;
 ghost use Rattle.bm_lang.specs.declared.scenario.TypeDeclaration.{TypeDeclaration};
 ghost use Rattle.bm_lang.specs.Limits.{block_cost};
 ghost use Rattle.bm_check.specs.Scripts.{Accepted};
 ghost use Rattle.bm_check.specs.Statements.{Setting};
-ghost use Rattle.bm_check.specs.Values.{SafeAction, is_owning};
+ghost use Rattle.bm_check.specs.Values.{Owning, SafeAction, is_owning};
+ghost use Rattle.bm_lang.specs.declared.scenario.TypeId.{TypeId as TypeIdValue};
+ghost use Rattle.bm_law_scenario.specs.Calls.{IsCounted};
 ghost use Rattle.bm_exec.specs.Seen.{names_of, has_name};
 ghost use Rattle.bm_exec.specs.Stores.{store_of, value_of};
 ghost use Rattle.arrayvec.specs.ArrayVec.{array_vec_len};
@@ -16,7 +18,7 @@ ghost use Rattle.bm_exec.specs.Stack.{SafeStack, Sectioned};
 ghost use Rattle.bm_exec.specs.Cost.{stack_cost};
 ghost use Rattle.bm_exec.specs.Bindings.{binds_among};
 ghost use Rattle.bm_exec.specs.Depth.{block_fits};
-ghost use Rattle.bm_exec.specs.Meets.{may_run, stack_meets};
+ghost use Rattle.bm_exec.specs.Meets.{may_run};
 ghost use Rattle.bm_exec.specs.Runnable.{Classes, can_run_action, can_run_block};
 ghost use Rattle.bm_exec.specs.Going.{CanGoOn};
 ghost use Rattle.bm_exec.specs.Lists.{Behind};
@@ -102,7 +104,44 @@ fn perform_new<'s, M: Machine>(
     machine.settle()
 }
 
-// `drop x`: gives up the object that the name holds. Deferred work runs behind it.
+// `acquire y x`: asks for one more reference to the object that x holds, which y then holds too.
+fn perform_acquire<'s, M: Machine>(
+    names: &mut NameTable,
+    machine: &mut M,
+    types: &Types<'s>,
+    name: &'s Name,
+    of: &'s Name,
+)
+    requires sound { M.sound machine.old }
+    requires room { M.asked machine.old + 2 < 2 ^ 22 }
+    requires holds { (base : Lives) × Holds types.now.declared.now base (M.lives machine.old) (names_of names.old) }
+    requires owned { is_owning (value_of (names_of names.old of.now)) ≡ true }
+    requires counted { (t : TypeIdValue) → value_of (names_of names.old of.now) ≡ Owning t → IsCounted types.now.declared.now t.0 }
+    requires free { is_owning (value_of (names_of names.old name.now)) ≡ false }
+    requires there { has_name names.old name.now ≡ true }
+    requires down { Behind (M.behind machine.old) (M.lists machine.old) [] }
+    ensures performed { (os : List Open) → Performed types.now.declared.now (M.level machine.old) (M.around machine.old) (M.around machine.new) (M.behind machine.old) (M.lists machine.old) (M.lists machine.new) (action.Acquire name.now of.now) (names_of names.old) (names_of names.new) os os (M.lives machine.old) (M.lives machine.new) (M.asked machine.old) (M.asked machine.new) (M.log machine.old) (M.log machine.new) }
+    ensures sound { M.sound machine.new }
+    ensures level { M.level machine.new ≡ M.level machine.old }
+    ensures processor { M.processor machine.new ≡ M.processor machine.old }
+    ensures behind { M.behind machine.new ≡ M.behind machine.old }
+    ensures through { M.through machine.new ≡ M.through machine.old }
+    ensures asked { M.asked machine.new ≤ M.asked machine.old + 2 }
+    ensures around { M.around machine.new ≡ M.around machine.old }
+    ensures keeps { M.keeps machine.old machine.new }
+    ensures yields { Unyielding (M.level machine.old) (M.log machine.old) (M.log machine.new) }
+    ensures known { names.new.names.keys ≡ names.old.names.keys }
+{
+    let Holding::Object(type_id, object) = names.holding(of.as_bytes()) else {
+        unreachable!();
+    };
+    machine.acquire(object);
+    let Ok(()) = names.put(name.as_bytes(), Holding::Object(type_id, object)) else {
+        unreachable!();
+    };
+}
+
+// `drop x`: gives up the reference that the name holds. Deferred work runs behind it.
 fn perform_drop<'s, M: Machine>(
     names: &mut NameTable,
     machine: &mut M,
@@ -188,7 +227,7 @@ fn perform<'s, M: Machine>(
     requires may { may_run types.now.declared.now (has_name names.old) (length (reverse frame.old.blocks.items)) statement.now.action ≡ true }
     requires down { Behind (M.behind machine.old) (M.lists machine.old) [] }
     requires open { 0 < length (reverse frame.old.blocks.items) }
-    requires needed { (e : Setting) × SafeAction e (store_of (names_of names.old)) statement.now.action (λ r. SafeStack e r (reverse frame.old.blocks.items)) }
+    requires needed { (e : Setting) × (e.types ≡ types.now.declared.now) × SafeAction e (store_of (names_of names.old)) statement.now.action (λ r. SafeStack e r (reverse frame.old.blocks.items)) }
     ensures performed { OnOk result (Performed types.now.declared.now (M.level machine.old) (M.around machine.old) (M.around machine.new) (M.behind machine.old) (M.lists machine.old) (M.lists machine.new) statement.now.action (names_of names.old) (names_of names.new) (reverse frame.old.blocks.items) (reverse frame.new.blocks.items) (M.lives machine.old) (M.lives machine.new) (M.asked machine.old) (M.asked machine.new) (M.log machine.old) (M.log machine.new)) }
     ensures sound { OnOk result (M.sound machine.new) }
     ensures level { OnOk result (M.level machine.new ≡ M.level machine.old) }
@@ -208,6 +247,10 @@ fn perform<'s, M: Machine>(
             values,
         } => perform_new(names, machine, types, name, *type_id, values),
         Action::Drop { name } => perform_drop(names, machine, types, name),
+        Action::Acquire { name, of } => {
+            perform_acquire(names, machine, types, name, of);
+            Ok(())
+        }
         Action::If {
             name,
             body,
@@ -330,44 +373,6 @@ fn run_on<'s, M: Machine>(
     }
 }
 
-/// Runs a script that the checker accepted, from its beginning to its end. It is never stuck, whatever the machine
-/// replies; what it leaves in the log is a run of its block from names that hold nothing, with the deferred work behind each
-/// statement, and at its end its names own nothing, and those objects live that lived before it. Out of memory is the only other
-/// way to stop, for the table of its names or in the deferred work; the machine is of no further use then.
-pub fn run_script<'s, M: Machine>(
-    alloc: Global,
-    machine: &mut M,
-    types: &Types<'s>,
-    scenario: &Parts,
-    script: &'s Script,
-) -> Result<(), NoMemory>
-    requires sound { M.sound machine.old }
-    requires classes { Classes types.now.declared.now types.now.classes.now }
-    requires room { M.asked machine.old + 2 * block_cost script.now.body < 2 ^ 22 }
-    requires can { can_run_block types.now.declared.now script.now.body ≡ true }
-    requires fits { block_fits 16 script.now.body ≡ true }
-    requires down { Behind (M.behind machine.old) (M.lists machine.old) [] }
-    requires accepted { Accepted scenario.now script.now }
-    ensures ended { OnOk result (RanScript types.now.declared.now (M.level machine.old) (is_inside (M.around machine.old)) (M.behind machine.old) (M.lists machine.old) script.now (M.log machine.old) (M.log machine.new)) }
-    ensures lives { OnOk result (M.lives machine.new ≡ M.lives machine.old) }
-    ensures asked { OnOk result (M.asked machine.new ≤ M.asked machine.old + 2 * block_cost script.now.body) }
-    ensures down { OnOk result (Behind (M.behind machine.old) (M.lists machine.new) []) }
-    ensures sound { OnOk result (M.sound machine.new) }
-    ensures level { OnOk result (M.level machine.new ≡ M.level machine.old) }
-    ensures processor { OnOk result (M.processor machine.new ≡ M.processor machine.old) }
-    ensures behind { OnOk result (M.behind machine.new ≡ M.behind machine.old) }
-    ensures through { M.through machine.new ≡ M.through machine.old }
-    ensures around { OnOk result (M.around machine.new ≡ M.around machine.old) }
-    ensures keeps { OnOk result (M.keeps machine.old machine.new) }
-{
-    let begun = Activation::begin(alloc, types, scenario, script)?;
-    let Activation {
-        mut frame,
-        mut names,
-    } = begun;
-    run_on(&mut frame, &mut names, machine, types)
-}
-
 /// Runs a handler's script that the checker accepted, whole, on a machine behind whose statements no deferred work runs. The
 /// names that it binds are in the table already, so it takes no memory but the recorder's and refuses nothing. Whatever the
 /// machine replies it is never stuck; what it leaves in the log is a run of its block from names that hold nothing, and at its
@@ -386,6 +391,7 @@ pub fn run_handler<'s, M: Machine>(
     requires can { can_run_block types.now.declared.now script.now.body ≡ true }
     requires fits { block_fits 16 script.now.body ≡ true }
     requires accepted { Accepted scenario.now script.now }
+    requires types { scenario.now.types ≡ types.now.declared.now }
     requires bound { binds_among (has_name names.old) script.now.body ≡ true }
     ensures ran { RanScript types.now.declared.now (M.level machine.old) (is_inside (M.around machine.old)) None (M.lists machine.old) script.now (M.log machine.old) (M.log machine.new) }
     ensures lives { M.lives machine.new ≡ M.lives machine.old }

@@ -1,5 +1,5 @@
 -- Where code is, once a unit begins its life or ends it.
-use Rattle.std.proofs.Common.{◌≡◌, ◌∙◌, ◌<◌, ◌+◌, ℕ, [], ◌∷◌, ◌++◌, Option, Some, None, refl, sym, ap, subst, arith}
+use Rattle.std.proofs.Common.{◌≡◌, ◌∙◌, ◌<◌, ◌+◌, ℕ, List, [], ◌∷◌, ◌++◌, Option, Some, None, refl, sym, ap, subst, arith}
 use Rattle.std.specs.Prelude.{◌%◌, ◌^◌, IfSome}
 use Rattle.bm_journal.specs.declared.entry.Entry.{Entry}
 use Rattle.bm_journal.specs.declared.entry.Entry.TheVariants as entry
@@ -13,10 +13,10 @@ use Rattle.bm_lang.specs.declared.scenario.Parts.{Parts}
 use Rattle.bm_law.specs.Lists.{Log}
 use Rattle.bm_cache.specs.declared.caches.Caches.{Caches}
 use Rattle.bm_plan.specs.Position.{StandsAt}
-use Rattle.bm_world.specs.Lives.{asked_once, life_begun, life_ended}
+use Rattle.bm_world.specs.Lives.{asked_once, life_acquired, life_begun, life_ended, life_given_up}
 use Rattle.bm_exec_levels.specs.AtProcessor.{IsAt, log_of}
 use Rattle.bm_exec_levels.specs.Growing.{tells-inner}
-use Rattle.bm_exec_levels.specs.Hosting.{ready-caches, with_caches, with_side}
+use Rattle.bm_exec_levels.specs.Hosting.{at-say, ready-caches, with_caches, with_side}
 use Rattle.bm_exec_levels.specs.Logged.{Tells}
 use Rattle.bm_exec_levels.specs.Here.{Running}
 use Rattle.bm_exec_levels.specs.Ready.{IsReady, asked_of, known_of, word_of}
@@ -74,12 +74,24 @@ module _ {W : Type 0} (knows : Knows W) where
   asked-more p m w n e room = omega (arith, e, room)
 
   -- the unit that was given has begun its life
-  pub at-begun : (l : ℕ) (p : Program) (m : Processor W) (w : W) (u : UnitState) → knows.known w ≡ life_begun u (known_of knows m) → asked_of knows p.scenario.now m + 1 < 2 ^ 22 → IsAt knows StandsAt l p m → IsAt knows StandsAt l p (with_side m w)
-  at-begun l p m w u e room = at-graced l p m w (ap (λ (x : Known). x.grace) e) (asked-more p m w 1 (ap (λ (x : Known). x.objects.asked) e) room)
+  pub at-begun : (l : ℕ) (p : Program) (m : Processor W) (w : W) (values : List ℕ) (u : UnitState) → knows.known w ≡ life_begun values u (known_of knows m) → asked_of knows p.scenario.now m + 1 < 2 ^ 22 → IsAt knows StandsAt l p m → IsAt knows StandsAt l p (with_side m w)
+  at-begun l p m w values u e room = at-graced l p m w (ap (λ (x : Known). x.grace) e) (asked-more p m w 1 (ap (λ (x : Known). x.objects.asked) e) room)
 
   -- an object was asked for, and there was none
   pub at-asked : (l : ℕ) (p : Program) (m : Processor W) (w : W) → knows.known w ≡ asked_once (known_of knows m) → asked_of knows p.scenario.now m + 1 < 2 ^ 22 → IsAt knows StandsAt l p m → IsAt knows StandsAt l p (with_side m w)
   at-asked l p m w e room = at-graced l p m w (ap (λ (x : Known). x.grace) e) (asked-more p m w 1 (ap (λ (x : Known). x.objects.asked) e) room)
+
+  -- one more reference was asked for, and its entry was recorded
+  pub at-acquired : (l : ℕ) (p : Program) (m : Processor W) (z : Caches Recorded) (w : W) (n life seen : ℕ) → knows.known w ≡ life_acquired n (known_of knows m) → asked_of knows p.scenario.now m + 1 < 2 ^ 22 → z.processor ≡ m.caches.processor → Appends (log_of m) l (entry.Acquire n life seen) z.recorder.told → IsAt knows StandsAt l p m → IsAt knows StandsAt l p (with_caches (with_side m w) z)
+  at-acquired l p m z w n life seen e room same x s =
+      at-say knows l p (with_side m w) z (entry.Acquire n life seen) refl tt same x (at-graced l p m w (ap (λ (x : Known). x.grace) e) (asked-more p m w 1 (ap (λ (x : Known). x.objects.asked) e) room) s)
+
+  -- one was given up, behind its drop and the reply that others are left
+  pub at-given-up : (l : ℕ) (p : Program) (m : Processor W) (y z : Caches Recorded) (w : W) (n life seen : ℕ) → knows.known w ≡ life_given_up n (known_of knows m) → y.processor ≡ m.caches.processor → z.processor ≡ y.processor → Appends (log_of m) l (entry.Drop n life) y.recorder.told → Appends y.recorder.told l (entry.Still seen) z.recorder.told → IsAt knows StandsAt l p m → IsAt knows StandsAt l p (with_caches (with_side (with_caches m y) w) z)
+  at-given-up l p m y z w n life seen e same same' x r s =
+      let one = at-say knows l p m y (entry.Drop n life) refl tt same x s in
+      let two = at-graced l p (with_caches m y) w (ap (λ (x : Known). x.grace) e) (let h = one.ready.asks in let a = ap (λ (x : Known). x.objects.asked) e in omega (arith, h, a)) one in
+      at-say knows l p (with_side (with_caches m y) w) z (entry.Still seen) refl tt same' r two
 
   -- ---- a drop
 

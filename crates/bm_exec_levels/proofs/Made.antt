@@ -1,5 +1,5 @@
 -- Objects that begin to live by a call of the code of a level, and that live no more.
-use Rattle.std.proofs.Common.{◌≡◌, ◌+◌, ℕ, Bool, true, false, is_some, List, [], ◌∷◌, Option, Some, None, refl, ap, subst, inl, inr}
+use Rattle.std.proofs.Common.{◌≡◌, ◌∙◌, ◌+◌, ◌-◌, ◌<◌, ℕ, sym, Bool, true, false, is_some, List, [], ◌∷◌, Option, Some, None, refl, ap, subst, inl, inr}
 use Rattle.bm_journal.specs.declared.ids.ObjId.{ObjId}
 use Rattle.bm_journal.specs.declared.entry.Entry.{Entry}
 use Rattle.bm_journal.specs.declared.entry.Entry.TheVariants as entry
@@ -13,13 +13,13 @@ use Rattle.bm_law.specs.Spans.{Records}
 use Rattle.bm_law.proofs.Spans.{Records-one, Records-join}
 use Rattle.bm_law_scenario.specs.Calls.{Allocates, Frees}
 use Rattle.bm_cache.specs.Tokens.{seal_numbers}
-use Rattle.bm_exec.specs.Living.{Created, Disposed, home_of, with_life}
+use Rattle.bm_exec.specs.Living.{Acquired, Created, Disposed, GivenUp, count_in, home_of, recounted, with_life}
 use Rattle.bm_exec_levels.specs.Freeing.{FreeRest, free_entry}
 
 -- ---- what the call left
 
 pub made-one : (l class : ℕ) (name values : List ℕ) (log0 log1 log2 : Option Log) (u : UnitState) (k a : ℕ) (lives lives' : Lives) →
-    Appends log0 l (entry.New name values) log1 → Records l (alloc_took class u.number (u.life + 1) (seal_numbers u.seal) k a) log1 log2 → lives u.number ≡ None → lives' ≡ with_life u.number (Some (record { class = class; life = u.life + 1; home = u.home })) lives →
+    Appends log0 l (entry.New name values) log1 → Records l (alloc_took class u.number (u.life + 1) (seal_numbers u.seal) k a) log1 log2 → lives u.number ≡ None → lives' ≡ with_life u.number (Some (record { class = class; life = u.life + 1; home = u.home; count = 1; values = values })) lives →
     Created l class name values log0 log2 lives lives' (Some (record { unit = u.number; life = u.life + 1 }))
 made-one l class name values log0 log1 log2 u k a lives lives' n r none now = record {
   own = alloc_took class u.number (u.life + 1) (seal_numbers u.seal) k a;
@@ -61,4 +61,23 @@ given-up delayed l fell c o u s t rest log0 log1 log2 log3 lives lives' number c
       subst (λ k. Frees delayed k o.unit u.home (batch_of s k) own) class (subst (λ k. Frees delayed u.class k u.home (batch_of s u.class) own) number (subst (λ z. Frees delayed u.class u.number u.home (batch_of z u.class) own) same (rest-phrase delayed fell u.class u.number u.home (batch_of t u.class) rest f)));
   to_home = home;
   ends = ends;
+}
+
+-- one more reference, and one less
+pub one-more : (l : ℕ) (o : ObjId) (seen : ℕ) (log log' : Option Log) (lives lives' : Lives) → 0 < seen → Appends log l (entry.Acquire o.unit o.life seen) log' → seen ≡ count_in (lives o.unit) → lives' ≡ recounted o.unit (count_in (lives o.unit) + 1) lives → Acquired l o log log' lives lives'
+one-more l o seen log log' lives lives' some a counts e = record {
+  seen = seen;
+  some = some;
+  records = Records-one l (entry.Acquire o.unit o.life seen) log log' a;
+  counted = sym counts;
+  more = e ∙ ap (λ k. recounted o.unit (k + 1) lives) (sym counts);
+}
+
+pub one-less : (l : ℕ) (o : ObjId) (seen : ℕ) (log mid log' : Option Log) (lives lives' : Lives) → 1 < count_in (lives o.unit) → Appends log l (entry.Drop o.unit o.life) mid → Appends mid l (entry.Still seen) log' → seen ≡ count_in (lives o.unit) → lives' ≡ recounted o.unit (count_in (lives o.unit) - 1) lives → GivenUp l o log log' lives lives'
+one-less l o seen log mid log' lives lives' others a b counts e = record {
+  seen = seen;
+  others = subst (λ k. 1 < k) (sym counts) others;
+  records = Records-join l (entry.Drop o.unit o.life ∷ []) (entry.Still seen ∷ []) log mid log' (Records-one l (entry.Drop o.unit o.life) log mid a) (Records-one l (entry.Still seen) mid log' b);
+  counted = sym counts;
+  less = e ∙ ap (λ k. recounted o.unit (k - 1) lives) (sym counts);
 }

@@ -1,11 +1,11 @@
-//! Objects that the code of a level asks for and gives up.
+//! Objects that the code of a level asks for and gives up, and references to them.
 
 ghost use Rattle.std.specs.Prelude.{◌≡◌, ◌+◌, ◌-◌, ◌<◌, ◌^◌, ℕ, is_some, length};
 ghost use Rattle.bm_law.specs.Stands.{stands};
 ghost use Rattle.bm_cache.specs.Answers.{Allocated, Freed, Gone, IsOfClass, SoundBy};
 ghost use Rattle.bm_cache.specs.Shown.{shown};
 ghost use Rattle.bm_cache.specs.Tests.{SuitsFree};
-ghost use Rattle.bm_exec.specs.Living.{Created, Disposed, LivesAs};
+ghost use Rattle.bm_exec.specs.Living.{Acquired, Created, Disposed, GivenUp, LivesAs, count_in};
 ghost use Rattle.bm_exec_levels.specs.AtProcessor.{Between, FineAt, IsAt, SameLives, lists_of, log_of, tests_of};
 ghost use Rattle.bm_exec_levels.specs.AtTie.{FreesAt, GaveAt, TiedAt};
 ghost use Rattle.bm_exec_levels.specs.Freeing.{FreeRest, free_entry};
@@ -116,9 +116,10 @@ pub(crate) fn make<'s, W: Lives, B: Since<W>, L: Rank>(
     ensures tied { TiedAt W.Knows B.since B.start own.new }
     ensures between { Between W.Knows 1 0 L.number program.now own.old own.new }
 {
+    let fields = values.duplicate();
     own.caches.note(L::level(), Entry::New(name, values));
     match allocate::<W, B, L>(own, program, class) {
-        Given::Unit(unit) => Some(own.side.begin_life(unit)),
+        Given::Unit(unit) => Some(own.side.begin_life(unit, fields)),
         Given::Empty => {
             own.side.ask();
             None
@@ -130,9 +131,54 @@ pub(crate) fn make<'s, W: Lives, B: Since<W>, L: Rank>(
     }
 }
 
-/// Gives up the one reference to an object that lives, at a level: its unit is freed with delay where objects of its type are counted,
-/// else plainly. It takes no memory but the recorder's.
-pub(crate) fn give_up<'s, W: Lives, B: Since<W>, L: Rank>(
+/// Asks for one more reference to an object that lives, at a level. It takes no memory but the recorder's.
+pub(crate) fn acquire<'s, W: Lives, B: Since<W>, L: Rank>(
+    own: &mut Processor<W>,
+    program: &'s Program<'s>,
+    object: ObjId,
+)
+    requires at { IsAt W.Knows StandsAt L.number program.now own.old }
+    requires tied { TiedAt W.Knows B.since B.start own.old }
+    requires fine { FineAt W.Knows L.number own.old }
+    requires room { asked_of W.Knows program.now.scenario.now own.old + 1 < 2 ^ 22 }
+    requires living { (c : ℕ) × LivesAs (known_of W.Knows own.old).objects.lives c object.unit object.life }
+    ensures acquired { Acquired L.number object (log_of own.old) (log_of own.new) (known_of W.Knows own.old).objects.lives (known_of W.Knows own.new).objects.lives }
+    ensures lists { lists_of own.new ≡ lists_of own.old }
+    ensures at { IsAt W.Knows StandsAt L.number program.now own.new }
+    ensures tied { TiedAt W.Knows B.since B.start own.new }
+    ensures between { Between W.Knows 1 0 L.number program.now own.old own.new }
+{
+    let seen = own.side.acquire(object);
+    own.caches
+        .note(L::level(), Entry::Acquire(object.unit, object.life, seen));
+}
+
+// Gives up a reference to an object that has others, at a level.
+fn give_up_other<'s, W: Lives, B: Since<W>, L: Rank>(
+    own: &mut Processor<W>,
+    program: &'s Program<'s>,
+    object: ObjId,
+)
+    requires at { IsAt W.Knows StandsAt L.number program.now own.old }
+    requires tied { TiedAt W.Knows B.since B.start own.old }
+    requires fine { FineAt W.Knows L.number own.old }
+    requires living { (c : ℕ) × LivesAs (known_of W.Knows own.old).objects.lives c object.unit object.life }
+    requires others { 1 < count_in ((known_of W.Knows own.old).objects.lives object.unit) }
+    ensures given_up { GivenUp L.number object (log_of own.old) (log_of own.new) (known_of W.Knows own.old).objects.lives (known_of W.Knows own.new).objects.lives }
+    ensures at { IsAt W.Knows StandsAt L.number program.now own.new }
+    ensures tied { TiedAt W.Knows B.since B.start own.new }
+    ensures between { Between W.Knows 0 0 L.number program.now own.old own.new }
+{
+    let level = L::level();
+    own.caches
+        .note(level, Entry::Drop(object.unit, object.life));
+    let seen = own.side.release_other(object);
+    own.caches.note(level, Entry::Still(seen));
+}
+
+// Gives up the last reference to an object that lives, at a level: its unit is freed with delay where objects of its type are counted,
+// else plainly.
+fn end_object<'s, W: Lives, B: Since<W>, L: Rank>(
     own: &mut Processor<W>,
     program: &'s Program<'s>,
     object: ObjId,
@@ -142,6 +188,7 @@ pub(crate) fn give_up<'s, W: Lives, B: Since<W>, L: Rank>(
     requires tied { TiedAt W.Knows B.since B.start own.old }
     requires fine { FineAt W.Knows L.number own.old }
     requires living { (c : ℕ) × LivesAs (known_of W.Knows own.old).objects.lives c object.unit object.life }
+    requires only { count_in ((known_of W.Knows own.old).objects.lives object.unit) ≡ 1 }
     ensures disposed { (c : ℕ) → LivesAs (known_of W.Knows own.old).objects.lives c object.unit object.life →
         Disposed L.number counted c object (lists_of own.old) (log_of own.old) (log_of own.new) (known_of W.Knows own.old).objects.lives (known_of W.Knows own.new).objects.lives }
     ensures at { IsAt W.Knows StandsAt L.number program.now own.new }
@@ -154,4 +201,31 @@ pub(crate) fn give_up<'s, W: Lives, B: Since<W>, L: Rank>(
     own.caches.note(level, Entry::Last);
     let unit = own.side.end_life(object.unit, counted);
     release::<W, B, L>(own, program, unit, counted);
+}
+
+/// Gives up a reference to an object that lives, at a level. If others are left, the object stays; with the last one it ends. It takes no
+/// memory but the recorder's.
+pub(crate) fn give_up<'s, W: Lives, B: Since<W>, L: Rank>(
+    own: &mut Processor<W>,
+    program: &'s Program<'s>,
+    object: ObjId,
+    counted: bool,
+)
+    requires at { IsAt W.Knows StandsAt L.number program.now own.old }
+    requires tied { TiedAt W.Knows B.since B.start own.old }
+    requires fine { FineAt W.Knows L.number own.old }
+    requires living { (c : ℕ) × LivesAs (known_of W.Knows own.old).objects.lives c object.unit object.life }
+    ensures disposed { (c : ℕ) → LivesAs (known_of W.Knows own.old).objects.lives c object.unit object.life → count_in ((known_of W.Knows own.old).objects.lives object.unit) ≡ 1 →
+        Disposed L.number counted c object (lists_of own.old) (log_of own.old) (log_of own.new) (known_of W.Knows own.old).objects.lives (known_of W.Knows own.new).objects.lives }
+    ensures others { 1 < count_in ((known_of W.Knows own.old).objects.lives object.unit) →
+        GivenUp L.number object (log_of own.old) (log_of own.new) (known_of W.Knows own.old).objects.lives (known_of W.Knows own.new).objects.lives }
+    ensures at { IsAt W.Knows StandsAt L.number program.now own.new }
+    ensures tied { TiedAt W.Knows B.since B.start own.new }
+    ensures between { Between W.Knows 0 0 L.number program.now own.old own.new }
+{
+    if own.side.references(object.unit) > 1 {
+        give_up_other::<W, B, L>(own, program, object);
+    } else {
+        end_object::<W, B, L>(own, program, object, counted);
+    }
 }

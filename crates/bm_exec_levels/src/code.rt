@@ -1,6 +1,6 @@
 //! The machine on which handlers run.
 
-use crate::calls::{give_up, make};
+use crate::calls::{acquire, give_up, make};
 use crate::host::At;
 use crate::ranks::Rank;
 use bm_class::Class;
@@ -43,6 +43,10 @@ impl<'a, 's, W: Lives, B: Since<W>, L: Rank> Machine for At<'a, 's, W, B, L> {
 
     fn create(&mut self, class: Class, name: Name, values: Values) -> Option<ObjId> {
         make::<W, B, L>(self.own, self.program, class, name, values)
+    }
+
+    fn acquire(&mut self, object: ObjId) {
+        acquire::<W, B, L>(self.own, self.program, object);
     }
 
     fn dispose(&mut self, object: ObjId, counted: bool) {

@@ -9,7 +9,8 @@ use Rattle.bm_journal.specs.declared.ids.ObjId.{ObjId}
 use Rattle.bm_journal.specs.declared.ids.Tag.{Tag}
 use Rattle.bm_journal.specs.declared.entry.Entry.{Entry}
 use Rattle.bm_journal.specs.declared.entry.Entry.TheVariants as entry
-use Rattle.bm_law_order.specs.Lives.{Life, Lives, first_lives, lives_after}
+pub use Rattle.bm_law_order.specs.Lives.{IsAlive}
+use Rattle.bm_law_order.specs.Lives.{Lives, first_lives, lives_after}
 use Rattle.bm_law_order.specs.Orders.{AllFit, Order}
 use Rattle.bm_law_order.specs.Polls.{for_processor}
 
@@ -120,12 +121,6 @@ pub record Owned : Type 0 where
 
 abbrev pub owned_after : (p l : ℕ) → Entry → Owned → Owned
 owned_after p l e s = record { lives = lives_after p l e s.lives; objects = objects_after p l e s.objects }
-
--- the unit has this life now
-pub record IsAlive (u life : ℕ) (lives : Lives) : Type 0 where
-  pub held : Life
-  pub holds : lives.holds u ≡ Some held
-  pub now_is : life ≡ lives.begun u
 
 abbrev pub IfAlive : Option ObjId → Lives → Type 0
 IfAlive None lives = Unit {0}

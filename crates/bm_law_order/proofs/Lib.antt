@@ -7,3 +7,4 @@ pub mod BarePool
 pub mod TiesLead
 pub mod WaitsJoin
 pub mod Waited
+pub mod MadeJoin

@@ -1,6 +1,6 @@
 -- What acts tell, entries tell: an order of entries is laid where the acts that they stand for lead on.
 use Rattle.std.proofs.Common.{◌≡◌, ◌≢◌, ◌⊎◌, ℕ, ◌<◌, Bool, true, false, List, [], ◌∷◌, ◌++◌, map, drop, Option, Some, None, refl, sym, ◌∙◌, ap, subst, arith, inl, inr, eqb, eq-eqb}
-use Rattle.std.specs.Prelude.{if◌then◌else◌, ◌&&◌, length}
+use Rattle.std.specs.Prelude.{if◌then◌else◌, ◌&&◌, ◌-◌, length}
 use Rattle.std.specs.List.{All, concat}
 use Rattle.std.proofs.lemmas.List.Elements.{All-head, All-tail, All-cons, All-nil}
 use Rattle.std.proofs.lemmas.Bool.Decides.{eqb_tells}
@@ -15,7 +15,7 @@ use Rattle.bm_law.specs.Phrases.{given}
 use Rattle.bm_law_order.specs.ByDomain.{ByDomain, of, with_of}
 use Rattle.bm_law_order.specs.Numbers.{Course, IsBegin, Numbers, begun, ended}
 use Rattle.bm_law_order.specs.Looks.{Looked, Looks, first_or, nothing_looked}
-use Rattle.bm_law_order.specs.Lives.{Dropping, IsGiven, Life, Lives, answered_last, maker_of, with_drop, with_life}
+use Rattle.bm_law_order.specs.Lives.{Dropping, Has, IsGiven, Life, Lives, answered_last, answered_still, counted, maker_of, with_drop, with_life}
 use Rattle.bm_law_order.specs.Parcels.{Boxes, EndsWith, on_box}
 use Rattle.bm_law_order.specs.Shared.{Shared, Fits, found, shared_after}
 use Rattle.bm_law_order.specs.Orders.{Leads, by}
@@ -185,9 +185,41 @@ drop-leads p l u life home delayed e s fits after h f =
       now_is = after z2 ∙ (ap (λ x. F (with_drop p l None x)) last ∙ ap (λ x. F (G x)) (same-place p l L0.dropping (Some d1) (Some d0) none));
     }
 
-made-leads : (p l u life : ℕ) (seal : Option Seal) (s : Shared) → IsGiven u life s.lives → Leads (by p ((l, given u life (seal_told seal)) ∷ [])) (plainly s) (plainly (act_after p (act.Makes u life seal) s))
-made-leads p l u life None s f = record { fit = (record { words = tt; numbers = tt; looks = tt; lives = f; pages = tt; boxes = tt }, tt); now_is = refl }
-made-leads p l u life (Some x) s f = record { fit = (record { words = tt; numbers = tt; looks = tt; lives = f; pages = tt; boxes = tt }, tt); now_is = refl }
+same-drop : (p l : ℕ) (f : ℕ → ℕ → Option Dropping) (x : Option Dropping) → f p l ≡ None → (λ (q k : ℕ). if eqb q p && eqb k l then None else (if eqb q p && eqb k l then x else f q k)) ≡ f
+same-drop p l f x none = fun_ext (λ q. fun_ext (λ k. at q k))
+  where
+    at : (q k : ℕ) → (if eqb q p && eqb k l then None else (if eqb q p && eqb k l then x else f q k)) ≡ f q k
+    at q k = elim (eqb_tells q p) [
+      | inl a ↦ elim (eqb_tells k l) [
+        | inl b ↦ rw (a.0, b.0, a.1, b.1) (sym none)
+        | inr b ↦ rw (a.0, b.0) refl
+      ]
+      | inr a ↦ rw a.0 refl
+    ]
+
+-- a drop after which references are left
+given-up-leads : (p l u life seen : ℕ) (s : Shared) → Steady s → Has u life seen s.lives → 1 < seen → Leads (by p ((l, entry.Drop u life) ∷ (l, entry.Still seen) ∷ [])) (plainly s) (plainly (act_after p (act.GivesUp u life seen) s))
+given-up-leads p l u life seen s h has more =
+    let none = h.undropped p l in
+    let d0 : Dropping = record { unit = u; life = life; ended = None } in
+    let L0 = s.lives in
+    let L1 = with_drop p l (Some d0) L0 in
+    let under : L1.dropping p l ≡ Some d0 = drop-here p l (Some d0) L0 in
+    let now = counted (λ k. k - 1) (L0.holds u) in
+    let still : answered_still p l (L1.dropping p l) L1 ≡ with_drop p l None (with_life u now L1) = ap (λ o. answered_still p l o L1) under in
+    let F : Lives → Shared = λ x. record (plainly s) { lives = x } in
+    let G : (ℕ → ℕ → Option Dropping) → Lives = λ x. record (with_life u now L0) { dropping = x } in
+    record {
+      fit = (
+        record { words = tt; numbers = tt; looks = tt; lives = record { references = seen; has = has; none = none }; pages = tt; boxes = tt },
+        (record { words = tt; numbers = tt; looks = tt; lives = (record { unit = u; life = life; under = under; has = record { held = has.held; holds = has.holds; count = has.count; now_is = has.now_is } }, more); pages = tt; boxes = tt }, tt),
+      );
+      now_is = ap F still ∙ ap (λ x. F (G x)) (same-drop p l L0.dropping (Some d0) none);
+    }
+
+made-leads : (p l u life : ℕ) (values : List ℕ) (seal : Option Seal) (s : Shared) → IsGiven u life s.lives → Leads (by p ((l, given u life (seal_told seal)) ∷ [])) (plainly s) (plainly (act_after p (act.Makes u life values seal) s))
+made-leads p l u life values None s f = record { fit = (record { words = tt; numbers = tt; looks = tt; lives = f; pages = tt; boxes = tt }, tt); now_is = refl }
+made-leads p l u life values (Some x) s f = record { fit = (record { words = tt; numbers = tt; looks = tt; lives = f; pages = tt; boxes = tt }, tt); now_is = refl }
 
 -- ---- parcels
 
@@ -397,7 +429,19 @@ comes p l (chunk.FindingNone c) s f h =
       steady = steady-like s (acts_over p (acts_of (chunk.FindingNone c)) s) refl refl refl (full-box p c (drop 1) s.boxes full-drop h.full) h;
     }
 comes p l (chunk.Sweeping c us parcels) s f h = sweeping-comes p l c us parcels s f h
-comes p l (chunk.Making u life seal) s f h = record { leads = made-leads p l u life seal s f.0; steady = steady-like s (acts_over p (acts_of (chunk.Making u life seal)) s) refl refl refl h.full h }
+comes p l (chunk.Making u life values seal) s f h = record { leads = made-leads p l u life values seal s f.0; steady = steady-like s (acts_over p (acts_of (chunk.Making u life values seal)) s) refl refl refl h.full h }
+comes p l (chunk.Acquiring u life seen) s f h = record {
+  leads = record { fit = (record { words = tt; numbers = tt; looks = tt; lives = f.0; pages = tt; boxes = tt }, tt); now_is = refl };
+  steady = steady-like s (acts_over p (acts_of (chunk.Acquiring u life seen)) s) refl refl refl h.full h;
+}
+comes p l (chunk.Finding u life place value) s f h = record {
+  leads = record { fit = (record { words = tt; numbers = tt; looks = tt; lives = tt; pages = tt; boxes = tt }, tt); now_is = refl };
+  steady = h;
+}
+comes p l (chunk.GivingUp u life seen) s f h = record {
+  leads = given-up-leads p l u life seen s h f.0.0 f.0.1;
+  steady = steady-like s (acts_over p (acts_of (chunk.GivingUp u life seen)) s) refl refl refl h.full h;
+}
 comes p l (chunk.Ending u life home delayed) s f h = ending-comes p l u life home delayed s f.0 h
 
 -- ---- a story

@@ -1,5 +1,5 @@
 -- What acts of a processor need of what all share, and make of it: each is one step of the model.
-use Rattle.std.specs.Prelude.{◌≡◌, ◌≢◌, ℕ, Some, None, List, [], ◌∷◌, ◌++◌, drop, reverse}
+use Rattle.std.specs.Prelude.{◌≡◌, ◌≢◌, ◌<◌, ◌+◌, ◌-◌, ℕ, Some, None, List, [], ◌∷◌, ◌++◌, drop, reverse}
 use Rattle.bm_journal.specs.declared.ids.Domain.{Domain}
 use Rattle.bm_journal.specs.declared.period.Period.{Period}
 use Rattle.bm_law.specs.Inboxes.{oldest}
@@ -7,7 +7,7 @@ use Rattle.bm_law_order.specs.ByDomain.{of, with_of}
 use Rattle.bm_law_order.specs.Words.{IsNextWord, with_word}
 use Rattle.bm_law_order.specs.Numbers.{IsBegin, IsEnd, begun, ended, next}
 use Rattle.bm_law_order.specs.Looks.{Looked, Passes, first_or, nothing_looked}
-use Rattle.bm_law_order.specs.Lives.{IsGiven, given_life, with_life}
+use Rattle.bm_law_order.specs.Lives.{Has, IsAlive, IsGiven, Lives, counted, given_life, with_life}
 use Rattle.bm_law_order.specs.Pages.{AllOut, all_back, fetches, less_fetched}
 use Rattle.bm_law_order.specs.Parcels.{IsParcel, on_box}
 use Rattle.bm_law_order.specs.Shared.{Shared, found}
@@ -17,6 +17,10 @@ use Rattle.bm_law_order.specs.Act as act
 -- the period in progress found these words: the first ones stay, if there are some
 abbrev pub looked : List ℕ → Looked → Looked
 looked words here = record { first = first_or words here.first; later = words }
+
+-- another number of references to the life that a unit has
+abbrev pub recounted : (ℕ → ℕ) → ℕ → Lives → Lives
+recounted f u lives = with_life u (counted f (lives.holds u)) lives
 
 -- after an act of processor p
 abbrev pub act_after : ℕ → Act → Shared → Shared
@@ -32,7 +36,9 @@ act_after p (act.Receives c us) s = record s { boxes = on_box p c (drop 1) s.box
 act_after p (act.Drains c to us) s = record s { boxes = on_box to c (λ parcels. parcels ++ us ∷ []) s.boxes }
 act_after p (act.Releases c to us stamp seen) s = record s { boxes = on_box to c (λ parcels. parcels ++ us ∷ []) s.boxes }
 act_after p (act.GivesBack us) s = record s { pool = all_back (reverse us) s.pool }
-act_after p (act.Makes u life seal) s = record s { lives = given_life p u s.lives }
+act_after p (act.Makes u life values seal) s = record s { lives = given_life p u s.lives }
+act_after p (act.Acquires u life seen) s = record s { lives = recounted (λ n. n + 1) u s.lives }
+act_after p (act.GivesUp u life seen) s = record s { lives = recounted (λ n. n - 1) u s.lives }
 act_after p (act.Ends u life home delayed) s = record s { lives = with_life u None s.lives }
 act_after p _ s = s
 
@@ -71,7 +77,10 @@ ActFits p (act.Receives c us) s = us ≡ oldest (s.boxes p c)
 ActFits p (act.Drains c to us) s = IsParcel s.processors to us
 ActFits p (act.Releases c to us stamp seen) s = IsParcel s.processors to us
 ActFits p (act.GivesBack us) s = AllOut (reverse us) s.pool
-ActFits p (act.Makes u life seal) s = IsGiven u life s.lives
+ActFits p (act.Makes u life values seal) s = IsGiven u life s.lives
+ActFits p (act.Acquires u life seen) s = Has u life seen s.lives
+ActFits p (act.Finds u life place value) s = IsAlive u life s.lives
+ActFits p (act.GivesUp u life seen) s = Has u life seen s.lives × (1 < seen)
 ActFits p (act.Ends u life home delayed) s = IsOnly u life home s
 
 abbrev pub acts_over : ℕ → List Act → Shared → Shared

@@ -37,7 +37,10 @@ pub data Chunk : Type 0 where
   Receiving : (class : ℕ) → List ℕ → Chunk
   FindingNone : (class : ℕ) → Chunk
   Sweeping : (class : ℕ) → List ℕ → List (List ℕ) → Chunk
-  Making : (unit life : ℕ) → Option Seal → Chunk
+  Making : (unit life : ℕ) → (values : List ℕ) → Option Seal → Chunk
+  Acquiring : (unit life seen : ℕ) → Chunk
+  Finding : (unit life place value : ℕ) → Chunk
+  GivingUp : (unit life seen : ℕ) → Chunk
   Ending : (unit life home : ℕ) → (delayed : Bool) → Chunk
 
 -- a seal as an entry names it: the plain stamp and the number seen
@@ -67,7 +70,10 @@ acts_of (GivingBack c us) = act.GivesBack us ∷ []
 acts_of (Receiving c us) = act.Receives c us ∷ []
 acts_of (FindingNone c) = act.Receives c [] ∷ []
 acts_of (Sweeping c us parcels) = map (act.Receives c) parcels ++ act.Receives c [] ∷ []
-acts_of (Making u life seal) = act.Makes u life seal ∷ []
+acts_of (Making u life values seal) = act.Makes u life values seal ∷ []
+acts_of (Acquiring u life seen) = act.Acquires u life seen ∷ []
+acts_of (Finding u life place value) = act.Finds u life place value ∷ []
+acts_of (GivingUp u life seen) = act.GivesUp u life seen ∷ []
 acts_of (Ending u life home delayed) = act.Ends u life home delayed ∷ []
 
 abbrev pub entries_of : Chunk → List Entry
@@ -88,7 +94,10 @@ entries_of (Releasing c to us stamp seen) = entry.Send c to (Whole us) ∷ []
 entries_of (GivingBack c us) = entry.Return c (Whole us) ∷ []
 entries_of (Receiving c us) = entry.Receive c (Whole us) ∷ []
 entries_of (Sweeping c us parcels) = entry.Sweep c (Whole (us ++ concat parcels)) ∷ []
-entries_of (Making u life seal) = given u life (seal_told seal) ∷ []
+entries_of (Making u life values seal) = given u life (seal_told seal) ∷ []
+entries_of (Acquiring u life seen) = entry.Acquire u life seen ∷ []
+entries_of (Finding u life place value) = entry.Get u life place value ∷ []
+entries_of (GivingUp u life seen) = entry.Drop u life ∷ entry.Still seen ∷ []
 entries_of (Ending u life home delayed) = entry.Drop u life ∷ entry.Last ∷ (if delayed then entry.Delay u home else entry.Free u home) ∷ []
 entries_of _ = []
 
@@ -98,7 +107,7 @@ abbrev pub is_judged : Chunk → Bool
 is_judged (Passing c d x n) = true
 is_judged (Beginning d n ws) = true
 is_judged (WholePeriod n ws p) = true
-is_judged (Making u life seal) = true
+is_judged (Making u life values seal) = true
 is_judged (Ending u life home delayed) = true
 is_judged (Releasing c to us stamp seen) = true
 is_judged (Returning c us) = true

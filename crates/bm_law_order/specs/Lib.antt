@@ -17,3 +17,4 @@ pub mod Tie
 pub mod Bare
 pub mod Polls
 pub mod Seals
+pub mod Made

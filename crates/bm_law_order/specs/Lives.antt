@@ -83,6 +83,12 @@ pub record Has (u life k : ℕ) (lives : Lives) : Type 0 where
   pub count : held.count ≡ k
   pub now_is : life ≡ lives.begun u
 
+-- the unit has this life now
+pub record IsAlive (u life : ℕ) (lives : Lives) : Type 0 where
+  pub held : Life
+  pub holds : lives.holds u ≡ Some held
+  pub now_is : life ≡ lives.begun u
+
 -- a life that the unit has is given up, and nothing else is being given up here
 pub record IsDrop (p l u life : ℕ) (lives : Lives) : Type 0 where
   pub references : ℕ

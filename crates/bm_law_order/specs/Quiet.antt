@@ -15,6 +15,7 @@ is_quiet entry.Last = false
 is_quiet (entry.Free u home) = false
 is_quiet (entry.Delay u home) = false
 is_quiet (entry.Acquire u life k) = false
+is_quiet (entry.Get u life place value) = false
 is_quiet (entry.Xchg name put was from) = false
 is_quiet (entry.PushFront name u life place) = false
 is_quiet (entry.PushBack name u life place) = false

@@ -32,7 +32,7 @@ use Rattle.bm_law_scenario.proofs.OfCall.{of-calls}
 use Rattle.bm_law_scenario.proofs.OfWork.{work-writes}
 use Rattle.bm_law_scenario.proofs.RunsAll.{Closed}
 use Rattle.bm_law_order.specs.Act.{Act}
-use Rattle.bm_law_order.specs.Chunk.{Chunk, acts_of, entries_of, seal_told}
+use Rattle.bm_law_order.specs.Chunk.{Chunk, acts_of, entries_of}
 use Rattle.bm_law_order.specs.Chunk as chunk
 use Rattle.bm_law_order.specs.Orders.{AllFit, Order, by, over, part_of}
 use Rattle.bm_law_order.specs.Quiet.{is_quiet}
@@ -63,14 +63,15 @@ quiet-answered l (entry.Drop u life) rest q = absurd (cc)
 quiet-answered l entry.Last rest q = absurd (cc)
 quiet-answered l _ rest q = tt
 
-given-answered : (l u life : ℕ) (seal : Option Seal) (rest : Log) → AreAnswered rest → AreAnswered (at_level l (entries_of (chunk.Making u life seal)) ++ rest)
-given-answered l u life None rest h = (tt, h)
-given-answered l u life (Some s) rest h = (tt, h)
+given-answered : (l u life : ℕ) (values : List ℕ) (seal : Option Seal) (rest : Log) → AreAnswered rest → AreAnswered (at_level l (entries_of (chunk.Making u life values seal)) ++ rest)
+given-answered l u life values None rest h = (tt, h)
+given-answered l u life values (Some s) rest h = (tt, h)
 
 -- the lines of a chunk end no drop without its answers
 chunk-answered : (l : ℕ) (c : Chunk) (rest : Log) → AreAnswered rest → AreAnswered (at_level l (entries_of c) ++ rest)
 chunk-answered l (chunk.Quiet e q) rest h = (quiet-answered l e rest q, h)
-chunk-answered l (chunk.Making u life seal) rest h = given-answered l u life seal rest h
+chunk-answered l (chunk.Making u life values seal) rest h = given-answered l u life values seal rest h
+chunk-answered l (chunk.GivingUp u life seen) rest h = ((refl, tt), (tt, h))
 chunk-answered l (chunk.Ending u life home true) rest h = ((refl, tt), ((refl, tt), (tt, h)))
 chunk-answered l (chunk.Ending u life home false) rest h = ((refl, tt), ((refl, tt), (tt, h)))
 chunk-answered l (chunk.WholePeriod n ws p) rest h = (tt, (tt, h))
@@ -256,9 +257,9 @@ quiet-batches p l _ m q = tt
 abbrev Batches : ℕ → Log → Waiting → Type 0
 Batches p log m = AllFit waiting_after BatchFits (by p log) m
 
-made-batches : (p l u life : ℕ) (seal : Option Seal) (m : Waiting) → Batches p (at_level l (entries_of (chunk.Making u life seal))) m
-made-batches p l u life None m = (tt, tt)
-made-batches p l u life (Some x) m = (tt, tt)
+made-batches : (p l u life : ℕ) (values : List ℕ) (seal : Option Seal) (m : Waiting) → Batches p (at_level l (entries_of (chunk.Making u life values seal))) m
+made-batches p l u life values None m = (tt, tt)
+made-batches p l u life values (Some x) m = (tt, tt)
 
 go-split : (es fs : List Act) (a c : ℕ → Wait) → WaitLeads (es ++ fs) a c → (b : ℕ → Wait) × (WaitLeads es a b × WaitLeads fs b c)
 go-split [] fs a c h = (a, (refl, h))
@@ -293,7 +294,8 @@ module _ (p : ℕ) (since : Log) (start : LivingState) (own : start.side.grace.p
   chunk-batches l o (chunk.Missing d even n) now w j send low = tt
   chunk-batches l o (chunk.FindingNone c) now w j send low = tt
   chunk-batches l o (chunk.WholePeriod n ws q) now w j send low = (tt, (tt, tt))
-  chunk-batches l o (chunk.Making u life seal) now w j send low = made-batches p l u life seal (left_by o)
+  chunk-batches l o (chunk.Making u life values seal) now w j send low = made-batches p l u life values seal (left_by o)
+  chunk-batches l o (chunk.GivingUp u life seen) now w j send low = (tt, (tt, tt))
   chunk-batches l o (chunk.Ending u life home true) now w j send low = (tt, (tt, (tt, tt)))
   chunk-batches l o (chunk.Ending u life home false) now w j send low = (tt, (tt, (tt, tt)))
   chunk-batches l o _ now w j send low = (tt, tt)

@@ -24,7 +24,6 @@ use Rattle.bm_law_logs.specs.LeavesParcels.{no_boxes}
 use Rattle.bm_law_order.specs.Polls.{IsPolled}
 use Rattle.bm_law_order.specs.Seals.{GivesNo, IsSealed, SealFits, Waiting, nobody_waits, waiting_after}
 use Rattle.bm_law_order.specs.Shared.{Shared, fresh}
-use Rattle.bm_page.specs.UnitState.{UnitState}
 use Rattle.bm_law_order.specs.Whole.{whole}
 use Rattle.bm_law_order.proofs.Along.{fit-append}
 use Rattle.bm_law_work.proofs.Each.{AllOf, of-append, of-map, part-then}
@@ -45,7 +44,8 @@ use Rattle.bm_run.specs.Seated.{opening_lists, opening_log}
 use Rattle.bm_law_graphs.specs.Uncalled.{CallNone, CallsNone}
 use Rattle.bm_law_objects.specs.Asking.{AskOnly}
 use Rattle.bm_world.specs.LivingState.{living_of}
-use Rattle.bm_world.specs.Slots.{unit_at}
+use Rattle.bm_world.specs.Slots.{object_at}
+use Rattle.bm_world.specs.declared.slots.Object.{Object}
 use Rattle.bm_world.specs.ToldLiving.{life_of}
 use Rattle.bm_run.proofs.Asking.{IsUngiven, log-asks}
 use Rattle.bm_run.proofs.BatchesTold.{IsUndelayed, all-answered, handler-sends, late-batches, late-none, log-puts, no-more, no-more-append, sweeps-last}
@@ -184,9 +184,9 @@ close-ungiven zero = (tt, (tt, tt))
 close-ungiven (suc p) = (tt, tt)
 
 -- where no object is known none is told
-none-there : (unit : Option UnitState) → living_of unit ≡ None → life_of unit ≡ None
+none-there : (object : Option Object) → living_of object ≡ None → life_of object ≡ None
 none-there None e = refl
-none-there (Some unit) e = cc
+none-there (Some object) e = cc
 
 module _ (s : Parts) (turns : List ℕ) (finals : List Log) (h : AllClosed s turns finals) where
   abbrev n : ℕ
@@ -328,7 +328,7 @@ module _ (s : Parts) (turns : List ℕ) (finals : List Log) (h : AllClosed s tur
   -- no unit is alive at last
   pub none-alive : (u : ℕ) → (shared_over (whole turns finals) (fresh n s.pages)).lives.holds u ≡ None
   none-alive u =
-      let last = ap (λ (x : Shared). x.lives.holds u) h.so_far.so_far.leads.now_is ∙ none-there (unit_at h.world.slots u) (h.lives u) in
+      let last = ap (λ (x : Shared). x.lives.holds u) h.so_far.so_far.leads.now_is ∙ none-there (object_at h.world.slots u) (h.lives u) in
       in-whole (λ z. (shared_over z (fresh n s.pages)).lives.holds u ≡ None) last
 
   -- .. and no drop is under way

@@ -4,7 +4,6 @@ use Rattle.bm_world.specs.ToldLiving.{knows_living}
 use Rattle.std.proofs.Common.{◌∙◌, ap, append-nil, refl, subst, sym}
 use Rattle.bm_law.specs.Lists.{Log}
 use mathlib.Core.Path.{fun_ext}
-use Rattle.bm_page.specs.UnitState.{UnitState}
 use Rattle.bm_page.specs.declared.units.Stocked.{Stocked}
 use Rattle.bm_page.specs.Stock.{Stock, fetched, unborn}
 use Rattle.bm_cache.specs.Opening.{fill_log, named}
@@ -27,7 +26,10 @@ use Rattle.bm_law_order.proofs.BarePool.{fetched-bare}
 use Rattle.bm_post.specs.PostState.{no_parcels}
 use Rattle.bm_post.specs.Rights.{numbers}
 use Rattle.bm_world.specs.LivingState.{LivingState, begun_at}
-use Rattle.bm_world.specs.Slots.{AllEmpty, unit_at}
+use Rattle.bm_world.specs.Slots.{AllEmpty, object_at, values_of}
+use Rattle.bm_world.specs.declared.slots.Object.{Object}
+use Rattle.bm_world.proofs.SlotLemmas.{no-object}
+use Rattle.bm_law_order.specs.Made.{Fields, MadeLead}
 use Rattle.bm_world.specs.Standings.{standing_at, told_standing, waits_told}
 use Rattle.bm_world.specs.declared.standing.Standing.{Standing}
 use Rattle.bm_world.specs.declared.standing.Standing.TheVariants.{Nothing}
@@ -50,13 +52,13 @@ no-boxes n q pool p c = none (nat_lt p 8 && nat_lt c 11)
     none false = refl
 
 -- What is told where nobody did anything but take units from the stock. Whose side it is, is no matter.
-pub fresh-told : (n q pages : ℕ) (pool : Stock) (slots : List (Option UnitState)) (begun : List ℕ) (standings : List Standing) → AllEmpty slots → ((u : ℕ) → begun_at begun u ≡ 0) → told_living (living_side n q pool slots begun standings) ≡ record (fresh n pages) { pool = bare_pool pool }
+pub fresh-told : (n q pages : ℕ) (pool : Stock) (slots : List (Option Object)) (begun : List ℕ) (standings : List Standing) → AllEmpty slots → ((u : ℕ) → begun_at begun u ≡ 0) → told_living (living_side n q pool slots begun standings) ≡ record (fresh n pages) { pool = bare_pool pool }
 fresh-told n q pages pool slots begun standings e z =
     let F : (ℕ → ℕ → List (List ℕ)) → (ℕ → ℕ) → (ℕ → Option Life) → Shared = λ b g h. record { processors = n; words = first_words; numbers = first_numbers; looks = first_looks; lives = record { begun = g; holds = h; dropping = λ p l. None }; pool = bare_pool pool; boxes = b } in
     let B : ℕ → ℕ → List (List ℕ) = λ p c. [] in
-    ap (λ b. F b (begun_at begun) (λ u. life_of (unit_at slots u))) (fun_ext (λ p. fun_ext (λ c. no-boxes n q pool p c)))
-    ∙ (ap (λ g. F B g (λ u. life_of (unit_at slots u))) (fun_ext z)
-    ∙ ap (λ h. F B (λ u. 0) h) (fun_ext (λ u. ap life_of (e u))))
+    ap (λ b. F b (begun_at begun) (λ u. life_of (object_at slots u))) (fun_ext (λ p. fun_ext (λ c. no-boxes n q pool p c)))
+    ∙ (ap (λ g. F B g (λ u. life_of (object_at slots u))) (fun_ext z)
+    ∙ ap (λ h. F B (λ u. 0) h) (fun_ext (λ u. ap life_of (no-object (object_at slots u) (e u)))))
 
 pub no-slots : AllEmpty []
 no-slots zero = refl
@@ -104,10 +106,15 @@ fill-waits : (cs : List ℕ) (pool : Stock) (w : ℕ → Wait) → WaitLeads (de
 fill-waits [] pool w = refl
 fill-waits (c ∷ cs) pool w = (w, (refl, fill-waits cs (fetched c (prefill c) pool).pool w))
 
-fill-does : (n q : ℕ) (cs : List ℕ) (before pool : Stock) (slots : List (Option UnitState)) (begun : List ℕ) (standings : List Standing) → pool ≡ (filling cs before).pool → AllEmpty slots → ((u : ℕ) → begun_at begun u ≡ 0) → ((u : ℕ) → standing_at standings u ≡ Nothing) →
+fill-made : (cs : List ℕ) (pool : Stock) (w : Fields) → MadeLead (deeds (fill_story cs pool)) w w
+fill-made [] pool w = refl
+fill-made (c ∷ cs) pool w = (w, (refl, fill-made cs (fetched c (prefill c) pool).pool w))
+
+fill-does : (n q : ℕ) (cs : List ℕ) (before pool : Stock) (slots : List (Option Object)) (begun : List ℕ) (standings : List Standing) → pool ≡ (filling cs before).pool → AllEmpty slots → ((u : ℕ) → begun_at begun u ≡ 0) → ((u : ℕ) → standing_at standings u ≡ Nothing) →
     LivingDoes (deeds (fill_story cs before)) (fresh_world n q before) (living_side n q pool slots begun standings)
 fill-does n q cs before pool slots begun standings same e z stands = record {
   waits = subst (λ w. WaitLeads (deeds (fill_story cs before)) (waits_told []) w) (fun_ext (λ u. ap told_standing (no-standing u ∙ sym (stands u)))) (fill-waits cs before (waits_told []));
+  made = subst (MadeLead (deeds (fill_story cs before)) (λ u. [])) (fun_ext (λ u. ap values_of (sym (no-object (object_at slots u) (e u))))) (subst (λ w. MadeLead (deeds (fill_story cs before)) w (λ u. [])) (fun_ext (λ u. ap values_of (sym (no-object (object_at [] u) (no-slots u))))) (fill-made cs before (λ u. [])));
   keeps = λ u s. stands u ∙ sym (no-standing u);
   did = λ p s.
       let first = fresh-told n q 0 before [] [] [] no-slots no-lives in
@@ -122,7 +129,7 @@ fill-does n q cs before pool slots begun standings same e z stands = record {
 }
 
 -- The fills of a processor's opening are tied since the stock before them.
-pub fills-tied : (n q : ℕ) (cs : List ℕ) (before pool : Stock) (slots : List (Option UnitState)) (begun : List ℕ) (standings : List Standing) → pool ≡ (filling cs before).pool → AllEmpty slots → ((u : ℕ) → begun_at begun u ≡ 0) → ((u : ℕ) → standing_at standings u ≡ Nothing) →
+pub fills-tied : (n q : ℕ) (cs : List ℕ) (before pool : Stock) (slots : List (Option Object)) (begun : List ℕ) (standings : List Standing) → pool ≡ (filling cs before).pool → AllEmpty slots → ((u : ℕ) → begun_at begun u ≡ 0) → ((u : ℕ) → standing_at standings u ≡ Nothing) →
     Tied (polled knows_living false [] (fresh_world n q before)) (DoesHere knows_living) [] (fresh_world n q before) 0 [] [] (fill_log (filling cs before).fills) (living_side n q pool slots begun standings)
 fills-tied n q cs before pool slots begun standings same e z stands =
     let story = fill_story cs before in

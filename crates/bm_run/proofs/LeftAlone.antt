@@ -35,7 +35,8 @@ use Rattle.bm_post.specs.Rights.{numbers}
 use Rattle.bm_cache.specs.Each.{Each}
 use Rattle.bm_cache.specs.Tokens.{Token, number_of}
 use Rattle.bm_world.specs.LivingState.{LivingState, known_living}
-use Rattle.bm_world.specs.Slots.{unit_at}
+use Rattle.bm_world.specs.Slots.{object_at, unit_of}
+use Rattle.bm_world.specs.declared.slots.Object.{Object}
 use Rattle.bm_world.specs.Standings.{standing_at}
 use Rattle.bm_world.specs.Told.{IsSideOf, told_boxes}
 use Rattle.bm_world.specs.ToldLiving.{life_of, told_living}
@@ -121,9 +122,9 @@ module _ (before now : World) (a w : LivingState) (is : before.shared ≡ plainl
 
   -- ---- one unit
 
-  lives-told : (u : Option UnitState) → is_some (life_of u) ≡ is_some u
+  lives-told : (x : Option Object) → is_some (life_of x) ≡ is_some (unit_of x)
   lives-told None = refl
-  lives-told (Some unit) = refl
+  lives-told (Some object) = refl
 
   put-of : (n : ℕ) → length a.side.post.inboxes ≡ 88 → length w.side.post.inboxes ≡ 88 → standing_at w.standings n ≡ standing_at a.standings n → IsUntouched n before now → StaysPut n a w
   put-of n e f standing u = record {
@@ -133,11 +134,11 @@ module _ (before now : World) (a w : LivingState) (is : before.shared ≡ plainl
         ∙ (ap (λ (s : Shared). (stocked_at s.pool.units n).out) is
         ∙ ap (λ (x : Stocked). x.out) (stocked-bare a.side.post.pool.units n))));
     inboxes = waits-same n e f u.inboxes;
-    lives = sym (lives-told (unit_at w.slots n))
+    lives = sym (lives-told (object_at w.slots n))
         ∙ (ap (λ (s : Shared). is_some (s.lives.holds n)) (sym then_is)
         ∙ (ap (λ (x : Option Life). is_some x) u.holds
         ∙ (ap (λ (s : Shared). is_some (s.lives.holds n)) is
-        ∙ lives-told (unit_at a.slots n))));
+        ∙ lives-told (object_at a.slots n))));
     begun = ap (λ (s : Shared). s.lives.begun n) (sym then_is) ∙ (u.begun ∙ ap (λ (s : Shared). s.lives.begun n) is);
     standing = standing;
   }

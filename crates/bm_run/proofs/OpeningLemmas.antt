@@ -10,7 +10,6 @@ use Rattle.bm_journal.specs.declared.ids.Domain.TheVariants.{Plain, Tracing}
 use Rattle.bm_journal.specs.declared.entry.Entry.TheVariants as entry
 use Rattle.bm_page.specs.declared.units.Seal.{Seal}
 use Rattle.bm_page.specs.Stock.{Stock, stocked_at, fetched}
-use Rattle.bm_page.specs.UnitState.{UnitState}
 use Rattle.bm_page.specs.Out.{AreOut}
 use Rattle.bm_page.proofs.StockLemmas.{out_inside}
 use Rattle.bm_grace.specs.Known.{side}
@@ -23,7 +22,9 @@ use Rattle.bm_world.specs.declared.standing.Standing.{Standing}
 use Rattle.bm_world.specs.declared.standing.Standing.TheVariants.{Nothing}
 use Rattle.bm_world.proofs.Left.{waited-so}
 use Rattle.bm_world.specs.LivingState.{HaveLived, LivingState, begun_at, known_living, lives_of, living_of, may_be_used, may_live, rights_living}
-use Rattle.bm_world.specs.Slots.{AllEmpty, unit_at}
+use Rattle.bm_world.specs.Slots.{AllEmpty, object_at, unit_at}
+use Rattle.bm_world.specs.declared.slots.Object.{Object}
+use Rattle.bm_world.proofs.SlotLemmas.{no-object}
 use Rattle.bm_law.specs.Effect.{effect}
 use Rattle.bm_law.specs.Lists.{is_unstamped}
 use Rattle.bm_law.specs.Stands.{times}
@@ -94,7 +95,7 @@ unlived post h e = record {
 }
 
 -- the world of processor p of n with nothing alive
-abbrev pub living_side : (n p : ℕ) → Stock → List (Option UnitState) → List ℕ → List Standing → LivingState
+abbrev pub living_side : (n p : ℕ) → Stock → List (Option Object) → List ℕ → List Standing → LivingState
 living_side n p pool slots begun standings = record { side = fresh_side n p pool; slots = slots; begun = begun; standings = standings; asked = 0 }
 
 pub side-is : (n p : ℕ) (world : LivingState) (pool : Stock) → world.side ≡ fresh_side n p pool → world.asked ≡ 0 → world ≡ living_side n p pool world.slots world.begun world.standings
@@ -102,8 +103,8 @@ side-is n p world pool e z =
     ap (λ s. let w : LivingState = record { side = s; slots = world.slots; begun = world.begun; standings = world.standings; asked = world.asked } in w) e ∙
     ap (λ a. let w : LivingState = record { side = fresh_side n p pool; slots = world.slots; begun = world.begun; standings = world.standings; asked = a } in w) z
 
-pub none-live : (slots : List (Option UnitState)) → AllEmpty slots → (u : ℕ) → lives_of slots u ≡ None
-none-live slots e u = ap living_of (e u)
+pub none-live : (slots : List (Option Object)) → AllEmpty slots → (u : ℕ) → lives_of slots u ≡ None
+none-live slots e u = ap living_of (no-object (object_at slots u) (e u))
 
 -- a word of each processor is 0, of however many
 all-zero : (k i : ℕ) → get_or {A = ℕ} (replicate k 0) i 0 ≡ 0
@@ -111,21 +112,21 @@ all-zero zero i = refl
 all-zero (suc k) zero = refl
 all-zero (suc k) (suc i) = all-zero k i
 
-pub no-numbers : (n p : ℕ) (pool : Stock) (slots : List (Option UnitState)) (begun : List ℕ) (standings : List Standing) (d : Domain) → (side d (known_living (living_side n p pool slots begun standings))).number ≡ 0
+pub no-numbers : (n p : ℕ) (pool : Stock) (slots : List (Option Object)) (begun : List ℕ) (standings : List Standing) (d : Domain) → (side d (known_living (living_side n p pool slots begun standings))).number ≡ 0
 no-numbers n p pool slots begun standings Plain = refl
 no-numbers n p pool slots begun standings Tracing = refl
 
-pub no-words : (n p : ℕ) (pool : Stock) (slots : List (Option UnitState)) (begun : List ℕ) (standings : List Standing) (d : Domain) → (side d (known_living (living_side n p pool slots begun standings))).word ≡ 0
+pub no-words : (n p : ℕ) (pool : Stock) (slots : List (Option Object)) (begun : List ℕ) (standings : List Standing) (d : Domain) → (side d (known_living (living_side n p pool slots begun standings))).word ≡ 0
 no-words n p pool slots begun standings Plain = all-zero 8 p
 no-words n p pool slots begun standings Tracing = all-zero 8 p
 
-pub all-begins : (n p : ℕ) (pool : Stock) (slots : List (Option UnitState)) (begun : List ℕ) (standings : List Standing) (d : Domain) → p < 8 → (side d (known_living (living_side n p pool slots begun standings))).begins ≡ 134217728
+pub all-begins : (n p : ℕ) (pool : Stock) (slots : List (Option Object)) (begun : List ℕ) (standings : List Standing) (d : Domain) → p < 8 → (side d (known_living (living_side n p pool slots begun standings))).begins ≡ 134217728
 all-begins n p pool slots begun standings Plain lt = get_or-replicate 8 p 134217728 0 lt
 all-begins n p pool slots begun standings Tracing lt = get_or-replicate 8 p 134217728 0 lt
 
 -- ---- each unit may be used again
 
-mine-here : (n p : ℕ) (pool : Stock) (slots : List (Option UnitState)) (begun : List ℕ) (standings : List Standing) (u : ℕ) → AllEmpty slots → (stocked_at pool.units u).out ≡ true → (rights_living (living_side n p pool slots begun standings)).mine u ≡ true
+mine-here : (n p : ℕ) (pool : Stock) (slots : List (Option Object)) (begun : List ℕ) (standings : List Standing) (u : ℕ) → AllEmpty slots → (stocked_at pool.units u).out ≡ true → (rights_living (living_side n p pool slots begun standings)).mine u ≡ true
 mine-here n p pool slots begun standings u e o =
     let none : not (is_some (unit_at slots u)) ≡ true = ap (λ x. not (is_some x)) (e u) in
     let alone : eqb (waits u no_parcels) 0 ≡ true = ap (λ k. eqb k 0) (no-waits 88 u) in
@@ -138,7 +139,7 @@ settled-here begun standings n life seal lt new none stands =
     (and_from (has_room n life) (eqb life (begun_at begun n)) (room-is n life (omega (arith, lt)) (omega (arith, z))) (eq-eqb life (begun_at begun n) (z ∙ sym none)))
     (waited-so (standing_at standings n) seal (stands ∙ ap standing_of (sym new.1)))
 
-reusable : (n p : ℕ) (pool : Stock) (slots : List (Option UnitState)) (begun : List ℕ) (standings : List Standing) (u : Token) → AllEmpty slots → ((k : ℕ) → begun_at begun k ≡ 0) → ((k : ℕ) → standing_at standings k ≡ Nothing) → IsUnborn pool.units → NeverLived u.life u.seal → (stocked_at pool.units u.number).out ≡ true → Reusable (tests_by (rights_living (living_side n p pool slots begun standings))) u
+reusable : (n p : ℕ) (pool : Stock) (slots : List (Option Object)) (begun : List ℕ) (standings : List Standing) (u : Token) → AllEmpty slots → ((k : ℕ) → begun_at begun k ≡ 0) → ((k : ℕ) → standing_at standings k ≡ Nothing) → IsUnborn pool.units → NeverLived u.life u.seal → (stocked_at pool.units u.number).out ≡ true → Reusable (tests_by (rights_living (living_side n p pool slots begun standings))) u
 reusable n p pool slots begun standings u e none stands born z o =
     let inside = out_inside pool.units u.number o in
     let size = born.size in
@@ -157,7 +158,7 @@ suits : (t : Tests) (fs : Fills) → All (Reusable t) (units_in fs) → FillsSui
 suits t [] h = tt
 suits t (f ∷ fs) h = (all-front (Reusable t) f.1 (units_in fs) h, suits t fs (all-back (Reusable t) f.1 (units_in fs) h))
 
-pub fills-suit : (n p : ℕ) (pool : Stock) (slots : List (Option UnitState)) (begun : List ℕ) (standings : List Standing) (fs : Fills) → AllEmpty slots → ((k : ℕ) → begun_at begun k ≡ 0) → ((k : ℕ) → standing_at standings k ≡ Nothing) → IsUnborn pool.units → AreNew pool (units_in fs) → FillsSuit (tests_by (rights_living (living_side n p pool slots begun standings))) fs
+pub fills-suit : (n p : ℕ) (pool : Stock) (slots : List (Option Object)) (begun : List ℕ) (standings : List Standing) (fs : Fills) → AllEmpty slots → ((k : ℕ) → begun_at begun k ≡ 0) → ((k : ℕ) → standing_at standings k ≡ Nothing) → IsUnborn pool.units → AreNew pool (units_in fs) → FillsSuit (tests_by (rights_living (living_side n p pool slots begun standings))) fs
 fills-suit n p pool slots begun standings fs e none stands born new =
     suits (tests_by (rights_living (living_side n p pool slots begun standings))) fs (λ i d lt. reusable n p pool slots begun standings (get_or (units_in fs) i d) e none stands born (new.unlived i d lt) (new.out i d lt))
 

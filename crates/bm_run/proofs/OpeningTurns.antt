@@ -8,7 +8,6 @@ use Rattle.bm_lang.specs.declared.scenario.Parts.{Parts}
 use Rattle.bm_lang.specs.Fine.{HasConditions}
 use Rattle.bm_lang.specs.Limits.{first_limit}
 use Rattle.bm_page.specs.Stock.{Stock}
-use Rattle.bm_page.specs.UnitState.{UnitState}
 use Rattle.bm_law.specs.Lists.{AllName, Log}
 use Rattle.bm_law.specs.State.{State, opening}
 use Rattle.bm_law_scenario.specs.Fills.{fresh_stock, opening_stock}
@@ -23,6 +22,7 @@ use Rattle.bm_law_seals.specs.Batches.{BatchFits}
 use Rattle.bm_cache.specs.Opening.{Fills, fill_log}
 use Rattle.bm_world.specs.LivingState.{LivingState, begun_at}
 use Rattle.bm_world.specs.Slots.{AllEmpty}
+use Rattle.bm_world.specs.declared.slots.Object.{Object}
 use Rattle.bm_world.specs.Standings.{standing_at, told_standing}
 use Rattle.bm_world.specs.Told.{IsSideOf}
 use Rattle.bm_world.specs.ToldLiving.{told_living}
@@ -171,7 +171,7 @@ openings-batched n pages classes most = (opened-so-far n pages classes n (omega 
 
 -- Processors that have filled their caches one after the other are open, on a world in which nobody has done anything else.
 
-pub all-open : (p : Program) (classes : List ℕ) (kept : List Kept) (pool : Stock) (slots : List (Option UnitState)) (begun : List ℕ) (standings : List Standing) → IsProgram p → HasConditions p.scenario.now → first_limit p.scenario.now ≡ None →
+pub all-open : (p : Program) (classes : List ℕ) (kept : List Kept) (pool : Stock) (slots : List (Option Object)) (begun : List ℕ) (standings : List Standing) → IsProgram p → HasConditions p.scenario.now → first_limit p.scenario.now ≡ None →
     length kept ≡ p.scenario.now.processors → AreFilled p.scenario.now classes kept pool → AllEmpty slots → ((u : ℕ) → begun_at begun u ≡ 0) → ((u : ℕ) → standing_at standings u ≡ Nothing) →
     AreOpen p classes kept (living_side p.scenario.now.processors 0 pool slots begun standings)
 all-open p classes kept pool slots begun standings fits fine limits many filled empty none stands =

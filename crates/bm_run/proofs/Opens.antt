@@ -15,6 +15,7 @@ use Rattle.bm_cache.proofs.Opened.{fine-opened}
 use Rattle.bm_work.specs.DeskTests.{tests_by}
 use Rattle.bm_world.specs.LivingState.{LivingState, begun_at, rights_living}
 use Rattle.bm_world.specs.Slots.{AllEmpty}
+use Rattle.bm_world.specs.declared.slots.Object.{Object}
 use Rattle.bm_world.specs.Standings.{standing_at}
 use Rattle.bm_world.specs.declared.standing.Standing.{Standing}
 use Rattle.bm_world.specs.declared.standing.Standing.TheVariants.{Nothing}
@@ -102,7 +103,7 @@ one-more s classes kept more own p pool now h many e filled new left born =
 -- ---- the processor
 
 -- A processor whose caches were filled with new units is open in its turn, where nobody has done anything on what processors share.
-pub opens : (n i : ℕ) (p : Program) (f : Filling) (pool : Stock) (slots : List (Option UnitState)) (begun : List ℕ) (standings : List Standing) (kept : Kept) →
+pub opens : (n i : ℕ) (p : Program) (f : Filling) (pool : Stock) (slots : List (Option Object)) (begun : List ℕ) (standings : List Standing) (kept : Kept) →
     i < n → n ≤ 8 → IsProgram p → HasConditions p.scenario.now → Within p.scenario.now i → IsFilled p.scenario.now i f.fills kept → AreNew pool (units_in f.fills) → IsUnborn pool.units → AllEmpty slots → ((u : ℕ) → begun_at begun u ≡ 0) → ((u : ℕ) → standing_at standings u ≡ Nothing) →
     IsOpen n i p f (in_its_turn kept (living_side n i pool slots begun standings))
 opens n i p f pool slots begun standings kept lt most fits fine limits k new born empty none stands =

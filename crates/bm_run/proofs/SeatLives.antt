@@ -8,7 +8,7 @@ use Rattle.bm_lang.specs.declared.scenario.Parts.{Parts}
 use Rattle.bm_lang.specs.declared.scenario.TypeDeclaration.{TypeDeclaration}
 use Rattle.bm_lang.specs.declared.scenario.TypeId.{TypeId}
 use Rattle.bm_law_scenario.specs.Held.{Names, Object}
-use Rattle.bm_exec.specs.Living.{Holds, Living, Lives}
+use Rattle.bm_exec.specs.Living.{Holds, IsReached, Living, Lives}
 use Rattle.bm_run.specs.Between.{AreApart, IsOwned}
 use Rattle.bm_run.specs.Turns.{held_by, owned_by}
 use Rattle.bm_run.specs.declared.turns.Begun.{Begun}
@@ -79,7 +79,7 @@ module _ (n p : ℕ) (bases : ℕ → Lives) (lives now : Lives) (turn : p < n) 
 
   module _ (types : List TypeDeclaration) (q : ℕ) (lt : q < n) (ne : q ≢ p) (names : Names) (h : Holds types (bases q) lives names) where
     owned : (x : List ℕ) (t : TypeId) (u k : ℕ) → names x ≡ Object t u k → IsOwned (bases q) lives u
-    owned x t u k e = (let v = h.living x t u k e in record { other = h.apart x t u k e; living = λ z. some-none _ (sym v.3.is ∙ z) })
+    owned x t u k e = (let v = h.living x t u k e in record { other = h.apart x t u k e; living = λ z. some-none _ (sym v.alive.is ∙ z) })
 
     holds-apart : (x : List ℕ) (t : TypeId) (u k : ℕ) → names x ≡ Object t u k → others_of lives now (bases q) u ≡ None
     holds-apart x t u k e = elim (which lives now (bases q) u) [
@@ -93,20 +93,27 @@ module _ (n p : ℕ) (bases : ℕ → Lives) (lives now : Lives) (turn : p < n) 
       | inr y ↦ sym y.1 ∙ e
     ]
 
-    holds-reached : (u : ℕ) (l : Living) → now u ≡ Some l → (others_of lives now (bases q) u ≡ Some l) ⊎ ((x : List ℕ) × (t : TypeId) × (k : ℕ) × (names x ≡ Object t u k))
+    holds-reached : (u : ℕ) (l : Living) → now u ≡ Some l → (others_of lives now (bases q) u ≡ Some l) ⊎ IsReached u l names
     holds-reached u l e = elim (which lives now (bases q) u) [
       | inl y ↦ named y.0 (h.reached u l (sym (kept-unit q u lt ne y.0) ∙ e))
       | inr y ↦ inl (y.1 ∙ e)
     ]
       where
-        named : IsOwned (bases q) lives u → (bases q u ≡ Some l) ⊎ ((x : List ℕ) × (t : TypeId) × (k : ℕ) × (names x ≡ Object t u k)) → (others_of lives now (bases q) u ≡ Some l) ⊎ ((x : List ℕ) × (t : TypeId) × (k : ℕ) × (names x ≡ Object t u k))
+        named : IsOwned (bases q) lives u → (bases q u ≡ Some l) ⊎ IsReached u l names → (others_of lives now (bases q) u ≡ Some l) ⊎ IsReached u l names
         named o (inl f) = absurd (some-none l (sym f ∙ o.other))
         named o (inr f) = inr f
 
     pub holds-others : Holds types (others_of lives now (bases q)) now names
     holds-others = record {
-      living = λ x t u k e. let v = h.living x t u k e in (v.0, v.1, v.2, record { home = v.3.home; is = kept-unit q u lt ne (owned x t u k e) ∙ v.3.is });
-      once = h.once;
+      living = λ x t u k e. let v = h.living x t u k e in record {
+        class = v.class;
+        declared = v.declared;
+        of_class = v.of_class;
+        alive = record { home = v.alive.home; count = v.alive.count; values = v.alive.values; is = kept-unit q u lt ne (owned x t u k e) ∙ v.alive.is };
+        single = v.single;
+        fields = v.fields;
+      };
+      typed = h.typed;
       apart = holds-apart;
       before = holds-before;
       reached = holds-reached;

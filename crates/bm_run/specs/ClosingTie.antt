@@ -18,6 +18,7 @@ use Rattle.bm_law_order.specs.Act.{Act, Sealed, units_of}
 use Rattle.bm_law_order.specs.Act as act
 use Rattle.bm_law_order.specs.Chunk.{Shows}
 use Rattle.bm_law_order.specs.Chunk as chunk
+use Rattle.bm_law_order.specs.Made.{Fields, MadeLead}
 use Rattle.bm_law_order.specs.Quiet.{is_quiet}
 use Rattle.bm_law_order.specs.Story.{at_level, deeds, lines}
 use Rattle.bm_law_order.specs.Tie.{Tied, TiedBy, whatever}
@@ -28,13 +29,13 @@ use Rattle.bm_grace.specs.PlainState.{domain_in}
 use Rattle.bm_closing.specs.Told.{at_once, passed_at_once}
 use Rattle.bm_cache.specs.declared.caches.Caches.{Caches}
 use Rattle.bm_journal.specs.Recording.{Kept as Recorded}
-use Rattle.bm_exec_levels.specs.AtPolls.{DoesHere, IsDue, here-join, here-same, home, WaitsIn, WasIdle, later, polled, unpolled}
+use Rattle.bm_exec_levels.specs.AtPolls.{DoesHere, IsDue, here-join, here-same, home, WaitsIn, WasIdle, polled, unpolled}
 use Rattle.bm_exec_levels.specs.AtPolls as idle
 use Rattle.bm_exec_levels.specs.AtTie.{as-judged}
 use Rattle.bm_world.specs.LivingState.{LivingState}
 use Rattle.bm_world.specs.Spared.{spare-append}
 use Rattle.bm_world.specs.Standings.{waits_told}
-use Rattle.bm_world.specs.ToldLiving.{LivingDoes, told_living}
+use Rattle.bm_world.specs.ToldLiving.{LivingDoes, fields_told, told_living}
 
 -- tied since then, with these acts and entries that aren't told of yet
 abbrev pub Ends : Log → LivingState → List Act → List Entry → Option Log → LivingState → Type 0
@@ -114,9 +115,14 @@ ends-told since start done more es others (Some log) side s t = tie-first (polle
 unread : (acts : List Act) (d : Domain) (x m : ℕ) (a b : LivingState) → DoesHere knows_living (acts ++ act.Reads d x m ∷ []) a b → DoesHere knows_living acts a b
 unread acts d x m a b here = (did-before here.0, here.1)
   where
+    made-unread : (es : List Act) (p q : Fields) → MadeLead (es ++ act.Reads d x m ∷ []) p q → MadeLead es p q
+    made-unread [] p q w = w.1.1 ∙ w.1.0
+    made-unread (e ∷ es) p q w = (w.0, (w.1.0, made-unread es w.0 q w.1.1))
+
     did-before : LivingDoes (acts ++ act.Reads d x m ∷ []) a b → LivingDoes acts a b
     did-before did = record {
       waits = go-unread acts d x m (waits_told a.standings) (waits_told b.standings) did.waits;
+      made = made-unread acts (fields_told a) (fields_told b) did.made;
       keeps = λ n s. did.keeps n (spare-append n acts (act.Reads d x m ∷ []) s (tt, tt));
       did = λ p s.
           let h = did.did p s in

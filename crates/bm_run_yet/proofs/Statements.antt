@@ -1,15 +1,15 @@
 -- Statements without a form that can't be run yet can be run.
-use Rattle.std.proofs.Common.{◌≡◌, ℕ, zero, suc, ◌-◌, Bool, true, false, ◌&&◌, ◌||◌, List, [], ◌∷◌, ◌++◌, map, length, nat_lt, nat_le, IsSomeAnd, is_some, slice_get, refl, subst, append_assoc, arith}
+use Rattle.std.proofs.Common.{◌≡◌, ℕ, zero, suc, ◌-◌, Bool, true, false, ◌&&◌, ◌||◌, List, [], ◌∷◌, ◌++◌, map, length, nat_lt, nat_le, IsSomeAnd, eqb, eq-eqb, slice_get, refl, subst, append_assoc, arith}
 use Rattle.std.specs.List.{list_any}
 use Rattle.std.proofs.lemmas.Bool.Decides.{nat_tests}
-use Rattle.bm_lang.specs.declared.scenario.Action.{Action, New, Drop, If', Repeat, Section, Yield, Held-Action-If-2, None', Some'}
+use Rattle.bm_lang.specs.declared.scenario.Action.{Acquire, Action, Drop, New, If', Repeat, Section, Yield, Held-Action-If-2, None', Some'}
 use Rattle.bm_lang.specs.declared.scenario.Block.{Block, Block', Row_of-Statement, end_of-Statement, more_of-Statement}
 use Rattle.bm_lang.specs.declared.scenario.TypeDeclaration.{TypeDeclaration}
 use Rattle.bm_lang.specs.Tokens.{Close}
 use Rattle.bm_lang.specs.Names.{MapForm}
 use Rattle.bm_lang.specs.Spelling.{Word, on, type_form, spell_action, spell_else, spell_block, spell_row}
 use Rattle.bm_lang.specs.Fine.{FineAction, FineElse, FineBlock, FineRow}
-use Rattle.bm_exec.specs.Runnable.{can_run_action, can_run_else, can_run_block, can_run_row}
+use Rattle.bm_exec.specs.Runnable.{can_run_action, can_run_block, can_run_else, can_run_row, has_fields}
 use Rattle.bm_run_yet.proofs.Words.{built, numbers, both}
 
 -- no type has more than eight fields
@@ -23,9 +23,9 @@ first_few : (a : Bool) (b : Bool) → (a || b) ≡ false → b ≡ false
 first_few true b h = cc
 first_few false b h = h
 
-new_runs : (types : List TypeDeclaration) (i : ℕ) (values : List ℕ) → has_many types ≡ false → IsSomeAnd (slice_get (map type_form types) i) (λ e. length values ≡ length e.fields) → (is_some (slice_get types i) && nat_le (length values) 8) ≡ true
+new_runs : (types : List TypeDeclaration) (i : ℕ) (values : List ℕ) → has_many types ≡ false → IsSomeAnd (slice_get (map type_form types) i) (λ e. length values ≡ length e.fields) → (has_fields (slice_get types i) (length values) && nat_le (length values) 8) ≡ true
 new_runs [] i values h fine = absurd fine
-new_runs (t ∷ ts) zero values h fine = few (length values) (length t.fields) (has_many ts) h fine
+new_runs (t ∷ ts) zero values h fine = both (eqb (length values) (length t.fields)) (nat_le (length values) 8) (eq-eqb (length values) (length t.fields) fine) (few (length values) (length t.fields) (has_many ts) h fine)
 new_runs (t ∷ ts) (suc i) values h fine = new_runs ts i values (first_few (nat_lt 8 (length t.fields)) (has_many ts) h) fine
 
 pub along : (a b rest : List Word) → built ((a ++ b) ++ rest) ≡ true → built (a ++ (b ++ rest)) ≡ true
@@ -35,6 +35,7 @@ mutual
   action_runs : (types : List TypeDeclaration) (maps : List MapForm) (d l : ℕ) (a : Action) (rest : List Word) → has_many types ≡ false → FineAction (map type_form types) maps d a → built (spell_action (map type_form types) maps l a ++ rest) ≡ true → (can_run_action types a ≡ true) × (built rest ≡ true)
   action_runs types maps d l (New x t values) rest h fine b = (new_runs types t.0 values h fine, numbers values rest b)
   action_runs types maps d l (Drop x) rest h fine b = (refl, b)
+  action_runs types maps d l (Acquire y x) rest h fine b = (refl, b)
   action_runs types maps d l (If' x body otherwise) rest h fine b =
       let forms = map type_form types in
       let first = block_runs types maps d body (spell_else forms maps otherwise ++ rest) h fine.0 (along (spell_block forms maps body) (spell_else forms maps otherwise) rest b) in

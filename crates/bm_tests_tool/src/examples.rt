@@ -11,6 +11,7 @@ pub(crate) mod nested_blocks;
 pub(crate) mod nested_handlers;
 pub(crate) mod one_object;
 pub(crate) mod refill_handlers;
+pub(crate) mod second_reference;
 pub(crate) mod sleepable_script;
 pub(crate) mod sleepable_wait;
 pub(crate) mod two_classes;
@@ -34,6 +35,7 @@ pub(crate) const EXAMPLES: &[(&str, &str)] = &[
     (nested_handlers::SCENARIO, nested_handlers::JOURNAL),
     (one_object::SCENARIO, one_object::JOURNAL),
     (refill_handlers::SCENARIO, refill_handlers::JOURNAL),
+    (second_reference::SCENARIO, second_reference::JOURNAL),
     (sleepable_script::SCENARIO, sleepable_script::JOURNAL),
     (sleepable_wait::SCENARIO, sleepable_wait::JOURNAL),
     (two_classes::SCENARIO, two_classes::JOURNAL),

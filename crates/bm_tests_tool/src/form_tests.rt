@@ -112,7 +112,6 @@ fn with_statement(alloc: Global, word: &str) -> Result<Vec<u8>, Fail> {
 #[test]
 fn statements_with_their_first_word(rt: HostRuntime) -> Result<(), Fail> {
     let words = [
-        "acquire",
         "get",
         "xchg",
         "lock",
@@ -130,7 +129,7 @@ fn statements_with_their_first_word(rt: HostRuntime) -> Result<(), Fail> {
         assert_eq!(rt; found(text.as_slice(), None)?, Some((8, 10)), "{word}");
     }
     for word in [
-        "new", "drop", "if", "else", "repeat", "section", "yield", "null", "pad", "x",
+        "new", "drop", "acquire", "if", "else", "repeat", "section", "yield", "null", "pad", "x",
     ] {
         let text = with_statement(rt.alloc(), word)?;
         assert_eq!(rt; found(text.as_slice(), None)?, None, "{word}");

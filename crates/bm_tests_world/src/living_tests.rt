@@ -9,7 +9,7 @@ use crate::pools::one_page;
 use crate::waiting_tests::{pass_period, seal_if_passed};
 use bm_class::Class;
 use bm_grace::{Grace, PlainGrace};
-use bm_journal::{Domain, ObjId};
+use bm_journal::{Domain, ObjId, Values};
 use bm_page::{Seal, Unit};
 use bm_post::{PlainPost, Post};
 use bm_world::{Lives, LivingSide, OneSide};
@@ -50,6 +50,13 @@ fn fetch_one(rt: &(impl Abort + AllocGlobal), world: &mut LivingSide, class: Cla
     unit
 }
 
+/// The values of an object's fields.
+fn fields(rt: &impl Abort, values: &[u32]) -> Values
+    ensures { result ≡ values.now }
+{
+    Values::new(values).expect(rt, "at most eight")
+}
+
 /// One unit.
 fn parcel_of(rt: &(impl Abort + AllocGlobal), unit: Unit) -> Vec<Unit>
     ensures { result.items ≡ unit ∷ [] }
@@ -68,7 +75,7 @@ fn a_unit_lives_twice(rt: HostRuntime) {
     let unit = fetch_one(&rt, &mut world, class);
     assert_eq!(rt; unit.number(), 0);
     assert_eq!(rt; unit.life(), 0);
-    let object = world.begin_life(unit);
+    let object = world.begin_life(unit, fields(&rt, &[]));
     assert!(rt; object == ObjId { unit: 0, life: 1 });
     let ended = world.end_life(object.unit, false);
     assert_eq!(rt; ended.life(), 1);
@@ -77,7 +84,7 @@ fn a_unit_lives_twice(rt: HostRuntime) {
     let again = fetch_one(&rt, &mut world, class);
     assert_eq!(rt; again.number(), 0);
     assert_eq!(rt; again.life(), 1);
-    let second = world.begin_life(again);
+    let second = world.begin_life(again, fields(&rt, &[]));
     assert!(rt; second == ObjId { unit: 0, life: 2 });
     let last = world.end_life(second.unit, false);
     world.put_back(parcel_of(&rt, last));
@@ -109,7 +116,7 @@ fn a_unit_waits_between_two_lives(rt: HostRuntime) {
     let class = Class::new(1).expect(&rt, "an index is a class");
     let mut world = living_side(&rt);
     let unit = fetch_one(&rt, &mut world, class);
-    let object = world.begin_life(unit);
+    let object = world.begin_life(unit, fields(&rt, &[]));
     let mut ended = world.end_life(object.unit, true);
     assert!(rt; ended.seal() == None);
     let stamp = world.stamp(Domain::Plain);
@@ -124,13 +131,49 @@ fn a_unit_waits_between_two_lives(rt: HostRuntime) {
     let again = receive_unit(&rt, &mut world, class);
     assert_eq!(rt; again.life(), 1);
     assert!(rt; again.seal() == Some(Seal { stamp: 2, seen: 2 }));
-    let second = world.begin_life(again);
+    let second = world.begin_life(again, fields(&rt, &[]));
     assert!(rt; second == ObjId { unit: 0, life: 2 });
     let last = world.end_life(second.unit, false);
     assert!(rt; last.seal() == None);
     world.put_back(parcel_of(&rt, last));
     let (side, slots, asked) = world.into_parts();
     assert_eq!(rt; asked, 2);
+    slots.give_up();
+    let (post, _grace) = side.into_parts();
+    post.give_up();
+}
+
+#[test]
+fn a_unit_has_two_references(rt: HostRuntime) {
+    let class = Class::new(1).expect(&rt, "an index is a class");
+    let mut world = living_side(&rt);
+    let unit = fetch_one(&rt, &mut world, class);
+    let object = world.begin_life(unit, fields(&rt, &[]));
+    assert_eq!(rt; world.references(object.unit), 1);
+    assert_eq!(rt; world.acquire(object), 1);
+    assert_eq!(rt; world.references(object.unit), 2);
+    assert_eq!(rt; world.release_other(object), 2);
+    assert_eq!(rt; world.references(object.unit), 1);
+    let last = world.end_life(object.unit, true);
+    last.give_up();
+    let (side, slots, asked) = world.into_parts();
+    assert_eq!(rt; asked, 2);
+    slots.give_up();
+    let (post, _grace) = side.into_parts();
+    post.give_up();
+}
+
+#[test]
+fn a_unit_has_fields(rt: HostRuntime) {
+    let class = Class::new(1).expect(&rt, "an index is a class");
+    let mut world = living_side(&rt);
+    let unit = fetch_one(&rt, &mut world, class);
+    let object = world.begin_life(unit, fields(&rt, &[7, 9]));
+    assert_eq!(rt; world.read(object, 0), 7);
+    assert_eq!(rt; world.read(object, 1), 9);
+    let last = world.end_life(object.unit, false);
+    last.give_up();
+    let (side, slots, _asked) = world.into_parts();
     slots.give_up();
     let (post, _grace) = side.into_parts();
     post.give_up();

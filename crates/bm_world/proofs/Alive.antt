@@ -18,15 +18,17 @@ use Rattle.bm_post.specs.PostState.{Parcels, PostState, all_returned, is_mine, r
 use Rattle.bm_post.proofs.Counts.{at-number, here-times, zero-or-more}
 use Rattle.bm_post.proofs.Room.{room-is}
 use Rattle.bm_grace.specs.PlainState.{PlainState}
-use Rattle.bm_world.specs.LivingState.{AreLiving, HaveLived, LivedAs, begun_at, may_be_used, may_live, next_life, rights_with_living, standings_after, wait_now}
+use Rattle.bm_grace.specs.Rights.{AsBefore}
+use Rattle.bm_world.specs.LivingState.{AreLiving, HaveLived, IsCounted, LivedAs, begun_at, may_be_used, may_live, next_life, rights_with_living, slots_counted, standings_after, wait_now}
 use Rattle.bm_world.specs.Standings.{AreStanding, IsTimed, counts_for, has_waited, is_over, is_waiting, left_by, standing_at, standing_of}
 use Rattle.bm_world.specs.declared.wait.Wait.{Wait}
 use Rattle.bm_world.specs.declared.standing.Standing.{Standing}
 use Rattle.bm_world.specs.declared.standing.Standing.TheVariants.{Nothing, Waits}
-use Rattle.bm_world.specs.Slots.{AllEmpty, unit_at}
+use Rattle.bm_world.specs.Slots.{AllEmpty, new_object, object_at, unit_at, with_count}
+use Rattle.bm_world.specs.declared.slots.Object.{Object}
 use Rattle.bm_world.proofs.Left.{Standings, among, left-other, left-size, left-there, timed-so, waited-so}
 use Rattle.bm_world.proofs.Lived.{came-lived, lived-back, lived-sent}
-use Rattle.bm_world.proofs.SlotLemmas.{Slotted, at-other, at-same, none-not, none-of, not-both, some-one, within}
+use Rattle.bm_world.proofs.SlotLemmas.{Slotted, at-other, at-same, no-object, none-not, none-of, not-both, object-other, object-same, some-one, unit-stays, within}
 
 -- ---- the tests
 
@@ -152,6 +154,7 @@ module _ (plain tracing : ℕ) (standings : Standings) where
     life = k.life;
     unsealed = k.unsealed;
     home = λ n u e. rw p (k.home n u e);
+    counted = k.counted;
     few = k.few;
     most = k.most;
     lived = h;
@@ -251,6 +254,7 @@ living-gone post post' plain tracing slots begun standings asked us p m h s k = 
   life = k.life;
   unsealed = k.unsealed;
   home = λ n u e. rw p (k.home n u e);
+  counted = k.counted;
   few = k.few;
   most = k.most;
   lived = h;
@@ -310,6 +314,7 @@ none-living post plain tracing slots begun standings size counts stands empty z 
   life = λ n u e. absurd (not-both (unit_at slots n) u (empty n) e);
   unsealed = λ n u e. absurd (not-both (unit_at slots n) u (empty n) e);
   home = λ n u e. absurd (not-both (unit_at slots n) u (empty n) e);
+  counted = λ n. subst (IsCounted 0) (sym (no-object (object_at slots n) (empty n))) tt;
   few = omega arith;
   most = λ n. let e = z n in omega (arith, e);
   lived = unlived begun standings post z w lived;
@@ -367,10 +372,15 @@ most-begun begun n life asked m lt e h =
       | inr other ↦ let a = counted-other begun n m (life + 1) other in omega (arith, a, h)
     ]
 
+-- more were asked for
+more-counted : (asked more : ℕ) (x : Option Object) → asked ≤ more → IsCounted asked x → IsCounted more x
+more-counted asked more None le h = tt
+more-counted asked more (Some o) le h = (h.0, (let a = h.1 in omega (arith, a, le)))
+
 -- a unit of mine begins a life
-pub living-begun : (post : PostState) (plain tracing : ℕ) (slots : Slotted) (begun : List ℕ) (standings : Standings) (asked : ℕ) (u : UnitState) → asked + 1 < 2 ^ 31 → (rights_with_living post plain tracing slots begun standings).mine u.number ≡ true → may_live begun u.number u.life ≡ true → u.home < post.processors → AreLiving post plain tracing slots begun standings asked → AreLiving post plain tracing (set slots u.number (Some (next_life u))) (set begun u.number (u.life + 1)) (set standings u.number Nothing) (asked + 1)
-living-begun post plain tracing slots begun standings asked u room mine fit home k = record {
-  size = length-set slots u.number (Some (next_life u)) ∙ k.size;
+pub living-begun : (post : PostState) (plain tracing : ℕ) (slots : Slotted) (begun : List ℕ) (standings : Standings) (asked : ℕ) (values : List ℕ) (u : UnitState) → asked + 1 < 2 ^ 31 → (rights_with_living post plain tracing slots begun standings).mine u.number ≡ true → may_live begun u.number u.life ≡ true → u.home < post.processors → AreLiving post plain tracing slots begun standings asked → AreLiving post plain tracing (set slots u.number (Some (new_object values (next_life u)))) (set begun u.number (u.life + 1)) (set standings u.number Nothing) (asked + 1)
+living-begun post plain tracing slots begun standings asked values u room mine fit home k = record {
+  size = length-set slots u.number (Some (new_object values (next_life u))) ∙ k.size;
   counts = length-set begun u.number (u.life + 1) ∙ k.counts;
   number = λ m v e. elim (either m v e) [ inl x ↦ subst (λ w. w.number ≡ m) (sym x.1) (sym x.0) | inr x ↦ k.number m v x.1 ];
   mine = λ m v e. elim (either m v e) [ inl x ↦ subst (λ j. is_mine post j ≡ true) (sym x.0) is-mine | inr x ↦ k.mine m v x.1 ];
@@ -380,6 +390,10 @@ living-begun post plain tracing slots begun standings asked u room mine fit home
   ];
   unsealed = λ m v e. elim (either m v e) [ inl x ↦ ap (λ (w : UnitState). w.seal) x.1 | inr x ↦ k.unsealed m v x.1 ];
   home = λ m v e. elim (either m v e) [ inl x ↦ subst (λ w. w.home < post.processors) (sym x.1) home | inr x ↦ k.home m v x.1 ];
+  counted = λ m. elim (cases_eq m u.number) [
+    | inl same ↦ subst (IsCounted (asked + 1)) (sym (ap (object_at (set slots u.number (Some (new_object values (next_life u))))) same ∙ object-same slots u.number (Some (new_object values (next_life u))) there)) (omega arith, omega arith)
+    | inr other ↦ subst (IsCounted (asked + 1)) (sym (object-other slots u.number m (Some (new_object values (next_life u))) other)) (more-counted asked (asked + 1) (object_at slots m) (omega arith) (k.counted m))
+  ];
   few = room;
   most = λ m. most-begun begun u.number u.life asked m counts-there (lives-as begun u.number u.life fit) (k.most m);
   lived = lived-begun post begun standings u.number (u.life + 1) is-mine k.lived;
@@ -411,11 +425,11 @@ living-begun post plain tracing slots begun standings asked u room mine fit home
     stands-there : u.number < length standings
     stands-there = let r = number in let s = k.standing.size in omega (arith, r, s)
 
-    either : (m : ℕ) (v : UnitState) → unit_at (set slots u.number (Some (next_life u))) m ≡ Some v → ((m ≡ u.number) × (v ≡ next_life u)) ⊎ ((m ≢ u.number) × (unit_at slots m ≡ Some v))
+    either : (m : ℕ) (v : UnitState) → unit_at (set slots u.number (Some (new_object values (next_life u)))) m ≡ Some v → ((m ≡ u.number) × (v ≡ next_life u)) ⊎ ((m ≢ u.number) × (unit_at slots m ≡ Some v))
     either m v e =
         elim (cases_eq m u.number) [
-          | inl same ↦ inl (same, some-one v (next_life u) (sym e ∙ (ap (unit_at (set slots u.number (Some (next_life u)))) same ∙ at-same slots u.number (Some (next_life u)) there)))
-          | inr other ↦ inr (other, sym (at-other slots u.number m (Some (next_life u)) other) ∙ e)
+          | inl same ↦ inl (same, some-one v (next_life u) (sym e ∙ (ap (unit_at (set slots u.number (Some (new_object values (next_life u))))) same ∙ at-same slots u.number (Some (new_object values (next_life u))) there)))
+          | inr other ↦ inr (other, sym (at-other slots u.number m (Some (new_object values (next_life u))) other) ∙ e)
         ]
 
 and-false : (b : Bool) → b && false ≡ false
@@ -428,10 +442,10 @@ one-times n m h = elim (cases_eq n m) [ inl same ↦ same | inr other ↦ absurd
 not-one : (n m : ℕ) → times n (m ∷ []) ≡ 0 → n ≢ m
 not-one n m h q = absurd (let e = eq-eqb n m q in let g = rw e at h in omega (arith, g))
 
-pub begun-gone : (post : PostState) (plain tracing : ℕ) (slots : Slotted) (begun begun' : List ℕ) (standings standings' : Standings) (n : ℕ) (v : UnitState) → n < length slots → Loses (n ∷ []) (rights_with_living post plain tracing slots begun standings) (rights_with_living post plain tracing (set slots n (Some v)) begun' standings')
+pub begun-gone : (post : PostState) (plain tracing : ℕ) (slots : Slotted) (begun begun' : List ℕ) (standings standings' : Standings) (n : ℕ) (v : Object) → n < length slots → Loses (n ∷ []) (rights_with_living post plain tracing slots begun standings) (rights_with_living post plain tracing (set slots n (Some v)) begun' standings')
 begun-gone post plain tracing slots begun begun' standings standings' n v there = record {
   are_gone = λ m h.
-      let same : unit_at (set slots n (Some v)) m ≡ Some v = ap (unit_at (set slots n (Some v))) (one-times m n h) ∙ at-same slots n (Some v) there in
+      let same : unit_at (set slots n (Some v)) m ≡ Some v.unit = ap (unit_at (set slots n (Some v))) (one-times m n h) ∙ at-same slots n (Some v) there in
       ap (λ o. is_mine post m && not (is_some o)) same ∙ and-false (is_mine post m);
   others = λ m h. ap (λ o. is_mine post m && not (is_some o)) (at-other slots n m (Some v) (not-one m n h));
 }
@@ -460,6 +474,10 @@ living-ended delayed post grace slots begun standings asked n u there k = record
   life = λ m v e. k.life m v (was m v e).1;
   unsealed = λ m v e. k.unsealed m v (was m v e).1;
   home = λ m v e. k.home m v (was m v e).1;
+  counted = λ m. elim (cases_eq m n) [
+    | inl same ↦ subst (IsCounted asked) (sym (ap (object_at (set slots n None)) same ∙ object-same slots n None (within slots n u there))) tt
+    | inr other ↦ subst (IsCounted asked) (sym (object-other slots n m None other)) (k.counted m)
+  ];
   few = k.few;
   most = k.most;
   lived = lived delayed;
@@ -547,3 +565,42 @@ after-unsettled true post grace slots begun standings asked n u e there k life s
     unwaited : (wait : Wait) (seal : Option Seal) → has_waited (Waits wait) seal ≡ false
     unwaited wait None = refl
     unwaited wait (Some s) = refl
+
+-- ---- references
+
+counted-so : (count asked : ℕ) (x : Option Object) → 0 < count → count ≤ asked → IsCounted asked (with_count count x)
+counted-so count asked None some most = tt
+counted-so count asked (Some o) some most = (some, most)
+
+-- an object has another number of references
+pub living-recounted : (post : PostState) (plain tracing : ℕ) (slots : Slotted) (begun : List ℕ) (standings : Standings) (asked more n count : ℕ) → n < length slots → 0 < count → count ≤ more → asked ≤ more → more < 2 ^ 31 → AreLiving post plain tracing slots begun standings asked → AreLiving post plain tracing (slots_counted n count slots) begun standings more
+living-recounted post plain tracing slots begun standings asked more n count lt some most le room k = record {
+  size = length-set slots n (with_count count (object_at slots n)) ∙ k.size;
+  counts = k.counts;
+  number = λ m v e. k.number m v (was m v e);
+  mine = λ m v e. k.mine m v (was m v e);
+  life = λ m v e. k.life m v (was m v e);
+  unsealed = λ m v e. k.unsealed m v (was m v e);
+  home = λ m v e. k.home m v (was m v e);
+  counted = λ m. elim (cases_eq m n) [
+    | inl same ↦ subst (IsCounted more) (sym (ap (object_at (slots_counted n count slots)) same ∙ object-same slots n (with_count count (object_at slots n)) lt)) (counted-so count more (object_at slots n) some most)
+    | inr other ↦ subst (IsCounted more) (sym (object-other slots n m (with_count count (object_at slots n)) other)) (more-counted asked more (object_at slots m) le (k.counted m))
+  ];
+  few = room;
+  most = λ m. (let a = k.most m in omega (arith, a, le));
+  lived = k.lived;
+  standing = record { size = k.standing.size; timed = k.standing.timed; living = λ m v e. k.standing.living m v (was m v e) };
+}
+  where
+    was : (m : ℕ) (v : UnitState) → unit_at (slots_counted n count slots) m ≡ Some v → unit_at slots m ≡ Some v
+    was m v e = sym (unit-stays slots n count m lt) ∙ e
+
+-- .. and of all units everything is as before
+pub rights-recounted : (post : PostState) (plain tracing : ℕ) (slots : Slotted) (begun : List ℕ) (standings : Standings) (n count : ℕ) → n < length slots → AsBefore (rights_with_living post plain tracing slots begun standings) (rights_with_living post plain tracing (slots_counted n count slots) begun standings)
+rights-recounted post plain tracing slots begun standings n count lt = record {
+  mine = λ m. ap (λ (o : Option UnitState). is_mine post m && not (is_some o)) (unit-stays slots n count m lt);
+  settled = λ m life seal. refl;
+  due = λ m life seal. refl;
+  ripe = λ m life seal. refl;
+  since = λ d x m. refl;
+}

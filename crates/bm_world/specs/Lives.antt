@@ -1,14 +1,34 @@
 -- What a side knows once a life began or ended, and what stays as it was of all other units. (This project's own.)
-use Rattle.std.specs.Prelude.{◌≡◌, ◌≢◌, ◌+◌, ℕ, Option, Some, None, eqb, if◌then◌else◌}
+use Rattle.std.specs.Prelude.{◌≡◌, ◌≢◌, ◌+◌, ◌-◌, ℕ, Option, Some, None, List, [], eqb, if◌then◌else◌}
 use Rattle.bm_journal.specs.declared.ids.Domain.{Domain}
 use Rattle.bm_page.specs.declared.units.Seal.{Seal}
 use Rattle.bm_page.specs.UnitState.{UnitState}
 use Rattle.bm_grace.specs.Known.{Known, Living, Lives}
 use Rattle.bm_grace.specs.Rights.{Rights}
 
--- the object that a unit is
-abbrev pub life_of_unit : UnitState → Living
-life_of_unit unit = record { class = unit.class; life = unit.life; home = unit.home }
+-- the object that a unit is, with so many references and these values
+abbrev pub life_of_unit : (count : ℕ) → (values : List ℕ) → UnitState → Living
+life_of_unit count values unit = record { class = unit.class; life = unit.life; home = unit.home; count = count; values = values }
+
+-- unit u lives life n, and this is its object
+pub record HasLife (lives : Lives) (u n : ℕ) (object : Living) : Type 0 where
+  pub is : lives u ≡ Some object
+  pub life : object.life ≡ n
+
+-- how many references there are to an object; none where there is no object
+abbrev pub count_in : Option Living → ℕ
+count_in None = 0
+count_in (Some object) = object.count
+
+-- the values of its fields
+abbrev pub values_in : Option Living → List ℕ
+values_in None = []
+values_in (Some object) = object.values
+
+-- the same object with another number of references
+abbrev pub with_references : (count : ℕ) → Option Living → Option Living
+with_references count None = None
+with_references count (Some object) = Some (record object { count = count })
 
 -- by the numbers of units, with another life, or none, of this one
 abbrev pub with_life : ℕ → Option Living → Lives → Lives
@@ -18,15 +38,29 @@ with_life u l lives = λ v. if eqb u v then l else lives v
 abbrev pub asked_once : Known → Known
 asked_once k = record k { objects = record k.objects { asked = k.objects.asked + 1 } }
 
--- An object was asked for, and a unit began its next life for it.
-abbrev pub life_begun : UnitState → Known → Known
-life_begun unit k = record k {
+-- An object was asked for, with these values of its fields, and a unit began its next life for it: there is one reference to it.
+abbrev pub life_begun : (values : List ℕ) → UnitState → Known → Known
+life_begun values unit k = record k {
   objects = record {
-    lives = with_life unit.number (Some (record { class = unit.class; life = unit.life + 1; home = unit.home })) k.objects.lives;
+    lives = with_life unit.number (Some (life_of_unit 1 values (record unit { life = unit.life + 1 }))) k.objects.lives;
     begun = λ n. if eqb unit.number n then unit.life + 1 else k.objects.begun n;
     asked = k.objects.asked + 1;
   };
 }
+
+-- There are so many references to an object now.
+abbrev pub recounted : (n count : ℕ) → Lives → Lives
+recounted n count lives = with_life n (with_references count (lives n)) lives
+
+-- A reference to an object was asked for, and there is one more.
+abbrev pub life_acquired : ℕ → Known → Known
+life_acquired n k = record k {
+  objects = record k.objects { lives = recounted n (count_in (k.objects.lives n) + 1) k.objects.lives; asked = k.objects.asked + 1 };
+}
+
+-- There is one less.
+abbrev pub life_given_up : ℕ → Known → Known
+life_given_up n k = record k { objects = record k.objects { lives = recounted n (count_in (k.objects.lives n) - 1) k.objects.lives } }
 
 -- A unit lives no more.
 abbrev pub life_ended : ℕ → Known → Known

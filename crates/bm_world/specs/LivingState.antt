@@ -1,6 +1,6 @@
 -- The world on one thread with the units that live in it. (This project's own. The kernel's allocator knows nothing of a unit
 -- while it is in use.)
-use Rattle.std.specs.Prelude.{◌≡◌, ℕ, ◌+◌, ◌%◌, ◌^◌, ◌<◌, ◌≤◌, ◌&&◌, not, eqb, Bool, false, true, Option, None, Some, List, [], is_some, length, slice_index_or, slice_set}
+use Rattle.std.specs.Prelude.{◌≡◌, ℕ, ◌+◌, ◌-◌, ◌%◌, ◌^◌, ◌<◌, ◌≤◌, ◌&&◌, not, eqb, Bool, false, true, Option, None, Some, List, [], is_some, length, slice_index_or, slice_set}
 use Rattle.std.specs.List.{All}
 use Rattle.std.proofs.lemmas.Bool.{and_parts}
 use Rattle.bm_journal.specs.declared.ids.Domain.{Domain}
@@ -14,29 +14,31 @@ use Rattle.bm_post.specs.HasRoom.{has_room, room-of}
 use Rattle.bm_grace.specs.Answers.{next}
 use Rattle.bm_grace.specs.PlainState.{PlainState, idle}
 use Rattle.bm_post.specs.PostState.{PostState, is_mine, no_parcels}
+use Rattle.bm_world.specs.Lives.{life_of_unit}
 use Rattle.bm_world.specs.SideState.{SideAtRest, SideState, idle-of, known_of}
-use Rattle.bm_world.specs.Slots.{unit_at}
+use Rattle.bm_world.specs.Slots.{count_of, new_object, object_at, unit_at, with_count}
+use Rattle.bm_world.specs.declared.slots.Object.{Object}
 use Rattle.bm_world.specs.Standings.{AreStanding, counts_for, has_waited, is_over, is_waiting, standing_at, standing_of}
 use Rattle.bm_world.specs.declared.wait.Wait.{Wait}
 use Rattle.bm_world.specs.declared.standing.Standing.{Standing}
 use Rattle.bm_world.specs.declared.standing.Standing.TheVariants.{Nothing, Waits}
 
--- The side; by a unit's number the unit that lives, if it does, how many lives it has begun, and what it waits for; and how many
--- objects were asked for.
+-- The side; by a unit's number the object that it is, if it lives, how many lives it has begun, and what it waits for; and how many
+-- objects and further references were asked for.
 pub record LivingState : Type 0 where
   pub side : SideState
-  pub slots : List (Option UnitState)
+  pub slots : List (Option Object)
   pub begun : List ℕ
   pub standings : List Standing
   pub asked : ℕ
 
--- the object that a unit is, where it lives
-abbrev pub living_of : Option UnitState → Option Living
+-- an object that lives, as it is known
+abbrev pub living_of : Option Object → Option Living
 living_of None = None
-living_of (Some unit) = Some (record { class = unit.class; life = unit.life; home = unit.home })
+living_of (Some object) = Some (life_of_unit object.count object.values object.unit)
 
-abbrev pub lives_of : List (Option UnitState) → Lives
-lives_of slots = λ n. living_of (unit_at slots n)
+abbrev pub lives_of : List (Option Object) → Lives
+lives_of slots = λ n. living_of (object_at slots n)
 
 -- how many lives a unit has begun
 abbrev pub begun_at : List ℕ → ℕ → ℕ
@@ -57,7 +59,7 @@ may_be_used begun standings n life seal = may_live begun n life && has_waited (s
 
 -- Mine is what is mine of the side and doesn't live. A unit whose lives are those that it has begun may be used again as soon as it
 -- is there, if it doesn't wait and has its seal; where it waits it is due, and it is ripe once its wait is over.
-abbrev pub rights_with_living : PostState → (plain tracing : ℕ) → List (Option UnitState) → List ℕ → List Standing → Rights
+abbrev pub rights_with_living : PostState → (plain tracing : ℕ) → List (Option Object) → List ℕ → List Standing → Rights
 rights_with_living post plain tracing slots begun standings = record {
   mine = λ n. is_mine post n && not (is_some (unit_at slots n));
   settled = may_be_used begun standings;
@@ -81,15 +83,26 @@ next_life unit = record unit { life = unit.life + 1; seal = None }
 abbrev pub with_asked : LivingState → LivingState
 with_asked world = record world { asked = world.asked + 1 }
 
--- .. and a unit begins its next life for it, in its slot; it waits for nothing
-abbrev pub with_begun : UnitState → LivingState → LivingState
-with_begun unit world =
+-- .. and a unit begins its next life for it, in its slot, with these values; it waits for nothing
+abbrev pub with_begun : (values : List ℕ) → UnitState → LivingState → LivingState
+with_begun values unit world =
     record world {
-      slots = slice_set world.slots unit.number (Some (next_life unit));
+      slots = slice_set world.slots unit.number (Some (new_object values (next_life unit)));
       begun = slice_set world.begun unit.number (unit.life + 1);
       standings = slice_set world.standings unit.number Nothing;
       asked = world.asked + 1;
     }
+
+-- There are so many references to the object that unit n is.
+abbrev pub slots_counted : (n count : ℕ) → List (Option Object) → List (Option Object)
+slots_counted n count slots = slice_set slots n (with_count count (object_at slots n))
+
+-- A reference to it was asked for, and is there; or one was given up.
+abbrev pub with_acquired : ℕ → LivingState → LivingState
+with_acquired n world = record world { slots = slots_counted n (count_of (object_at world.slots n) + 1) world.slots; asked = world.asked + 1 }
+
+abbrev pub with_given_up : ℕ → LivingState → LivingState
+with_given_up n world = record world { slots = slots_counted n (count_of (object_at world.slots n) - 1) world.slots }
 
 -- What units wait for once the life of unit n has ended: behind a free with delay it waits from now on, behind a plain one for nothing,
 -- as before.
@@ -117,11 +130,16 @@ pub record HaveLived (begun : List ℕ) (standings : List Standing) (post : Post
       → HasLived begun standings n (stocked_at post.pool.units n).life (stocked_at post.pool.units n).seal
   pub boxes : (i : ℕ) → All (All (LivedAs begun standings)) (slice_index_or post.inboxes i [])
 
+-- There is a reference to an object that lives, and there are no more than were asked for.
+abbrev pub IsCounted : (asked : ℕ) → Option Object → Type 0
+IsCounted asked None = Unit {0}
+IsCounted asked (Some object) = (0 < object.count) × (object.count ≤ asked)
+
 -- What the parts keep true: there is a slot for each number, and a count of its lives, which isn't above the number of objects
--- that were asked for; the unit in a slot has its number, is out of the pool and stands in no inbox, lives the last life that
+-- and references that were asked for, and so it is of the count of its references; the unit in a slot has its number, is out of the pool and stands in no inbox, lives the last life that
 -- it has begun, has no seal, and its home is one of the processors; and so it is of the lives and seals of all units of the pool
 -- and of the inboxes. And standings keep true what they do.
-pub record AreLiving (post : PostState) (plain tracing : ℕ) (slots : List (Option UnitState)) (begun : List ℕ) (standings : List Standing) (asked : ℕ) : Type 0 where
+pub record AreLiving (post : PostState) (plain tracing : ℕ) (slots : List (Option Object)) (begun : List ℕ) (standings : List Standing) (asked : ℕ) : Type 0 where
   pub size : length slots ≡ 2 ^ 16
   pub counts : length begun ≡ 2 ^ 16
   pub number : (n : ℕ) (unit : UnitState) → unit_at slots n ≡ Some unit → unit.number ≡ n
@@ -129,6 +147,7 @@ pub record AreLiving (post : PostState) (plain tracing : ℕ) (slots : List (Opt
   pub life : (n : ℕ) (unit : UnitState) → unit_at slots n ≡ Some unit → unit.life ≡ begun_at begun n
   pub unsealed : (n : ℕ) (unit : UnitState) → unit_at slots n ≡ Some unit → unit.seal ≡ None
   pub home : (n : ℕ) (unit : UnitState) → unit_at slots n ≡ Some unit → unit.home < post.processors
+  pub counted : (n : ℕ) → IsCounted asked (object_at slots n)
   pub few : asked < 2 ^ 31
   pub most : (n : ℕ) → begun_at begun n ≤ asked
   pub lived : HaveLived begun standings post

@@ -1,15 +1,43 @@
--- The units that live, by their numbers.
-use Rattle.std.specs.Prelude.{◌≡◌, ℕ, List, Option, Some, None, slice_get}
+-- The objects that live, by the numbers of their units.
+use Rattle.std.specs.Prelude.{◌≡◌, ℕ, List, [], Option, Some, None, slice_get}
 use Rattle.bm_page.specs.UnitState.{UnitState}
+use Rattle.bm_world.specs.declared.slots.Object.{Object}
 
-abbrev pub joined : Option (Option UnitState) → Option UnitState
+abbrev pub joined : Option (Option Object) → Option Object
 joined None = None
 joined (Some slot) = slot
 
--- the unit in the slot of its number
-abbrev pub unit_at : List (Option UnitState) → ℕ → Option UnitState
-unit_at slots n = joined (slice_get slots n)
+-- the object in the slot of its unit's number
+abbrev pub object_at : List (Option Object) → ℕ → Option Object
+object_at slots n = joined (slice_get slots n)
+
+abbrev pub unit_of : Option Object → Option UnitState
+unit_of None = None
+unit_of (Some object) = Some object.unit
+
+-- .. and its unit
+abbrev pub unit_at : List (Option Object) → ℕ → Option UnitState
+unit_at slots n = unit_of (object_at slots n)
+
+-- how many references there are to it
+abbrev pub count_of : Option Object → ℕ
+count_of None = 0
+count_of (Some object) = object.count
+
+-- the values of its fields
+abbrev pub values_of : Option Object → List ℕ
+values_of None = []
+values_of (Some object) = object.values
+
+-- an object that was made just now has one reference
+abbrev pub new_object : (values : List ℕ) → UnitState → Object
+new_object values unit = record { unit = unit; count = 1; values = values }
+
+-- the same object with another number of references
+abbrev pub with_count : (count : ℕ) → Option Object → Option Object
+with_count count None = None
+with_count count (Some object) = Some (record object { count = count })
 
 -- no unit lives
-abbrev pub AllEmpty : List (Option UnitState) → Type 0
+abbrev pub AllEmpty : List (Option Object) → Type 0
 AllEmpty slots = (n : ℕ) → unit_at slots n ≡ None

@@ -6,6 +6,7 @@ use Rattle.bm_page.specs.UnitState.{UnitState}
 use Rattle.bm_grace.specs.Answers.{next}
 use Rattle.bm_law_order.specs.Seals as seals
 use Rattle.bm_world.specs.Slots.{unit_at}
+use Rattle.bm_world.specs.declared.slots.Object.{Object}
 use Rattle.bm_world.specs.WaitingState.{passes, stamp_in}
 use Rattle.bm_world.specs.declared.standing.Standing.{Standing}
 use Rattle.bm_world.specs.declared.standing.Standing.TheVariants.{Nothing, Waits, Sealed}
@@ -68,7 +69,7 @@ IsTimed plain tracing (Waits wait) = (wait.plain ≤ next plain) × (wait.tracin
 IsTimed plain tracing (Sealed seal) = seal.stamp ≤ seal.seen
 
 -- What standings keep true: there is one for each number, each of them is timed, and a unit that lives waits for nothing.
-pub record AreStanding (plain tracing : ℕ) (slots : List (Option UnitState)) (standings : List Standing) : Type 0 where
+pub record AreStanding (plain tracing : ℕ) (slots : List (Option Object)) (standings : List Standing) : Type 0 where
   pub size : length standings ≡ 2 ^ 16
   pub timed : (n : ℕ) → IsTimed plain tracing (standing_at standings n)
   pub living : (n : ℕ) (unit : UnitState) → unit_at slots n ≡ Some unit → standing_at standings n ≡ Nothing

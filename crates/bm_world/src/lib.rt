@@ -2,12 +2,12 @@
 //!
 //! - `World` is a `Post` and a `Grace` in one value, so that a grace period that has passed can make the post's units ripe.
 //! - `OneSide` is the world on one thread for any number of processors, of which one has its turn.
-//! - `Lives` is a `World` in which units live: `begin_life`, `end_life`, `ask`.
-//! - `LivingSide` is such a world on one thread: beside a `OneSide` it owns the units that live, by their numbers, and keeps what each
-//!   unit waits for (`Standing`).
+//! - `Lives` is a `World` in which units live: `begin_life`, `acquire`, `read`, `release_other`, `end_life`, `ask`.
+//! - `LivingSide` is such a world on one thread: beside a `OneSide` it owns the objects that live, by the numbers of their units, and keeps
+//!   what each unit waits for (`Standing`).
 //! - `Since` says since when a processor's log and its side are tied.
 //! - `WaitingSide` tells which units wait and since when; the tests of delayed frees stand on it.
-//! - `Slots` holds the units that live.
+//! - `Slots` holds the objects that live, each with its unit, how many references there are to it, and the values of its fields.
 //!
 //! Deferred work (`bm_work`) is generic over any world, and the machines of a run (`bm_exec_levels`) over any world with lives.
 //!
@@ -15,7 +15,7 @@
 //! tie between a log and what is shared, whose other half is the log's (`bm_law_order`). A unit that lives is nobody's to free
 //! until its life ends.
 //!
-//! That lives are counted is this project's own. The world of several threads isn't here.
+//! That lives are counted, and that a unit is given with the values of its object's fields, is this project's own. The world of several threads isn't here.
 #![tactic(auto)]
 
 mod begun;

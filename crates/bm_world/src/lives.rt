@@ -1,19 +1,20 @@
 //! Lives of units.
 
-ghost use Rattle.std.specs.Prelude.{◌≡◌, ◌+◌, ◌^◌, ◌<◌, ◌∷◌, [], ℕ, Option, None, Some, false, is_some, true};
+ghost use Rattle.std.specs.Prelude.{◌≡◌, ◌+◌, ◌^◌, ◌<◌, ◌∷◌, [], ℕ, Option, None, Some, false, is_some, slice_get, true};
 ghost use Rattle.bm_law_order.specs.Act as act;
 ghost use Rattle.bm_grace.specs.Rest.{StaysAtRest};
 ghost use Rattle.bm_grace.specs.Rights.{AsBefore};
 ghost use Rattle.bm_page.specs.declared.units.Seal.{Seal as SealValue};
 ghost use Rattle.bm_post.specs.Rights.{Gains, IsSettled, Loses};
-ghost use Rattle.bm_world.specs.Lives.{OthersAsBefore, asked_once, life_begun, life_ended, life_of_unit};
+ghost use Rattle.bm_grace.specs.Known.{Living};
+ghost use Rattle.bm_world.specs.Lives.{HasLife, OthersAsBefore, asked_once, count_in, life_acquired, life_begun, life_ended, life_given_up, life_of_unit, values_in};
 
 use crate::World;
-use bm_journal::ObjId;
+use bm_journal::{ObjId, Values};
 use bm_page::Unit;
 
-/// A world in which units live: it owns each unit that lives, by its number, and counts how many lives each unit has begun and
-/// how many objects were asked for. A unit that lives isn't mine: its number can be named, and nothing can be done with it, until
+/// A world in which units live: it owns each unit that lives, by its number, with how many references there are to it and the values of
+/// its fields, and counts how many lives each unit has begun and how many objects and further references were asked for. A unit that lives isn't mine: its number can be named, and nothing can be done with it, until
 /// its life ends. No call takes memory, and each changes what the side knows by one equation. This project's own; in the kernel
 /// an object that lives is a pointer, which a program owns.
 pub trait Lives: World {
@@ -25,9 +26,9 @@ pub trait Lives: World {
         ensures rest { StaysAtRest Self.rest self.old self.new }
         ensures does { Self.does [] self.old self.new };
 
-    /// An object is asked for, and a unit of mine begins its next life for it. It is mine no more, and of all other units
-    /// everything is as before.
-    fn begin_life(&mut self, unit: Unit) -> ObjId
+    /// An object is asked for, with these values of its fields, and a unit of mine begins its next life for it, to which there is one
+    /// reference. It is mine no more, and of all other units everything is as before.
+    fn begin_life(&mut self, unit: Unit, values: Values) -> ObjId
         requires room { (Self.known self.old).objects.asked + 1 < 2 ^ 31 }
         requires mine { (Self.rights self.old).mine unit.number ≡ true }
         requires settled { IsSettled (Self.rights self.old) unit }
@@ -35,19 +36,57 @@ pub trait Lives: World {
         ensures object { result ≡ record { unit = unit.number; life = unit.life + 1 } }
         ensures next { unit.life ≡ (Self.known self.old).objects.begun unit.number }
         ensures none { (Self.known self.old).objects.lives unit.number ≡ None }
-        ensures known { Self.known self.new ≡ life_begun unit (Self.known self.old) }
+        ensures known { Self.known self.new ≡ life_begun values unit (Self.known self.old) }
         ensures gone { Loses (unit.number ∷ []) (Self.rights self.old) (Self.rights self.new) }
         ensures others { OthersAsBefore unit.number (Self.rights self.old) (Self.rights self.new) }
         ensures rest { StaysAtRest Self.rest self.old self.new }
         ensures does { unit.home ≡ (Self.known self.old).grace.processor
-            → Self.does (act.Makes unit.number (unit.life + 1) unit.seal ∷ []) self.old self.new };
+            → Self.does (act.Makes unit.number (unit.life + 1) values unit.seal ∷ []) self.old self.new };
 
-    /// The life of a unit ends, by a drop whose free is a plain one, or one with delay: the unit is mine again, has no seal, and has room
+    /// How many references there are to an object that lives.
+    fn references(&self, number: u16) -> u32
+        requires lives { is_some ((Self.known self.now).objects.lives number) ≡ true }
+        ensures count { result ≡ count_in ((Self.known self.now).objects.lives number) }
+        ensures some { 0 < result };
+
+    /// A reference to an object that lives is asked for, and is there: there is one more than the number that is answered. Of all units
+    /// everything is as before. From bpf_refcount_acquire_impl of kernel/bpf/helpers.c.
+    fn acquire(&mut self, object: ObjId) -> u32
+        requires room { (Self.known self.old).objects.asked + 1 < 2 ^ 31 }
+        requires lives { (l : Living) × HasLife (Self.known self.old).objects.lives object.unit object.life l }
+        ensures seen { result ≡ count_in ((Self.known self.old).objects.lives object.unit) }
+        ensures some { 0 < result }
+        ensures known { Self.known self.new ≡ life_acquired object.unit (Self.known self.old) }
+        ensures same { AsBefore (Self.rights self.old) (Self.rights self.new) }
+        ensures rest { StaysAtRest Self.rest self.old self.new }
+        ensures does { Self.does (act.Acquires object.unit object.life result ∷ []) self.old self.new };
+
+    /// A field of an object that lives is read, by its place: its value is the one with which the object was made.
+    fn read(&self, object: ObjId, place: u8) -> u32
+        requires lives { (l : Living) × HasLife (Self.known self.now).objects.lives object.unit object.life l }
+        requires there { is_some (slice_get (values_in ((Self.known self.now).objects.lives object.unit)) place) ≡ true }
+        ensures value { slice_get (values_in ((Self.known self.now).objects.lives object.unit)) place ≡ Some result }
+        ensures does { Self.does (act.Finds object.unit object.life place result ∷ []) self.now self.now };
+
+    /// A reference to an object that has others is given up: there is one less than the number that is answered. Of all units everything is
+    /// as before. From __bpf_obj_drop_impl of kernel/bpf/helpers.c, where the count isn't 0 then.
+    fn release_other(&mut self, object: ObjId) -> u32
+        requires lives { (l : Living) × HasLife (Self.known self.old).objects.lives object.unit object.life l }
+        requires others { 1 < count_in ((Self.known self.old).objects.lives object.unit) }
+        ensures seen { result ≡ count_in ((Self.known self.old).objects.lives object.unit) }
+        ensures known { Self.known self.new ≡ life_given_up object.unit (Self.known self.old) }
+        ensures same { AsBefore (Self.rights self.old) (Self.rights self.new) }
+        ensures rest { StaysAtRest Self.rest self.old self.new }
+        ensures does { Self.does (act.GivesUp object.unit object.life result ∷ []) self.old self.new };
+
+    /// The last reference is given up, and the life of a unit ends, by a drop whose free is a plain one, or one with delay: the unit is mine again, has no seal, and has room
     /// for one life more. After a plain free it may be used again, and isn't due; after one with delay it is due, and may not be used
     /// again. Of all other units everything is as before.
     fn end_life(&mut self, number: u16, delayed: bool) -> Unit
         requires lives { is_some ((Self.known self.old).objects.lives number) ≡ true }
-        ensures lived { (Self.known self.old).objects.lives number ≡ Some (life_of_unit result) }
+        requires only { count_in ((Self.known self.old).objects.lives number) ≡ 1 }
+        ensures lived { let was = (Self.known self.old).objects.lives number in
+            was ≡ Some (life_of_unit 1 (values_in was) result) }
         ensures number { result.number ≡ number }
         ensures last { result.life ≡ (Self.known self.old).objects.begun number }
         ensures known { Self.known self.new ≡ life_ended number (Self.known self.old) }

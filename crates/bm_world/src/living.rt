@@ -1,6 +1,6 @@
 //! The world on one thread with the units that live in it.
 
-ghost use Rattle.std.specs.Prelude.{◌≡◌, ◌≢◌, ◌+◌, ◌%◌, ◌^◌, ◌<◌, ◌≤◌, ◌∷◌, ◌++◌, [], drop, ℕ, eqb, if◌then◌else◌, List, Option, None, Some, false, length, is_some, reverse, true, IfOk, IfErr, IfSome, IfNone, OnOk, OnErr};
+ghost use Rattle.std.specs.Prelude.{◌≡◌, ◌≢◌, ◌+◌, ◌%◌, ◌^◌, ◌<◌, ◌≤◌, ◌∷◌, ◌++◌, [], drop, ℕ, eqb, if◌then◌else◌, List, Option, None, Some, false, length, is_some, reverse, slice_get, true, IfOk, IfErr, IfSome, IfNone, OnOk, OnErr};
 ghost use Rattle.std.specs.List.{All};
 ghost use Rattle.std.specs.Option.{option_map_or};
 ghost use Rattle.bm_page.specs.Stock.{fetched as stock_fetched};
@@ -19,14 +19,15 @@ ghost use Rattle.bm_post.specs.Calls.{Fetches, GivesBack, IsOf, Mails, Posts, Re
 ghost use Rattle.bm_post.specs.Parcels.{oldest, parcel_sent, parcel_taken};
 ghost use Rattle.bm_post.specs.Rights.{AreSame, Gains, Holds, IsSettled, Lasting, Loses, MayLeave, WaitedBy, numbers};
 ghost use Rattle.bm_world.specs.Slots.{AllEmpty, unit_at};
+ghost use Rattle.bm_grace.specs.Known.{Living};
 ghost use Rattle.bm_world.specs.ToldLiving.{LivingDoes, living-join, living-same};
 ghost use Rattle.bm_law_order.specs.Act as act;
 ghost use Rattle.bm_law_order.specs.Act.{sealed};
 ghost use Rattle.bm_grace.specs.Begins.{begin_act};
-ghost use Rattle.bm_world.specs.LivingState.{HaveLived, LivingAtRest, begun_at, idle-living, known_living, lives_of, rights_living, room-living, with_asked, standings_after, with_begun, with_ended};
+ghost use Rattle.bm_world.specs.LivingState.{HaveLived, LivingAtRest, begun_at, idle-living, known_living, lives_of, rights_living, room-living, with_acquired, with_asked, standings_after, with_begun, with_ended, with_given_up};
 ghost use Rattle.bm_world.specs.Standings.{left_by, standing_at};
 ghost use Rattle.bm_world.specs.declared.standing.Standing.TheVariants.{Nothing as WaitsForNothing};
-ghost use Rattle.bm_world.specs.Lives.{OthersAsBefore, asked_once, life_begun, life_ended, life_of_unit};
+ghost use Rattle.bm_world.specs.Lives.{HasLife, OthersAsBefore, asked_once, count_in, life_acquired, life_begun, life_ended, life_given_up, life_of_unit, values_in};
 ghost use Rattle.bm_page.specs.declared.units.Seal.{Seal as SealValue};
 
 use crate::begun::Begun;
@@ -36,7 +37,7 @@ use crate::wait::Wait;
 use crate::{Lives, OneSide, World};
 use bm_class::Class;
 use bm_grace::{Began, Done, Grace, Knows, Look};
-use bm_journal::{Domain, ObjId, Period};
+use bm_journal::{Domain, ObjId, Period, Values};
 use bm_page::Unit;
 use bm_post::Post;
 use bm_word::NoMemory;
@@ -53,13 +54,13 @@ use std::marker::Model;
 pub struct LivingSide {
     /// The pool, all inboxes, and the words and numbers of both domains.
     side: OneSide,
-    /// By number, the unit that lives, if it does.
+    /// By number, the object that the unit is, if it lives.
     slots: Slots,
     /// By number, how many lives the unit has begun.
     begun: Begun,
     /// By number, what the unit waits for.
     standings: Standings,
-    /// How many objects were asked for.
+    /// How many objects and further references were asked for.
     asked: u32,
 }
 
@@ -475,7 +476,7 @@ impl Lives for LivingSide {
         self.asked += 1;
     }
 
-    fn begin_life(&mut self, unit: Unit) -> ObjId
+    fn begin_life(&mut self, unit: Unit, values: Values) -> ObjId
         requires room { self.old.asked + 1 < 2 ^ 31 }
         requires mine { (rights_living self.old).mine unit.number ≡ true }
         requires settled { IsSettled (rights_living self.old) unit }
@@ -483,13 +484,13 @@ impl Lives for LivingSide {
         ensures object { result ≡ record { unit = unit.number; life = unit.life + 1 } }
         ensures next { unit.life ≡ begun_at self.old.begun unit.number }
         ensures none { lives_of self.old.slots unit.number ≡ None }
-        ensures state { self.new ≡ with_begun unit self.old }
-        ensures known { known_living self.new ≡ life_begun unit (known_living self.old) }
+        ensures state { self.new ≡ with_begun values unit self.old }
+        ensures known { known_living self.new ≡ life_begun values unit (known_living self.old) }
         ensures gone { Loses (unit.number ∷ []) (rights_living self.old) (rights_living self.new) }
         ensures others { OthersAsBefore unit.number (rights_living self.old) (rights_living self.new) }
         ensures rest { StaysAtRest LivingAtRest self.old self.new }
         ensures does { unit.home ≡ self.old.side.grace.processor
-            → LivingDoes (act.Makes unit.number (unit.life + 1) unit.seal ∷ []) self.old self.new }
+            → LivingDoes (act.Makes unit.number (unit.life + 1) values unit.seal ∷ []) self.old self.new }
     {
         self.side.processors_agree();
         let mut unit = unit;
@@ -500,15 +501,66 @@ impl Lives for LivingSide {
         };
         self.begun.set(object.unit, object.life);
         self.standings.set(object.unit, Standing::Nothing);
-        self.slots.put(unit);
+        self.slots.put(unit, values);
         self.asked += 1;
         object
     }
 
+    fn references(&self, number: u16) -> u32
+        requires lives { is_some (lives_of self.now.slots number) ≡ true }
+        ensures count { result ≡ count_in (lives_of self.now.slots number) }
+        ensures some { 0 < result }
+    {
+        self.slots.references(number)
+    }
+
+    fn acquire(&mut self, object: ObjId) -> u32
+        requires room { self.old.asked + 1 < 2 ^ 31 }
+        requires lives { (l : Living) × HasLife (lives_of self.old.slots) object.unit object.life l }
+        ensures state { self.new ≡ with_acquired object.unit self.old }
+        ensures seen { result ≡ count_in (lives_of self.old.slots object.unit) }
+        ensures some { 0 < result }
+        ensures known { known_living self.new ≡ life_acquired object.unit (known_living self.old) }
+        ensures same { AsBefore (rights_living self.old) (rights_living self.new) }
+        ensures rest { StaysAtRest LivingAtRest self.old self.new }
+        ensures does { LivingDoes (act.Acquires object.unit object.life result ∷ []) self.old self.new }
+    {
+        let count = self.slots.references(object.unit);
+        self.slots.count(object.unit, count + 1);
+        self.asked += 1;
+        count
+    }
+
+    fn read(&self, object: ObjId, place: u8) -> u32
+        requires lives { (l : Living) × HasLife (lives_of self.now.slots) object.unit object.life l }
+        requires there { is_some (slice_get (values_in (lives_of self.now.slots object.unit)) place) ≡ true }
+        ensures value { slice_get (values_in (lives_of self.now.slots object.unit)) place ≡ Some result }
+        ensures does { LivingDoes (act.Finds object.unit object.life place result ∷ []) self.now self.now }
+    {
+        self.slots.value(object.unit, place)
+    }
+
+    fn release_other(&mut self, object: ObjId) -> u32
+        requires lives { (l : Living) × HasLife (lives_of self.old.slots) object.unit object.life l }
+        requires others { 1 < count_in (lives_of self.old.slots object.unit) }
+        ensures state { self.new ≡ with_given_up object.unit self.old }
+        ensures seen { result ≡ count_in (lives_of self.old.slots object.unit) }
+        ensures known { known_living self.new ≡ life_given_up object.unit (known_living self.old) }
+        ensures same { AsBefore (rights_living self.old) (rights_living self.new) }
+        ensures rest { StaysAtRest LivingAtRest self.old self.new }
+        ensures does { LivingDoes (act.GivesUp object.unit object.life result ∷ []) self.old self.new }
+    {
+        let count = self.slots.references(object.unit);
+        self.slots.count(object.unit, count - 1);
+        count
+    }
+
     fn end_life(&mut self, number: u16, delayed: bool) -> Unit
         requires lives { is_some (lives_of self.old.slots number) ≡ true }
+        requires only { count_in (lives_of self.old.slots number) ≡ 1 }
         ensures unit { unit_at self.old.slots number ≡ Some result }
-        ensures lived { lives_of self.old.slots number ≡ Some (life_of_unit result) }
+        ensures lived { let was = lives_of self.old.slots number in
+            was ≡ Some (life_of_unit 1 (values_in was) result) }
         ensures number { result.number ≡ number }
         ensures last { result.life ≡ begun_at self.old.begun number }
         ensures state { self.new ≡ with_ended delayed number self.old }

@@ -1,8 +1,10 @@
-//! The units that live, each in the slot of its number.
+//! The objects that live, each in the slot of its unit's number.
 
-ghost use Rattle.std.specs.Prelude.{◌≡◌, ◌<◌, ◌^◌, IfOk, length, Some, None, is_some, true, slice_set};
-ghost use Rattle.bm_world.specs.Slots.{AllEmpty, unit_at};
+ghost use Rattle.std.specs.Prelude.{◌≡◌, ◌<◌, ◌^◌, IfOk, length, Some, None, is_some, true, slice_get, slice_set};
+ghost use Rattle.bm_world.specs.LivingState.{slots_counted};
+ghost use Rattle.bm_world.specs.Slots.{AllEmpty, count_of, new_object, object_at, unit_at, values_of};
 
+use bm_journal::Values;
 use bm_page::Unit;
 use bm_word::NoMemory;
 use std::alloc::Global;
@@ -11,10 +13,17 @@ use std::mem;
 /// How many unit numbers there are.
 const NUMBERS: usize = 65_536;
 
-/// A slot for each unit number, which holds the unit where it lives.
+/// An object that lives: its unit, how many references there are to it, and the values of its fields.
+pub struct Object {
+    pub unit: Unit,
+    pub count: u32,
+    pub values: Values,
+}
+
+/// A slot for each unit number, which holds the object that the unit is where it lives.
 pub struct Slots {
-    /// By number, the unit that lives, if it does.
-    pub slots: Vec<Option<Unit>>,
+    /// By number, the object that the unit is, if it lives.
+    pub slots: Vec<Option<Object>>,
 }
 
 impl Slots {
@@ -32,15 +41,21 @@ impl Slots {
         Ok(Slots { slots })
     }
 
-    /// Puts a unit into its slot, which is empty.
-    pub fn put(&mut self, unit: Unit)
+    /// Puts a unit into its slot, which is empty, as an object with these values of its fields, to which there is one reference.
+    pub fn put(&mut self, unit: Unit, values: Values)
         requires size { length self.old.slots.items ≡ 2 ^ 16 }
         requires number { unit.number < 2 ^ 16 }
         requires empty { unit_at self.old.slots.items unit.number ≡ None }
-        ensures { self.new.slots.items ≡ slice_set self.old.slots.items unit.number (Some unit) }
+        ensures { self.new.slots.items
+            ≡ slice_set self.old.slots.items unit.number (Some (new_object values unit)) }
     {
         let place = unit.number() as usize;
-        match mem::replace(&mut self.slots[place], Some(unit)) {
+        let object = Object {
+            unit,
+            count: 1,
+            values,
+        };
+        match mem::replace(&mut self.slots[place], Some(object)) {
             None => {}
             Some(_) => unreachable!(),
         }
@@ -54,23 +69,73 @@ impl Slots {
         ensures empty { self.new.slots.items ≡ slice_set self.old.slots.items number None }
     {
         match self.slots[number as usize].take() {
-            Some(unit) => unit,
+            Some(object) => {
+                let Object {
+                    unit,
+                    count: _,
+                    values: _,
+                } = object;
+                unit
+            }
             None => unreachable!(),
         }
     }
 
-    /// Ends the slots, and each unit in them.
+    /// How many references there are to the object that a unit is; none where it doesn't live.
+    pub fn references(&self, number: u16) -> u32
+        requires size { length self.now.slots.items ≡ 2 ^ 16 }
+        ensures { result ≡ count_of (object_at self.now.slots.items number) }
+    {
+        match &self.slots[number as usize] {
+            Some(object) => object.count,
+            None => 0,
+        }
+    }
+
+    /// Says how many references there are to the object that a unit is.
+    pub fn count(&mut self, number: u16, count: u32)
+        requires size { length self.old.slots.items ≡ 2 ^ 16 }
+        requires there { is_some (unit_at self.old.slots.items number) ≡ true }
+        ensures { self.new.slots.items ≡ slots_counted number count self.old.slots.items }
+    {
+        match &mut self.slots[number as usize] {
+            Some(object) => object.count = count,
+            None => unreachable!(),
+        }
+    }
+
+    /// The value of a field of the object that a unit is, by its place.
+    pub fn value(&self, number: u16, place: u8) -> u32
+        requires size { length self.now.slots.items ≡ 2 ^ 16 }
+        requires there { is_some (slice_get (values_of (object_at self.now.slots.items number)) place) ≡ true }
+        ensures { slice_get (values_of (object_at self.now.slots.items number)) place ≡ Some result }
+    {
+        match &self.slots[number as usize] {
+            Some(object) => match object.values.as_slice().get(place as usize) {
+                Some(value) => *value,
+                None => unreachable!(),
+            },
+            None => unreachable!(),
+        }
+    }
+
+    /// Ends the slots, and each object in them.
     pub fn give_up(self) {
         let Slots { slots } = self;
         give_up_slots(slots);
     }
 }
 
-/// Ends slots, and each unit in them.
-fn give_up_slots(slots: Vec<Option<Unit>>) {
+/// Ends slots, and each object in them.
+fn give_up_slots(slots: Vec<Option<Object>>) {
     let mut slots = slots;
     while let Some(slot) = slots.pop() {
-        if let Some(unit) = slot {
+        if let Some(object) = slot {
+            let Object {
+                unit,
+                count: _,
+                values: _,
+            } = object;
             unit.give_up();
         }
     }

@@ -1,8 +1,10 @@
-use Rattle.std.proofs.Common.{length, reverse, sym, refl, arith}
+use Rattle.std.proofs.Common.{◌∙◌, ap, length, reverse, sym, refl, arith}
 use Rattle.std.proofs.lemmas.List.{length-reverse}
-use Rattle.bm_lang.specs.declared.scenario.Action.{New, None', Some'}
+use Rattle.bm_check.specs.Values.{is_owning}
+use Rattle.bm_lang.specs.declared.scenario.Action.{Acquire, New, None', Some'}
 use Rattle.bm_exec.specs.Seen.{has_name, names_of}
 use Rattle.bm_exec.proofs.Meeting.{block-room, new-known, opens-again, opens-if, opens-other, opens-section}
+use Rattle.bm_exec.proofs.Counted.{counted-in, owning-one}
 use Rattle.bm_exec.proofs.Performing.{first-performed, other-performed, skip-performed, repeat-performed, yield-performed}
 use Rattle.bm_exec.proofs.Yields.{unyielding-none, yields-one}
 use Rattle.bm_exec.proofs.running.perform.Goals as goal
@@ -57,6 +59,26 @@ pub perform_new-requires-clause-there : goal.perform_new-requires-clause-there
 perform_new-requires-clause-there g c =
     let os = c.args.frame.now.blocks.items in
     (new-known c.args.types.now.declared.now (has_name c.args.names.now) (length (reverse os)) (New c.in-New.name c.in-New.type_id c.in-New.values) (rw c.in-New.is at c.requires.may)).1
+
+pub perform_acquire-requires-clause-there : goal.perform_acquire-requires-clause-there
+perform_acquire-requires-clause-there g c =
+    let os = c.args.frame.now.blocks.items in
+    (new-known c.args.types.now.declared.now (has_name c.args.names.now) (length (reverse os)) (Acquire c.in-Acquire.name c.in-Acquire.of) (rw c.in-Acquire.is at c.requires.may)).1
+
+pub perform_acquire-requires-clause-owned : goal.perform_acquire-requires-clause-owned
+perform_acquire-requires-clause-owned g c =
+    let e = rw c.in-Acquire.is at c.requires.needed.2 in
+    ap is_owning e.1
+
+pub perform_acquire-requires-clause-free : goal.perform_acquire-requires-clause-free
+perform_acquire-requires-clause-free g c =
+    let e = rw c.in-Acquire.is at c.requires.needed.2 in
+    e.3.0
+
+pub perform_acquire-requires-clause-counted : goal.perform_acquire-requires-clause-counted
+perform_acquire-requires-clause-counted g c t v =
+    let e = rw c.in-Acquire.is at c.requires.needed.2 in
+    counted-in c.requires.needed.0 c.args.types.now.declared.now e.0 t c.requires.needed.1 (owning-one e.0 t (sym e.1 ∙ v)) e.2
 
 -- ---- what was performed
 

@@ -25,14 +25,14 @@ loop-statement-init g c = record {
 }
 
 pub returns-in-End-clause-ended : goal.returns-in-End-clause-ended
-returns-in-End-clause-ended g c = λ _. went-end _ _ _ _ _ c.requires.can.accepted.0 _ _ _ _ _ _ _ _ _ _ _ _ c.loop-statement.invariant.went (rw c.in-End.is at c.next_statement.ensures.stepped) c.requires.can.accepted.1
+returns-in-End-clause-ended g c = λ _. went-end _ _ _ _ _ c.requires.can.accepted.0 _ _ _ _ _ _ _ _ _ _ _ _ c.loop-statement.invariant.went (rw c.in-End.is at c.next_statement.ensures.stepped) c.requires.can.accepted.2
 
 pub returns-in-End-clause-turn : goal.returns-in-End-clause-turn
 returns-in-End-clause-turn g c = c.loop-statement.invariant.yields
 
 pub returns-in-End-clause-lives : goal.returns-in-End-clause-lives
 returns-in-End-clause-lives g c = λ _ base h.
-    (let r = went-end _ _ _ _ _ c.requires.can.accepted.0 _ _ _ _ _ _ _ _ _ _ _ _ c.loop-statement.invariant.went (rw c.in-End.is at c.next_statement.ensures.stepped) c.requires.can.accepted.1 in
+    (let r = went-end _ _ _ _ _ c.requires.can.accepted.0 _ _ _ _ _ _ _ _ _ _ _ _ c.loop-statement.invariant.went (rw c.in-End.is at c.next_statement.ensures.stepped) c.requires.can.accepted.2 in
     only-base _ base _ _ (c.loop-statement.invariant.went.holds base h) r.owns_nothing)
 
 pub returns-in-End-clause-asked : goal.returns-in-End-clause-asked
@@ -62,7 +62,7 @@ pub perform-requires-clause-open : goal.perform-requires-clause-open
 perform-requires-clause-open g c = let t = rw c.in-Statement.is at c.next_statement.ensures.stepped in t.some
 
 pub perform-requires-clause-needed : goal.perform-requires-clause-needed
-perform-requires-clause-needed g c = let t = rw c.in-Statement.is at c.next_statement.ensures.stepped in (c.requires.can.accepted.0, t.safe _ _ (c.loop-statement.invariant.went.safe _ c.requires.can.accepted.1))
+perform-requires-clause-needed g c = let t = rw c.in-Statement.is at c.next_statement.ensures.stepped in (c.requires.can.accepted.0, c.requires.can.accepted.1, t.safe _ _ (c.loop-statement.invariant.went.safe _ c.requires.can.accepted.2))
 
 pub loop-statement-smaller-else-is_yield : goal.loop-statement-smaller-else-is_yield
 loop-statement-smaller-else-is_yield g c =

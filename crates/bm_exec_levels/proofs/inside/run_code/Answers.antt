@@ -1,3 +1,4 @@
+use Rattle.std.proofs.Common.{sym}
 use Rattle.bm_exec_levels.proofs.Phrases.{script-bound}
 use Rattle.bm_exec_levels.proofs.inside.run_code.Goals as goal
 
@@ -7,3 +8,6 @@ run_handler-requires-clause-bound g c =
 
 pub run_handler-requires-clause-fits : goal.run_handler-requires-clause-fits
 run_handler-requires-clause-fits g c = c.requires.at.ready.fits.fits c.requires.found.0 c.args.script.now c.requires.found.1
+
+pub run_handler-requires-clause-types : goal.run_handler-requires-clause-types
+run_handler-requires-clause-types g c = sym c.requires.at.ready.fits.types

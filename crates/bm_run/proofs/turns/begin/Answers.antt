@@ -1,4 +1,4 @@
-use Rattle.std.proofs.Common.{◌+◌, ◌<◌, ◌^◌, arith}
+use Rattle.std.proofs.Common.{◌+◌, ◌<◌, ◌^◌, arith, sym}
 use Rattle.bm_journal.specs.declared.ids.Domain.{Domain}
 use Rattle.bm_journal.specs.declared.ids.Domain.TheVariants.{Plain, Tracing}
 use Rattle.bm_world.specs.LivingState.{LivingState}
@@ -27,6 +27,9 @@ begin_script-requires-clause-room c =
 
 pub begin-requires-clause-fits : goal.begin-requires-clause-fits
 begin-requires-clause-fits c = c.requires.sound.at.ready.fits.fits c.requires.found.0 c.args.script.now c.requires.found.1
+
+pub begin-requires-clause-types : goal.begin-requires-clause-types
+begin-requires-clause-types c = sym c.requires.sound.at.ready.fits.types
 
 pub returns-clause-begun : goal.returns-clause-begun
 returns-clause-begun c = λ w down.

@@ -1,9 +1,9 @@
-use Rattle.std.proofs.Common.{◌≡◌, ◌∙◌, None, true, eqb, eq-eqb, refl, sym, ap, subst}
+use Rattle.std.proofs.Common.{◌≡◌, ◌∙◌, None, true, ap, refl, subst, sym}
 use Rattle.std.specs.Prelude.{is_some}
-use Rattle.bm_grace.specs.Known.{Known}
-use Rattle.bm_journal.specs.declared.ids.ObjId.{ObjId}
 use Rattle.bm_post.specs.Rights.{Holds}
-use Rattle.bm_world.specs.LivingState.{LivingState, rights_living}
+use Rattle.bm_world.specs.Lives.{count_in}
+use Rattle.bm_world.specs.LivingState.{LivingState, known_living, rights_living}
+use Rattle.bm_tests_world.proofs.Begun.{begun-here}
 use Rattle.bm_tests_world.proofs.OneHeld.{one-held}
 use Rattle.bm_tests_world.proofs.living_tests.a_unit_waits_between_two_lives.Goals as goal
 
@@ -14,13 +14,20 @@ seal_if_passed-requires-clause-due g c =
     let here : (rights_living c.end_life-ended.new.self).due u.number u.life None ≡ true = subst (λ n. (rights_living c.end_life-ended.new.self).due n u.life None ≡ true) (sym e.number) (e.due refl) in
     c.pass_period.ensures.ages.due u.number u.life None ∙ (ap (λ (s : LivingState). (rights_living s).due u.number u.life None) c.stamp-stamp.ensures.state ∙ here)
 
-pub end_life-last-requires : goal.end_life-last-requires
-end_life-last-requires g c =
+pub end_life-ended-requires-clause-only : goal.end_life-ended-requires-clause-only
+end_life-ended-requires-clause-only g c =
+    let b = c.begin_life-object.ensures in
+    ap count_in (begun-here c.fields.result c.fetch_one-unit.result (known_living c.fetch_one-unit.new.world) (known_living c.begin_life-object.new.self) c.begin_life-object.result b.object b.known)
+
+pub end_life-last-requires-clause-lives : goal.end_life-last-requires-clause-lives
+end_life-last-requires-clause-lives g c =
     let b = c.begin_life-second.ensures in
-    let o = c.begin_life-second.result in
-    let u = c.receive_unit-again.result in
-    let same : eqb u.number o.unit ≡ true = eq-eqb u.number o.unit (sym (ap (λ (x : ObjId). x.unit) b.object)) in
-    record { lives = ap (λ (k : Known). is_some (k.objects.lives o.unit)) b.known ∙ (rw same refl) }
+    ap is_some (begun-here c.fields-2.result c.receive_unit-again.result (known_living c.receive_unit-again.new.world) (known_living c.begin_life-second.new.self) c.begin_life-second.result b.object b.known)
+
+pub end_life-last-requires-clause-only : goal.end_life-last-requires-clause-only
+end_life-last-requires-clause-only g c =
+    let b = c.begin_life-second.ensures in
+    ap count_in (begun-here c.fields-2.result c.receive_unit-again.result (known_living c.receive_unit-again.new.world) (known_living c.begin_life-second.new.self) c.begin_life-second.result b.object b.known)
 
 pub put_back-requires-clause-mine : goal.put_back-requires-clause-mine
 put_back-requires-clause-mine g c =

@@ -1,9 +1,15 @@
-use Rattle.std.proofs.Common.{◌<◌, ◌∙◌, None, ap, arith, length, refl, subst}
-use Rattle.bm_world.specs.LivingState.{LivingState, living_of, standings_after, with_ended}
+use Rattle.std.proofs.Common.{◌≡◌, ◌<◌, ◌∙◌, List, None, Option, Some, ap, arith, length, refl, subst, sym, ℕ}
+use Rattle.bm_world.specs.LivingState.{LivingState, lives_of, living_of, standings_after, with_ended}
 use Rattle.bm_world.proofs.Alive.{after-due, after-settled, after-undue, after-unsettled, ended-mine, living-ended}
 use Rattle.bm_world.proofs.LivingDid.{does-end}
 use Rattle.bm_world.proofs.KnownLiving.{ended-others, known-ended}
-use Rattle.bm_world.proofs.SlotLemmas.{at-same, within}
+use Rattle.bm_world.proofs.SlotLemmas.{object-same, the-object, within}
+use Rattle.bm_grace.specs.Known.{Living}
+use Rattle.bm_law_order.specs.Lives.{Life}
+use Rattle.bm_page.specs.UnitState.{UnitState}
+use Rattle.bm_world.specs.Lives.{count_in, life_of_unit, values_in}
+use Rattle.bm_world.specs.Slots.{object_at}
+use Rattle.bm_world.specs.ToldLiving.{life_of}
 use Rattle.bm_world.proofs.living.LivingSideLives.end_life.Goals as goal
 
 pub invariant_of-self : goal.invariant_of-self
@@ -66,17 +72,31 @@ returns-clause-does c =
     let size = c.self.invariant.0.size in
     let stands = c.self.invariant.0.standing.size in
     let there : n < length i.standings.standings.items = omega (arith, inside, size, stands) in
-    rw (← c.self.view_is, c.take.ensures.empty, c.end_standing.ensures.standings, c.end_standing.ensures.side) (does-end c.args.delayed n u a (with_ended c.args.delayed n a) refl (c.self.invariant.0.standing.living n u c.take.ensures.unit) there c.take.ensures.unit (c.self.invariant.0.life n u c.take.ensures.unit) inside)
+    let o = the-object (object_at i.slots.slots.items n) u c.take.ensures.unit in
+    let only : count_in (lives_of i.slots.slots.items n) ≡ 1 = subst (λ (s : LivingState). count_in (lives_of s.slots n) ≡ 1) (sym c.self.view_is) c.requires.only in
+    let one : o.object.count ≡ 1 = sym (ap (λ x. count_in (living_of x)) o.is) ∙ only in
+    let F : ℕ → ℕ → Option Life = λ h k. Some (record { maker = h; count = k }) in
+    let told : F o.object.unit.home o.object.count ≡ F u.home 1 = ap (λ (v : UnitState). F v.home o.object.count) o.unit ∙ ap (F u.home) one in
+    rw (← c.self.view_is, c.take.ensures.empty, c.end_standing.ensures.standings, c.end_standing.ensures.side) (does-end c.args.delayed n u a (with_ended c.args.delayed n a) refl (c.self.invariant.0.standing.living n u c.take.ensures.unit) there (ap life_of o.is ∙ told) (c.self.invariant.0.life n u c.take.ensures.unit) inside)
 
 pub returns-clause-lived : goal.returns-clause-lived
-returns-clause-lived c = rw (← c.self.view_is) (ap living_of c.take.ensures.unit)
+returns-clause-lived c =
+    let i = c.self.inside in
+    let n = c.args.number in
+    let u = c.take.result in
+    let o = the-object (object_at i.slots.slots.items n) u c.take.ensures.unit in
+    let only : count_in (lives_of i.slots.slots.items n) ≡ 1 = subst (λ (s : LivingState). count_in (lives_of s.slots n) ≡ 1) (sym c.self.view_is) c.requires.only in
+    let one : o.object.count ≡ 1 = sym (ap (λ x. count_in (living_of x)) o.is) ∙ only in
+    let told : values_in (lives_of i.slots.slots.items n) ≡ o.object.values = ap (λ x. values_in (living_of x)) o.is in
+    let F : ℕ → List ℕ → UnitState → Option Living = λ k values v. Some (life_of_unit k values v) in
+    rw (← c.self.view_is) (ap living_of o.is ∙ (ap (λ k. F k o.object.values o.object.unit) one ∙ (ap (F 1 o.object.values) o.unit ∙ ap (λ vs. F 1 vs u) (sym told))))
 
 pub returns-clause-known : goal.returns-clause-known
 returns-clause-known c =
     let i = c.self.inside in
     let n = c.args.number in
     let a : LivingState = record { side = i.side; slots = i.slots.slots.items; begun = i.begun.counts.items; standings = i.standings.standings.items; asked = i.asked } in
-    rw (← c.self.view_is, c.take.ensures.empty, c.end_standing.ensures.side) (known-ended c.args.delayed n a (at-same i.slots.slots.items n None (within i.slots.slots.items n c.take.result c.take.ensures.unit)))
+    rw (← c.self.view_is, c.take.ensures.empty, c.end_standing.ensures.side) (known-ended c.args.delayed n a (object-same i.slots.slots.items n None (within i.slots.slots.items n c.take.result c.take.ensures.unit)))
 
 pub returns-clause-others : goal.returns-clause-others
 returns-clause-others c =

@@ -5,7 +5,7 @@ use Rattle.std.proofs.Common.{[], ◌∷◌, drop, length, refl}
 use Rattle.bm_law_order.specs.Act as act
 use Rattle.bm_post.specs.Rights.{numbers}
 use Rattle.bm_world.specs.Standings.{waits_told}
-use Rattle.bm_world.proofs.LivingDid.{keep-one, kept-none, lifts-ok, on-ok}
+use Rattle.bm_world.proofs.LivingDid.{keep-one, kept-none, lifts-ok, made-one, on-ok}
 
 pub invariant_of-self : goal.invariant_of-self
 invariant_of-self c =
@@ -26,4 +26,4 @@ returns-clause-ok c =
 pub returns-clause-does : goal.returns-clause-does
 returns-clause-does c =
     let i = c.self.inside in
-    rw (← c.self.view_is) (lifts-ok c.fetch.result (act.Fetches c.args.class c.args.want (numbers (drop (length c.args.out.now.items) c.fetch.new.out.items)) ∷ []) (record { side = i.side; slots = i.slots.slots.items; begun = i.begun.counts.items; standings = i.standings.standings.items; asked = i.asked }) (record { side = c.fetch.new.self; slots = i.slots.slots.items; begun = i.begun.counts.items; standings = i.standings.standings.items; asked = i.asked }) refl refl (on-ok c.fetch.result (keep-one (act.Fetches c.args.class c.args.want (numbers (drop (length c.args.out.now.items) c.fetch.new.out.items))) (λ w. refl) (waits_told i.standings.standings.items))) (on-ok c.fetch.result (kept-none (act.Fetches c.args.class c.args.want (numbers (drop (length c.args.out.now.items) c.fetch.new.out.items)) ∷ []) i.standings.standings.items)) c.fetch.ensures.does)
+    rw (← c.self.view_is) (lifts-ok c.fetch.result (act.Fetches c.args.class c.args.want (numbers (drop (length c.args.out.now.items) c.fetch.new.out.items)) ∷ []) (record { side = i.side; slots = i.slots.slots.items; begun = i.begun.counts.items; standings = i.standings.standings.items; asked = i.asked }) (record { side = c.fetch.new.self; slots = i.slots.slots.items; begun = i.begun.counts.items; standings = i.standings.standings.items; asked = i.asked }) refl refl (on-ok c.fetch.result (keep-one (act.Fetches c.args.class c.args.want (numbers (drop (length c.args.out.now.items) c.fetch.new.out.items))) (λ w. refl) (waits_told i.standings.standings.items))) (on-ok c.fetch.result (kept-none (act.Fetches c.args.class c.args.want (numbers (drop (length c.args.out.now.items) c.fetch.new.out.items)) ∷ []) i.standings.standings.items)) (made-one (act.Fetches c.args.class c.args.want (numbers (drop (length c.args.out.now.items) c.fetch.new.out.items))) (λ w. refl)) c.fetch.ensures.does)

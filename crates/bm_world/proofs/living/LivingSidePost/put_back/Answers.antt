@@ -8,7 +8,7 @@ use Rattle.bm_world.proofs.Left.{copied-size, left-other}
 use Rattle.bm_world.proofs.living.LivingSidePost.put_back.Goals as goal
 use Rattle.bm_law_order.specs.Act as act
 use Rattle.bm_law_order.specs.Act.{sealed}
-use Rattle.bm_world.proofs.LivingDid.{kept-sealed, lifts-so, waits-given, waits-left}
+use Rattle.bm_world.proofs.LivingDid.{kept-sealed, lifts-so, made-one, waits-given, waits-left}
 
 pub put_back-requires-clause-mine : goal.put_back-requires-clause-mine
 put_back-requires-clause-mine c =
@@ -44,7 +44,7 @@ returns-clause-does c =
     let fit = subst (λ (s : LivingState). All (MayLeave (rights_living s)) us) (sym c.self.view_is) c.requires.fit in
     let a : LivingState = record { side = i.side; slots = i.slots.slots.items; begun = i.begun.counts.items; standings = ss; asked = i.asked } in
     let waits = waits-left (act.Returns (sealed us)) p t i.slots.slots.items us ss (λ x y h. h) c.self.invariant.0.standing holds.once (numbers-fit p t ss i.side.post i.slots.slots.items i.begun.counts.items us c.self.invariant.0.standing.size fit) (leave-over p t ss i.side.post i.slots.slots.items i.begun.counts.items us fit) in
-    rw (← c.self.view_is, c.leave.ensures.standings) (lifts-so (act.Returns (sealed us) ∷ []) a (record a { side = c.put_back.new.self; standings = left_by us ss }) refl refl waits (λ n s. kept-sealed us ss n s.0) c.put_back.ensures.does)
+    rw (← c.self.view_is, c.leave.ensures.standings) (lifts-so (act.Returns (sealed us) ∷ []) a (record a { side = c.put_back.new.self; standings = left_by us ss }) refl refl waits (λ n s. kept-sealed us ss n s.0) (made-one (act.Returns (sealed us)) (λ w. refl)) c.put_back.ensures.does)
 
 pub returns-clause-lasts : goal.returns-clause-lasts
 returns-clause-lasts c =
@@ -67,4 +67,4 @@ returns-clause-gives c settled =
     let all = subst (λ (s : LivingState). All (IsSettled (rights_living s)) us) (sym c.self.view_is) settled in
     let a : LivingState = record { side = i.side; slots = i.slots.slots.items; begun = i.begun.counts.items; standings = ss; asked = i.asked } in
     let waits = waits-given us ss holds.once (numbers-fit p t ss i.side.post i.slots.slots.items i.begun.counts.items us c.self.invariant.0.standing.size fit) (settled-waited i.begun.counts.items ss us all) in
-    rw (← c.self.view_is, c.leave.ensures.standings) (lifts-so (act.GivesBack (numbers us) ∷ []) a (record a { side = c.put_back.new.self; standings = left_by us ss }) refl refl waits (λ n s. left-other us ss n s.0) (c.put_back.ensures.gives (settled-post p t ss i.side.post i.slots.slots.items i.begun.counts.items us all)))
+    rw (← c.self.view_is, c.leave.ensures.standings) (lifts-so (act.GivesBack (numbers us) ∷ []) a (record a { side = c.put_back.new.self; standings = left_by us ss }) refl refl waits (λ n s. left-other us ss n s.0) (made-one (act.GivesBack (numbers us)) (λ w. refl)) (c.put_back.ensures.gives (settled-post p t ss i.side.post i.slots.slots.items i.begun.counts.items us all)))

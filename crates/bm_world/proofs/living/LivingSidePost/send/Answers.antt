@@ -7,7 +7,7 @@ use Rattle.bm_world.specs.LivingState.{AreLiving, LivingState, rights_living, ri
 use Rattle.bm_world.specs.Standings.{copied, left_by, standing_at, waits_told}
 use Rattle.bm_world.proofs.Alive.{holds-post, lasting-sent, leave-over, leave-post, living-sent, numbers-fit, settled-post, settled-waited, waited-over, waited-post}
 use Rattle.bm_world.proofs.Left.{Standings, back-same, copied-size, left-other, left-size}
-use Rattle.bm_world.proofs.LivingDid.{kept-sealed, lifts-so, waits-drained, waits-left, waits-released}
+use Rattle.bm_world.proofs.LivingDid.{kept-sealed, lifts-so, made-one, waits-drained, waits-left, waits-released}
 use Rattle.bm_world.proofs.living.LivingSidePost.send.Goals as goal
 
 pub send-requires-clause-mine : goal.send-requires-clause-mine
@@ -76,7 +76,7 @@ returns-in-Ok-clause-does c =
     let fit = subst (λ (s : LivingState). All (MayLeave (rights_living s)) us) (sym c.self.view_is) c.requires.fit in
     let a : LivingState = record { side = i.side; slots = i.slots.slots.items; begun = i.begun.counts.items; standings = ss; asked = i.asked } in
     let waits = waits-left (act.Sends c.args.class c.args.to (sealed us)) p t i.slots.slots.items us ss (λ x y h. h) c.self.invariant.0.standing holds.once (numbers-fit p t ss i.side.post i.slots.slots.items i.begun.counts.items us c.self.invariant.0.standing.size fit) (leave-over p t ss i.side.post i.slots.slots.items i.begun.counts.items us fit) in
-    rw (← c.self.view_is, c.leave.ensures.standings) (lifts-so (act.Sends c.args.class c.args.to (sealed us) ∷ []) a (record a { side = c.send.new.self; standings = left_by us ss }) refl refl waits (λ n s. kept-sealed us ss n s.0) c.in-Ok.ensures.does)
+    rw (← c.self.view_is, c.leave.ensures.standings) (lifts-so (act.Sends c.args.class c.args.to (sealed us) ∷ []) a (record a { side = c.send.new.self; standings = left_by us ss }) refl refl waits (λ n s. kept-sealed us ss n s.0) (made-one (act.Sends c.args.class c.args.to (sealed us)) (λ w. refl)) c.in-Ok.ensures.does)
 
 pub returns-in-Err-clause-lasts : goal.returns-in-Err-clause-lasts
 returns-in-Err-clause-lasts c =
@@ -103,7 +103,7 @@ returns-in-Err-clause-idle c =
     let ss = i.standings.standings.items in
     let stay : c.come_back.new.self.standings.items ≡ ss = subst (λ (s : LivingState). c.come_back.new.self.standings.items ≡ s.standings) (sym c.self.view_is) (returns-in-Err-clause-err_standings c) in
     let a : LivingState = record { side = i.side; slots = i.slots.slots.items; begun = i.begun.counts.items; standings = ss; asked = i.asked } in
-    rw (← c.self.view_is) (lifts-so [] a (record a { side = c.send.new.self; standings = c.come_back.new.self.standings.items }) refl refl (ap waits_told stay) (λ n s. ap (λ xs. standing_at xs n) stay) c.in-Err.ensures.idle)
+    rw (← c.self.view_is) (lifts-so [] a (record a { side = c.send.new.self; standings = c.come_back.new.self.standings.items }) refl refl (ap waits_told stay) (λ n s. ap (λ xs. standing_at xs n) stay) (λ w. refl) c.in-Err.ensures.idle)
 
 pub returns-in-Ok-clause-drains : goal.returns-in-Ok-clause-drains
 returns-in-Ok-clause-drains c settled =
@@ -117,7 +117,7 @@ returns-in-Ok-clause-drains c settled =
     let all = subst (λ (s : LivingState). All (IsSettled (rights_living s)) us) (sym c.self.view_is) settled in
     let a : LivingState = record { side = i.side; slots = i.slots.slots.items; begun = i.begun.counts.items; standings = ss; asked = i.asked } in
     let waits = waits-drained c.args.class c.args.to us ss holds.once (numbers-fit p t ss i.side.post i.slots.slots.items i.begun.counts.items us c.self.invariant.0.standing.size fit) (settled-waited i.begun.counts.items ss us all) in
-    rw (← c.self.view_is, c.leave.ensures.standings) (lifts-so (act.Drains c.args.class c.args.to (numbers us) ∷ []) a (record a { side = c.send.new.self; standings = left_by us ss }) refl refl waits (λ n s. left-other us ss n s.0) (c.in-Ok.ensures.drains (settled-post p t ss i.side.post i.slots.slots.items i.begun.counts.items us all)))
+    rw (← c.self.view_is, c.leave.ensures.standings) (lifts-so (act.Drains c.args.class c.args.to (numbers us) ∷ []) a (record a { side = c.send.new.self; standings = left_by us ss }) refl refl waits (λ n s. left-other us ss n s.0) (made-one (act.Drains c.args.class c.args.to (numbers us)) (λ w. refl)) (c.in-Ok.ensures.drains (settled-post p t ss i.side.post i.slots.slots.items i.begun.counts.items us all)))
 
 pub returns-in-Ok-clause-releases : goal.returns-in-Ok-clause-releases
 returns-in-Ok-clause-releases c seal waited =
@@ -131,4 +131,4 @@ returns-in-Ok-clause-releases c seal waited =
     let all = subst (λ (s : LivingState). All (WaitedBy (rights_living s) seal) us) (sym c.self.view_is) waited in
     let a : LivingState = record { side = i.side; slots = i.slots.slots.items; begun = i.begun.counts.items; standings = ss; asked = i.asked } in
     let waits = waits-released c.args.class c.args.to p t seal us ss holds.once (numbers-fit p t ss i.side.post i.slots.slots.items i.begun.counts.items us c.self.invariant.0.standing.size fit) (waited-over p t ss i.side.post i.slots.slots.items i.begun.counts.items us seal all) in
-    rw (← c.self.view_is, c.leave.ensures.standings) (lifts-so (act.Releases c.args.class c.args.to (numbers us) seal.stamp seal.seen ∷ []) a (record a { side = c.send.new.self; standings = left_by us ss }) refl refl waits (λ n s. left-other us ss n s.0) (c.in-Ok.ensures.releases seal (waited-post p t ss i.side.post i.slots.slots.items i.begun.counts.items us seal all)))
+    rw (← c.self.view_is, c.leave.ensures.standings) (lifts-so (act.Releases c.args.class c.args.to (numbers us) seal.stamp seal.seen ∷ []) a (record a { side = c.send.new.self; standings = left_by us ss }) refl refl waits (λ n s. left-other us ss n s.0) (made-one (act.Releases c.args.class c.args.to (numbers us) seal.stamp seal.seen) (λ w. refl)) (c.in-Ok.ensures.releases seal (waited-post p t ss i.side.post i.slots.slots.items i.begun.counts.items us seal all)))

@@ -1,0 +1,19 @@
+-- Types that carry a count of references, as the law of accepted scripts has them.
+use Rattle.std.proofs.Common.{◌≡◌, true, false, List, Option, None, Some, ap, refl, slice_get, sym, subst, ◌∙◌}
+use Rattle.std.specs.Option.{option_map_or}
+use Rattle.bm_check.specs.Statements.{Setting, is_counted}
+use Rattle.bm_check.specs.Values.{Owning}
+use Rattle.bm_lang.specs.declared.scenario.TypeDeclaration.{TypeDeclaration}
+use Rattle.bm_lang.specs.declared.scenario.TypeId.{TypeId}
+use Rattle.bm_law_scenario.specs.Calls.{IsCounted}
+
+pub owning-one : (t u : TypeId) → Owning t ≡ Owning u → t ≡ u
+owning-one t u e = cc
+
+-- a type that the setting says is counted is declared so
+pub counted-in : (e : Setting) (types : List TypeDeclaration) (t u : TypeId) → e.types ≡ types → t ≡ u → is_counted e t ≡ true → IsCounted types u.0
+counted-in e types t u same one h = subst (λ (k : TypeId). IsCounted types k.0) one (declared (slice_get types t.0) refl (ap (λ (ts : List TypeDeclaration). option_map_or (λ d. d.counted) (slice_get ts t.0) false) (sym same) ∙ h))
+  where
+    declared : (o : Option TypeDeclaration) → slice_get types t.0 ≡ o → option_map_or (λ d. d.counted) o false ≡ true → IsCounted types t.0
+    declared None f g = cc
+    declared (Some d) f g = record { declared = d; found = f; counted = g }
