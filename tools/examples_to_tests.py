@@ -21,6 +21,13 @@ def constant(name: str, text: str) -> str:
     return f'pub(crate) const {name}: &str = "{text}";\n'
 
 
+def row(name: str) -> str:
+    """A row of the table, as the formatter has it: on one line as far as it isn't wider than 60."""
+    words = [f"{name}::SCENARIO", f"{name}::JOURNAL"]
+    short = f"({', '.join(words)})"
+    return f"    {short},\n" if len(short) <= 60 else "    (\n" + "".join(f"        {word},\n" for word in words) + "    ),\n"
+
+
 def files() -> dict[pathlib.Path, str]:
     names = sorted(file.stem for file in EXAMPLES.glob("*.journal"))
     made = {}
@@ -33,7 +40,7 @@ def files() -> dict[pathlib.Path, str]:
             + "\n"
             + constant("JOURNAL", journal)
         )
-    rows = "".join(f"    ({name}::SCENARIO, {name}::JOURNAL),\n" for name in names)
+    rows = "".join(row(name) for name in names)
     made[SOURCES / "examples.rt"] = (
         "//! The scenarios of examples/ with their journals, as tools/examples_to_tests.py writes them. Where the journals are from is\n"
         "//! told in examples/README.md.\n\n"

@@ -38,16 +38,10 @@ class ObjectMaker(Maker):
 
     # ---- an object that a name owns
 
-    def use_of(self, name: str) -> list[Statement]:
+    def use_of(self, name: str, depth: int, length: int) -> list[Statement]:
         made, draw = self.made[name], self.draw
         reads = [Statement("get", [name, draw.choice(made.fields)])] if made.fields and draw.random() < 0.3 else []
-        if made.counted and draw.random() < 0.4:
-            other = self.fresh()
-            self.made[other] = made
-            ends = [self.end_of_owned(name), self.end_of_owned(other)]
-            draw.shuffle(ends)
-            return reads + [Statement("acquire", [other, name]), *ends[0], *ends[1]]
-        return reads + self.end_of_owned(name)
+        return reads + super().use_of(name, depth, length)
 
     def end_of_owned(self, name: str) -> list[Statement]:
         made = self.made[name]

@@ -70,13 +70,24 @@ class Maker:
         return self.block(depth + 1, length // 3) if depth < DEEPEST and self.draw.random() < chance else []
 
     def end_of(self, name: str, depth: int, length: int) -> Statement:
-        first = [*self.maybe(0.25, depth, length), *self.use_of(name), *self.maybe(0.15, depth, length)]
+        first = [*self.maybe(0.25, depth, length), *self.use_of(name, depth, length), *self.maybe(0.15, depth, length)]
         other = self.maybe(0.2, depth, length)
         has_other = bool(other) or self.draw.random() < 0.2
         return Statement("if", [name], blocks=[Block(first), *[Block(other)] * has_other])
 
-    def use_of(self, name: str) -> list[Statement]:
-        """What becomes of an object that the name owns."""
+    def use_of(self, name: str, depth: int, length: int) -> list[Statement]:
+        """What becomes of an object that the name owns: sometimes there are further references to it, which end in any order."""
+        if not self.made[name].counted or self.draw.random() < 0.6:
+            return self.end_of_owned(name)
+        other = self.fresh()
+        self.made[other] = self.made[name]
+        ends = [self.end_of_owned(name), self.use_of(other, depth, length)]
+        self.draw.shuffle(ends)
+        between = self.maybe(0.2, depth, length)
+        return [Statement("acquire", [other, name]), *between, *ends[0], *self.maybe(0.2, depth, length), *ends[1]]
+
+    def end_of_owned(self, name: str) -> list[Statement]:
+        """What becomes of the reference that the name owns."""
         return [Statement("drop", [name])]
 
     def many(self) -> list[Statement]:
