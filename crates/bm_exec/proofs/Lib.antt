@@ -14,3 +14,4 @@ pub mod Lives
 pub mod Yields
 mod Starting
 mod Counted
+mod Fields

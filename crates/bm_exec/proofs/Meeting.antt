@@ -1,6 +1,7 @@
 -- Which statements can run on a frame, block by block.
-use Rattle.std.proofs.Common.{◌≡◌, ℕ, zero, suc, ◌-◌, ◌<◌, Bool, true, false, ◌&&◌, List, refl, subst, arith, Option, Some, None, ap, is_some, length, nat_le, slice_get, sym, ◌∙◌}
+use Rattle.std.proofs.Common.{◌≡◌, ℕ, zero, suc, ◌-◌, ◌<◌, ◌≤◌, Bool, true, false, ◌&&◌, List, refl, subst, arith, Option, Some, None, ap, is_some, length, nat_le, slice_get, sym, ◌∙◌}
 use Rattle.std.proofs.lemmas.Bool.{eqb-true}
+use Rattle.std.proofs.lemmas.Bool.Decides.{nat_tests}
 use mathlib.Core.Former.{Count}
 use Rattle.bm_lang.specs.declared.scenario.Action.{Action, If, If', Repeat, Section, Held-Action-If-2, None', Some'}
 use Rattle.bm_lang.specs.declared.scenario.Block.{Block, Block', Row_of-Statement, end_of-Statement, more_of-Statement, items-the_row-Statement}
@@ -108,3 +109,13 @@ pub new-fits : (types : List TypeDeclaration) (t : ℕ) (values : List ℕ) (d :
 new-fits types t values d can found =
     let has = left (has_fields (slice_get types t) (length values)) (nat_le (length values) 8) can in
     eqb-true (length values) (length d.fields) (ap (λ (o : Option TypeDeclaration). has_fields o (length values)) (sym found) ∙ has)
+
+-- .. and there are at most eight of them
+pub new-few : (types : List TypeDeclaration) (t : ℕ) (values : List ℕ) (d : TypeDeclaration) → (has_fields (slice_get types t) (length values) && nat_le (length values) 8) ≡ true → slice_get types t ≡ Some d → length d.fields ≤ 8
+new-few types t values d can found =
+    let fits = new-fits types t values d can found in
+    let few = right (has_fields (slice_get types t) (length values)) (nat_le (length values) 8) can in
+    at-most (length values) (length d.fields) few fits
+  where
+    at-most : (a b : ℕ) → nat_le a 8 ≡ true → a ≡ b → b ≤ 8
+    at-most a b h e = grind (arith, nat_tests)

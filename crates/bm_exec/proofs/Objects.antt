@@ -1,5 +1,5 @@
 -- Types with their classes, and the objects that names hold.
-use Rattle.std.proofs.Common.{◌≡◌, ◌⊎◌, ◌<◌, ◌+◌, ◌-◌, ℕ, arith, length, zero, suc, Bool, true, false, List, [], ◌∷◌, map, refl, sym, ap, ◌∙◌, Option, Some, None, slice_get, eqb, eq-eqb, inl, inr, subst, if◌then◌else◌}
+use Rattle.std.proofs.Common.{◌≡◌, ◌⊎◌, ◌<◌, ◌≤◌, ◌+◌, ◌-◌, ℕ, arith, length, zero, suc, Bool, true, false, List, [], ◌∷◌, map, refl, sym, ap, ◌∙◌, Option, Some, None, slice_get, eqb, eq-eqb, inl, inr, subst, if◌then◌else◌}
 use mathlib.Core.Path.{fun_ext}
 use Rattle.std.specs.Str.{bytes_eq}
 use Rattle.bm_journal.specs.declared.ids.ObjId.{ObjId}
@@ -153,6 +153,7 @@ still-held types u l lives lives' t v n e f h = record {
   alive = record { home = h.alive.home; count = h.alive.count; values = h.alive.values; is = rw e (with-other u v l lives f ∙ h.alive.is) };
   single = h.single;
   fields = h.fields;
+  few = h.few;
 }
 
 -- a unit under which nothing lived is another than one under which something does
@@ -210,8 +211,8 @@ unreferred types base lives names u fresh h y = of-held (names y) refl
     ]
 
 -- a name that holds a new object
-holds-new : (types : List TypeDeclaration) (base lives lives' : Lives) (names : Names) (x : List ℕ) (t : TypeId) (u n c home : ℕ) (values : List ℕ) (d : TypeDeclaration) → OfClass types t.0 c d → length values ≡ length d.fields → lives u ≡ None → is_owning (value_of (names x)) ≡ false → lives' ≡ with_life u (Some (record { class = c; life = n; home = home; count = 1; values = values })) lives → Holds types base lives names → Holds types base lives' (with_name x (Object t u n) names)
-holds-new types base lives lives' names x t u n c home values d of fits fresh free e h =
+holds-new : (types : List TypeDeclaration) (base lives lives' : Lives) (names : Names) (x : List ℕ) (t : TypeId) (u n c home : ℕ) (values : List ℕ) (d : TypeDeclaration) → OfClass types t.0 c d → length values ≡ length d.fields → length d.fields ≤ 8 → lives u ≡ None → is_owning (value_of (names x)) ≡ false → lives' ≡ with_life u (Some (record { class = c; life = n; home = home; count = 1; values = values })) lives → Holds types base lives names → Holds types base lives' (with_name x (Object t u n) names)
+holds-new types base lives lives' names x t u n c home values d of fits most fresh free e h =
     let new : Living = record { class = c; life = n; home = home; count = 1; values = values } in
     let kept = λ (y : List ℕ) (t' : TypeId) (u' n' : ℕ) (f : names y ≡ Object t' u' n'). fresh-other u u' lives _ fresh (h.living y t' u' n' f).alive.is in record {
       living = λ y t' u' n' f. elim (held-now x (Object t u n) names y _ f) [
@@ -222,6 +223,7 @@ holds-new types base lives lives' names x t u n c home values d of fits fresh fr
           alive = record { home = home; count = 1; values = values; is = rw e (with-same u u' (Some new) lives q.1 ∙ ap (λ k. let l : Living = record { class = c; life = k; home = home; count = 1; values = values } in Some l) q.2) };
           single = λ s. refl;
           fields = fits;
+          few = most;
         })
         | inr b ↦ still-held types u (Some new) lives lives' t' u' n' e (kept y t' u' n' b.1) (h.living y t' u' n' b.1)
       ];
@@ -337,6 +339,7 @@ module _ (lives lives' : Lives) (u count : ℕ) (e : lives' ≡ recounted u coun
       alive = record { home = h.alive.home; count = count; values = h.alive.values; is = recounted-here v _ same h.alive.is };
       single = λ s. more h.declared same h.class h.of_class (λ z. ap count_in h.alive.is ∙ h.single z) s;
       fields = h.fields;
+      few = h.few;
     })
     | inr other ↦ record {
       class = h.class;
@@ -345,6 +348,7 @@ module _ (lives lives' : Lives) (u count : ℕ) (e : lives' ≡ recounted u coun
       alive = record { home = h.alive.home; count = h.alive.count; values = h.alive.values; is = recounted-other v other ∙ h.alive.is };
       single = h.single;
       fields = h.fields;
+      few = h.few;
     }
   ]
 
@@ -438,9 +442,9 @@ holds-more types base lives lives' names x y t u n seen d found counted held fre
         }
 
 -- what a reply leaves
-pub holds-reply : (types : List TypeDeclaration) (base lives lives' : Lives) (names : Names) (x : List ℕ) (t : TypeId) (c : ℕ) (values : List ℕ) (d : TypeDeclaration) (reply : Option ObjId) → OfClass types t.0 c d → length values ≡ length d.fields → is_owning (value_of (names x)) ≡ false → Begins c values lives lives' reply → Holds types base lives names → Holds types base lives' (with_name x (answered t (reply_of reply)) names)
-holds-reply types base lives lives' names x t c values d None of fits free e h = holds-null types base lives lives' names x Null (λ u. refl) (λ t u n f. null-is-none t u n f) free e h
-holds-reply types base lives lives' names x t c values d (Some o) of fits free e h = holds-new types base lives lives' names x t o.unit o.life c e.home values d of fits e.none free e.now h
+pub holds-reply : (types : List TypeDeclaration) (base lives lives' : Lives) (names : Names) (x : List ℕ) (t : TypeId) (c : ℕ) (values : List ℕ) (d : TypeDeclaration) (reply : Option ObjId) → OfClass types t.0 c d → length values ≡ length d.fields → length d.fields ≤ 8 → is_owning (value_of (names x)) ≡ false → Begins c values lives lives' reply → Holds types base lives names → Holds types base lives' (with_name x (answered t (reply_of reply)) names)
+holds-reply types base lives lives' names x t c values d None of fits most free e h = holds-null types base lives lives' names x Null (λ u. refl) (λ t u n f. null-is-none t u n f) free e h
+holds-reply types base lives lives' names x t c values d (Some o) of fits most free e h = holds-new types base lives lives' names x t o.unit o.life c e.home values d of fits most e.none free e.now h
 
 -- where no name owns, those live that lived before
 pub only-base : (types : List TypeDeclaration) (base lives : Lives) (names : Names) → Holds types base lives names → ((x : List ℕ) → OwnsNothing (names x)) → lives ≡ base

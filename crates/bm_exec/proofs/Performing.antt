@@ -2,7 +2,7 @@
 use Rattle.std.proofs.Common.{◌≡◌, ◌∙◌, ◌≤◌, ℕ, suc, ◌+◌, ◌*◌, Bool, true, false, ◌&&◌, ◌||◌, if◌then◌else◌, List, [], ◌∷◌, ◌++◌, length, ◌<◌, refl, sym, ap, subst, Option, Some, None, IfSome, is_some, slice_get, append_assoc, arith, inl, inr, max}
 use Rattle.bm_journal.specs.declared.entry.Entry.TheVariants as entry
 use Rattle.bm_journal.specs.declared.ids.ObjId.{ObjId}
-use Rattle.bm_lang.specs.declared.scenario.Action.{Acquire, Action, Drop, New, If', Repeat, Section, Yield, Held-Action-If-2, None', Some'}
+use Rattle.bm_lang.specs.declared.scenario.Action.{Acquire, Action, Drop, Get, New, If', Repeat, Section, Yield, Held-Action-If-2, None', Some'}
 use Rattle.bm_lang.specs.declared.scenario.Block.{Block}
 use Rattle.bm_lang.specs.Limits.{action_cost, else_cost, block_cost}
 use Rattle.bm_lang.specs.declared.scenario.TypeDeclaration.{TypeDeclaration}
@@ -17,7 +17,7 @@ use Rattle.bm_law.proofs.Folds.{after-append}
 use Rattle.bm_law_work.specs.Grown.{GrewBy}
 use Rattle.bm_law_work.proofs.Grown.{grew-say, grew-none, grew-stand, grew-map, grew-join}
 use Rattle.bm_law_scenario.proofs.Freed.{knows-batch}
-use Rattle.bm_law_scenario.specs.Calls.{IsCounted, RunsAcquire, RunsGivingUp, RunsNew, answered, batch_in}
+use Rattle.bm_law_scenario.specs.Calls.{IsCounted, IsField, RunsAcquire, RunsGet, RunsGivingUp, RunsNew, answered, batch_in}
 use Rattle.bm_law_work.specs.Parts.{Say, Stand}
 use Rattle.bm_law_scenario.specs.Runs.{Done, Followed, Leaving, Times, Within, RunsAction, RunsBlock}
 use Rattle.bm_check.specs.Statements.{Setting}
@@ -33,7 +33,7 @@ use Rattle.bm_exec.proofs.Blocks.{block-runs, block-safe, block-cost}
 use Rattle.std.specs.Borrow.{Bor}
 use Rattle.bm_exec.specs.Meets.{Inherits, Test, body_meets, list_meets, stack_meets}
 use Rattle.bm_exec.specs.Runnable.{Classes}
-use Rattle.bm_exec.specs.Living.{Acquired, Created, Disposed, GivenUp, Lives, count_in, reply_of}
+use Rattle.bm_exec.specs.Living.{Acquired, Created, Disposed, GivenUp, HasRead, Lives, count_in, reply_of}
 use Rattle.bm_exec.specs.Running.{Performed}
 use Rattle.bm_exec.proofs.Objects.{class-at, holds-less, holds-more, holds-reply, holds-still, store-with}
 use Rattle.bm_lang.specs.declared.scenario.Statement.{Statement}
@@ -54,15 +54,15 @@ called types l z w p a s s1 s' names names' os log log1 log' x x1 x' y b last fi
     (λ one two i j. (names', record { one = one; two = two; part_is = refl; is_first = i; is_second = j })) x x' g more
 
 pub new-performed : (types : List TypeDeclaration) (classes : List ℕ) (l : ℕ) (z : Around) (w : Option (List ℕ)) (p : ℕ) (s s1 s' : State ℕ) (x : List ℕ) (t : TypeId) (values : List ℕ) (names names' : Names) (lives lives' lives'' : Lives) (asked asked' : ℕ) (log log1 log' : Option Log) (reply : Option ObjId) (d : TypeDeclaration) (c : ℕ) →
-    IfSome log (λ es. Leaves p es s) → IfSome log1 (λ es. Leaves p es s1) → IfSome log' (λ es. Leaves p es s') → Classes types classes → slice_get types t.0 ≡ Some d → slice_get classes t.0 ≡ Some c → safe.is_owning (value_of (names x)) ≡ false → length values ≡ length d.fields → Created l c d.name values log log1 lives lives' reply → names' ≡ with_name x (answered t (reply_of reply)) names → asked' ≤ asked + 2 →
+    IfSome log (λ es. Leaves p es s) → IfSome log1 (λ es. Leaves p es s1) → IfSome log' (λ es. Leaves p es s') → Classes types classes → slice_get types t.0 ≡ Some d → slice_get classes t.0 ≡ Some c → safe.is_owning (value_of (names x)) ≡ false → length values ≡ length d.fields → length d.fields ≤ 8 → Created l c d.name values log log1 lives lives' reply → names' ≡ with_name x (answered t (reply_of reply)) names → asked' ≤ asked + 2 →
     lives'' ≡ lives' → GrewBy (Behind w) s1 log1 log' → Behind w s' [] → (os : List Open) → Performed types l z z w s s' (New x t values) names names' os os lives lives'' asked asked' log log'
-new-performed types classes l z w p s s1 s' x t values names names' lives lives' lives'' asked asked' log log1 log' reply d c leaves leaves1 leaves' cs f g free fits made e n same work down os =
+new-performed types classes l z w p s s1 s' x t values names names' lives lives' lives'' asked asked' log log1 log' reply d c leaves leaves1 leaves' cs f g free fits most made e n same work down os =
     let of = class-at types classes t.0 d c cs f g in record {
       grew = called types l z w p (New x t values) s s1 s' names names' os log log1 log' leaves leaves1 leaves'
           (grew-say l (λ own. RunsNew types x t values names own names') (entry.New d.name values ∷ made.own) s log log1 made.records
           (record { class = c; declared = d; of_class = of; own = made.own; reply = reply_of reply; part_is = refl; allocates = made.allocates; after_is = e })) work;
       safe = λ s y. rw e (safe-reply s os names x t values reply y);
-      holds = λ base h. rw same (rw e (holds-reply types base lives lives' names x t c values d reply of fits free made.begins h));
+      holds = λ base h. rw same (rw e (holds-reply types base lives lives' names x t c values d reply of fits most free made.begins h));
       meets = λ p h a b. b;
       sections = λ base h. h;
       cost = omega (arith, n);
@@ -125,6 +125,24 @@ acquire-performed types l z w p s s' y x t o names names' lives lives' asked ask
   where
     of-gives : (b : Setting) → safe.SafeAction b (store_of names) (Acquire y x) (λ r. SafeStack b r os) → SafeStack b (safe.with_value (store_of names) y (value_of (Object t o.unit o.life))) os
     of-gives b k = (let same : k.0 ≡ t = (let q = sym k.1 ∙ ap value_of held in cc) in subst (λ v. SafeStack b (safe.with_value (store_of names) y (safe.Owning v)) os) same k.3.1)
+
+pub get-performed : (types : List TypeDeclaration) (l : ℕ) (z : Around) (w : Option (List ℕ)) (p : ℕ) (s s' : State ℕ) (x field : List ℕ) (t : TypeId) (o : ObjId) (place : ℕ) (names : Names) (lives lives' : Lives) (asked asked' : ℕ) (log log' : Option Log) →
+    IfSome log (λ es. Leaves p es s) → IfSome log' (λ es. Leaves p es s') → IsField types t.0 field place → names x ≡ Object t o.unit o.life → HasRead l o place log log' lives → asked' ≤ asked →
+    s' ≡ s → lives' ≡ lives → Behind w s [] → (os : List Open) → Performed types l z z w s s' (Get x field) names names os os lives lives' asked asked' log log'
+get-performed types l z w p s s' x field t o place names lives lives' asked asked' log log' leaves leaves' of held got n same alive down os =
+    let quiet : Behind w s' [] = rw same down in
+    let none : GrewBy (Behind w) s' log' log' = grew-none (Behind w) s' log' quiet in record {
+      grew = called types l z w p (Get x field) s s' s' names names os log log' log' leaves leaves' leaves'
+          (grew-say l (λ own. RunsGet types x field names own names) (entry.Get o.unit o.life place got.value ∷ []) s log log' got.records
+          (record { type = t; unit = o.unit; life = o.life; held = held; place = place; of_type = of; value = got.value; part_is = refl; after_is = refl })) none;
+      safe = λ b k. k.3;
+      holds = λ base h. rw alive h;
+      meets = λ p h a b. b;
+      sections = λ base h. h;
+      cost = omega (arith, n);
+      weight = omega arith;
+      down = quiet;
+    }
 
 -- a block that runs once
 rest-once : (types : List TypeDeclaration) (l : ℕ) (i : Bool) (w : Option (List ℕ)) (o : Open) (body : Block) → o.rest.now ≡ block_list body → o.repeats ≡ 0 → (names last : Names) (s : State ℕ) (part : Log) → RunsRest types l i w o names last s part → RunsBlock types l i (Behind w) body names last s part

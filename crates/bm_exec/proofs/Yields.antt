@@ -13,7 +13,7 @@ use Rattle.bm_law.proofs.Spans.{Records-join, Records-none}
 use Rattle.bm_law_scenario.specs.Calls.{Allocates}
 use Rattle.bm_law_scenario.proofs.Freed.{either-free}
 use Rattle.bm_exec.specs.Around.{Around, Entered, HasLeft}
-use Rattle.bm_exec.specs.Living.{Acquired, Created, Disposed, GivenUp, Lives, reply_of}
+use Rattle.bm_exec.specs.Living.{Acquired, Created, Disposed, GivenUp, HasRead, Lives, reply_of}
 use Rattle.bm_exec.specs.Yields.{AllInTurn, Unyielding, YieldsLast}
 
 -- ---- one after the other
@@ -91,6 +91,9 @@ given-up-unyielding l o a b lives lives' gone = record { own = _; none = (tt, (t
 
 pub acquired-unyielding : (l : ℕ) (o : ObjId) (a b : Option Log) (lives lives' : Lives) → Acquired l o a b lives lives' → Unyielding l a b
 acquired-unyielding l o a b lives lives' got = record { own = _; none = (tt, tt); records = got.records }
+
+pub read-unyielding : (l : ℕ) (o : ObjId) (place : ℕ) (a b : Option Log) (lives : Lives) → HasRead l o place a b lives → Unyielding l a b
+read-unyielding l o place a b lives got = record { own = _; none = (tt, tt); records = got.records }
 
 pub entered-unyielding : (l : ℕ) (z z' : Around) (a b : Option Log) → Entered l z z' a b → Unyielding l a b
 entered-unyielding l z z' a b h = record { own = _; none = (tt, tt); records = h.records }

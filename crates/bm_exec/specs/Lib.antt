@@ -14,3 +14,4 @@ pub mod Yields
 pub mod WorkedTurns
 pub mod Depth
 pub mod Meets
+pub mod Fields

@@ -1,12 +1,12 @@
 -- The objects that live, by their units.
-use Rattle.std.specs.Prelude.{◌≡◌, ◌⊎◌, ◌<◌, ◌+◌, ◌-◌, ℕ, zero, suc, Bool, true, false, eqb, List, [], ◌∷◌, length, Option, Some, None, is_some}
+use Rattle.std.specs.Prelude.{◌≡◌, ◌⊎◌, ◌<◌, ◌≤◌, ◌+◌, slice_get, ◌-◌, ℕ, zero, suc, Bool, true, false, eqb, List, [], ◌∷◌, length, Option, Some, None, is_some}
 use Rattle.bm_journal.specs.declared.entry.Entry.{Entry}
 use Rattle.bm_journal.specs.declared.entry.Entry.TheVariants as entry
 use Rattle.bm_journal.specs.declared.ids.ObjId.{ObjId}
 use Rattle.bm_lang.specs.declared.scenario.TypeDeclaration.{TypeDeclaration}
 use Rattle.bm_lang.specs.declared.scenario.TypeId.{TypeId}
 pub use Rattle.bm_grace.specs.Known.{Living, Lives}
-pub use Rattle.bm_world.specs.Lives.{count_in, recounted, with_life}
+pub use Rattle.bm_world.specs.Lives.{count_in, recounted, values_in, with_life}
 use Rattle.bm_law.specs.Lists.{Log}
 use Rattle.bm_law.specs.Spans.{Records}
 use Rattle.bm_law.specs.State.{State}
@@ -56,6 +56,12 @@ pub record Acquired (l : ℕ) (o : ObjId) (log log' : Option Log) (lives lives' 
   pub counted : count_in (lives o.unit) ≡ seen
   pub more : lives' ≡ recounted o.unit (seen + 1) lives
 
+-- A field of an object is read, by its place: its entry, which names the value that the object has there.
+pub record HasRead (l : ℕ) (o : ObjId) (place : ℕ) (log log' : Option Log) (lives : Lives) : Type 0 where
+  pub value : ℕ
+  pub records : Records l (entry.Get o.unit o.life place value ∷ []) log log'
+  pub found : slice_get (values_in (lives o.unit)) place ≡ Some value
+
 -- A reference to an object is given up, and others are left: its entries, which name how many there were, and that there is one less.
 pub record GivenUp (l : ℕ) (o : ObjId) (log log' : Option Log) (lives lives' : Lives) : Type 0 where
   pub seen : ℕ
@@ -85,7 +91,7 @@ abbrev pub Referring : (u count : ℕ) → Names → Type 0
 Referring u zero names = (x : List ℕ) → refers u (names x) ≡ false
 Referring u (suc count) names = (x : List ℕ) × (refers u (names x) ≡ true) × Referring u count (with_name x Nothing names)
 
--- A name holds unit u in its life n: it lives so, of its type's class, with a value for each field of its type. Where its type carries no
+-- A name holds unit u in its life n: it lives so, of its type's class, with a value for each field of its type, of which there are at most eight. Where its type carries no
 -- count of references, this is the only one.
 pub record IsHeld (types : List TypeDeclaration) (lives : Lives) (t : TypeId) (u n : ℕ) : Type 0 where
   pub class : ℕ
@@ -94,6 +100,7 @@ pub record IsHeld (types : List TypeDeclaration) (lives : Lives) (t : TypeId) (u
   pub alive : LivesAs lives class u n
   pub single : declared.counted ≡ false → alive.count ≡ 1
   pub fields : length alive.values ≡ length declared.fields
+  pub few : length declared.fields ≤ 8
 
 -- an object that lives is held by as many names as there are references to it, of which there are some
 pub record IsReached (u : ℕ) (l : Living) (names : Names) : Type 0 where

@@ -1,4 +1,4 @@
--- Which scripts run so far: those of `new`, `drop`, `acquire`, `if`, `repeat`, `section` and `yield`.
+-- Which scripts run so far: those of `new`, `drop`, `acquire`, `get`, `if`, `repeat`, `section` and `yield`.
 use Rattle.std.specs.Prelude.{◌≡◌, ℕ, Bool, true, false, ◌&&◌, List, length, eqb, nat_le, slice_get, map, None, Option, Some}
 use Rattle.bm_class.specs.Sizes.{class_of_size}
 use Rattle.bm_lang.specs.declared.scenario.Action.{Action, New, Drop, Acquire, Get, Exchange, If', Repeat, Section, Lock, Unlock, Yield, PushFront, PushBack, PopFront, PopBack, Add, First, Remove, Held-Action-If-2, None', Some'}
@@ -19,7 +19,7 @@ abbrev mutual
   can_run_action types (Repeat n body) = can_run_block types body
   can_run_action types (Section body) = can_run_block types body
   can_run_action types (Acquire y x) = true
-  can_run_action types (Get x field) = false
+  can_run_action types (Get x field) = true
   can_run_action types (Exchange y slot x) = false
   can_run_action types (Lock graph) = false
   can_run_action types Unlock = false

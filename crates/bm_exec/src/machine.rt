@@ -1,6 +1,6 @@
 //! Machines: what statements run on.
 
-ghost use Rattle.std.specs.Prelude.{◌≡◌, ◌+◌, ◌<◌, ◌≤◌, ◌^◌, ◌∷◌, [], ℕ, IfSome, IsOk, List, None, OnOk, Option, Some, false, true};
+ghost use Rattle.std.specs.Prelude.{◌≡◌, ◌+◌, ◌<◌, ◌≤◌, ◌^◌, ◌∷◌, [], ℕ, IfSome, IsOk, List, None, OnOk, Option, Some, false, is_some, slice_get, true};
 ghost use Rattle.bm_journal.specs.declared.entry.Entry.TheVariants as entry;
 ghost use Rattle.bm_law.specs.State.{State};
 ghost use Rattle.bm_law.specs.Lists.{Log, Leaves};
@@ -8,7 +8,7 @@ ghost use Rattle.bm_law.specs.Spans.{Records};
 ghost use Rattle.bm_law_work.specs.Grown.{GrewBy};
 ghost use Rattle.bm_exec.specs.Around.{Around, Entered, HasLeft, is_inside};
 ghost use Rattle.bm_exec.specs.Lists.{Behind};
-ghost use Rattle.bm_exec.specs.Living.{Acquired, Created, Disposed, GivenUp, Lives, LivesAs, count_in};
+ghost use Rattle.bm_exec.specs.Living.{Acquired, Created, Disposed, GivenUp, HasRead, Lives, LivesAs, count_in, values_in};
 ghost use Rattle.bm_exec.specs.Yields.{Unyielding};
 
 use bm_class::Class;
@@ -78,6 +78,23 @@ pub trait Machine {
         ensures sound { sound self.new }
         ensures level { level self.new ≡ level self.old }
         ensures asked { asked self.new ≤ asked self.old + 1 }
+        ensures processor { processor self.new ≡ processor self.old }
+        ensures behind { behind self.new ≡ behind self.old }
+        ensures through { through self.new ≡ through self.old }
+        ensures around { around self.new ≡ around self.old }
+        ensures keeps { keeps self.old self.new };
+
+    /// Reads a field of an object that lives, by its place. It takes no memory but the recorder's.
+    fn read(&mut self, object: ObjId, place: u8)
+        requires sound { sound self.old }
+        requires living { (c : ℕ) × LivesAs (lives self.old) c object.unit object.life }
+        requires there { is_some (slice_get (values_in (lives self.old object.unit)) place) ≡ true }
+        ensures read { HasRead (level self.old) object place (log self.old) (log self.new) (lives self.old) }
+        ensures lists { lists self.new ≡ lists self.old }
+        ensures lives { lives self.new ≡ lives self.old }
+        ensures sound { sound self.new }
+        ensures level { level self.new ≡ level self.old }
+        ensures asked { asked self.new ≤ asked self.old }
         ensures processor { processor self.new ≡ processor self.old }
         ensures behind { behind self.new ≡ behind self.old }
         ensures through { through self.new ≡ through self.old }

@@ -1,6 +1,6 @@
 //! Running a script.
 
-ghost use Rattle.std.specs.Prelude.{◌≡◌, ◌+◌, ◌*◌, ◌<◌, ◌≤◌, ◌^◌, [], OnOk, IsOk, true, false, Some, None, List, reverse, length};
+ghost use Rattle.std.specs.Prelude.{◌≡◌, ◌+◌, ◌*◌, ◌<◌, ◌≤◌, ◌^◌, [], OnOk, IsOk, IfSome, true, false, Some, None, List, position, reverse, length};
 ghost use Rattle.bm_lang.specs.declared.scenario.Action.TheVariants as action;
 ghost use Rattle.bm_lang.specs.declared.scenario.TypeDeclaration.{TypeDeclaration};
 ghost use Rattle.bm_lang.specs.Limits.{block_cost};
@@ -9,6 +9,8 @@ ghost use Rattle.bm_check.specs.Statements.{Setting};
 ghost use Rattle.bm_check.specs.Values.{Owning, SafeAction, is_owning};
 ghost use Rattle.bm_lang.specs.declared.scenario.TypeId.{TypeId as TypeIdValue};
 ghost use Rattle.bm_law_scenario.specs.Calls.{IsCounted};
+ghost use Rattle.bm_exec.specs.Fields.{HasField};
+ghost use Rattle.std.specs.Str.{bytes_eq};
 ghost use Rattle.bm_exec.specs.Seen.{names_of, has_name};
 ghost use Rattle.bm_exec.specs.Stores.{store_of, value_of};
 ghost use Rattle.arrayvec.specs.ArrayVec.{array_vec_len};
@@ -141,6 +143,52 @@ fn perform_acquire<'s, M: Machine>(
     };
 }
 
+// The place of a field among those of a type, if it is one of them.
+fn place_of(fields: &[Name], field: &Name) -> Option<usize>
+    ensures place { result ≡ position (bytes_eq field.now) fields.now }
+    ensures inside { IfSome result (λ place. place < length fields.now) }
+{
+    fields
+        .iter()
+        .position(|name| field.as_bytes() == name.as_bytes())
+}
+
+// `get x field`: reads a field of the object that the name holds.
+fn perform_get<'s, M: Machine>(
+    names: &NameTable,
+    machine: &mut M,
+    types: &Types<'s>,
+    name: &'s Name,
+    field: &'s Name,
+)
+    requires sound { M.sound machine.old }
+    requires holds { (base : Lives) × Holds types.now.declared.now base (M.lives machine.old) (names_of names.now) }
+    requires owned { is_owning (value_of (names_of names.now name.now)) ≡ true }
+    requires field { (t : TypeIdValue) → value_of (names_of names.now name.now) ≡ Owning t → HasField types.now.declared.now t.0 field.now }
+    requires down { Behind (M.behind machine.old) (M.lists machine.old) [] }
+    ensures performed { (os : List Open) → Performed types.now.declared.now (M.level machine.old) (M.around machine.old) (M.around machine.new) (M.behind machine.old) (M.lists machine.old) (M.lists machine.new) (action.Get name.now field.now) (names_of names.now) (names_of names.now) os os (M.lives machine.old) (M.lives machine.new) (M.asked machine.old) (M.asked machine.new) (M.log machine.old) (M.log machine.new) }
+    ensures sound { M.sound machine.new }
+    ensures level { M.level machine.new ≡ M.level machine.old }
+    ensures processor { M.processor machine.new ≡ M.processor machine.old }
+    ensures behind { M.behind machine.new ≡ M.behind machine.old }
+    ensures through { M.through machine.new ≡ M.through machine.old }
+    ensures asked { M.asked machine.new ≤ M.asked machine.old + 2 }
+    ensures around { M.around machine.new ≡ M.around machine.old }
+    ensures keeps { M.keeps machine.old machine.new }
+    ensures yields { Unyielding (M.level machine.old) (M.log machine.old) (M.log machine.new) }
+{
+    let Holding::Object(type_id, object) = names.holding(name.as_bytes()) else {
+        unreachable!();
+    };
+    let Some(declared) = types.declared.get(type_id.0) else {
+        unreachable!();
+    };
+    let Some(place) = place_of(declared.fields.as_slice(), field) else {
+        unreachable!();
+    };
+    machine.read(object, place as u8);
+}
+
 // `drop x`: gives up the reference that the name holds. Deferred work runs behind it.
 fn perform_drop<'s, M: Machine>(
     names: &mut NameTable,
@@ -249,6 +297,10 @@ fn perform<'s, M: Machine>(
         Action::Drop { name } => perform_drop(names, machine, types, name),
         Action::Acquire { name, of } => {
             perform_acquire(names, machine, types, name, of);
+            Ok(())
+        }
+        Action::Get { name, field } => {
+            perform_get(names, machine, types, name, field);
             Ok(())
         }
         Action::If {

@@ -86,6 +86,10 @@ module _ {W : Type 0} (knows : Knows W) where
   at-acquired l p m z w n life seen e room same x s =
       at-say knows l p (with_side m w) z (entry.Acquire n life seen) refl tt same x (at-graced l p m w (ap (λ (x : Known). x.grace) e) (asked-more p m w 1 (ap (λ (x : Known). x.objects.asked) e) room) s)
 
+  -- a field was read, and its entry was recorded
+  pub at-read : (l : ℕ) (p : Program) (m : Processor W) (z : Caches Recorded) (n life place value : ℕ) → z.processor ≡ m.caches.processor → Appends (log_of m) l (entry.Get n life place value) z.recorder.told → IsAt knows StandsAt l p m → IsAt knows StandsAt l p (with_caches m z)
+  at-read l p m z n life place value same x s = at-say knows l p m z (entry.Get n life place value) refl tt same x s
+
   -- one was given up, behind its drop and the reply that others are left
   pub at-given-up : (l : ℕ) (p : Program) (m : Processor W) (y z : Caches Recorded) (w : W) (n life seen : ℕ) → knows.known w ≡ life_given_up n (known_of knows m) → y.processor ≡ m.caches.processor → z.processor ≡ y.processor → Appends (log_of m) l (entry.Drop n life) y.recorder.told → Appends y.recorder.told l (entry.Still seen) z.recorder.told → IsAt knows StandsAt l p m → IsAt knows StandsAt l p (with_caches (with_side (with_caches m y) w) z)
   at-given-up l p m y z w n life seen e same same' x r s =

@@ -1,5 +1,5 @@
 -- Objects that begin to live by a call of the code of a level, and that live no more.
-use Rattle.std.proofs.Common.{◌≡◌, ◌∙◌, ◌+◌, ◌-◌, ◌<◌, ℕ, sym, Bool, true, false, is_some, List, [], ◌∷◌, Option, Some, None, refl, ap, subst, inl, inr}
+use Rattle.std.proofs.Common.{◌≡◌, ◌∙◌, ◌+◌, ◌-◌, ◌<◌, ℕ, sym, Bool, true, false, is_some, List, [], ◌∷◌, Option, Some, None, slice_get, refl, ap, subst, inl, inr}
 use Rattle.bm_journal.specs.declared.ids.ObjId.{ObjId}
 use Rattle.bm_journal.specs.declared.entry.Entry.{Entry}
 use Rattle.bm_journal.specs.declared.entry.Entry.TheVariants as entry
@@ -13,7 +13,7 @@ use Rattle.bm_law.specs.Spans.{Records}
 use Rattle.bm_law.proofs.Spans.{Records-one, Records-join}
 use Rattle.bm_law_scenario.specs.Calls.{Allocates, Frees}
 use Rattle.bm_cache.specs.Tokens.{seal_numbers}
-use Rattle.bm_exec.specs.Living.{Acquired, Created, Disposed, GivenUp, count_in, home_of, recounted, with_life}
+use Rattle.bm_exec.specs.Living.{Acquired, Created, Disposed, GivenUp, HasRead, count_in, home_of, recounted, values_in, with_life}
 use Rattle.bm_exec_levels.specs.Freeing.{FreeRest, free_entry}
 
 -- ---- what the call left
@@ -81,3 +81,7 @@ one-less l o seen log mid log' lives lives' others a b counts e = record {
   counted = sym counts;
   less = e ∙ ap (λ k. recounted o.unit (k - 1) lives) (sym counts);
 }
+
+-- a read
+pub one-read : (l : ℕ) (o : ObjId) (place value : ℕ) (log log' : Option Log) (lives : Lives) → Appends log l (entry.Get o.unit o.life place value) log' → slice_get (values_in (lives o.unit)) place ≡ Some value → HasRead l o place log log' lives
+one-read l o place value log log' lives a found = record { value = value; records = Records-one l (entry.Get o.unit o.life place value) log log' a; found = found }

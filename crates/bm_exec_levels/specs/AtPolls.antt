@@ -16,6 +16,7 @@ use Rattle.bm_law_order.specs.Chunk as chunk
 use Rattle.bm_law_order.specs.Tie.{Tied, whatever}
 use Rattle.bm_grace.specs.Known.{side}
 use Rattle.bm_work.specs.Rested.{Fails, GoesFrom, IsIdle}
+use Rattle.bm_exec_levels.specs.Asked.{AsksFor}
 use Rattle.bm_grace.specs.declared.grace.Knows.{Ghosts as Knows}
 
 -- By the lists that the log of processor p leaves, the batch of this class, or of some class, waits for this stamp.
@@ -84,13 +85,14 @@ module _ {W : Type 0} (knows : Knows W) where
     pub log_is : log ≡ before ++ added
 
   -- A chunk of level l is judged so by the log before it, since a time: a pass stands after a poll that was idle, a period that
-  -- begins was due, a batch of the first stage goes away directly after its pass, and units go back of which nobody tells what they wait
+  -- begins was due, a life is made with the values that the level asks for, a batch of the first stage goes away directly after its pass, and units go back of which nobody tells what they wait
   -- for where the closing has begun, and are never sent.
   abbrev pub polled : (closing : Bool) (since : Log) (start : W) → ℕ → Log → Chunk → Type 0
   polled closing since start l log (chunk.Passing c d x n) = WasIdle since start l c d x log
   polled closing since start l log (chunk.Beginning d n ws) = IsDue (home start) d n log
   polled closing since start l log (chunk.WholePeriod n ws p) = IsDue (home start) p.domain n log
   polled closing since start l log (chunk.Releasing c to us stamp seen) = GoesFrom (home start) l c stamp seen log
+  polled closing since start l log (chunk.Making u life values seal) = AsksFor l values log
   polled closing since start l log (chunk.Returning c us) = closing ≡ true
   polled closing since start l log (chunk.Sending c to us) = ⊥
   polled closing since start l log _ = Unit {0}
@@ -101,6 +103,7 @@ module _ {W : Type 0} (knows : Knows W) where
   unpolled closing since start l log (chunk.Beginning d n ws) e = absurd (cc)
   unpolled closing since start l log (chunk.WholePeriod n ws p) e = absurd (cc)
   unpolled closing since start l log (chunk.Releasing c to us stamp seen) e = absurd (cc)
+  unpolled closing since start l log (chunk.Making u life values seal) e = absurd (cc)
   unpolled closing since start l log (chunk.Returning c us) e = absurd (cc)
   unpolled closing since start l log (chunk.Sending c to us) e = absurd (cc)
   unpolled closing since start l log _ e = tt
@@ -111,6 +114,7 @@ module _ {W : Type 0} (knows : Knows W) where
   later since start l log (chunk.Beginning d n ws) j = j
   later since start l log (chunk.WholePeriod n ws p) j = j
   later since start l log (chunk.Releasing c to us stamp seen) j = j
+  later since start l log (chunk.Making u life values seal) j = j
   later since start l log (chunk.Returning c us) j = refl
   later since start l log (chunk.Sending c to us) j = j
   later since start l log _ j = tt

@@ -1,7 +1,8 @@
 -- The log of a processor and its side, tied since a time.
-use Rattle.std.specs.Prelude.{◌&&◌, is_none, ◌≡◌, ◌⊎◌, ℕ, nat_eq, Bool, true, false, List, [], ◌∷◌, Option, Some, None, IsSome, ◌++◌}
+use Rattle.std.specs.Prelude.{◌&&◌, is_none, IfSome, ◌≡◌, ◌⊎◌, ℕ, nat_eq, Bool, true, false, List, [], ◌∷◌, Option, Some, None, IsSome, ◌++◌}
 use Rattle.std.proofs.Common.{◌∙◌, ap, append_assoc, eq-eqb, inl, inr, refl, subst, sym}
 use Rattle.std.proofs.lemmas.Bool.{and_parts, eqb-true, false≢true}
+use Rattle.std.proofs.lemmas.List.{append_cancel_right}
 use Rattle.bm_journal.specs.declared.entry.Entry.{Entry}
 use Rattle.bm_journal.specs.declared.entry.Entry.TheVariants as entry
 use Rattle.bm_journal.specs.Recording.{Appends, Kept as Recorded}
@@ -22,6 +23,7 @@ use Rattle.bm_law_order.specs.Tie.{Tied, TiedBy}
 use Rattle.bm_law.specs.Spans.{Records, own_entries}
 use Rattle.bm_law.proofs.Spans.{own-append}
 use Rattle.bm_law_order.proofs.Ties.{law-closed, law-done, law-quiet, law-said, law-stepped, tie-judged, tie-level}
+use Rattle.bm_exec_levels.specs.Asked.{AsksFor, asked_after, asked_over}
 use Rattle.bm_exec_levels.specs.AtPolls.{DoesHere, here-join, here-same, polled, unpolled}
 use Rattle.bm_exec_levels.specs.AtProcessor.{log_of, tests_of}
 use Rattle.bm_exec_levels.specs.Freeing.{free_entry}
@@ -55,6 +57,38 @@ own-last : (l : ℕ) (log : Log) (e : Entry) → last_of (own_entries l (log ++ 
 own-last l log e =
     let one : own_entries l ((l, e) ∷ []) ≡ e ∷ [] = rw (eq-eqb l l refl) refl in
     ap last_of (own-append l log ((l, e) ∷ []) ∙ ap (λ z. own_entries l log ++ z) one) ∙ last-is (own_entries l log) e
+
+-- ---- what a level asks for
+
+asked-append : (one two : List Entry) (asked : Option (List ℕ)) → asked_over (one ++ two) asked ≡ asked_over two (asked_over one asked)
+asked-append [] two asked = refl
+asked-append (e ∷ one) two asked = asked-append one two (asked_after e asked)
+
+-- behind a call for an object its level asks for it
+pub asked-behind : (l : ℕ) (name values : List ℕ) (log log' : Option Log) → Appends log l (entry.New name values) log' → IfSome log' (AsksFor l values)
+asked-behind l name values log None a = tt
+asked-behind l name values log (Some now) a = subst (AsksFor l values) (sym a.more) (of-last a.log)
+  where
+    of-last : (log : Log) → AsksFor l values (log ++ (l, entry.New name values) ∷ [])
+    of-last log =
+        let one : own_entries l ((l, entry.New name values) ∷ []) ≡ entry.New name values ∷ [] = rw (eq-eqb l l refl) refl in
+        ap (λ own. asked_over own None) (own-append l log ((l, entry.New name values) ∷ []) ∙ ap (λ z. own_entries l log ++ z) one) ∙ asked-append (own_entries l log) (entry.New name values ∷ []) None
+
+some-log : (a b : Log) → Some a ≡ Some b → a ≡ b
+some-log a b e = cc
+
+-- two lists with one last entry
+last-apart : (xs ys : List Entry) (e : Entry) → xs ++ e ∷ [] ≡ ys ++ e ∷ [] → xs ≡ ys
+last-apart xs ys e q = append_cancel_right xs ys (e ∷ []) q
+
+-- .. and still does, behind entries without a reply, before the one that gives it
+asked-before : (l : ℕ) (values : List ℕ) (xs : List Entry) (g : Entry) (was before log : Log) (added : Log) → AsksFor l values was → asked_over xs (Some values) ≡ Some values → log ≡ was ++ added → own_entries l added ≡ xs ++ g ∷ [] → log ≡ before ++ (l, g) ∷ [] → AsksFor l values before
+asked-before l values xs g was before log added asks quiet now own is =
+    let one : own_entries l ((l, g) ∷ []) ≡ g ∷ [] = rw (eq-eqb l l refl) refl in
+    let left : own_entries l log ≡ own_entries l before ++ g ∷ [] = ap (own_entries l) is ∙ (own-append l before ((l, g) ∷ []) ∙ ap (λ z. own_entries l before ++ z) one) in
+    let right : own_entries l log ≡ (own_entries l was ++ xs) ++ g ∷ [] = ap (own_entries l) now ∙ (own-append l was added ∙ (ap (λ z. own_entries l was ++ z) own ∙ sym (append_assoc (own_entries l was) xs (g ∷ [])))) in
+    let same : own_entries l before ≡ own_entries l was ++ xs = last-apart (own_entries l before) (own_entries l was ++ xs) g (sym left ∙ right) in
+    ap (λ own. asked_over own None) same ∙ (asked-append (own_entries l was) xs None ∙ (ap (asked_over xs) asks ∙ quiet))
 
 module _ {W : Type 0} (knows : Knows W) where
   -- tied since then, with these acts and entries of level l that aren't told of yet
@@ -173,8 +207,8 @@ module _ {W : Type 0} (knows : Knows W) where
       given-seal u life seal told (let q = same in cc)
 
   -- the unit that was given has begun its life
-  pub tied-begun : (since : Log) (start : W) (l u life : ℕ) (values : List ℕ) (seal : Option Seal) (xs : List Entry) (before : Option Log) (m k : Processor W) → Records l (xs ++ given u life (seal_told seal) ∷ []) before (log_of m) → log_of k ≡ log_of m → DoesHere knows (act.Makes u life values seal ∷ []) m.side k.side → GaveAt since start l u life m → TiedAt since start k
-  tied-begun since start l u life values seal xs before m k r e d t =
+  pub tied-begun : (since : Log) (start : W) (l u life : ℕ) (values : List ℕ) (seal : Option Seal) (xs : List Entry) (before : Option Log) (m k : Processor W) → IfSome before (AsksFor l values) → asked_over xs (Some values) ≡ Some values → Records l (xs ++ given u life (seal_told seal) ∷ []) before (log_of m) → log_of k ≡ log_of m → DoesHere knows (act.Makes u life values seal ∷ []) m.side k.side → GaveAt since start l u life m → TiedAt since start k
+  tied-begun since start l u life values seal xs before m k asks quiet r e d t =
       let G : Option Log → Type 0 = λ o. TiedBy (polled knows false since start) (DoesHere knows) since start 0 [] [] o k.side in
       subst G (sym e) (begun (log_of m) r t.1)
     where
@@ -184,7 +218,7 @@ module _ {W : Type 0} (knows : Knows W) where
           let same : seal_told seal ≡ t.0 = seal-recorded since start l u life (seal_told seal) t.0 xs before log m.side r q in
           let now : TiedBy (polled knows false since start) (DoesHere knows) since start l [] (given u life (seal_told seal) ∷ []) (Some log) m.side = subst (λ s. TiedBy (polled knows false since start) (DoesHere knows) since start l [] (given u life s ∷ []) (Some log) m.side) (sym same) q in
           let did = law-done (polled knows false since start) (unpolled knows false since start) (DoesHere knows) (here-same knows) (here-join knows) since start l [] (act.Makes u life values seal ∷ []) (given u life (seal_told seal) ∷ []) (Some log) m.side k.side d now in
-          by-level since start l 0 (Some log) k.side (as-judged false since start l (act.Makes u life values seal ∷ []) (given u life (seal_told seal) ∷ []) (Some log) k.side (chunk.Making u life values seal) refl refl (λ before q. tt) did)
+          by-level since start l 0 (Some log) k.side (as-judged false since start l (act.Makes u life values seal ∷ []) (given u life (seal_told seal) ∷ []) (Some log) k.side (chunk.Making u life values seal) refl refl (λ prior q. asked-before l values xs (given u life (seal_told seal)) r.log prior log r.added (subst (λ (o : Option Log). IfSome o (AsksFor l values)) r.told asks) quiet r.now_is r.owned (some-log log (prior ++ (l, given u life (seal_told seal)) ∷ []) q)) did)
 
   -- a reference was given up, behind its drop and the reply that others are left
   pub tied-given-up : (since : Log) (start : W) (l u life seen : ℕ) (m k : Processor W) (mid : Option Log) → Appends (log_of m) l (entry.Drop u life) mid → DoesHere knows (act.GivesUp u life seen ∷ []) m.side k.side → Appends mid l (entry.Still seen) (log_of k) → TiedAt since start m → TiedAt since start k

@@ -14,3 +14,4 @@ pub mod RunsOn
 pub mod Sound
 pub mod Ordinary
 pub mod Stated
+pub mod Asked

@@ -1,11 +1,11 @@
 //! Objects that the code of a level asks for and gives up, and references to them.
 
-ghost use Rattle.std.specs.Prelude.{◌≡◌, ◌+◌, ◌-◌, ◌<◌, ◌^◌, ℕ, is_some, length};
+ghost use Rattle.std.specs.Prelude.{◌≡◌, ◌+◌, ◌-◌, ◌<◌, ◌^◌, ℕ, is_some, length, slice_get, true};
 ghost use Rattle.bm_law.specs.Stands.{stands};
 ghost use Rattle.bm_cache.specs.Answers.{Allocated, Freed, Gone, IsOfClass, SoundBy};
 ghost use Rattle.bm_cache.specs.Shown.{shown};
 ghost use Rattle.bm_cache.specs.Tests.{SuitsFree};
-ghost use Rattle.bm_exec.specs.Living.{Acquired, Created, Disposed, GivenUp, LivesAs, count_in};
+ghost use Rattle.bm_exec.specs.Living.{Acquired, Created, Disposed, GivenUp, HasRead, LivesAs, count_in, values_in};
 ghost use Rattle.bm_exec_levels.specs.AtProcessor.{Between, FineAt, IsAt, SameLives, lists_of, log_of, tests_of};
 ghost use Rattle.bm_exec_levels.specs.AtTie.{FreesAt, GaveAt, TiedAt};
 ghost use Rattle.bm_exec_levels.specs.Freeing.{FreeRest, free_entry};
@@ -151,6 +151,32 @@ pub(crate) fn acquire<'s, W: Lives, B: Since<W>, L: Rank>(
     let seen = own.side.acquire(object);
     own.caches
         .note(L::level(), Entry::Acquire(object.unit, object.life, seen));
+}
+
+/// Reads a field of an object that lives, by its place, at a level. It takes no memory but the recorder's.
+pub(crate) fn read_field<'s, W: Lives, B: Since<W>, L: Rank>(
+    own: &mut Processor<W>,
+    program: &'s Program<'s>,
+    object: ObjId,
+    place: u8,
+)
+    requires at { IsAt W.Knows StandsAt L.number program.now own.old }
+    requires tied { TiedAt W.Knows B.since B.start own.old }
+    requires fine { FineAt W.Knows L.number own.old }
+    requires living { (c : ℕ) × LivesAs (known_of W.Knows own.old).objects.lives c object.unit object.life }
+    requires there { is_some (slice_get (values_in ((known_of W.Knows own.old).objects.lives object.unit)) place) ≡ true }
+    ensures read { HasRead L.number object place (log_of own.old) (log_of own.new) (known_of W.Knows own.old).objects.lives }
+    ensures lists { lists_of own.new ≡ lists_of own.old }
+    ensures lives { SameLives W.Knows own.old own.new }
+    ensures at { IsAt W.Knows StandsAt L.number program.now own.new }
+    ensures tied { TiedAt W.Knows B.since B.start own.new }
+    ensures between { Between W.Knows 0 0 L.number program.now own.old own.new }
+{
+    let value = own.side.read(object, place);
+    own.caches.note(
+        L::level(),
+        Entry::Get(object.unit, object.life, place, value),
+    );
 }
 
 // Gives up a reference to an object that has others, at a level.

@@ -1,6 +1,6 @@
 //! The machine on which handlers run.
 
-use crate::calls::{acquire, give_up, make};
+use crate::calls::{acquire, give_up, make, read_field};
 use crate::host::At;
 use crate::ranks::Rank;
 use bm_class::Class;
@@ -47,6 +47,10 @@ impl<'a, 's, W: Lives, B: Since<W>, L: Rank> Machine for At<'a, 's, W, B, L> {
 
     fn acquire(&mut self, object: ObjId) {
         acquire::<W, B, L>(self.own, self.program, object);
+    }
+
+    fn read(&mut self, object: ObjId, place: u8) {
+        read_field::<W, B, L>(self.own, self.program, object, place);
     }
 
     fn dispose(&mut self, object: ObjId, counted: bool) {

@@ -11,7 +11,7 @@ ghost use Rattle.bm_exec_levels.specs.Ready.{asked_of};
 ghost use Rattle.bm_exec_levels.specs.Sound.{Sound};
 
 use crate::behind::{until_down, work_behind};
-use crate::calls::{acquire, give_up, make};
+use crate::calls::{acquire, give_up, make, read_field};
 use crate::host::At;
 use crate::processor::Processor;
 use crate::program::Program;
@@ -153,6 +153,10 @@ impl<'a, 's, W: Lives, B: Since<W>> Machine for Ground<'a, 's, W, B> {
 
     fn acquire(&mut self, object: ObjId) {
         acquire::<W, B, Ordinary>(self.own, self.program, object);
+    }
+
+    fn read(&mut self, object: ObjId, place: u8) {
+        read_field::<W, B, Ordinary>(self.own, self.program, object, place);
     }
 
     fn dispose(&mut self, object: ObjId, counted: bool) {

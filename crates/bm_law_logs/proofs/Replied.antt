@@ -43,6 +43,7 @@ closed types = record {
   dropped = λ x names part after r. subst AllReplied (sym r.part_is) (apart (entry.Drop r.unit r.life ∷ entry.Last ∷ r.own) (either-free (λ own. all_apart own ≡ true) r.declared.counted r.class r.unit r.home r.batch r.own (apart-free r.class r.unit r.home r.own) (apart-delay r.class r.unit r.home r.batch r.own) r.frees));
   still = λ x names part after r. subst AllReplied (sym r.part_is) (apart (entry.Drop r.unit r.life ∷ entry.Still r.seen ∷ []) refl);
   acquired = λ y x names part after r. subst AllReplied (sym r.part_is) (apart (entry.Acquire r.unit r.life r.seen ∷ []) refl);
+  read = λ x field names part after r. subst AllReplied (sym r.part_is) (apart (entry.Get r.unit r.life r.place r.value ∷ []) refl);
   enters = λ w. apart (entry.In Plain w ∷ []) refl;
   leaves = λ w. apart (entry.Out Plain w ∷ []) refl;
   yields = apart (entry.Yield ∷ []) refl;

@@ -12,7 +12,7 @@ use Rattle.bm_law.specs.State.{State, opening, seven_lists}
 use Rattle.bm_law_work.specs.Parts.{Part, Nothing, Say, Stand, Then}
 use Rattle.bm_law_work.proofs.Each.{AllOf, of-map, part-say, part-stand}
 use Rattle.bm_law_scenario.specs.CallEntries.{IsOfStatement, IsOfHandler}
-use Rattle.bm_law_scenario.specs.Calls.{RunsAcquire, RunsDrop, RunsNew, RunsStill, any_batch}
+use Rattle.bm_law_scenario.specs.Calls.{RunsAcquire, RunsGet, RunsDrop, RunsNew, RunsStill, any_batch}
 use Rattle.bm_law_scenario.specs.Closing.{AreSweeps, Closing, EndsOne, EndsPeriods, IsEnd, SweepWhere, close_of, in_progress}
 use Rattle.bm_law_scenario.specs.Fills.{AreFills, prefill}
 use Rattle.bm_law_scenario.specs.Grammar.{Front, IsLog}
@@ -63,6 +63,7 @@ front-by s =
         dropped = λ x names after. says (λ own. RunsDrop s.types x any_batch names own after) (λ own h. of-map IsOfStatement KeepsBatch call-keeps own (calls.dropped x names own after h));
         still = λ x names after. says (λ own. RunsStill s.types x names own after) (λ own h. of-map IsOfStatement KeepsBatch call-keeps own (calls.still x names own after h));
         acquired = λ y x names after. says (λ own. RunsAcquire s.types y x names own after) (λ own h. of-map IsOfStatement KeepsBatch call-keeps own (calls.acquired y x names own after h));
+        read = λ x field names after. says (λ own. RunsGet s.types x field names own after) (λ own h. of-map IsOfStatement KeepsBatch call-keeps own (calls.read x field names own after h));
         enters = λ w. stands (entry.In Plain w ∷ []) (tt, tt);
         leaves = λ w. stands (entry.Out Plain w ∷ []) (tt, tt);
         yields = stands (entry.Yield ∷ []) (tt, tt);

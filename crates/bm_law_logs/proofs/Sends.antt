@@ -50,6 +50,7 @@ front-sends s =
         dropped = λ x names part after r. of-map IsOfStatement (SendsOf cs) (call-sends cs) part (calls.dropped x names part after r);
         still = λ x names part after r. of-map IsOfStatement (SendsOf cs) (call-sends cs) part (calls.still x names part after r);
         acquired = λ y x names part after r. of-map IsOfStatement (SendsOf cs) (call-sends cs) part (calls.acquired y x names part after r);
+        read = λ x field names part after r. of-map IsOfStatement (SendsOf cs) (call-sends cs) part (calls.read x field names part after r);
         enters = λ w. (tt, tt);
         leaves = λ w. (tt, tt);
         yields = (tt, tt);

@@ -116,6 +116,7 @@ closed types c e = record {
   dropped = λ x names part after r. subst (AllSpare c) (sym r.part_is) (λ l us s. refl, (λ l us s. refl, (let ne = other-class types c r.class e (used types r.type.0 r.class r.declared r.of_class) in either-free (AllSpare c) r.declared.counted r.class r.unit r.home r.batch r.own (spare-free c r.class r.unit r.home r.own ne) (spare-delay c r.class r.unit r.home r.batch r.own ne) r.frees)));
   still = λ x names part after r. subst (AllSpare c) (sym r.part_is) (λ l us s. refl, (λ l us s. refl, tt));
   acquired = λ y x names part after r. subst (AllSpare c) (sym r.part_is) (λ l us s. refl, tt);
+  read = λ x field names part after r. subst (AllSpare c) (sym r.part_is) (λ l us s. refl, tt);
   enters = λ w. (λ l us s. refl, tt);
   leaves = λ w. (λ l us s. refl, tt);
   yields = (λ l us s. refl, tt);

@@ -4,4 +4,3 @@ pub mod Chains
 pub mod ReadsAlong
 pub mod References
 pub mod Naming
-pub mod Asked

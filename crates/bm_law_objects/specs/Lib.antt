@@ -5,4 +5,3 @@ pub mod ReferenceLaw
 pub mod ReadsLaw
 pub mod Worked
 pub mod Wrong
-pub mod Asking

@@ -1,17 +1,15 @@
 //! The laws, over an order and over its logs.
 
-ghost use Rattle.std.specs.Prelude.{false, ◌≡◌, ◌<◌, ◌≤◌, ◌⊎◌, ℕ, ◌+◌, Option, Some, None, List, length};
+ghost use Rattle.std.specs.Prelude.{◌≡◌, ◌<◌, ◌≤◌, ◌⊎◌, ℕ, ◌+◌, Option, Some, None, List, length};
 ghost use Rattle.bm_journal.specs.declared.ids.ObjId.{ObjId};
 ghost use Rattle.bm_journal.specs.declared.ids.Tag.{Tag};
 ghost use Rattle.bm_law.specs.Lists.{Log};
-ghost use Rattle.bm_law.specs.Spans.{own_entries};
 ghost use Rattle.bm_law_lives.specs.Together.{Each, times};
 ghost use Rattle.bm_law_order.specs.Lives.{Lives, LivesFit, first_lives, lives_after};
-ghost use Rattle.bm_law_order.specs.Orders.{AllFit, IsLaid, Order, over, part_of, shared_over};
+ghost use Rattle.bm_law_order.specs.Orders.{AllFit, IsLaid, Order, over, shared_over};
 ghost use Rattle.bm_law_order.specs.Shared.{fresh};
 ghost use Rattle.bm_law_laid.specs.Once.{named_by};
 ghost use Rattle.bm_law_laid.specs.OrderOf.{IsOrderOf};
-ghost use Rattle.bm_law_objects.specs.Asking.{AskOnly};
 ghost use Rattle.bm_law_objects.specs.Gathered.{AreLast, OneOf, itself};
 ghost use Rattle.bm_law_objects.specs.Objects.{Asked, IsOwned, Owned, OwnedFit, owned_after};
 ghost use Rattle.bm_law_objects.specs.SlotChain.{EachButLast, Follow, SlotChain, all_exchanges, exchanges_over, times_made, times_named};
@@ -26,12 +24,6 @@ pub fn slots_law()
         (exchanges_over slot o s.objects.calls) }
     ensures logs { (slot : List ℕ) (logs : List Log) (o : Order) →
         IsOrderOf logs o → IsOwned o → SlotChain slot logs }
-{}
-
-/// In an order in which each level of each processor asks for what it is given, reads no field and exchanges no slot, each
-/// entry finds what it needs of objects and slots.
-pub fn asked_law()
-    ensures { (o : Order) → ((p l : ℕ) → AskOnly false (own_entries l (part_of p o))) → IsOwned o }
 {}
 
 /// Of a slot's exchanges that form a chain, one names the start where there is any, and each but the last is named by one

@@ -24,5 +24,5 @@
 mod laws;
 mod worked;
 
-pub use laws::{asked_law, chain_law, counts_law, reads_law, slots_law};
+pub use laws::{chain_law, counts_law, reads_law, slots_law};
 pub use worked::{worked_laws, worked_orders, wrong_laws, wrong_orders};

@@ -10,7 +10,7 @@ use Rattle.bm_law.specs.Lists.{Log}
 use Rattle.bm_law.specs.State.{State}
 use Rattle.bm_law_work.specs.Parts.{Part, Nothing, Say, Stand, Then}
 use Rattle.bm_law_scenario.specs.Held.{Held, Nothing as Nothing_held, Null, Object, Names}
-use Rattle.bm_law_scenario.specs.Calls.{RunsAcquire, RunsDrop, RunsGivingUp, RunsNew, RunsStill, any_batch, batch_in}
+use Rattle.bm_law_scenario.specs.Calls.{RunsAcquire, RunsGet, RunsDrop, RunsGivingUp, RunsNew, RunsStill, any_batch, batch_in}
 use Rattle.bm_law_scenario.specs.Runs.{Run, Calls, Leaving, Done, Followed, Times, Chosen, Enclosed, Within, RunsAction, RunsElse, RunsBlock, RunsRow}
 use Rattle.bm_law_scenario.proofs.PartLaws.{Laws, law-as, law-never}
 use Rattle.bm_law_scenario.proofs.Freed.{loosened}
@@ -21,6 +21,7 @@ pub record Called (types : List TypeDeclaration) (L : Part → Type 0) : Type 0 
   pub dropped : (x : List ℕ) (names after : Names) → L (Say 0 (λ own. RunsDrop types x any_batch names own after))
   pub still : (x : List ℕ) (names after : Names) → L (Say 0 (λ own. RunsStill types x names own after))
   pub acquired : (y x : List ℕ) (names after : Names) → L (Say 0 (λ own. RunsAcquire types y x names own after))
+  pub read : (x field : List ℕ) (names after : Names) → L (Say 0 (λ own. RunsGet types x field names own after))
   pub enters : (w : ℕ) → L (Stand 0 (entry.In Plain w ∷ []))
   pub leaves : (w : ℕ) → L (Stand 0 (entry.Out Plain w ∷ []))
   pub yields : L (Stand 0 (entry.Yield ∷ []))
@@ -82,7 +83,7 @@ module _ (types : List TypeDeclaration) (L : Part → Type 0) (k : Laws L) (c : 
     law-action i (Repeat n body) = law-times (RunsBlock types 0 i behind body) n (law-block i body)
     law-action i (Section body) = law-within i (RunsBlock types 0 true behind body) (law-block true body)
     law-action i Yield = law-leaving (Stand 0 (entry.Yield ∷ [])) c.yields
-    law-action i (Get x field) = never i (Get x field) (λ names after s part h. h)
+    law-action i (Get x field) = λ names after. c.read x field names after
     law-action i (Exchange y slot x) = never i (Exchange y slot x) (λ names after s part h. h)
     law-action i (Lock graph) = never i (Lock graph) (λ names after s part h. h)
     law-action i Unlock = never i Unlock (λ names after s part h. h)

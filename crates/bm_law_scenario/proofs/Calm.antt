@@ -127,6 +127,7 @@ calm-closed types = record {
   dropped = λ x names part after r. subst AllCalm (sym r.part_is) (calm (entry.Drop r.unit r.life) (λ p s b. tt) (λ p b. refl) (λ d. refl), (calm entry.Last (λ p s b. tt) (λ p b. refl) (λ d. refl), either-free AllCalm r.declared.counted r.class r.unit r.home r.batch r.own (calm-free r.class r.unit r.home r.own) (calm-delay r.class r.unit r.home r.batch r.own) r.frees));
   still = λ x names part after r. subst AllCalm (sym r.part_is) (calm (entry.Drop r.unit r.life) (λ p s b. tt) (λ p b. refl) (λ d. refl), (calm (entry.Still r.seen) (λ p s b. tt) (λ p b. refl) (λ d. refl), tt));
   acquired = λ y x names part after r. subst AllCalm (sym r.part_is) (calm (entry.Acquire r.unit r.life r.seen) (λ p s b. tt) (λ p b. refl) (λ d. refl), tt);
+  read = λ x field names part after r. subst AllCalm (sym r.part_is) (calm (entry.Get r.unit r.life r.place r.value) (λ p s b. tt) (λ p b. refl) (λ d. refl), tt);
   enters = λ w. (calm (entry.In Plain w) (λ p s b. tt) (λ p b. refl) (λ d. refl), tt);
   leaves = λ w. (calm (entry.Out Plain w) (λ p s b. tt) (λ p b. refl) (λ d. refl), tt);
   yields = (calm entry.Yield (λ p s b. tt) (λ p b. refl) (λ d. refl), tt);

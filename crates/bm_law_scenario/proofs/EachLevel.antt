@@ -60,6 +60,7 @@ of-handlers s =
         dropped = λ x names part after r. of-map IsOfStatement IsOfHandler call-handler part (k.dropped x names part after r);
         still = λ x names part after r. of-map IsOfStatement IsOfHandler call-handler part (k.still x names part after r);
         acquired = λ y x names part after r. of-map IsOfStatement IsOfHandler call-handler part (k.acquired y x names part after r);
+        read = λ x field names part after r. of-map IsOfStatement IsOfHandler call-handler part (k.read x field names part after r);
         enters = λ w. (tt, tt);
         leaves = λ w. (tt, tt);
         yields = (tt, tt);

@@ -12,7 +12,7 @@ use Rattle.bm_page.specs.Stock.{Stock, fetched}
 use Rattle.bm_law_work.specs.Parts.{Part, Nothing, Say, Stand, Then}
 use Rattle.bm_law_work.specs.WorkPhrases.{Work}
 use Rattle.bm_law_scenario.specs.Fills.{AreFills, numbers_of, prefill}
-use Rattle.bm_law_scenario.specs.Calls.{RunsAcquire, RunsDrop, RunsNew, RunsStill, any_batch}
+use Rattle.bm_law_scenario.specs.Calls.{RunsAcquire, RunsGet, RunsDrop, RunsNew, RunsStill, any_batch}
 use Rattle.bm_law_scenario.specs.Held.{Names, no_names}
 use Rattle.bm_law_scenario.specs.Runs.{RunsBlock}
 use Rattle.bm_law_scenario.specs.Opened.{opened_classes}
@@ -85,6 +85,7 @@ module _ (s : Parts) (P : List Entry → Type 0) (k : Written s P) where
           dropped = λ x names after. has-say P (λ own. RunsDrop s.types x any_batch names own after) (λ own h. k.closed.dropped x names own after h);
           still = λ x names after. has-say P (λ own. RunsStill s.types x names own after) (λ own h. k.closed.still x names own after h);
           acquired = λ y x names after. has-say P (λ own. RunsAcquire s.types y x names own after) (λ own h. k.closed.acquired y x names own after h);
+          read = λ x field names after. has-say P (λ own. RunsGet s.types x field names own after) (λ own h. k.closed.read x field names own after h);
           enters = λ w. has-stand P (entry.In Plain w ∷ []) (k.closed.enters w);
           leaves = λ w. has-stand P (entry.Out Plain w ∷ []) (k.closed.leaves w);
           yields = has-stand P (entry.Yield ∷ []) k.closed.yields;

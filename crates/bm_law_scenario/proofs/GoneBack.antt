@@ -39,6 +39,7 @@ call-within (entry.Drop u life) h = refl
 call-within (entry.Still k) h = refl
 call-within entry.Last h = refl
 call-within (entry.Acquire u life k) h = refl
+call-within (entry.Get u life place value) h = refl
 call-within (entry.Free u home) h = refl
 call-within (entry.Delay u home) h = refl
 call-within (entry.Enter c a) h = refl

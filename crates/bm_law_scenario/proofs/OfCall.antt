@@ -56,6 +56,7 @@ of-calls types = record {
   dropped = λ x names part after r. subst OfCalls (sym r.part_is) (tt, (tt, either-free OfCalls r.declared.counted r.class r.unit r.home r.batch r.own (of-free r.class r.unit r.home r.own) (of-delay r.class r.unit r.home r.batch r.own) r.frees));
   still = λ x names part after r. subst OfCalls (sym r.part_is) (tt, (tt, tt));
   acquired = λ y x names part after r. subst OfCalls (sym r.part_is) (tt, tt);
+  read = λ x field names part after r. subst OfCalls (sym r.part_is) (tt, tt);
   enters = λ w. (tt, tt);
   leaves = λ w. (tt, tt);
   yields = (tt, tt);

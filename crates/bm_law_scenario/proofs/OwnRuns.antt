@@ -8,7 +8,7 @@ use Rattle.bm_lang.specs.declared.scenario.Action.{Action, New, Drop, Acquire, G
 use Rattle.bm_lang.specs.declared.scenario.Block.{Block, Block', Row_of-Statement, end_of-Statement, more_of-Statement}
 use Rattle.bm_lang.specs.declared.scenario.TypeDeclaration.{TypeDeclaration}
 use Rattle.bm_law_scenario.specs.Held.{Held, Nothing, Null, Object, Names}
-use Rattle.bm_law_scenario.specs.Calls.{RunsAcquire, RunsGivingUp, RunsNew, any_batch}
+use Rattle.bm_law_scenario.specs.Calls.{RunsAcquire, RunsGet, RunsGivingUp, RunsNew, any_batch}
 
 -- from these names, this part of a log, to those names
 abbrev pub Run : Type 1
@@ -57,7 +57,7 @@ abbrev mutual
   RunsAction types i (Repeat n body) = Times (RunsBlock types i body) n
   RunsAction types i (Section body) = Within i (RunsBlock types true body)
   RunsAction types i Yield = Leaving (entry.Yield ∷ [])
-  RunsAction types i (Get x field) = λ names part after. ⊥
+  RunsAction types i (Get x field) = RunsGet types x field
   RunsAction types i (Exchange y slot x) = λ names part after. ⊥
   RunsAction types i (Lock graph) = λ names part after. ⊥
   RunsAction types i Unlock = λ names part after. ⊥

@@ -8,7 +8,7 @@ use Rattle.bm_lang.specs.declared.scenario.Block.{Block, Block', Row_of-Statemen
 use Rattle.bm_lang.specs.declared.scenario.TypeDeclaration.{TypeDeclaration}
 use Rattle.bm_lang.specs.declared.scenario.TypeId.{TypeId}
 use Rattle.bm_law_scenario.specs.Held.{Held, Nothing, Null, Object, Names}
-use Rattle.bm_law_scenario.specs.Calls.{RunsAcquire, RunsDrop, RunsGivingUp, RunsNew, RunsStill, any_batch}
+use Rattle.bm_law_scenario.specs.Calls.{RunsAcquire, RunsGet, RunsDrop, RunsGivingUp, RunsNew, RunsStill, any_batch}
 use Rattle.bm_law_scenario.proofs.OwnRuns.{Times, Chosen, Within, RunsAction, RunsElse, RunsBlock, RunsRow}
 
 -- A property of stretches that joins, and that each `new`, each `acquire` and each `drop` has, by its reply, each begin and end of a plain
@@ -20,6 +20,7 @@ pub record Closed (types : List TypeDeclaration) (P : List Entry → Type 0) : T
   pub dropped : (x : List ℕ) (names : Names) (part : List Entry) (after : Names) → RunsDrop types x any_batch names part after → P part
   pub still : (x : List ℕ) (names : Names) (part : List Entry) (after : Names) → RunsStill types x names part after → P part
   pub acquired : (y x : List ℕ) (names : Names) (part : List Entry) (after : Names) → RunsAcquire types y x names part after → P part
+  pub read : (x field : List ℕ) (names : Names) (part : List Entry) (after : Names) → RunsGet types x field names part after → P part
   pub enters : (w : ℕ) → P (entry.In Plain w ∷ [])
   pub leaves : (w : ℕ) → P (entry.Out Plain w ∷ [])
   pub yields : P (entry.Yield ∷ [])
@@ -54,7 +55,7 @@ mutual
   action-all types P k i (If' x body otherwise) names part after r = chosen-all P (names x) (RunsBlock types i body) (RunsElse types i otherwise) names part after (λ y. block-all types P k i body names part after y) (λ y. else-all types P k i otherwise names part after y) r
   action-all types P k i (Repeat n body) names part after r = times-all types P k (RunsBlock types i body) n names part after (λ a p b y. block-all types P k i body a p b y) r
   action-all types P k i (Section body) names part after r = within-all types P k i (RunsBlock types true body) names part after (λ a p b y. block-all types P k true body a p b y) r
-  action-all types P k i (Get x field) names part after r = absurd r
+  action-all types P k i (Get x field) names part after r = k.read x field names part after r
   action-all types P k i (Exchange y slot x) names part after r = absurd r
   action-all types P k i (Lock graph) names part after r = absurd r
   action-all types P k i Unlock names part after r = absurd r

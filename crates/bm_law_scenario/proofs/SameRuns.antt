@@ -12,10 +12,10 @@ use Rattle.bm_law.specs.Alone.{at_level}
 use Rattle.bm_law.specs.Spans.{AllFrom, own_entries}
 use Rattle.bm_law.proofs.Spans.{from-append, own-append}
 use Rattle.bm_law.proofs.Alone.{level-append, level-from, level-own}
-use Rattle.bm_law_work.specs.Parts.{Part, Stand, Then}
+use Rattle.bm_law_work.specs.Parts.{Stand, Then}
 use Rattle.bm_law_work.specs.Parts as part
 use Rattle.bm_law_scenario.specs.Held.{Held, Nothing, Null, Object, Names}
-use Rattle.bm_law_scenario.specs.Calls.{RunsAcquire, RunsGivingUp, RunsNew, any_batch, batch_in}
+use Rattle.bm_law_scenario.specs.Calls.{RunsAcquire, RunsGet, RunsGivingUp, RunsNew, any_batch, batch_in}
 use Rattle.bm_law_scenario.specs.Runs.{Run, Leaving, Done, Followed, Times, Calls, Chosen, Within, RunsAction, RunsAlone, RunsElse, RunsBlock, RunsRow}
 use Rattle.bm_law_scenario.proofs.Freed.{NoCounts, loosely, no-count, uncounted}
 use Rattle.bm_law_scenario.proofs.OwnRuns as own
@@ -182,7 +182,7 @@ mutual
   action-same l types i (If' x body otherwise) = if-same types l (RunsBlock types l i part.Nothing body) (RunsElse types l i part.Nothing otherwise) (own.RunsBlock types i body) (own.RunsElse types i otherwise) x (block-same l types i body) (else-same l types i otherwise)
   action-same l types i (Repeat n body) = times-same types l (RunsBlock types l i part.Nothing body) (own.RunsBlock types i body) n (block-same l types i body)
   action-same l types i (Section body) = within-same types l (RunsBlock types l true part.Nothing body) (own.RunsBlock types true body) i (block-same l types true body)
-  action-same l types i (Get x field) = none-same types l
+  action-same l types i (Get x field) = calls-same types l (RunsGet types x field)
   action-same l types i (Exchange y slot x) = none-same types l
   action-same l types i (Lock graph) = none-same types l
   action-same l types i Unlock = none-same types l

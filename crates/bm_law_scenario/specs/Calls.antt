@@ -87,6 +87,25 @@ pub record RunsAcquire (types : List TypeDeclaration) (y x : List ℕ) (names : 
   pub part_is : part ≡ entry.Acquire unit life seen ∷ []
   pub after_is : after ≡ with_name y (Object type unit life) names
 
+-- type t is declared with this field, at this place among its fields
+pub record IsField (types : List TypeDeclaration) (t : ℕ) (field : List ℕ) (place : ℕ) : Type 0 where
+  pub declared : TypeDeclaration
+  pub found : slice_get types t ≡ Some declared
+  pub named : slice_get declared.fields place ≡ Some field
+
+-- `get x field`, where x holds a reference to an object of a type with this field: the call, which names the field's place and the value that it
+-- found. The names hold what they held. (In the kernel a program reads through the pointer that it owns.)
+pub record RunsGet (types : List TypeDeclaration) (x field : List ℕ) (names : Names) (part : List Entry) (after : Names) : Type 0 where
+  pub type : TypeId
+  pub unit : ℕ
+  pub life : ℕ
+  pub held : RefersTo x type unit life names
+  pub place : ℕ
+  pub of_type : IsField types type.0 field place
+  pub value : ℕ
+  pub part_is : part ≡ entry.Get unit life place value ∷ []
+  pub after_is : after ≡ names
+
 -- `drop x`, where x holds a reference to an object that has others: the call, and its reply, which names how many references there were.
 -- The object stays. Then x holds nothing.
 pub record RunsStill (types : List TypeDeclaration) (x : List ℕ) (names : Names) (part : List Entry) (after : Names) : Type 0 where

@@ -13,7 +13,7 @@ use Rattle.bm_law.specs.Spans.{own_entries}
 use Rattle.bm_law_work.specs.Parts.{Part, Say, Stand, Then}
 use Rattle.bm_law_work.specs.Parts as part
 use Rattle.bm_law_scenario.specs.Held.{Held, Nothing, Null, Object, Names}
-use Rattle.bm_law_scenario.specs.Calls.{RunsAcquire, RunsGivingUp, RunsNew, batch_in}
+use Rattle.bm_law_scenario.specs.Calls.{RunsAcquire, RunsGet, RunsGivingUp, RunsNew, batch_in}
 
 -- from these names to those names, a part of a log
 abbrev pub Run : Type 1
@@ -66,7 +66,7 @@ abbrev mutual
   RunsAction types l i behind (Repeat n body) = Times (RunsBlock types l i behind body) n
   RunsAction types l i behind (Section body) = Within i l (RunsBlock types l true behind body)
   RunsAction types l i behind Yield = Leaving (Stand l (entry.Yield ∷ []))
-  RunsAction types l i behind (Get x field) = λ names after s part. ⊥
+  RunsAction types l i behind (Get x field) = Calls l (RunsGet types x field)
   RunsAction types l i behind (Exchange y slot x) = λ names after s part. ⊥
   RunsAction types l i behind (Lock graph) = λ names after s part. ⊥
   RunsAction types l i behind Unlock = λ names after s part. ⊥

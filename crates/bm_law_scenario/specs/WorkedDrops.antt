@@ -72,6 +72,17 @@ neither_holds = with_name y_name held.Nothing y_holds
 abbrev pub acquires : ℕ → List Entry
 acquires seen = entry.Acquire 3 1 seen ∷ []
 
+-- the field of the object's type, and a field that it hasn't
+abbrev pub a_field : List ℕ
+a_field = codes "a"
+
+abbrev pub other_field : List ℕ
+other_field = codes "b"
+
+-- a value is found at this place
+abbrev pub reads : ℕ → List Entry
+reads place = entry.Get 3 1 place 7 ∷ []
+
 -- one is given up of so many
 abbrev pub gives_one_up : ℕ → List Entry
 gives_one_up seen = entry.Drop 3 1 ∷ entry.Still seen ∷ []

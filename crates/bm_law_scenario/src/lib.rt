@@ -33,7 +33,7 @@ pub use drops::worked_drops;
 pub use handlers::{handlers_law, unplanned_law};
 pub use interrupted::{worked_handlers, wrong_handlers, wrong_words};
 pub use openings::worked_openings;
-pub use references::worked_references;
+pub use references::{worked_reads, worked_references};
 pub use sections::{worked_sections, wrong_sections};
 pub use worked::{worked_classes, worked_graphs, worked_names};
 pub use worked_journal::{worked_journals, wrong_journals};

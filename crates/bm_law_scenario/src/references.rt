@@ -1,7 +1,7 @@
 //! Worked references to an object, and wrong ones beside them.
 
-ghost use Rattle.bm_law_scenario.specs.Calls.{RunsAcquire, RunsStill};
-ghost use Rattle.bm_law_scenario.specs.WorkedDrops.{acquires, both_hold, counted_types, gives_one_up, holding_three, y_holds, y_name};
+ghost use Rattle.bm_law_scenario.specs.Calls.{RunsAcquire, RunsGet, RunsStill};
+ghost use Rattle.bm_law_scenario.specs.WorkedDrops.{a_field, acquires, both_hold, counted_types, gives_one_up, holding_three, other_field, reads, y_holds, y_name};
 ghost use Rattle.bm_law_scenario.specs.WorkedJournal.{types, x_name};
 
 /// Another name acquires a reference to a counted object, and sees that there is one; then the first name gives its own up, and sees that
@@ -15,4 +15,13 @@ pub fn worked_references()
     ensures none_left { ¬ RunsStill counted_types x_name both_hold (gives_one_up 1) y_holds }
     ensures left_uncounted { ¬ RunsStill types x_name both_hold (gives_one_up 2) y_holds }
     ensures kept { ¬ RunsStill counted_types x_name both_hold (gives_one_up 2) both_hold }
+{}
+
+/// A script reads the field of an object that a name holds, by its place. It doesn't read another place, a field that the type doesn't have, or
+/// through a name that holds nothing; and the names hold what they held.
+pub fn worked_reads()
+    ensures read { RunsGet types x_name a_field holding_three (reads 0) holding_three }
+    ensures other_place { ¬ RunsGet types x_name a_field holding_three (reads 1) holding_three }
+    ensures other_field { ¬ RunsGet types x_name other_field holding_three (reads 0) holding_three }
+    ensures through_none { ¬ RunsGet types y_name a_field holding_three (reads 0) holding_three }
 {}

@@ -42,12 +42,11 @@ use Rattle.bm_run.specs.Between.{AllClosed, all_openings}
 use Rattle.bm_run.specs.InTurns.{one_by_one}
 use Rattle.bm_run.specs.Seated.{opening_lists, opening_log}
 use Rattle.bm_law_graphs.specs.Uncalled.{CallNone, CallsNone}
-use Rattle.bm_law_objects.specs.Asking.{AskOnly}
+use Rattle.bm_law_objects.specs.Objects.{IsOwned}
 use Rattle.bm_world.specs.LivingState.{living_of}
 use Rattle.bm_world.specs.Slots.{object_at}
 use Rattle.bm_world.specs.declared.slots.Object.{Object}
 use Rattle.bm_world.specs.ToldLiving.{life_of}
-use Rattle.bm_run.proofs.Asking.{IsUngiven, log-asks}
 use Rattle.bm_run.proofs.BatchesTold.{IsUndelayed, all-answered, handler-sends, late-batches, late-none, log-puts, no-more, no-more-append, sweeps-last}
 use Rattle.bm_run.proofs.Closes.{IsLate, ends-late, sweeps-late}
 use Rattle.bm_run.proofs.FinalLog.{final-front, opening-said}
@@ -179,10 +178,6 @@ close-unsent : (p : ℕ) → AllOf IsUnsent (entry.Ended ∷ close_of p)
 close-unsent zero = (tt, (tt, tt))
 close-unsent (suc p) = (tt, tt)
 
-close-ungiven : (p : ℕ) → AllOf IsUngiven (entry.Ended ∷ close_of p)
-close-ungiven zero = (tt, (tt, tt))
-close-ungiven (suc p) = (tt, tt)
-
 -- where no object is known none is told
 none-there : (object : Option Object) → living_of object ≡ None → life_of object ≡ None
 none-there None e = refl
@@ -216,6 +211,9 @@ module _ (s : Parts) (turns : List ℕ) (finals : List Log) (h : AllClosed s tur
 
   pub polled-is : IsPolled n s.pages (whole turns finals)
   polled-is = in-whole (IsPolled n s.pages) h.so_far.so_far.polled
+
+  pub owned-is : IsOwned (whole turns finals)
+  owned-is = in-whole IsOwned h.so_far.so_far.owned
 
   pub inbox-is : AllFit world_after SweepsInbox (whole turns finals) (outset n s.pages)
   inbox-is = found-inbox (whole turns finals) (outset n s.pages) found-is
@@ -289,23 +287,6 @@ module _ (s : Parts) (turns : List ℕ) (finals : List Log) (h : AllClosed s tur
     batches = subst (λ (z : Order). AllFit waiting_after BatchFits z nobody_waits) (sym apart) (fit-append waiting_after BatchFits front (one_by_one 0 h.given ++ closing_order s turns finals h) nobody_waits h.waits.batches (closing-batches (over waiting_after front nobody_waits)));
     swept = subst SweepsLast (sym apart) (sweeps-last front (one_by_one 0 h.given ++ closing_order s turns finals h) h.waits.unswept none-given);
   })
-
-  -- ---- objects
-
-  final-asks : (p l : ℕ) → p < n → AskOnly false (own_entries l (get_or finals p []))
-  final-asks p l lt =
-      let f = h.logs p lt in
-      log-asks s p (get_or finals p []) (opening_log s p ++ f.scripts) (ended_at_last p) (late_of p) (final-parts p lt) (final-front s p _ _ _ f) (late-own p lt) (subst (AllOf IsUngiven) (sym (level-own 0 (entry.Ended ∷ close_of p))) (close-ungiven p)) f.stands f.done l
-
-  asks-any : (p l : ℕ) → AskOnly false (own_entries l (get_or finals p []))
-  asks-any p l = elim (cases_lt p (length finals)) [
-    | inl lt ↦ final-asks p l (subst (λ k. p < k) h.so_far.many lt)
-    | inr le ↦ subst (λ (z : Log). AskOnly false (own_entries l z)) (sym (no-log p finals le)) tt
-  ]
-
-  -- each level asks for what it is given
-  pub asks-are : (p l : ℕ) → AskOnly false (own_entries l (part_of p (whole turns finals)))
-  asks-are p l = subst (λ (z : Log). AskOnly false (own_entries l z)) (sym (part-any finals (whole turns finals) order-is p)) (asks-any p l)
 
   -- ---- lists and trees
 

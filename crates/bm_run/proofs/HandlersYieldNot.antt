@@ -180,7 +180,7 @@ module _ (types : List TypeDeclaration) where
     action-unyielding i (Section body) h names part last r = within-unyielding i (RunsBlock types true body) names part last (block-unyielding true body h) r
     action-unyielding i Yield h names part last r = absurd h
     action-unyielding i (Acquire y x) h names part last r = subst AllUnyielding (sym r.part_is) (tt, tt)
-    action-unyielding i (Get x field) h names part last r = absurd r
+    action-unyielding i (Get x field) h names part last r = subst AllUnyielding (sym r.part_is) (tt, tt)
     action-unyielding i (Exchange y slot x) h names part last r = absurd r
     action-unyielding i (Lock graph) h names part last r = absurd r
     action-unyielding i Unlock h names part last r = absurd r

@@ -24,6 +24,7 @@ pub mod Progress
 pub mod ParcelsTold
 pub mod StampsBound
 pub mod PollsTold
+pub mod OwnedTold
 pub mod SealsTold
 pub mod BatchesTold
 pub mod Nesting
@@ -66,4 +67,3 @@ pub mod ClosersLists
 pub mod ClosersEnd
 pub mod ClosersFinal
 pub mod ClosersBoxes
-pub mod Asking

@@ -13,7 +13,7 @@ use Rattle.bm_law.specs.State.{State, opening}
 use Rattle.bm_law_scenario.specs.Fills.{fresh_stock, opening_stock}
 use Rattle.bm_law_scenario.proofs.EachLevel.{AllAbove}
 use Rattle.bm_law_order.specs.Bare.{bare_pool}
-use Rattle.bm_law_order.specs.Orders.{AllFit, AllShared, Leads, Order, by, part_of}
+use Rattle.bm_law_order.specs.Orders.{AllFit, AllShared, Leads, Order, by, over, part_of}
 use Rattle.bm_law_order.specs.Seals.{nobody_waits, waiting_after}
 use Rattle.bm_law_order.specs.Shared.{Shared, fresh}
 use Rattle.bm_law_order.specs.Story.{Steady, plainly}
@@ -21,11 +21,14 @@ use Rattle.bm_law_places.specs.World.{AllFound, SweepsInbox, World, outset, worl
 use Rattle.bm_law_seals.specs.Batches.{BatchFits}
 use Rattle.bm_cache.specs.Opening.{Fills, fill_log}
 use Rattle.bm_world.specs.LivingState.{LivingState, begun_at}
-use Rattle.bm_world.specs.Slots.{AllEmpty}
+use Rattle.bm_world.specs.Slots.{AllEmpty, object_at, values_of}
+use Rattle.bm_world.proofs.SlotLemmas.{no-object}
+use Rattle.bm_law_order.specs.Made.{Fields}
+use Rattle.bm_law_objects.specs.Objects.{nothing_owned, owned_after}
 use Rattle.bm_world.specs.declared.slots.Object.{Object}
 use Rattle.bm_world.specs.Standings.{standing_at, told_standing}
 use Rattle.bm_world.specs.Told.{IsSideOf}
-use Rattle.bm_world.specs.ToldLiving.{told_living}
+use Rattle.bm_world.specs.ToldLiving.{fields_told, told_living}
 use Rattle.bm_world.specs.declared.standing.Standing.{Standing}
 use Rattle.bm_world.specs.declared.standing.Standing.TheVariants.{Nothing}
 use Rattle.bm_exec_levels.specs.Ready.{IsProgram}
@@ -34,7 +37,7 @@ use Rattle.bm_exec_levels.specs.declared.program.Program.{Program}
 use Rattle.bm_run.specs.LeftAlone.{AllUnswept}
 use Rattle.bm_run.specs.Opened.{fresh_world}
 use Rattle.bm_run.specs.Openings.{AreFilled, AreOpen, filling_of, openings}
-use Rattle.bm_run.specs.SoFar.{SealedSoFar, SoFar}
+use Rattle.bm_run.specs.SoFar.{MadeAs, SealedSoFar, SoFar}
 use Rattle.bm_run.specs.LogsSoFar.{OrderUnswept}
 use Rattle.bm_run.proofs.AddedParts.{part-added, part-kept}
 use Rattle.bm_run.proofs.BatchesTold.{LowStamp, unswept-append, unswept-by}
@@ -156,11 +159,15 @@ opened-so-far n pages classes (suc p) few most =
     }
 
 -- What is so far is so of a world that tells the same.
-so-far-told : (n pages : ℕ) (o : Order) (a b : LivingState) → told_living a ≡ told_living b → SoFar n pages o a → SoFar n pages o b
-so-far-told n pages o a b e h = record {
+so-far-told : (n pages : ℕ) (o : Order) (a b : LivingState) → told_living a ≡ told_living b → fields_told a ≡ fields_told b → SoFar n pages o a → SoFar n pages o b
+so-far-told n pages o a b e f h = record {
   leads = subst (λ s. Leads o (fresh n pages) (plainly s)) e h.leads;
   steady = subst Steady e h.steady;
   polled = h.polled;
+  owned = h.owned;
+  made = λ u.
+      subst (λ (g : Fields). MadeAs ((told_living b).lives.holds u) ((told_living b).lives.begun u) (g u) ((over owned_after o nothing_owned).objects.made u)) f
+      (subst (λ (s : Shared). MadeAs (s.lives.holds u) (s.lives.begun u) (fields_told a u) ((over owned_after o nothing_owned).objects.made u)) e (h.made u));
 }
 
 -- In the openings batches go away as they have to: none does.
@@ -194,7 +201,7 @@ all-open p classes kept pool slots begun standings fits fine limits many filled 
           let x = filled.each i own f in
           opens n i p (filling_of classes s.pages i) pool slots begun standings own lt most fits fine (within s i lt limits) x.filled x.units filled.unborn empty none stands;
       side = fresh-is-side n 0 pool some most;
-      so_far = so-far-told n s.pages o first world same h.so_far;
+      so_far = so-far-told n s.pages o first world same (fun_ext (λ u. ap values_of (no-object (object_at [] u) (no-slots u) ∙ sym (no-object (object_at slots u) (empty u))))) h.so_far;
       sealed = record {
         waits = h.sealed.waits ∙ fun_ext (λ u. ap told_standing (no-standing u ∙ sym (stands u)));
         sealed = h.sealed.sealed;

@@ -161,6 +161,7 @@ unended s =
         dropped = λ x names part after r. of-map IsOfStatement IsUnended statement-unended part (k.dropped x names part after r);
         still = λ x names part after r. of-map IsOfStatement IsUnended statement-unended part (k.still x names part after r);
         acquired = λ y x names part after r. of-map IsOfStatement IsUnended statement-unended part (k.acquired y x names part after r);
+        read = λ x field names part after r. of-map IsOfStatement IsUnended statement-unended part (k.read x field names part after r);
         enters = λ w. (tt, tt);
         leaves = λ w. (tt, tt);
         yields = (tt, tt);

@@ -112,6 +112,7 @@ module _ (n p : ℕ) (bases : ℕ → Lives) (lives now : Lives) (turn : p < n) 
         alive = record { home = v.alive.home; count = v.alive.count; values = v.alive.values; is = kept-unit q u lt ne (owned x t u k e) ∙ v.alive.is };
         single = v.single;
         fields = v.fields;
+        few = v.few;
       };
       typed = h.typed;
       apart = holds-apart;

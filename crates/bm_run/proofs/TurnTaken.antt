@@ -1,5 +1,5 @@
 -- What is so of the order of a run goes on by each turn: by what a processor's log adds while it is tied.
-use Rattle.std.proofs.Common.{◌≡◌, ◌<◌, ℕ, Bool, false, [], ◌∷◌, ◌++◌, refl, sym, ◌∙◌, ap, subst}
+use Rattle.std.proofs.Common.{◌≡◌, ◌<◌, ℕ, Bool, None, false, [], ◌∷◌, ◌++◌, refl, sym, ◌∙◌, ap, subst}
 use Rattle.bm_law.specs.Lists.{Log}
 use Rattle.bm_law_order.specs.Orders.{AllFit, Order, by, part_of, shared_over}
 use Rattle.bm_law_order.specs.Seals.{nobody_waits, waiting_after}
@@ -11,11 +11,12 @@ use Rattle.bm_law_scenario.proofs.EachLevel.{AllAbove}
 use Rattle.bm_law_seals.specs.Batches.{BatchFits}
 use Rattle.bm_world.specs.LivingState.{LivingState}
 use Rattle.bm_world.specs.Told.{IsSideOf}
-use Rattle.bm_world.specs.ToldLiving.{knows_living, told_living}
+use Rattle.bm_world.specs.ToldLiving.{fields_told, knows_living, told_living}
 use Rattle.bm_exec_levels.specs.AtPolls.{DoesHere, polled, tied-bare}
-use Rattle.bm_run.specs.SoFar.{SealedSoFar, SoFar, TurnTaken, at_turn}
+use Rattle.bm_run.specs.SoFar.{MadeAs, SealedSoFar, SoFar, TurnTaken, at_turn}
 use Rattle.bm_run.proofs.BatchesTold.{LowStamp, tied-batches-since}
 use Rattle.bm_run.proofs.Laid.{fresh-leads, fresh-steady, tied-led-since}
+use Rattle.bm_run.proofs.OwnedTold.{tied-owned-since}
 use Rattle.bm_run.proofs.PollsTold.{tied-polled-since}
 use Rattle.bm_run.proofs.SealsTold.{LowSend, tied-sealed-since}
 
@@ -23,11 +24,17 @@ use Rattle.bm_run.proofs.SealsTold.{LowSend, tied-sealed-since}
 
 -- so it is at the outset, of however many processors
 pub fresh-so-far : (n pages : ℕ) (world : LivingState) → told_living world ≡ fresh n pages → SoFar n pages [] world
-fresh-so-far n pages world e = record { leads = fresh-leads n pages world e; steady = subst Steady (sym e) (fresh-steady n pages); polled = tt }
+fresh-so-far n pages world e = record {
+  leads = fresh-leads n pages world e;
+  steady = subst Steady (sym e) (fresh-steady n pages);
+  polled = tt;
+  owned = tt;
+  made = λ u. subst (λ (s : Shared). MadeAs (s.lives.holds u) (s.lives.begun u) (fields_told world u) None) (sym e) tt;
+}
 
 -- whose side the world is, is no matter
 pub so-far-at : (n pages p : ℕ) (o : Order) (world : LivingState) → SoFar n pages o world → SoFar n pages o (at_turn p world)
-so-far-at n pages p o world h = record { leads = h.leads; steady = h.steady; polled = h.polled }
+so-far-at n pages p o world h = record { leads = h.leads; steady = h.steady; polled = h.polled; owned = h.owned; made = h.made }
 
 pub sealed-at : (p : ℕ) (o : Order) (world : LivingState) → SealedSoFar o world → SealedSoFar o (at_turn p world)
 sealed-at p o world h = record { waits = h.waits; sealed = h.sealed }
@@ -60,6 +67,7 @@ pub turn-taken : (closing : Bool) (n pages p : ℕ) (o : Order) (since log : Log
 turn-taken closing n pages p o since log start now h own part t =
     let bare = tied-bare knows_living (polled knows_living closing since start) since start 0 [] [] log now t in
     let r = tied-led-since (polled knows_living closing since start) p 0 since log start now own h.steady bare in
+    let objects = tied-owned-since closing n pages p o since r.added log start now h.leads h.steady own part r.log_is bare h.owned h.made in
     record {
       added = r.added;
       log_is = r.log_is;
@@ -67,6 +75,8 @@ turn-taken closing n pages p o since log start now h own part t =
         leads = leads-join o (by p r.added) (fresh n pages) (plainly (told_living start)) (plainly (told_living now)) h.leads r.leads;
         steady = r.steady;
         polled = tied-polled-since n pages p o since start h.leads h.steady own part closing r.added log now r.log_is bare h.polled;
+        owned = objects.0;
+        made = objects.1;
       };
       stays = (bare.done_is.did p own).stays;
     }

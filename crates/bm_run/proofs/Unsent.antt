@@ -10,7 +10,7 @@ use Rattle.bm_lang.specs.declared.scenario.Script.{Script}
 use Rattle.bm_law_work.specs.Parts.{If, Part, Nothing, Stand, Then}
 use Rattle.bm_law_work.proofs.Each.{AllOf, of-append, of-map}
 use Rattle.bm_law_scenario.specs.CallEntries.{IsOfStatement}
-use Rattle.bm_law_scenario.specs.Calls.{RunsAcquire, RunsDrop, RunsNew, RunsStill, any_batch}
+use Rattle.bm_law_scenario.specs.Calls.{RunsAcquire, RunsGet, RunsDrop, RunsNew, RunsStill, any_batch}
 use Rattle.bm_law_scenario.specs.Grammar.{AreScripts, IsBody, IsScript, behind_script, behind_statement, section_of, starts_inside}
 use Rattle.bm_law_scenario.specs.Held.{Names, no_names}
 use Rattle.bm_law_scenario.specs.Opened.{opened_classes}
@@ -42,6 +42,7 @@ module _ (s : Parts) (off : s.deferred ≡ false) where
         dropped = λ x names after. has-say (AllOf IsUnsent) (λ own. RunsDrop s.types x any_batch names own after) (λ own h. of-map IsOfStatement IsUnsent statement-unsent own (k.dropped x names own after h));
         still = λ x names after. has-say (AllOf IsUnsent) (λ own. RunsStill s.types x names own after) (λ own h. of-map IsOfStatement IsUnsent statement-unsent own (k.still x names own after h));
         acquired = λ y x names after. has-say (AllOf IsUnsent) (λ own. RunsAcquire s.types y x names own after) (λ own h. of-map IsOfStatement IsUnsent statement-unsent own (k.acquired y x names own after h));
+        read = λ x field names after. has-say (AllOf IsUnsent) (λ own. RunsGet s.types x field names own after) (λ own h. of-map IsOfStatement IsUnsent statement-unsent own (k.read x field names own after h));
         enters = λ w. has-stand (AllOf IsUnsent) (entry.In Plain w ∷ []) (tt, tt);
         leaves = λ w. has-stand (AllOf IsUnsent) (entry.Out Plain w ∷ []) (tt, tt);
         yields = has-stand (AllOf IsUnsent) (entry.Yield ∷ []) (tt, tt);

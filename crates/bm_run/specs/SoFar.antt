@@ -1,6 +1,7 @@
 -- What is so of the order of a run between two turns. (This project's own: the order and the turns are.)
-use Rattle.std.specs.Prelude.{◌≡◌, ℕ, ◌++◌}
+use Rattle.std.specs.Prelude.{◌≡◌, ℕ, ◌++◌, List, None, Option, Some}
 use Rattle.bm_law.specs.Lists.{Log}
+use Rattle.bm_law_order.specs.Lives.{Life}
 use Rattle.bm_law_order.specs.Orders.{Leads, Order, by, over}
 use Rattle.bm_law_order.specs.Polls.{IsPolled}
 use Rattle.bm_law_order.specs.Seals.{IsSealed, nobody_waits, waiting_after}
@@ -9,14 +10,29 @@ use Rattle.bm_law_order.specs.Story.{Steady, plainly}
 use Rattle.bm_world.specs.LivingState.{LivingState}
 use Rattle.bm_world.specs.Standings.{waits_told}
 use Rattle.bm_world.specs.Told.{IsSideOf}
-use Rattle.bm_world.specs.ToldLiving.{told_living}
+use Rattle.bm_world.specs.ToldLiving.{fields_told, told_living}
+use Rattle.bm_law_objects.specs.Objects.{Asked, IsOwned, Made, nothing_owned, owned_after}
+
+-- A life, if the unit has one, is the last one that it began, and was made of what was asked for with these values.
+abbrev pub MadeAs : Option Life → (last : ℕ) → (values : List ℕ) → Option Made → Type 0
+MadeAs None last values made = Unit {0}
+MadeAs (Some life) last values made = (asked : Asked) × (made ≡ Some (record { life = last; asked = asked })) × (asked.values ≡ values)
+
+-- So it is of each unit that lives, by an order and by what the world tells.
+abbrev pub IsMadeOf : Order → LivingState → Type 0
+IsMadeOf o world =
+    let lives = (told_living world).lives in
+    (u : ℕ) → MadeAs (lives.holds u) (lives.begun u) (fields_told world u) ((over owned_after o nothing_owned).objects.made u)
 
 -- The entries so far, of so many processors, each find what they need, and lead from the outset to what the world tells, which is
--- steady; each period was begun for a batch that waits for it, and each pass ended a poll that had rested.
+-- steady; each period was begun for a batch that waits for it, and each pass ended a poll that had rested; and each unit was given where an
+-- object was asked for, each read found a value with which its object was made, and those that live were made with what the world tells.
 pub record SoFar (processors pages : ℕ) (o : Order) (world : LivingState) : Type 0 where
   pub leads : Leads o (fresh processors pages) (plainly (told_living world))
   pub steady : Steady (told_living world)
   pub polled : IsPolled processors pages o
+  pub owned : IsOwned o
+  pub made : IsMadeOf o world
 
 -- So it is while nothing was swept: units wait for what the world tells, and each was given with what it had waited for.
 pub record SealedSoFar (o : Order) (world : LivingState) : Type 0 where

@@ -27,7 +27,7 @@ use bm_lang::{Parts, Scenario, Script, TypeDeclaration};
 use bm_law_graphs::{graphs_law, uncalled_law};
 use bm_law_laid::journal_law;
 use bm_law_logs::{handled_law, returned_law, returns_law, sweeps_law};
-use bm_law_objects::{asked_law, counts_law, reads_law, slots_law};
+use bm_law_objects::{counts_law, reads_law, slots_law};
 use bm_law_seals::{lives_law, seals_law};
 use bm_word::NoMemory;
 use std::alloc::Global;
@@ -77,7 +77,6 @@ fn journal_of(
     returned_law();
     journal_law();
     seals_law();
-    asked_law();
     counts_law();
     slots_law();
     reads_law();

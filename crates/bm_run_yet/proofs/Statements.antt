@@ -2,7 +2,7 @@
 use Rattle.std.proofs.Common.{◌≡◌, ℕ, zero, suc, ◌-◌, Bool, true, false, ◌&&◌, ◌||◌, List, [], ◌∷◌, ◌++◌, map, length, nat_lt, nat_le, IsSomeAnd, eqb, eq-eqb, slice_get, refl, subst, append_assoc, arith}
 use Rattle.std.specs.List.{list_any}
 use Rattle.std.proofs.lemmas.Bool.Decides.{nat_tests}
-use Rattle.bm_lang.specs.declared.scenario.Action.{Acquire, Action, Drop, New, If', Repeat, Section, Yield, Held-Action-If-2, None', Some'}
+use Rattle.bm_lang.specs.declared.scenario.Action.{Acquire, Action, Drop, Get, New, If', Repeat, Section, Yield, Held-Action-If-2, None', Some'}
 use Rattle.bm_lang.specs.declared.scenario.Block.{Block, Block', Row_of-Statement, end_of-Statement, more_of-Statement}
 use Rattle.bm_lang.specs.declared.scenario.TypeDeclaration.{TypeDeclaration}
 use Rattle.bm_lang.specs.Tokens.{Close}
@@ -36,6 +36,7 @@ mutual
   action_runs types maps d l (New x t values) rest h fine b = (new_runs types t.0 values h fine, numbers values rest b)
   action_runs types maps d l (Drop x) rest h fine b = (refl, b)
   action_runs types maps d l (Acquire y x) rest h fine b = (refl, b)
+  action_runs types maps d l (Get x field) rest h fine b = (refl, b)
   action_runs types maps d l (If' x body otherwise) rest h fine b =
       let forms = map type_form types in
       let first = block_runs types maps d body (spell_else forms maps otherwise ++ rest) h fine.0 (along (spell_block forms maps body) (spell_else forms maps otherwise) rest b) in

@@ -13,7 +13,6 @@ abbrev pub is_unbuilt_word : Keyword → Bool
 is_unbuilt_word word.List = true
 is_unbuilt_word word.Tree = true
 is_unbuilt_word word.Slot = true
-is_unbuilt_word word.Get = true
 is_unbuilt_word word.Xchg = true
 is_unbuilt_word word.Lock = true
 is_unbuilt_word word.Unlock = true

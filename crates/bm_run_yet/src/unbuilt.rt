@@ -15,7 +15,6 @@ fn is_unbuilt_word(word: Keyword) -> bool
         Keyword::List
             | Keyword::Tree
             | Keyword::Slot
-            | Keyword::Get
             | Keyword::Xchg
             | Keyword::Lock
             | Keyword::Unlock

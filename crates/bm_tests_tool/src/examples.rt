@@ -5,6 +5,7 @@ pub(crate) mod busy_handler;
 pub(crate) mod counted_object;
 pub(crate) mod deferred_block;
 pub(crate) mod empty_stock;
+pub(crate) mod fields_read;
 pub(crate) mod held_by_a_plain_section;
 pub(crate) mod held_by_a_tracing_section;
 pub(crate) mod nested_blocks;
@@ -23,6 +24,7 @@ pub(crate) const EXAMPLES: &[(&str, &str)] = &[
     (counted_object::SCENARIO, counted_object::JOURNAL),
     (deferred_block::SCENARIO, deferred_block::JOURNAL),
     (empty_stock::SCENARIO, empty_stock::JOURNAL),
+    (fields_read::SCENARIO, fields_read::JOURNAL),
     (
         held_by_a_plain_section::SCENARIO,
         held_by_a_plain_section::JOURNAL,

@@ -80,7 +80,7 @@ fn texts_with_the_place_of_their_first_form(rt: HostRuntime) -> Result<(), Fail>
         // the first of several
         ("processors 3 deferred on slot s item", None, Some((1, 26))),
         (
-            "script m plain { new x t drop x }\nyield get",
+            "script m plain { new x t drop x }\nyield add",
             None,
             Some((2, 7)),
         ),
@@ -88,10 +88,10 @@ fn texts_with_the_place_of_their_first_form(rt: HostRuntime) -> Result<(), Fail>
         ("script m plain { unlock }\n7", Some((2, 1)), Some((1, 18))),
         ("script m plain { drop x }\nlock", Some((2, 1)), None),
         ("script m plain { drop 7 }\nlock q", Some((1, 23)), None),
-        ("processors 8 get", Some((1, 14)), None),
+        ("processors 8 add", Some((1, 14)), None),
         // a fault whose place is on the same line, or in the same column
-        ("a b c get", Some((1, 5)), None),
-        ("a\nget b\nc", Some((3, 1)), Some((2, 1))),
+        ("a b c add", Some((1, 5)), None),
+        ("a\nadd b\nc", Some((3, 1)), Some((2, 1))),
     ];
     for (text, fault, want) in table {
         assert_eq!(rt; found(text.as_bytes(), fault)?, want, "{text}");
@@ -112,7 +112,6 @@ fn with_statement(alloc: Global, word: &str) -> Result<Vec<u8>, Fail> {
 #[test]
 fn statements_with_their_first_word(rt: HostRuntime) -> Result<(), Fail> {
     let words = [
-        "get",
         "xchg",
         "lock",
         "unlock",
@@ -129,7 +128,8 @@ fn statements_with_their_first_word(rt: HostRuntime) -> Result<(), Fail> {
         assert_eq!(rt; found(text.as_slice(), None)?, Some((8, 10)), "{word}");
     }
     for word in [
-        "new", "drop", "acquire", "if", "else", "repeat", "section", "yield", "null", "pad", "x",
+        "new", "drop", "acquire", "get", "if", "else", "repeat", "section", "yield", "null", "pad",
+        "x",
     ] {
         let text = with_statement(rt.alloc(), word)?;
         assert_eq!(rt; found(text.as_slice(), None)?, None, "{word}");

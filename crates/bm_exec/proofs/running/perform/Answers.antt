@@ -4,7 +4,8 @@ use Rattle.bm_check.specs.Values.{is_owning}
 use Rattle.bm_lang.specs.declared.scenario.Action.{Acquire, New, None', Some'}
 use Rattle.bm_exec.specs.Seen.{has_name, names_of}
 use Rattle.bm_exec.proofs.Meeting.{block-room, new-known, opens-again, opens-if, opens-other, opens-section}
-use Rattle.bm_exec.proofs.Counted.{counted-in, owning-one}
+use Rattle.bm_exec.proofs.Counted.{counted-in, owning-one, refers-owning}
+use Rattle.bm_exec.proofs.Fields.{field-in}
 use Rattle.bm_exec.proofs.Performing.{first-performed, other-performed, skip-performed, repeat-performed, yield-performed}
 use Rattle.bm_exec.proofs.Yields.{unyielding-none, yields-one}
 use Rattle.bm_exec.proofs.running.perform.Goals as goal
@@ -79,6 +80,16 @@ pub perform_acquire-requires-clause-counted : goal.perform_acquire-requires-clau
 perform_acquire-requires-clause-counted g c t v =
     let e = rw c.in-Acquire.is at c.requires.needed.2 in
     counted-in c.requires.needed.0 c.args.types.now.declared.now e.0 t c.requires.needed.1 (owning-one e.0 t (sym e.1 ∙ v)) e.2
+
+pub perform_get-requires-clause-owned : goal.perform_get-requires-clause-owned
+perform_get-requires-clause-owned g c =
+    let e = rw c.in-Get.is at c.requires.needed.2 in
+    ap is_owning (refers-owning (names_of c.args.names.now c.in-Get.name) e.0 e.1)
+
+pub perform_get-requires-clause-field : goal.perform_get-requires-clause-field
+perform_get-requires-clause-field g c t v =
+    let e = rw c.in-Get.is at c.requires.needed.2 in
+    field-in c.requires.needed.0 c.args.types.now.declared.now c.in-Get.field e.0 t c.requires.needed.1 (owning-one e.0 t (sym (refers-owning (names_of c.args.names.now c.in-Get.name) e.0 e.1) ∙ v)) e.2
 
 -- ---- what was performed
 

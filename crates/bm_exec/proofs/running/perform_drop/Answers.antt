@@ -1,25 +1,16 @@
-use Rattle.std.proofs.Common.{◌≡◌, ◌⊎◌, ◌<◌, ℕ, List, Some, slice_get, arith, ◌∙◌, ap, inl, inr, refl, sym, subst, zero, suc, length, ◌≤◌, [], ◌∷◌, Bool, false, true}
+use Rattle.std.proofs.Common.{◌≡◌, ◌⊎◌, ◌<◌, ℕ, List, Some, slice_get, arith, ◌∙◌, ap, inl, inr, refl, sym, subst, [], Bool, false, true}
 use Rattle.bm_lang.specs.declared.scenario.TypeDeclaration.{TypeDeclaration}
 use Rattle.bm_law_scenario.specs.Calls.{IsCounted}
 use Rattle.bm_exec.specs.Living.{Disposed, count_in}
 use Rattle.bm_exec.specs.Yields.{Unyielding}
 use Rattle.bm_exec.proofs.Yields.{disposed-unyielding, given-up-unyielding, unyielding-join}
 use Rattle.bm_exec.specs.Seen.{names_of}
+use Rattle.bm_exec.proofs.Fields.{declared-is, not-there}
 use Rattle.bm_exec.proofs.Objects.{own-reached}
 use Rattle.bm_exec.proofs.Performing.{drop-performed, still-performed}
 use Rattle.bm_exec.proofs.Results.{on-ok, both-ok, get-is}
 use Rattle.bm_exec.proofs.KnownNames.{owning-there}
 use Rattle.bm_exec.proofs.running.perform_drop.Goals as goal
-
--- the type that stands at a place is one
-declared-is : (types : List TypeDeclaration) (t : ℕ) (d e : TypeDeclaration) → slice_get types t ≡ Some d → slice_get types t ≡ Some e → d ≡ e
-declared-is types t d e f g = (let q : Some d ≡ Some e = sym f ∙ g in cc)
-
--- a type that is declared stands within the list
-not-there : (types : List TypeDeclaration) (t : ℕ) (d : TypeDeclaration) → length types ≤ t → slice_get types t ≡ Some d → ⊥
-not-there [] t d le f = cc
-not-there (x ∷ xs) zero d le f = absurd (omega (arith, le))
-not-there (x ∷ xs) (suc t) d le f = not-there xs t d (omega (arith, le)) f
 
 -- there is one reference, or there are more
 one-or-more : (k : ℕ) → 0 < k → (k ≡ 1) ⊎ (1 < k)

@@ -1,5 +1,8 @@
 use Rattle.std.proofs.Common.{◌≡◌, [], ◌∷◌, ◌++◌, ◌∙◌, ◌+◌, ◌<◌, ℕ, List, Option, None, Some, refl, sym, ap, subst, arith, inl, inr}
-use Rattle.std.specs.Prelude.{◌^◌}
+use Rattle.std.specs.Prelude.{◌^◌, Bool, IfSome, false, if◌then◌else◌, nat_lt, true}
+use Rattle.bm_class.specs.Sizes.{size_of_class}
+use Rattle.bm_class.specs.Watermarks.{low_of_size}
+use Rattle.bm_exec_levels.specs.Asked.{AsksFor, asked_over}
 use Rattle.bm_journal.specs.declared.entry.Entry.{Entry}
 use Rattle.bm_journal.specs.declared.entry.Entry.TheVariants as entry
 use Rattle.bm_law.specs.Phrases.{given, raise_below}
@@ -12,7 +15,7 @@ use Rattle.bm_cache.specs.Tokens.{Token, seal_numbers}
 use Rattle.bm_exec.specs.Living.{with_life}
 use Rattle.bm_exec_levels.specs.AtProcessor.{log_of}
 use Rattle.bm_exec_levels.specs.Hosting.{at-say, with_caches, with_side}
-use Rattle.bm_exec_levels.specs.AtTie.{tied-begun, tied-did, tied-quiet}
+use Rattle.bm_exec_levels.specs.AtTie.{asked-behind, tied-begun, tied-did, tied-quiet}
 use Rattle.bm_exec_levels.specs.Ready.{asked_of, known_of}
 use Rattle.bm_exec_levels.specs.declared.processor.Processor.{Processor}
 use Rattle.bm_exec_levels.proofs.Begun.{at-asked, at-begun}
@@ -139,6 +142,14 @@ seals-same : (s : Option Seal) → seal_numbers s ≡ seal_told s
 seals-same None = refl
 seals-same (Some seal) = refl
 
+-- a flag that is raised is no reply
+raises-none : (i k : ℕ) (values : List ℕ) → asked_over (raise_below i k) (Some values) ≡ Some values
+raises-none i k values = either (nat_lt k (low_of_size (size_of_class i)))
+  where
+    either : (b : Bool) → asked_over (if b then entry.Raise i ∷ [] else []) (Some values) ≡ Some values
+    either true = refl
+    either false = refl
+
 pub returns-in-Unit-clause-tied : goal.returns-in-Unit-clause-tied
 returns-in-Unit-clause-tied g c =
     let k : Processor g.row.W.Denot = c.allocate.new.own in
@@ -147,11 +158,12 @@ returns-in-Unit-clause-tied g c =
     let x = c.allocate.ensures.between in
     let a = c.in-Unit.ensures.answer in
     let s = c.in-Unit.ensures.sound in
+    let n = rw c.level.ensures.number at c.note.ensures.step in
     let home : u.home ≡ (known_of g.W.Knows k).grace.processor = ap (λ (t : Token). t.home) a.7 ∙ (sym x.came.processor ∙ s.0.ready.here) in
     let i = c.args.class in
     let before : List Entry = entry.Enter i 1 ∷ entry.Pop i u.number ∷ entry.Count i a.0 ∷ entry.Leave i a.1 ∷ raise_below i a.0 in
     let F : Option (ℕ × ℕ) → Type 0 = λ z. Records g.L.Rank.number (before ++ given u.number (u.life + 1) z ∷ []) c.note.new.self.recorder.told (log_of k) in
-    tied-begun g.W.Knows g.B.Since.since g.B.Since.start g.L.Rank.number u.number (u.life + 1) c.duplicate-fields.result u.seal before c.note.new.self.recorder.told k (with_side k c.begin_life.new.self) (subst F (seals-same u.seal) a.4) refl (b.does home, ap (λ (x : Known). x.grace.processor) b.known) s.1
+    tied-begun g.W.Knows g.B.Since.since g.B.Since.start g.L.Rank.number u.number (u.life + 1) c.duplicate-fields.result u.seal before c.note.new.self.recorder.told k (with_side k c.begin_life.new.self) (subst (λ v. IfSome c.note.new.self.recorder.told (AsksFor g.L.Rank.number v)) (sym c.duplicate-fields.ensures) (asked-behind g.L.Rank.number c.args.name c.args.values (log_of c.args.own.now) c.note.new.self.recorder.told n.records)) (raises-none i a.0 c.duplicate-fields.result) (subst F (seals-same u.seal) a.4) refl (b.does home, ap (λ (x : Known). x.grace.processor) b.known) s.1
 
 pub returns-in-Empty-clause-tied : goal.returns-in-Empty-clause-tied
 returns-in-Empty-clause-tied g c =

@@ -36,7 +36,7 @@ use Rattle.bm_law_order.specs.Polls.{IsPolled}
 use Rattle.bm_law_order.specs.Seals.{IsSealed}
 use Rattle.bm_law_places.specs.Placed.{IsPlaced}
 use Rattle.bm_law_scenario.specs.SectionWords.{SectionWords}
-use Rattle.bm_run.proofs.FinalLaws.{asks-are, batched-is, each-log, found-is, idle-is, inbox-is, inboxes-are, laid-is, log-of-each, none-alive, none-dropping, order-is, parcels-are, placed-is, polled-is, sealed-is, uncalled-is}
+use Rattle.bm_run.proofs.FinalLaws.{owned-is, batched-is, each-log, found-is, idle-is, inbox-is, inboxes-are, laid-is, log-of-each, none-alive, none-dropping, order-is, parcels-are, placed-is, polled-is, sealed-is, uncalled-is}
 use Rattle.bm_run.proofs.FinalLog.{final-lawful}
 use Rattle.bm_run.proofs.ParcelsArrive.{parcels-arrive}
 use Rattle.bm_run.proofs.journals.journal_of.Goals as goal
@@ -111,7 +111,7 @@ returns-clause-lawful c =
     let freed = c.lives_law.ensures.freed logs order of-logs fits batched.answered none done in
     let nothing = each-log LeavesNothing logs (λ p lt. (let l = each-lawful c p lt in (l.last, l.lists, l.emptied))) in
     let receivers = subst (λ k. Each (λ p. p < k) (named receiver logs)) (sym many) (laws.receivers n s.pages logs order of-logs laid) in
-    let owned : IsOwned order = c.asked_law.ensures order (asks-are s turns logs h) in
+    let owned : IsOwned order = owned-is s turns logs h in
     let arrive = parcels-arrive n s.pages logs order of-logs laid (inbox-is s turns logs h) (inboxes-are s turns logs h) in
     record {
       logs = record {
@@ -167,7 +167,7 @@ returns-clause-laid c =
       placed = subst (λ (x : List Log). IsPlaced n s.pages (whole turns x)) one (placed-is s turns logs h);
       polled = subst (λ (x : List Log). IsPolled n s.pages (whole turns x)) one (polled-is s turns logs h);
       sealed = subst (λ (x : List Log). IsSealed (whole turns x)) one (sealed-is s turns logs h);
-      owned = subst (λ (x : List Log). IsOwned (whole turns x)) one (c.asked_law.ensures (whole turns logs) (asks-are s turns logs h));
+      owned = subst (λ (x : List Log). IsOwned (whole turns x)) one (owned-is s turns logs h);
       shelved = c.uncalled_law.ensures.shelved c.new-maps.result order none;
       histories = λ name. ap (λ (graphs : List (List ℕ × List Past)). history_of graphs name) (graphs-none c) ∙ sym (c.uncalled_law.ensures.histories c.new-maps.result order none name);
     }
