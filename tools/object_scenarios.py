@@ -38,11 +38,6 @@ class ObjectMaker(Maker):
 
     # ---- an object that a name owns
 
-    def use_of(self, name: str, depth: int, length: int) -> list[Statement]:
-        made, draw = self.made[name], self.draw
-        reads = [Statement("get", [name, draw.choice(made.fields)])] if made.fields and draw.random() < 0.3 else []
-        return reads + super().use_of(name, depth, length)
-
     def end_of_owned(self, name: str) -> list[Statement]:
         made = self.made[name]
         slots, graphs = self.maps_of(made, "slot"), self.maps_of(made, "list", "tree") if self.may_yield else []

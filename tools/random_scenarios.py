@@ -76,15 +76,17 @@ class Maker:
         return Statement("if", [name], blocks=[Block(first), *[Block(other)] * has_other])
 
     def use_of(self, name: str, depth: int, length: int) -> list[Statement]:
-        """What becomes of an object that the name owns: sometimes there are further references to it, which end in any order."""
-        if not self.made[name].counted or self.draw.random() < 0.6:
-            return self.end_of_owned(name)
+        """What becomes of an object that the name owns: sometimes a field is read, or there are further references, which end in any order."""
+        made = self.made[name]
+        reads = [Statement("get", [name, self.draw.choice(made.fields)])] if made.fields and self.draw.random() < 0.3 else []
+        if not made.counted or self.draw.random() < 0.6:
+            return reads + self.end_of_owned(name)
         other = self.fresh()
-        self.made[other] = self.made[name]
+        self.made[other] = made
         ends = [self.end_of_owned(name), self.use_of(other, depth, length)]
         self.draw.shuffle(ends)
         between = self.maybe(0.2, depth, length)
-        return [Statement("acquire", [other, name]), *between, *ends[0], *self.maybe(0.2, depth, length), *ends[1]]
+        return [*reads, Statement("acquire", [other, name]), *between, *ends[0], *self.maybe(0.2, depth, length), *ends[1]]
 
     def end_of_owned(self, name: str) -> list[Statement]:
         """What becomes of the reference that the name owns."""
