@@ -13,7 +13,7 @@ use Rattle.bm_check.specs.Values as safe
 use Rattle.bm_exec.specs.Runnable.{Classes}
 use Rattle.bm_exec.specs.Stores.{store_of, value_of}
 use Rattle.bm_world.specs.Lives.{with_references}
-use Rattle.bm_exec.specs.Living.{Begins, Holds, IsHeld, IsReached, Lives, Living, Referring, count_in, recounted, refers, reply_of, with_life}
+use Rattle.bm_exec.specs.Living.{Adds, Begins, Holds, IsHeld, IsReached, Lives, Living, Referring, count_in, new_life, recounted, refers, reply_of, with_life}
 use Rattle.bm_check.specs.Values.{is_owning}
 use Rattle.std.proofs.lemmas.Bool.Decides.{Decides-eqb}
 use Rattle.bm_exec.proofs.Tables.{same_word, word_is_itself, is_or_not}
@@ -144,13 +144,20 @@ with-other u v l lives e = rw e refl
 with-same : (u v : ℕ) (l : Option Living) (lives : Lives) → u ≡ v → with_life u l lives v ≡ l
 with-same u v l lives e = rw (eq-eqb u v e) refl
 
+some-none : {A : Type 0} (x : A) → None ≡ Some x → ⊥
+some-none x e = cc
+
+some-is : {A : Type 0} (x y : A) → Some x ≡ Some y → x ≡ y
+some-is x y e = cc
+
 -- another unit lives as it did
-still-held : (types : List TypeDeclaration) (u : ℕ) (l : Option Living) (lives lives' : Lives) (t : TypeId) (v n : ℕ) → lives' ≡ with_life u l lives → eqb u v ≡ false → IsHeld types lives t v n → IsHeld types lives' t v n
-still-held types u l lives lives' t v n e f h = record {
+still-held : (types : List TypeDeclaration) (lives lives' : Lives) (t : TypeId) (v n : ℕ) → lives' v ≡ lives v → IsHeld types lives t v n → IsHeld types lives' t v n
+still-held types lives lives' t v n e h = record {
   class = h.class;
   declared = h.declared;
   of_class = h.of_class;
-  alive = record { home = h.alive.home; count = h.alive.count; values = h.alive.values; is = rw e (with-other u v l lives f ∙ h.alive.is) };
+  alive = record { home = h.alive.home; type = h.alive.type; count = h.alive.count; values = h.alive.values; is = e ∙ h.alive.is };
+  typed = h.typed;
   single = h.single;
   fields = h.fields;
   few = h.few;
@@ -163,16 +170,63 @@ fresh-other u v lives l e f = elim (is_or_not (eqb u v)) [
   | inr other ↦ other
 ]
 
-clash : (t t' : TypeId) (u u' n n' : ℕ) → Object t u n ≡ Object t' u' n' → eqb u u' ≡ false → ⊥
-clash t t' u u' n n' e f = let q = same-object t t' u u' n n' e in let w : eqb u u' ≡ true = eq-eqb u u' q.1 in cc
+-- ---- references beside those of others
 
--- under a unit of which nothing lives now, nothing lived before
-none-before : (u : ℕ) (base lives : Lives) → ((l : Living) → base u ≡ Some l → lives u ≡ Some l) → lives u ≡ None → base u ≡ None
-none-before u base lives before e = unlived (base u) refl
-  where
-    unlived : (l : Option Living) → base u ≡ l → l ≡ None
-    unlived None f = refl
-    unlived (Some l) f = let g = before l f in absurd (cc)
+-- what doesn't live nobody has a reference to
+adds-none : (k : ℕ) (o : Option Living) → Adds k o None → (k ≡ 0) × (o ≡ None)
+adds-none zero o h = (refl, sym h)
+adds-none (suc k) None h = absurd (some-none h.0 h.1)
+adds-none (suc k) (Some l) h = absurd (some-none _ h.1)
+
+-- of one reference nobody else has any
+adds-one : (k : ℕ) (o a : Option Living) → Adds (suc k) o a → count_in a ≡ 1 → (k ≡ 0) × (o ≡ None)
+adds-one k None a h one = (let count : count_in a ≡ h.0.count = ap count_in h.1 in let more = h.2 in omega (arith, one, count, more), refl)
+adds-one k (Some l) a h one = (let count : count_in a ≡ l.count + suc k = ap count_in h.1 in let some = h.0 in absurd (omega (arith, one, count, some)))
+
+-- an object with so many references
+abbrev With : (count : ℕ) → Living → Living
+With count l = record l { count = count }
+
+-- one reference less, and others are left
+adds-less : (k seen : ℕ) (o a : Option Living) → Adds (suc k) o a → count_in a ≡ seen → 1 < seen → Adds k o (with_references (seen - 1) a)
+adds-less zero seen None a h e more = (let count : count_in a ≡ h.0.count = ap count_in h.1 in let one = h.2 in absurd (omega (arith, e, more, count, one)))
+adds-less (suc k) seen None a h e more =
+    let count : count_in a ≡ h.0.count = ap count_in h.1 in
+    let all = h.2 in
+    (With (seen - 1) h.0, ap (with_references (seen - 1)) h.1, omega (arith, e, more, count, all))
+adds-less zero seen (Some l) a h e more =
+    let count : count_in a ≡ l.count + 1 = ap count_in h.1 in
+    let left : seen - 1 ≡ l.count = omega (arith, e, count) in
+    ap (with_references (seen - 1)) h.1 ∙ ap (λ n. Some (With n l)) left
+adds-less (suc k) seen (Some l) a h e more =
+    let count : count_in a ≡ l.count + suc (suc k) = ap count_in h.1 in
+    let left : seen - 1 ≡ l.count + suc k = omega (arith, e, count) in
+    (h.0, ap (with_references (seen - 1)) h.1 ∙ ap (λ n. Some (With n l)) left)
+
+-- .. and one more
+adds-more : (k seen : ℕ) (o a : Option Living) → Adds (suc k) o a → count_in a ≡ seen → Adds (suc (suc k)) o (with_references (seen + 1) a)
+adds-more k seen None a h e =
+    let count : count_in a ≡ h.0.count = ap count_in h.1 in
+    let all = h.2 in
+    (With (seen + 1) h.0, ap (with_references (seen + 1)) h.1, omega (arith, e, count, all))
+adds-more k seen (Some l) a h e =
+    let count : count_in a ≡ l.count + suc k = ap count_in h.1 in
+    let now : seen + 1 ≡ l.count + suc (suc k) = omega (arith, e, count) in
+    (h.0, ap (with_references (seen + 1)) h.1 ∙ ap (λ n. Some (With n l)) now)
+
+-- whoever has a reference sees that there is one
+adds-some : (k : ℕ) (o a : Option Living) → Adds (suc k) o a → 0 < count_in a
+adds-some k None a h = (let count : count_in a ≡ h.0.count = ap count_in h.1 in let all = h.2 in omega (arith, count, all))
+adds-some k (Some l) a h = (let count : count_in a ≡ l.count + suc k = ap count_in h.1 in omega (arith, count))
+
+-- some name refers to a unit
+pub referring-some : (u k : ℕ) (x : List ℕ) (names : Names) → refers u (names x) ≡ true → Referring u k names → (j : ℕ) × (k ≡ suc j)
+referring-some u zero x names e r = absurd (not-both e (r x))
+referring-some u (suc j) x names e r = (j, refl)
+
+-- a name is set that neither referred to the unit nor does
+reached-aside : (u : ℕ) (o a a' : Option Living) (x : List ℕ) (v : Held) (names : Names) → refers u (names x) ≡ false → refers u v ≡ false → a' ≡ a → IsReached u o a names → IsReached u o a' (with_name x v names)
+reached-aside u o a a' x v names free bare e r = record { own = r.own; held = referring-aside u r.own x v names free bare r.held; adds = subst (Adds r.own o) (sym e) r.adds }
 
 -- ---- what names hold
 
@@ -186,170 +240,115 @@ held-now x v names y w f = elim (is_or_not (bytes_eq x y)) [
 holds-null : (types : List TypeDeclaration) (base lives lives' : Lives) (names : Names) (x : List ℕ) (v : Held) → ((u : ℕ) → refers u v ≡ false) → ((t : TypeId) (u n : ℕ) → v ≡ Object t u n → ⊥) → is_owning (value_of (names x)) ≡ false → lives' ≡ lives → Holds types base lives names → Holds types base lives' (with_name x v names)
 holds-null types base lives lives' names x v bare none free e h = record {
   living = λ y t u n f. elim (held-now x v names y _ f) [ inl a ↦ absurd (none t u n a.1) | inr b ↦ rw e (h.living y t u n b.1) ];
-  typed = λ y z t t' u n n' f g. elim (held-now x v names y _ f) [
-    | inl a ↦ absurd (none t u n a.1)
-    | inr b ↦ elim (held-now x v names z _ g) [ inl a ↦ absurd (none t' u n' a.1) | inr c ↦ h.typed y z t t' u n n' b.1 c.1 ]
-  ];
-  apart = λ y t u n f. elim (held-now x v names y _ f) [ inl a ↦ absurd (none t u n a.1) | inr b ↦ h.apart y t u n b.1 ];
-  before = λ u l f. rw e (h.before u l f);
-  reached = λ u l f. elim (h.reached u l (rw e at f)) [
-    | inl b ↦ inl b
-    | inr r ↦ inr (record { some = r.some; held = referring-aside u l.count x v names (owns-none u (names x) free) (bare u) r.held })
-  ];
+  reached = λ u. reached-aside u (base u) (lives u) (lives' u) x v names (owns-none u (names x) free) (bare u) (ap (λ (f : Lives). f u) e) (h.reached u);
 }
 
--- no name refers to a unit that doesn't live
-unreferred : (types : List TypeDeclaration) (base lives : Lives) (names : Names) (u : ℕ) → lives u ≡ None → Holds types base lives names → (y : List ℕ) → refers u (names y) ≡ false
-unreferred types base lives names u fresh h y = of-held (names y) refl
-  where
-    of-held : (v : Held) → names y ≡ v → refers u v ≡ false
-    of-held Nothing e = refl
-    of-held Null e = refl
-    of-held (Object t w n) e = elim (is_or_not (eqb w u)) [
-      | inl same ↦ (let l = (h.living y t w n e).alive in let q : lives u ≡ Some _ = ap lives (sym ((Decides-eqb w u).0 same)) ∙ l.is in absurd (cc))
-      | inr other ↦ other
-    ]
-
 -- a name that holds a new object
-holds-new : (types : List TypeDeclaration) (base lives lives' : Lives) (names : Names) (x : List ℕ) (t : TypeId) (u n c home : ℕ) (values : List ℕ) (d : TypeDeclaration) → OfClass types t.0 c d → length values ≡ length d.fields → length d.fields ≤ 8 → lives u ≡ None → is_owning (value_of (names x)) ≡ false → lives' ≡ with_life u (Some (record { class = c; life = n; home = home; count = 1; values = values })) lives → Holds types base lives names → Holds types base lives' (with_name x (Object t u n) names)
+holds-new : (types : List TypeDeclaration) (base lives lives' : Lives) (names : Names) (x : List ℕ) (t : TypeId) (u n c home : ℕ) (values : List ℕ) (d : TypeDeclaration) → OfClass types t.0 c d → length values ≡ length d.fields → length d.fields ≤ 8 → lives u ≡ None → is_owning (value_of (names x)) ≡ false → lives' ≡ with_life u (Some (new_life c t.0 n home values)) lives → Holds types base lives names → Holds types base lives' (with_name x (Object t u n) names)
 holds-new types base lives lives' names x t u n c home values d of fits most fresh free e h =
-    let new : Living = record { class = c; life = n; home = home; count = 1; values = values } in
+    let new : Living = new_life c t.0 n home values in
     let kept = λ (y : List ℕ) (t' : TypeId) (u' n' : ℕ) (f : names y ≡ Object t' u' n'). fresh-other u u' lives _ fresh (h.living y t' u' n' f).alive.is in record {
       living = λ y t' u' n' f. elim (held-now x (Object t u n) names y _ f) [
         | inl a ↦ (let q = same-object t t' u u' n n' a.1 in record {
           class = c;
           declared = d;
           of_class = rw q.0 at of;
-          alive = record { home = home; count = 1; values = values; is = rw e (with-same u u' (Some new) lives q.1 ∙ ap (λ k. let l : Living = record { class = c; life = k; home = home; count = 1; values = values } in Some l) q.2) };
+          alive = record { home = home; type = t.0; count = 1; values = values; is = rw e (with-same u u' (Some new) lives q.1 ∙ ap (λ k. Some (new_life c t.0 k home values)) q.2) };
+          typed = ap (λ (k : TypeId). k.0) q.0;
           single = λ s. refl;
           fields = fits;
           few = most;
         })
-        | inr b ↦ still-held types u (Some new) lives lives' t' u' n' e (kept y t' u' n' b.1) (h.living y t' u' n' b.1)
+        | inr b ↦ still-held types lives lives' t' u' n' (rw e (with-other u u' (Some new) lives (kept y t' u' n' b.1))) (h.living y t' u' n' b.1)
       ];
-      typed = λ y z t' t'' u' n' n'' f g. elim (held-now x (Object t u n) names y _ f) [
-        | inl a ↦ elim (held-now x (Object t u n) names z _ g) [
-          | inl b ↦ sym (same-object t t' u u' n n' a.1).0 ∙ (same-object t t'' u u' n n'' b.1).0
-          | inr b ↦ absurd (clash t t' u u' n n' a.1 (kept z t'' u' n'' b.1))
-        ]
-        | inr a ↦ elim (held-now x (Object t u n) names z _ g) [
-          | inl b ↦ absurd (clash t t'' u u' n n'' b.1 (kept y t' u' n' a.1))
-          | inr b ↦ h.typed y z t' t'' u' n' n'' a.1 b.1
-        ]
-      ];
-      apart = λ y t' u' n' f. elim (held-now x (Object t u n) names y _ f) [
-        | inl a ↦ subst (λ k. base k ≡ None) (same-object t t' u u' n n' a.1).1 (none-before u base lives (h.before u) fresh)
-        | inr b ↦ h.apart y t' u' n' b.1
-      ];
-      before = λ u' l f. let g = h.before u' l f in rw e (with-other u u' _ lives (fresh-other u u' lives l fresh g) ∙ g);
-      reached = λ u' l f. elim (is_or_not (eqb u u')) [
-        | inl same ↦ inr (reached-new u' l ((Decides-eqb u u').0 same) (rw e at f))
-        | inr other ↦ elim (h.reached u' l (sym (with-other u u' _ lives other) ∙ (rw e at f))) [
-          | inl b ↦ inl b
-          | inr r ↦ inr (record { some = r.some; held = referring-aside u' l.count x (Object t u n) names (owns-none u' (names x) free) other r.held })
-        ]
+      reached = λ u'. elim (is_or_not (eqb u u')) [
+        | inl same ↦ reached-new u' ((Decides-eqb u u').0 same)
+        | inr other ↦ reached-aside u' (base u') (lives u') (lives' u') x (Object t u n) names (owns-none u' (names x) free) other (rw e (with-other u u' (Some new) lives other)) (h.reached u')
       ];
     }
   where
-    reached-new : (u' : ℕ) (l : Living) → u ≡ u' → with_life u (Some (record { class = c; life = n; home = home; count = 1; values = values })) lives u' ≡ Some l → IsReached u' l (with_name x (Object t u n) names)
-    reached-new u' l same f =
-        let new : Living = record { class = c; life = n; home = home; count = 1; values = values } in
-        let one : new ≡ l = (let q = sym (with-same u u' (Some new) lives same) ∙ f in cc) in
-        let count : 1 ≡ l.count = ap (λ (k : Living). k.count) one in
+    reached-new : (u' : ℕ) → u ≡ u' → IsReached u' (base u') (lives' u') (with_name x (Object t u n) names)
+    reached-new u' same =
+        let new : Living = new_life c t.0 n home values in
+        let r = h.reached u' in
+        let z = adds-none r.own (base u') (subst (Adds r.own (base u')) (ap lives (sym same) ∙ fresh) r.adds) in
         record {
-          some = omega (arith, count);
-          held = subst (λ k. Referring u' k (with_name x (Object t u n) names)) count (referring-more u' 0 x (Object t u n) names (owns-none u' (names x) free) (eq-eqb u u' same) (subst (λ v. (y : List ℕ) → refers v (names y) ≡ false) same (unreferred types base lives names u fresh h)));
+          own = 1;
+          held = referring-more u' 0 x (Object t u n) names (owns-none u' (names x) free) (eq-eqb u u' same) (subst (λ k. Referring u' k names) z.0 r.held);
+          adds = rw z.1 (new, rw e (with-same u u' (Some new) lives same), refl);
         }
 
--- a unit that a name holds is reached by names alone
-pub own-reached : (types : List TypeDeclaration) (base lives : Lives) (names : Names) (x : List ℕ) (t : TypeId) (u n : ℕ) (l : Living) → names x ≡ Object t u n → lives u ≡ Some l → Holds types base lives names → IsReached u l names
-own-reached types base lives names x t u n l held e h = elim (h.reached u l e) [
-  | inl b ↦ (let none = h.apart x t u n held in absurd (cc))
-  | inr r ↦ r
-]
+-- to what a name holds there is a reference
+pub held-some : (types : List TypeDeclaration) (base lives : Lives) (names : Names) (x : List ℕ) (t : TypeId) (u n : ℕ) → names x ≡ Object t u n → Holds types base lives names → 0 < count_in (lives u)
+held-some types base lives names x t u n held h =
+    let r = h.reached u in
+    let s = referring-some u r.own x names (refers-object u u n t (names x) held refl) r.held in
+    adds-some s.0 (base u) (lives u) (subst (λ k. Adds k (base u) (lives u)) s.1 r.adds)
 
 -- the names after the last reference to an object was given up by the name that held it
 pub holds-less : (types : List TypeDeclaration) (base lives lives' : Lives) (names : Names) (x : List ℕ) (t : TypeId) (u n : ℕ) → names x ≡ Object t u n → count_in (lives u) ≡ 1 → lives' ≡ with_life u None lives → Holds types base lives names → Holds types base lives' (with_name x Nothing names)
 holds-less types base lives lives' names x t u n held one e h = record {
   living = λ y t' u' n' f. elim (held-now x Nothing names y _ f) [
     | inl a ↦ absurd (nothing-is-none t' u' n' a.1)
-    | inr b ↦ still-held types u None lives lives' t' u' n' e (others y t' u' n' b.0 b.1) (h.living y t' u' n' b.1)
+    | inr b ↦ still-held types lives lives' t' u' n' (rw e (with-other u u' None lives (others y t' u' n' b.0 b.1))) (h.living y t' u' n' b.1)
   ];
-  typed = λ y z t' t'' u' n' n'' f g. elim (held-now x Nothing names y _ f) [
-    | inl a ↦ absurd (nothing-is-none t' u' n' a.1)
-    | inr b ↦ elim (held-now x Nothing names z _ g) [ inl a ↦ absurd (nothing-is-none t'' u' n'' a.1) | inr c ↦ h.typed y z t' t'' u' n' n'' b.1 c.1 ]
-  ];
-  apart = λ y t' u' n' f. elim (held-now x Nothing names y _ f) [ inl a ↦ absurd (nothing-is-none t' u' n' a.1) | inr b ↦ h.apart y t' u' n' b.1 ];
-  before = λ u' l f. rw e (with-other u u' None lives (fresh-other u u' base l (h.apart x t u n held) f) ∙ h.before u' l f);
-  reached = λ u' l f. elim (is_or_not (eqb u u')) [
-    | inl same ↦ absurd (lives-no-more u' l same (rw e at f))
-    | inr other ↦ elim (h.reached u' l (sym (with-other u u' None lives other) ∙ (rw e at f))) [
-      | inl b ↦ inl b
-      | inr r ↦ inr (record { some = r.some; held = referring-aside u' l.count x Nothing names (ap (refers u') held ∙ other) refl r.held })
-    ]
+  reached = λ u'. elim (is_or_not (eqb u u')) [
+    | inl same ↦ reached-none u' ((Decides-eqb u u').0 same)
+    | inr other ↦ reached-aside u' (base u') (lives u') (lives' u') x Nothing names (ap (refers u') held ∙ other) refl (rw e (with-other u u' None lives other)) (h.reached u')
   ];
 }
   where
-    lives-no-more : (v : ℕ) (l : Living) → eqb u v ≡ true → with_life u None lives v ≡ Some l → ⊥
-    lives-no-more v l same f = let g = rw same at f in cc
+    refers-here : refers u (names x) ≡ true
+    refers-here = refers-object u u n t (names x) held refl
 
     -- no other name refers to it
-    alone : (y : List ℕ) → refers u (with_name x Nothing names y) ≡ false
+    alone : Referring u 0 (with_name x Nothing names) × (base u ≡ None)
     alone =
-        let a = (h.living x t u n held).alive in
-        let r = own-reached types base lives names x t u n _ held a.is h in
-        let count : a.count ≡ 1 = sym (ap count_in a.is) ∙ one in
-        referring-less u 0 x names (refers-object u u n t (names x) held refl) (subst (λ k. Referring u k names) count r.held)
+        let r = h.reached u in
+        let s = referring-some u r.own x names refers-here r.held in
+        let z = adds-one s.0 (base u) (lives u) (subst (λ k. Adds k (base u) (lives u)) s.1 r.adds) one in
+        (referring-less u 0 x names refers-here (subst (λ k. Referring u k names) (s.1 ∙ ap suc z.0) r.held), z.1)
 
     others : (y : List ℕ) (t' : TypeId) (u' n' : ℕ) → bytes_eq x y ≡ false → names y ≡ Object t' u' n' → eqb u u' ≡ false
     others y t' u' n' other f = elim (is_or_not (eqb u u')) [
       | inl same ↦ (let q : u' ≡ u = sym ((Decides-eqb u u').0 same) in
-          absurd (not-both (refers-object u u' n' t' (names y) f q) (ap (refers u) (sym (elsewhere x Nothing names y other)) ∙ alone y)))
+          absurd (not-both (refers-object u u' n' t' (names y) f q) (ap (refers u) (sym (elsewhere x Nothing names y other)) ∙ alone.0 y)))
       | inr isnt ↦ isnt
     ]
 
--- ---- another number of references
+    reached-none : (u' : ℕ) → u ≡ u' → IsReached u' (base u') (lives' u') (with_name x Nothing names)
+    reached-none u' same = record {
+      own = 0;
+      held = subst (λ v. Referring v 0 (with_name x Nothing names)) same alone.0;
+      adds = rw e (with-same u u' None lives same) ∙ sym (ap base (sym same) ∙ alone.1);
+    }
 
--- an object with so many references
-abbrev With : (count : ℕ) → Living → Living
-With count l = record l { count = count }
+-- ---- another number of references
 
 -- the unit itself, and others
 module _ (lives lives' : Lives) (u count : ℕ) (e : lives' ≡ recounted u count lives) where
   recounted-other : (v : ℕ) → eqb u v ≡ false → lives' v ≡ lives v
   recounted-other v other = rw e (rw other refl)
 
+  recounted-at : (v : ℕ) → u ≡ v → lives' v ≡ with_references count (lives v)
+  recounted-at v same = rw e (rw (eq-eqb u v same) (ap (with_references count) (ap lives same)))
+
   recounted-here : (v : ℕ) (l : Living) → u ≡ v → lives v ≡ Some l → lives' v ≡ Some (With count l)
-  recounted-here v l same f = rw e (rw (eq-eqb u v same) (ap (with_references count) (ap lives same ∙ f)))
+  recounted-here v l same f = recounted-at v same ∙ ap (with_references count) f
 
-  -- .. and back
-  recounted-was : (v : ℕ) (l : Living) → u ≡ v → lives' v ≡ Some l → (was : Living) × (lives v ≡ Some was) × (l ≡ With count was)
-  recounted-was v l same f = of-life (lives v) refl
-    where
-      of-life : (o : Option Living) → lives v ≡ o → (was : Living) × (lives v ≡ Some was) × (l ≡ With count was)
-      of-life None g = (let q : lives' v ≡ None = rw e (rw (eq-eqb u v same) (ap (with_references count) (ap lives same ∙ g))) in absurd (cc))
-      of-life (Some was) g = (was, g, (let q = sym (recounted-here v was same g) ∙ f in cc))
-
-  held-recounted : (types : List TypeDeclaration) (t : TypeId) (v n : ℕ) → ((d : TypeDeclaration) → u ≡ v → (c : ℕ) → OfClass types t.0 c d → (d.counted ≡ false → count_in (lives v) ≡ 1) → d.counted ≡ false → count ≡ 1) → IsHeld types lives t v n → IsHeld types lives' t v n
+  held-recounted : (types : List TypeDeclaration) (t : TypeId) (v n : ℕ) → ((h : IsHeld types lives t v n) → u ≡ v → h.declared.counted ≡ false → count ≡ 1) → IsHeld types lives t v n → IsHeld types lives' t v n
   held-recounted types t v n more h = elim (is_or_not (eqb u v)) [
     | inl isit ↦ (let same = (Decides-eqb u v).0 isit in record {
       class = h.class;
       declared = h.declared;
       of_class = h.of_class;
-      alive = record { home = h.alive.home; count = count; values = h.alive.values; is = recounted-here v _ same h.alive.is };
-      single = λ s. more h.declared same h.class h.of_class (λ z. ap count_in h.alive.is ∙ h.single z) s;
+      alive = record { home = h.alive.home; type = h.alive.type; count = count; values = h.alive.values; is = recounted-here v _ same h.alive.is };
+      typed = h.typed;
+      single = λ s. more h same s;
       fields = h.fields;
       few = h.few;
     })
-    | inr other ↦ record {
-      class = h.class;
-      declared = h.declared;
-      of_class = h.of_class;
-      alive = record { home = h.alive.home; count = h.alive.count; values = h.alive.values; is = recounted-other v other ∙ h.alive.is };
-      single = h.single;
-      fields = h.fields;
-      few = h.few;
-    }
+    | inr other ↦ still-held types lives lives' t v n (recounted-other v other) h
   ]
 
 -- the names after a reference was given up by a name that held it, and others are left
@@ -357,100 +356,69 @@ pub holds-still : (types : List TypeDeclaration) (base lives lives' : Lives) (na
 holds-still types base lives lives' names x t u n seen held counts others e h = record {
   living = λ y t' u' n' f. elim (held-now x Nothing names y _ f) [
     | inl a ↦ absurd (nothing-is-none t' u' n' a.1)
-    | inr b ↦ held-recounted lives lives' u (seen - 1) e types t' u' n' (λ d same c of single z. let one = single z in let was : count_in (lives u') ≡ seen = ap (λ v. count_in (lives v)) (sym same) ∙ counts in absurd (omega (arith, one, was, others))) (h.living y t' u' n' b.1)
+    | inr b ↦ held-recounted lives lives' u (seen - 1) e types t' u' n' (λ k same s. let one = k.single s in let was : k.alive.count ≡ seen = sym (ap count_in k.alive.is) ∙ (ap (λ v. count_in (lives v)) (sym same) ∙ counts) in absurd (omega (arith, one, was, others))) (h.living y t' u' n' b.1)
   ];
-  typed = λ y z t' t'' u' n' n'' f g. elim (held-now x Nothing names y _ f) [
-    | inl a ↦ absurd (nothing-is-none t' u' n' a.1)
-    | inr b ↦ elim (held-now x Nothing names z _ g) [ inl a ↦ absurd (nothing-is-none t'' u' n'' a.1) | inr c ↦ h.typed y z t' t'' u' n' n'' b.1 c.1 ]
-  ];
-  apart = λ y t' u' n' f. elim (held-now x Nothing names y _ f) [ inl a ↦ absurd (nothing-is-none t' u' n' a.1) | inr b ↦ h.apart y t' u' n' b.1 ];
-  before = λ u' l f. recounted-other lives lives' u (seen - 1) e u' (fresh-other u u' base l (h.apart x t u n held) f) ∙ h.before u' l f;
-  reached = λ u' l f. elim (is_or_not (eqb u u')) [
-    | inl isit ↦ inr (reached-here u' l ((Decides-eqb u u').0 isit) f)
-    | inr other ↦ elim (h.reached u' l (sym (recounted-other lives lives' u (seen - 1) e u' other) ∙ f)) [
-      | inl b ↦ inl b
-      | inr r ↦ inr (record { some = r.some; held = referring-aside u' l.count x Nothing names (ap (refers u') held ∙ other) refl r.held })
-    ]
+  reached = λ u'. elim (is_or_not (eqb u u')) [
+    | inl isit ↦ reached-here u' ((Decides-eqb u u').0 isit)
+    | inr other ↦ reached-aside u' (base u') (lives u') (lives' u') x Nothing names (ap (refers u') held ∙ other) refl (recounted-other lives lives' u (seen - 1) e u' other) (h.reached u')
   ];
 }
   where
-    one-less : (k j : ℕ) → 1 < k → j ≡ k - 1 → k ≡ suc j
-    one-less k j a b = omega (arith, a, b)
-
-    reached-here : (u' : ℕ) (l : Living) → u ≡ u' → lives' u' ≡ Some l → IsReached u' l (with_name x Nothing names)
-    reached-here u' l same f =
-        let w = recounted-was lives lives' u (seen - 1) e u' l same f in
-        let r = own-reached types base lives names x t u' n w.0 (held ∙ ap (λ v. Object t v n) same) w.1 h in
-        let was : w.0.count ≡ seen = sym (ap count_in w.1) ∙ (ap (λ v. count_in (lives v)) (sym same) ∙ counts) in
-        let now : l.count ≡ seen - 1 = ap (λ (k : Living). k.count) w.2 in
-        let more : w.0.count ≡ suc l.count = was ∙ one-less seen l.count others now in
+    reached-here : (u' : ℕ) → u ≡ u' → IsReached u' (base u') (lives' u') (with_name x Nothing names)
+    reached-here u' same =
+        let r = h.reached u' in
+        let own = refers-object u' u n t (names x) held same in
+        let s = referring-some u' r.own x names own r.held in
         record {
-          some = omega (arith, now, others);
-          held = referring-less u' l.count x names (refers-object u' u n t (names x) held same) (subst (λ k. Referring u' k names) more r.held);
+          own = s.0;
+          held = referring-less u' s.0 x names own (subst (λ k. Referring u' k names) s.1 r.held);
+          adds = subst (Adds s.0 (base u')) (sym (recounted-at lives lives' u (seen - 1) e u' same)) (adds-less s.0 seen (base u') (lives u') (subst (λ k. Adds k (base u') (lives u')) s.1 r.adds) (ap (λ v. count_in (lives v)) (sym same) ∙ counts) others);
         }
 
 -- the names after one more reference was asked for, which another name holds now
 pub holds-more : (types : List TypeDeclaration) (base lives lives' : Lives) (names : Names) (x y : List ℕ) (t : TypeId) (u n seen : ℕ) (d : TypeDeclaration) → slice_get types t.0 ≡ Some d → d.counted ≡ true → names x ≡ Object t u n → is_owning (value_of (names y)) ≡ false → count_in (lives u) ≡ seen → lives' ≡ recounted u (seen + 1) lives → Holds types base lives names → Holds types base lives' (with_name y (Object t u n) names)
 holds-more types base lives lives' names x y t u n seen d found counted held free counts e h = record {
   living = λ z t' u' n' f. elim (held-now y (Object t u n) names z _ f) [
-    | inl a ↦ (let q = same-object t t' u u' n n' a.1 in of-type t' u' n' (q.0) (h.living x t' u' n' (held ∙ a.1)))
-    | inr b ↦ held-recounted lives lives' u (seen + 1) e types t' u' n' (λ d' same c of single s. absurd (uncounted t' u' n' z d' c same b.1 of s)) (h.living z t' u' n' b.1)
+    | inl a ↦ recount t' u' n' (h.living x t' u' n' (held ∙ a.1))
+    | inr b ↦ recount t' u' n' (h.living z t' u' n' b.1)
   ];
-  typed = λ z z' t' t'' u' n' n'' f g. elim (held-now y (Object t u n) names z _ f) [
-    | inl a ↦ elim (held-now y (Object t u n) names z' _ g) [
-      | inl b ↦ sym (same-object t t' u u' n n' a.1).0 ∙ (same-object t t'' u u' n n'' b.1).0
-      | inr b ↦ h.typed x z' t' t'' u' n' n'' (held ∙ a.1) b.1
-    ]
-    | inr a ↦ elim (held-now y (Object t u n) names z' _ g) [
-      | inl b ↦ h.typed z x t' t'' u' n' n'' a.1 (held ∙ b.1)
-      | inr b ↦ h.typed z z' t' t'' u' n' n'' a.1 b.1
-    ]
-  ];
-  apart = λ z t' u' n' f. elim (held-now y (Object t u n) names z _ f) [ inl a ↦ h.apart x t' u' n' (held ∙ a.1) | inr b ↦ h.apart z t' u' n' b.1 ];
-  before = λ u' l f. recounted-other lives lives' u (seen + 1) e u' (fresh-other u u' base l (h.apart x t u n held) f) ∙ h.before u' l f;
-  reached = λ u' l f. elim (is_or_not (eqb u u')) [
-    | inl isit ↦ inr (reached-here u' l ((Decides-eqb u u').0 isit) f)
-    | inr other ↦ elim (h.reached u' l (sym (recounted-other lives lives' u (seen + 1) e u' other) ∙ f)) [
-      | inl b ↦ inl b
-      | inr r ↦ inr (record { some = r.some; held = referring-aside u' l.count y (Object t u n) names (owns-none u' (names y) free) other r.held })
-    ]
+  reached = λ u'. elim (is_or_not (eqb u u')) [
+    | inl isit ↦ reached-here u' ((Decides-eqb u u').0 isit)
+    | inr other ↦ reached-aside u' (base u') (lives u') (lives' u') y (Object t u n) names (owns-none u' (names y) free) other (recounted-other lives lives' u (seen + 1) e u' other) (h.reached u')
   ];
 }
   where
-    same-declared : (d' : TypeDeclaration) (c : ℕ) (t' : TypeId) → t ≡ t' → OfClass types t'.0 c d' → d'.counted ≡ true
-    same-declared d' c t' q of =
-        let same : d ≡ d' = (let p : Some d ≡ Some d' = sym found ∙ (ap (λ (k : TypeId). slice_get types k.0) q ∙ of.found) in cc) in
-        ap (λ (z : TypeDeclaration). z.counted) (sym same) ∙ counted
-
     -- whoever holds the object holds one of a counted type
-    uncounted : (t' : TypeId) (u' n' : ℕ) (z : List ℕ) (d' : TypeDeclaration) (c : ℕ) → u ≡ u' → names z ≡ Object t' u' n' → OfClass types t'.0 c d' → d'.counted ≡ false → ⊥
-    uncounted t' u' n' z d' c same f of s = not-both (same-declared d' c t' (h.typed x z t t' u' n n' (held ∙ ap (λ v. Object t v n) same) f) of) s
+    uncounted : (t' : TypeId) (u' n' : ℕ) (k : IsHeld types lives t' u' n') → u ≡ u' → k.declared.counted ≡ false → ⊥
+    uncounted t' u' n' k same s =
+        let mine = h.living x t u n held in
+        let one = some-is _ _ (sym mine.alive.is ∙ (ap lives same ∙ k.alive.is)) in
+        let types-same : t.0 ≡ t'.0 = sym mine.typed ∙ (ap (λ (l : Living). l.type) one ∙ k.typed) in
+        let declared : d ≡ k.declared = some-is d k.declared (sym found ∙ (ap (slice_get types) types-same ∙ k.of_class.found)) in
+        not-both counted (ap (λ (z : TypeDeclaration). z.counted) declared ∙ s)
 
-    of-type : (t' : TypeId) (u' n' : ℕ) → t ≡ t' → IsHeld types lives t' u' n' → IsHeld types lives' t' u' n'
-    of-type t' u' n' q k = held-recounted lives lives' u (seen + 1) e types t' u' n' (λ d' same c of single s. absurd (not-both (same-declared d' c t' q of) s)) k
+    recount : (t' : TypeId) (u' n' : ℕ) → IsHeld types lives t' u' n' → IsHeld types lives' t' u' n'
+    recount t' u' n' k = held-recounted lives lives' u (seen + 1) e types t' u' n' (λ j same s. absurd (uncounted t' u' n' j same s)) k
 
-    reached-here : (u' : ℕ) (l : Living) → u ≡ u' → lives' u' ≡ Some l → IsReached u' l (with_name y (Object t u n) names)
-    reached-here u' l same f =
-        let w = recounted-was lives lives' u (seen + 1) e u' l same f in
-        let r = own-reached types base lives names x t u' n w.0 (held ∙ ap (λ v. Object t v n) same) w.1 h in
-        let was : w.0.count ≡ seen = sym (ap count_in w.1) ∙ (ap (λ v. count_in (lives v)) (sym same) ∙ counts) in
-        let now : l.count ≡ seen + 1 = ap (λ (k : Living). k.count) w.2 in
-        let more : suc w.0.count ≡ l.count = omega (arith, was, now) in
+    reached-here : (u' : ℕ) → u ≡ u' → IsReached u' (base u') (lives' u') (with_name y (Object t u n) names)
+    reached-here u' same =
+        let r = h.reached u' in
+        let s = referring-some u' r.own x names (refers-object u' u n t (names x) held same) r.held in
         record {
-          some = omega (arith, now);
-          held = subst (λ k. Referring u' k (with_name y (Object t u n) names)) more (referring-more u' w.0.count y (Object t u n) names (owns-none u' (names y) free) (eq-eqb u u' same) r.held);
+          own = suc (suc s.0);
+          held = referring-more u' (suc s.0) y (Object t u n) names (owns-none u' (names y) free) (eq-eqb u u' same) (subst (λ k. Referring u' k names) s.1 r.held);
+          adds = subst (Adds (suc (suc s.0)) (base u')) (sym (recounted-at lives lives' u (seen + 1) e u' same)) (adds-more s.0 seen (base u') (lives u') (subst (λ k. Adds k (base u') (lives u')) s.1 r.adds) (ap (λ v. count_in (lives v)) (sym same) ∙ counts));
         }
 
 -- what a reply leaves
-pub holds-reply : (types : List TypeDeclaration) (base lives lives' : Lives) (names : Names) (x : List ℕ) (t : TypeId) (c : ℕ) (values : List ℕ) (d : TypeDeclaration) (reply : Option ObjId) → OfClass types t.0 c d → length values ≡ length d.fields → length d.fields ≤ 8 → is_owning (value_of (names x)) ≡ false → Begins c values lives lives' reply → Holds types base lives names → Holds types base lives' (with_name x (answered t (reply_of reply)) names)
+pub holds-reply : (types : List TypeDeclaration) (base lives lives' : Lives) (names : Names) (x : List ℕ) (t : TypeId) (c : ℕ) (values : List ℕ) (d : TypeDeclaration) (reply : Option ObjId) → OfClass types t.0 c d → length values ≡ length d.fields → length d.fields ≤ 8 → is_owning (value_of (names x)) ≡ false → Begins c t.0 values lives lives' reply → Holds types base lives names → Holds types base lives' (with_name x (answered t (reply_of reply)) names)
 holds-reply types base lives lives' names x t c values d None of fits most free e h = holds-null types base lives lives' names x Null (λ u. refl) (λ t u n f. null-is-none t u n f) free e h
 holds-reply types base lives lives' names x t c values d (Some o) of fits most free e h = holds-new types base lives lives' names x t o.unit o.life c e.home values d of fits most e.none free e.now h
 
--- where no name owns, those live that lived before
+-- where no name owns, there are the references of the others
 pub only-base : (types : List TypeDeclaration) (base lives : Lives) (names : Names) → Holds types base lives names → ((x : List ℕ) → OwnsNothing (names x)) → lives ≡ base
-only-base types base lives names h o = fun_ext (λ u. alike u (lives u) (base u) refl refl)
+only-base types base lives names h o = fun_ext (λ u. alike u (h.reached u).own (base u) (lives u) (h.reached u).held (h.reached u).adds)
   where
-    alike : (u : ℕ) (l b : Option Living) → lives u ≡ l → base u ≡ b → lives u ≡ base u
-    alike u None None e f = e ∙ sym f
-    alike u None (Some k) e f = h.before u k f ∙ sym f
-    alike u (Some l) b e f = elim (h.reached u l e) [ inl g ↦ e ∙ sym g | inr r ↦ absurd (referring-none u l.count names r.some o r.held) ]
+    alike : (u k : ℕ) (others all : Option Living) → Referring u k names → Adds k others all → all ≡ others
+    alike u zero others all r a = a
+    alike u (suc k) others all r a = absurd (referring-none u (suc k) names (omega arith) o r)

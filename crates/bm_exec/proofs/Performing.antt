@@ -54,7 +54,7 @@ called types l z w p a s s1 s' names names' os log log1 log' x x1 x' y b last fi
     (λ one two i j. (names', record { one = one; two = two; part_is = refl; is_first = i; is_second = j })) x x' g more
 
 pub new-performed : (types : List TypeDeclaration) (classes : List ℕ) (l : ℕ) (z : Around) (w : Option (List ℕ)) (p : ℕ) (s s1 s' : State ℕ) (x : List ℕ) (t : TypeId) (values : List ℕ) (names names' : Names) (lives lives' lives'' : Lives) (asked asked' : ℕ) (log log1 log' : Option Log) (reply : Option ObjId) (d : TypeDeclaration) (c : ℕ) →
-    IfSome log (λ es. Leaves p es s) → IfSome log1 (λ es. Leaves p es s1) → IfSome log' (λ es. Leaves p es s') → Classes types classes → slice_get types t.0 ≡ Some d → slice_get classes t.0 ≡ Some c → safe.is_owning (value_of (names x)) ≡ false → length values ≡ length d.fields → length d.fields ≤ 8 → Created l c d.name values log log1 lives lives' reply → names' ≡ with_name x (answered t (reply_of reply)) names → asked' ≤ asked + 2 →
+    IfSome log (λ es. Leaves p es s) → IfSome log1 (λ es. Leaves p es s1) → IfSome log' (λ es. Leaves p es s') → Classes types classes → slice_get types t.0 ≡ Some d → slice_get classes t.0 ≡ Some c → safe.is_owning (value_of (names x)) ≡ false → length values ≡ length d.fields → length d.fields ≤ 8 → Created l c t.0 d.name values log log1 lives lives' reply → names' ≡ with_name x (answered t (reply_of reply)) names → asked' ≤ asked + 2 →
     lives'' ≡ lives' → GrewBy (Behind w) s1 log1 log' → Behind w s' [] → (os : List Open) → Performed types l z z w s s' (New x t values) names names' os os lives lives'' asked asked' log log'
 new-performed types classes l z w p s s1 s' x t values names names' lives lives' lives'' asked asked' log log1 log' reply d c leaves leaves1 leaves' cs f g free fits most made e n same work down os =
     let of = class-at types classes t.0 d c cs f g in record {

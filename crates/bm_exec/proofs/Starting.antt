@@ -51,10 +51,7 @@ start-sections z b now p = rw p.now_is (sections-inner z z p.top [] p.leaves_is 
 pub start-holds : (types : List TypeDeclaration) (lives : Lives) (names : Names) → names ≡ no_names → Holds types lives lives names
 start-holds types lives names e = rw e (record {
   living = λ x t u n f. absurd (nothing-is-none t u n f);
-  typed = λ x y t t' u n n' f g. absurd (nothing-is-none t u n f);
-  apart = λ x t u n f. absurd (nothing-is-none t u n f);
-  before = λ u l f. f;
-  reached = λ u l f. inl f;
+  reached = λ u. record { own = 0; held = λ x. refl; adds = refl };
 })
 
 -- all of it

@@ -76,8 +76,8 @@ delay-none c u home batch own (inl x) = subst AllInTurn (sym x.1) (tt, (tt, (tt,
 delay-none c u home batch own (inr x) =
     subst AllInTurn (sym x.5) (tt, (tt, none-append (overtaken_delayed c x.1) (entry.LookDelayed c x.2 ∷ entry.PutDelayed c u ∷ entry.Leave c x.3 ∷ raise_unless batch c) (delayed-none c x.1) (tt, (tt, (tt, unless-none batch c)))))
 
-pub created-unyielding : (l c : ℕ) (name values : List ℕ) (a b : Option Log) (lives lives' : Lives) (reply : Option ObjId) → Created l c name values a b lives lives' reply → Unyielding l a b
-created-unyielding l c name values a b lives lives' reply made = record { own = entry.New name values ∷ made.own; none = (tt, alloc-none c made.own (reply_of reply) made.allocates); records = made.records }
+pub created-unyielding : (l c t : ℕ) (name values : List ℕ) (a b : Option Log) (lives lives' : Lives) (reply : Option ObjId) → Created l c t name values a b lives lives' reply → Unyielding l a b
+created-unyielding l c t name values a b lives lives' reply made = record { own = entry.New name values ∷ made.own; none = (tt, alloc-none c made.own (reply_of reply) made.allocates); records = made.records }
 
 pub disposed-unyielding : (l : ℕ) (counted : Bool) (c : ℕ) (o : ObjId) (s : State ℕ) (a b : Option Log) (lives lives' : Lives) → Disposed l counted c o s a b lives lives' → Unyielding l a b
 disposed-unyielding l counted c o s a b lives lives' gone = record {

@@ -1,5 +1,5 @@
 -- The objects that live, by their units.
-use Rattle.std.specs.Prelude.{◌≡◌, ◌⊎◌, ◌<◌, ◌≤◌, ◌+◌, slice_get, ◌-◌, ℕ, zero, suc, Bool, true, false, eqb, List, [], ◌∷◌, length, Option, Some, None, is_some}
+use Rattle.std.specs.Prelude.{◌≡◌, ◌<◌, ◌≤◌, ◌+◌, slice_get, ◌-◌, ℕ, zero, suc, Bool, true, false, eqb, List, [], ◌∷◌, length, Option, Some, None, is_some}
 use Rattle.bm_journal.specs.declared.entry.Entry.{Entry}
 use Rattle.bm_journal.specs.declared.entry.Entry.TheVariants as entry
 use Rattle.bm_journal.specs.declared.ids.ObjId.{ObjId}
@@ -17,9 +17,10 @@ use Rattle.bm_law_scenario.specs.Calls.{Allocates, Frees}
 -- Unit u lives life n, and is of class c.
 pub record LivesAs (lives : Lives) (c u n : ℕ) : Type 0 where
   pub home : ℕ
+  pub type : ℕ
   pub count : ℕ
   pub values : List ℕ
-  pub is : lives u ≡ Some (record { class = c; life = n; home = home; count = count; values = values })
+  pub is : lives u ≡ Some (record { class = c; life = n; home = home; type = type; count = count; values = values })
 
 -- the home of the life that a unit has
 abbrev pub home_of : Option Living → Option ℕ
@@ -30,23 +31,28 @@ abbrev pub reply_of : Option ObjId → Option (ℕ × ℕ)
 reply_of None = None
 reply_of (Some o) = Some (o.unit, o.life)
 
--- the life that a reply begins, where its unit had none: there is one reference to it
-pub record BeginsLife (c : ℕ) (values : List ℕ) (lives lives' : Lives) (o : ObjId) : Type 0 where
+-- a new object of class c and of type t, with one reference
+abbrev pub new_life : (c t life home : ℕ) → (values : List ℕ) → Living
+new_life c t life home values = record { class = c; life = life; home = home; type = t; count = 1; values = values }
+
+-- the life that a reply begins, where its unit had none
+pub record BeginsLife (c t : ℕ) (values : List ℕ) (lives lives' : Lives) (o : ObjId) : Type 0 where
   pub none : lives o.unit ≡ None
   pub home : ℕ
-  pub now : lives' ≡ with_life o.unit (Some (record { class = c; life = o.life; home = home; count = 1; values = values })) lives
+  pub now : lives' ≡ with_life o.unit (Some (new_life c t o.life home values)) lives
 
--- a reply that gives an object begins its life, with these values of its fields, and no unit had one; a null reply begins none
-abbrev pub Begins : ℕ → (values : List ℕ) → Lives → Lives → Option ObjId → Type 0
-Begins c values lives lives' None = lives' ≡ lives
-Begins c values lives lives' (Some o) = BeginsLife c values lives lives' o
+-- a reply that gives an object begins its life, of this class and type and with these values of its fields, and its unit had none; a null reply
+-- begins none
+abbrev pub Begins : (c t : ℕ) → (values : List ℕ) → Lives → Lives → Option ObjId → Type 0
+Begins c t values lives lives' None = lives' ≡ lives
+Begins c t values lives lives' (Some o) = BeginsLife c t values lives lives' o
 
--- A call for an object of class c, of a type with this name: its entries, its reply, and the object that lives now.
-pub record Created (l c : ℕ) (name values : List ℕ) (log log' : Option Log) (lives lives' : Lives) (reply : Option ObjId) : Type 0 where
+-- A call for an object of class c and of type t, which has this name: its entries, its reply, and the object that lives now.
+pub record Created (l c t : ℕ) (name values : List ℕ) (log log' : Option Log) (lives lives' : Lives) (reply : Option ObjId) : Type 0 where
   pub own : List Entry
   pub records : Records l (entry.New name values ∷ own) log log'
   pub allocates : Allocates c own (reply_of reply)
-  pub begins : Begins c values lives lives' reply
+  pub begins : Begins c t values lives lives' reply
 
 -- A call for one more reference to an object: its entry, which names how many there were, and that there is one more.
 pub record Acquired (l : ℕ) (o : ObjId) (log log' : Option Log) (lives lives' : Lives) : Type 0 where
@@ -91,28 +97,32 @@ abbrev pub Referring : (u count : ℕ) → Names → Type 0
 Referring u zero names = (x : List ℕ) → refers u (names x) ≡ false
 Referring u (suc count) names = (x : List ℕ) × (refers u (names x) ≡ true) × Referring u count (with_name x Nothing names)
 
--- A name holds unit u in its life n: it lives so, of its type's class, with a value for each field of its type, of which there are at most eight. Where its type carries no
--- count of references, this is the only one.
+-- A name holds unit u in its life n: it lives so, as an object of that type and of its class, with a value for each field of the type, of
+-- which there are at most eight. Where the type carries no count of references, this is the only one.
 pub record IsHeld (types : List TypeDeclaration) (lives : Lives) (t : TypeId) (u n : ℕ) : Type 0 where
   pub class : ℕ
   pub declared : TypeDeclaration
   pub of_class : OfClass types t.0 class declared
   pub alive : LivesAs lives class u n
+  pub typed : alive.type ≡ t.0
   pub single : declared.counted ≡ false → alive.count ≡ 1
   pub fields : length alive.values ≡ length declared.fields
   pub few : length declared.fields ≤ 8
 
--- an object that lives is held by as many names as there are references to it, of which there are some
-pub record IsReached (u : ℕ) (l : Living) (names : Names) : Type 0 where
-  pub some : 0 < l.count
-  pub held : Referring u l.count names
+-- To an object there are so many references beside those of others: it lives by them alone where others have none.
+abbrev pub Adds : (own : ℕ) → (others all : Option Living) → Type 0
+Adds zero others all = all ≡ others
+Adds (suc k) None all = (l : Living) × (all ≡ Some l) × (l.count ≡ suc k)
+Adds (suc k) (Some l) all = (0 < l.count) × (all ≡ Some (record l { count = l.count + suc k }))
 
--- The names of a script, before which the objects of `base` lived. Each name that holds an object holds one that lives and is none of
--- those; names that hold one object hold it as one of the same type. Those of `base` still live as they did, and each other object that
--- lives is held by as many names as there are references to it.
+-- .. as many as there are names that hold unit u
+pub record IsReached (u : ℕ) (others all : Option Living) (names : Names) : Type 0 where
+  pub own : ℕ
+  pub held : Referring u own names
+  pub adds : Adds own others all
+
+-- The names of a script, beside which others have references to the objects of `base`: each name that holds an object holds one that lives,
+-- and to each object there are the references of the others and those that the names hold.
 pub record Holds (types : List TypeDeclaration) (base lives : Lives) (names : Names) : Type 0 where
   pub living : (x : List ℕ) (t : TypeId) (u n : ℕ) → names x ≡ Object t u n → IsHeld types lives t u n
-  pub typed : (x y : List ℕ) (t t' : TypeId) (u n n' : ℕ) → names x ≡ Object t u n → names y ≡ Object t' u n' → t ≡ t'
-  pub apart : (x : List ℕ) (t : TypeId) (u n : ℕ) → names x ≡ Object t u n → base u ≡ None
-  pub before : (u : ℕ) (l : Living) → base u ≡ Some l → lives u ≡ Some l
-  pub reached : (u : ℕ) (l : Living) → lives u ≡ Some l → (base u ≡ Some l) ⊎ IsReached u l names
+  pub reached : (u : ℕ) → IsReached u (base u) (lives u) names

@@ -13,6 +13,7 @@ ghost use Rattle.bm_exec.specs.Yields.{Unyielding};
 
 use bm_class::Class;
 use bm_journal::{ObjId, Values};
+use bm_lang::TypeId;
 use bm_word::{Name, NoMemory};
 
 /// A processor at one level, as the statements of a script use it: it makes objects and gives them up. Machines are this
@@ -52,12 +53,12 @@ pub trait Machine {
     /// What a call does to, and leaves of, what the machine works on; so is what several calls do, one after the other.
     ghost keeps: { Self → Self → Type 0 };
 
-    /// Asks for an object of a class, of a type with this name, with these values of its fields. None exactly where the
+    /// Asks for an object of a class and of a type, which has this name, with these values of its fields. None exactly where the
     /// allocation answers null. It takes no memory but the recorder's.
-    fn create(&mut self, class: Class, name: Name, values: Values) -> Option<ObjId>
+    fn create(&mut self, class: Class, type_id: TypeId, name: Name, values: Values) -> Option<ObjId>
         requires sound { sound self.old }
         requires room { asked self.old + 1 < 2 ^ 22 }
-        ensures created { Created (level self.old) class name values (log self.old) (log self.new) (lives self.old) (lives self.new) result }
+        ensures created { Created (level self.old) class type_id.0 name values (log self.old) (log self.new) (lives self.old) (lives self.new) result }
         ensures sound { sound self.new }
         ensures level { level self.new ≡ level self.old }
         ensures asked { asked self.new ≤ asked self.old + 1 }

@@ -99,7 +99,7 @@ fn perform_new<'s, M: Machine>(
     let Some(values) = Values::new(values.as_slice()) else {
         unreachable!();
     };
-    let reply = machine.create(*class, declared.name.duplicate(), values);
+    let reply = machine.create(*class, type_id, declared.name.duplicate(), values);
     let Ok(()) = names.put(name.as_bytes(), holding_of(type_id, reply)) else {
         unreachable!();
     };

@@ -74,8 +74,8 @@ module _ {W : Type 0} (knows : Knows W) where
   asked-more p m w n e room = omega (arith, e, room)
 
   -- the unit that was given has begun its life
-  pub at-begun : (l : ℕ) (p : Program) (m : Processor W) (w : W) (values : List ℕ) (u : UnitState) → knows.known w ≡ life_begun values u (known_of knows m) → asked_of knows p.scenario.now m + 1 < 2 ^ 22 → IsAt knows StandsAt l p m → IsAt knows StandsAt l p (with_side m w)
-  at-begun l p m w values u e room = at-graced l p m w (ap (λ (x : Known). x.grace) e) (asked-more p m w 1 (ap (λ (x : Known). x.objects.asked) e) room)
+  pub at-begun : (l : ℕ) (p : Program) (m : Processor W) (w : W) (type : ℕ) (values : List ℕ) (u : UnitState) → knows.known w ≡ life_begun type values u (known_of knows m) → asked_of knows p.scenario.now m + 1 < 2 ^ 22 → IsAt knows StandsAt l p m → IsAt knows StandsAt l p (with_side m w)
+  at-begun l p m w type values u e room = at-graced l p m w (ap (λ (x : Known). x.grace) e) (asked-more p m w 1 (ap (λ (x : Known). x.objects.asked) e) room)
 
   -- an object was asked for, and there was none
   pub at-asked : (l : ℕ) (p : Program) (m : Processor W) (w : W) → knows.known w ≡ asked_once (known_of knows m) → asked_of knows p.scenario.now m + 1 < 2 ^ 22 → IsAt knows StandsAt l p m → IsAt knows StandsAt l p (with_side m w)

@@ -13,24 +13,24 @@ use Rattle.bm_law.specs.Spans.{Records}
 use Rattle.bm_law.proofs.Spans.{Records-one, Records-join}
 use Rattle.bm_law_scenario.specs.Calls.{Allocates, Frees}
 use Rattle.bm_cache.specs.Tokens.{seal_numbers}
-use Rattle.bm_exec.specs.Living.{Acquired, Created, Disposed, GivenUp, HasRead, count_in, home_of, recounted, values_in, with_life}
+use Rattle.bm_exec.specs.Living.{Acquired, Created, Disposed, GivenUp, HasRead, count_in, home_of, new_life, recounted, values_in, with_life}
 use Rattle.bm_exec_levels.specs.Freeing.{FreeRest, free_entry}
 
 -- ---- what the call left
 
-pub made-one : (l class : ℕ) (name values : List ℕ) (log0 log1 log2 : Option Log) (u : UnitState) (k a : ℕ) (lives lives' : Lives) →
-    Appends log0 l (entry.New name values) log1 → Records l (alloc_took class u.number (u.life + 1) (seal_numbers u.seal) k a) log1 log2 → lives u.number ≡ None → lives' ≡ with_life u.number (Some (record { class = class; life = u.life + 1; home = u.home; count = 1; values = values })) lives →
-    Created l class name values log0 log2 lives lives' (Some (record { unit = u.number; life = u.life + 1 }))
-made-one l class name values log0 log1 log2 u k a lives lives' n r none now = record {
+pub made-one : (l class type : ℕ) (name values : List ℕ) (log0 log1 log2 : Option Log) (u : UnitState) (k a : ℕ) (lives lives' : Lives) →
+    Appends log0 l (entry.New name values) log1 → Records l (alloc_took class u.number (u.life + 1) (seal_numbers u.seal) k a) log1 log2 → lives u.number ≡ None → lives' ≡ with_life u.number (Some (new_life class type (u.life + 1) u.home values)) lives →
+    Created l class type name values log0 log2 lives lives' (Some (record { unit = u.number; life = u.life + 1 }))
+made-one l class type name values log0 log1 log2 u k a lives lives' n r none now = record {
   own = alloc_took class u.number (u.life + 1) (seal_numbers u.seal) k a;
   records = Records-join l (entry.New name values ∷ []) (alloc_took class u.number (u.life + 1) (seal_numbers u.seal) k a) log0 log1 log2 (Records-one l (entry.New name values) log0 log1 n) r;
   allocates = (seal_numbers u.seal, k, a, refl);
   begins = record { none = none; home = u.home; now = now };
 }
 
-pub made-none : (l class : ℕ) (name values : List ℕ) (log0 log1 log2 : Option Log) (own : List Entry) (lives lives' : Lives) →
-    Appends log0 l (entry.New name values) log1 → Records l own log1 log2 → Allocates class own None → lives' ≡ lives → Created l class name values log0 log2 lives lives' None
-made-none l class name values log0 log1 log2 own lives lives' n r a same = record {
+pub made-none : (l class type : ℕ) (name values : List ℕ) (log0 log1 log2 : Option Log) (own : List Entry) (lives lives' : Lives) →
+    Appends log0 l (entry.New name values) log1 → Records l own log1 log2 → Allocates class own None → lives' ≡ lives → Created l class type name values log0 log2 lives lives' None
+made-none l class type name values log0 log1 log2 own lives lives' n r a same = record {
   own = own;
   records = Records-join l (entry.New name values ∷ []) own log0 log1 log2 (Records-one l (entry.New name values) log0 log1 n) r;
   allocates = a;

@@ -92,7 +92,7 @@ module _ {W : Type 0} (knows : Knows W) where
   polled closing since start l log (chunk.Beginning d n ws) = IsDue (home start) d n log
   polled closing since start l log (chunk.WholePeriod n ws p) = IsDue (home start) p.domain n log
   polled closing since start l log (chunk.Releasing c to us stamp seen) = GoesFrom (home start) l c stamp seen log
-  polled closing since start l log (chunk.Making u life values seal) = AsksFor l values log
+  polled closing since start l log (chunk.Making u life type values seal) = AsksFor l values log
   polled closing since start l log (chunk.Returning c us) = closing ≡ true
   polled closing since start l log (chunk.Sending c to us) = ⊥
   polled closing since start l log _ = Unit {0}
@@ -103,7 +103,7 @@ module _ {W : Type 0} (knows : Knows W) where
   unpolled closing since start l log (chunk.Beginning d n ws) e = absurd (cc)
   unpolled closing since start l log (chunk.WholePeriod n ws p) e = absurd (cc)
   unpolled closing since start l log (chunk.Releasing c to us stamp seen) e = absurd (cc)
-  unpolled closing since start l log (chunk.Making u life values seal) e = absurd (cc)
+  unpolled closing since start l log (chunk.Making u life type values seal) e = absurd (cc)
   unpolled closing since start l log (chunk.Returning c us) e = absurd (cc)
   unpolled closing since start l log (chunk.Sending c to us) e = absurd (cc)
   unpolled closing since start l log _ e = tt
@@ -114,7 +114,7 @@ module _ {W : Type 0} (knows : Knows W) where
   later since start l log (chunk.Beginning d n ws) j = j
   later since start l log (chunk.WholePeriod n ws p) j = j
   later since start l log (chunk.Releasing c to us stamp seen) j = j
-  later since start l log (chunk.Making u life values seal) j = j
+  later since start l log (chunk.Making u life type values seal) j = j
   later since start l log (chunk.Returning c us) j = refl
   later since start l log (chunk.Sending c to us) j = j
   later since start l log _ j = tt

@@ -207,8 +207,8 @@ module _ {W : Type 0} (knows : Knows W) where
       given-seal u life seal told (let q = same in cc)
 
   -- the unit that was given has begun its life
-  pub tied-begun : (since : Log) (start : W) (l u life : ℕ) (values : List ℕ) (seal : Option Seal) (xs : List Entry) (before : Option Log) (m k : Processor W) → IfSome before (AsksFor l values) → asked_over xs (Some values) ≡ Some values → Records l (xs ++ given u life (seal_told seal) ∷ []) before (log_of m) → log_of k ≡ log_of m → DoesHere knows (act.Makes u life values seal ∷ []) m.side k.side → GaveAt since start l u life m → TiedAt since start k
-  tied-begun since start l u life values seal xs before m k asks quiet r e d t =
+  pub tied-begun : (since : Log) (start : W) (l u life type : ℕ) (values : List ℕ) (seal : Option Seal) (xs : List Entry) (before : Option Log) (m k : Processor W) → IfSome before (AsksFor l values) → asked_over xs (Some values) ≡ Some values → Records l (xs ++ given u life (seal_told seal) ∷ []) before (log_of m) → log_of k ≡ log_of m → DoesHere knows (act.Makes u life type values seal ∷ []) m.side k.side → GaveAt since start l u life m → TiedAt since start k
+  tied-begun since start l u life type values seal xs before m k asks quiet r e d t =
       let G : Option Log → Type 0 = λ o. TiedBy (polled knows false since start) (DoesHere knows) since start 0 [] [] o k.side in
       subst G (sym e) (begun (log_of m) r t.1)
     where
@@ -217,8 +217,8 @@ module _ {W : Type 0} (knows : Knows W) where
       begun (Some log) r q =
           let same : seal_told seal ≡ t.0 = seal-recorded since start l u life (seal_told seal) t.0 xs before log m.side r q in
           let now : TiedBy (polled knows false since start) (DoesHere knows) since start l [] (given u life (seal_told seal) ∷ []) (Some log) m.side = subst (λ s. TiedBy (polled knows false since start) (DoesHere knows) since start l [] (given u life s ∷ []) (Some log) m.side) (sym same) q in
-          let did = law-done (polled knows false since start) (unpolled knows false since start) (DoesHere knows) (here-same knows) (here-join knows) since start l [] (act.Makes u life values seal ∷ []) (given u life (seal_told seal) ∷ []) (Some log) m.side k.side d now in
-          by-level since start l 0 (Some log) k.side (as-judged false since start l (act.Makes u life values seal ∷ []) (given u life (seal_told seal) ∷ []) (Some log) k.side (chunk.Making u life values seal) refl refl (λ prior q. asked-before l values xs (given u life (seal_told seal)) r.log prior log r.added (subst (λ (o : Option Log). IfSome o (AsksFor l values)) r.told asks) quiet r.now_is r.owned (some-log log (prior ++ (l, given u life (seal_told seal)) ∷ []) q)) did)
+          let did = law-done (polled knows false since start) (unpolled knows false since start) (DoesHere knows) (here-same knows) (here-join knows) since start l [] (act.Makes u life type values seal ∷ []) (given u life (seal_told seal) ∷ []) (Some log) m.side k.side d now in
+          by-level since start l 0 (Some log) k.side (as-judged false since start l (act.Makes u life type values seal ∷ []) (given u life (seal_told seal) ∷ []) (Some log) k.side (chunk.Making u life type values seal) refl refl (λ prior q. asked-before l values xs (given u life (seal_told seal)) r.log prior log r.added (subst (λ (o : Option Log). IfSome o (AsksFor l values)) r.told asks) quiet r.now_is r.owned (some-log log (prior ++ (l, given u life (seal_told seal)) ∷ []) q)) did)
 
   -- a reference was given up, behind its drop and the reply that others are left
   pub tied-given-up : (since : Log) (start : W) (l u life seen : ℕ) (m k : Processor W) (mid : Option Log) → Appends (log_of m) l (entry.Drop u life) mid → DoesHere knows (act.GivesUp u life seen ∷ []) m.side k.side → Appends mid l (entry.Still seen) (log_of k) → TiedAt since start m → TiedAt since start k

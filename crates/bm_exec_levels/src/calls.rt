@@ -20,6 +20,7 @@ use crate::ranks::Rank;
 use bm_cache::{Given, alloc, free, free_delayed};
 use bm_class::Class;
 use bm_journal::{Entry, ObjId, Values};
+use bm_lang::TypeId;
 use bm_page::Unit;
 use bm_word::Name;
 use bm_world::{Lives, Since};
@@ -98,12 +99,13 @@ fn release<'s, W: Lives, B: Since<W>, L: Rank>(
     } = at;
 }
 
-/// Asks for an object of a class, of a type with this name, with these values of its fields, at a level. None exactly where the
-/// allocation answers null. It takes no memory but the recorder's.
+/// Asks for an object of a class and of a type, which has this name, with these values of its fields, at a level. None exactly where
+/// the allocation answers null. It takes no memory but the recorder's.
 pub(crate) fn make<'s, W: Lives, B: Since<W>, L: Rank>(
     own: &mut Processor<W>,
     program: &'s Program<'s>,
     class: Class,
+    type_id: TypeId,
     name: Name,
     values: Values,
 ) -> Option<ObjId>
@@ -111,7 +113,7 @@ pub(crate) fn make<'s, W: Lives, B: Since<W>, L: Rank>(
     requires tied { TiedAt W.Knows B.since B.start own.old }
     requires fine { FineAt W.Knows L.number own.old }
     requires room { asked_of W.Knows program.now.scenario.now own.old + 1 < 2 ^ 22 }
-    ensures created { Created L.number class name values (log_of own.old) (log_of own.new) (known_of W.Knows own.old).objects.lives (known_of W.Knows own.new).objects.lives result }
+    ensures created { Created L.number class type_id.0 name values (log_of own.old) (log_of own.new) (known_of W.Knows own.old).objects.lives (known_of W.Knows own.new).objects.lives result }
     ensures at { IsAt W.Knows StandsAt L.number program.now own.new }
     ensures tied { TiedAt W.Knows B.since B.start own.new }
     ensures between { Between W.Knows 1 0 L.number program.now own.old own.new }
@@ -119,7 +121,7 @@ pub(crate) fn make<'s, W: Lives, B: Since<W>, L: Rank>(
     let fields = values.duplicate();
     own.caches.note(L::level(), Entry::New(name, values));
     match allocate::<W, B, L>(own, program, class) {
-        Given::Unit(unit) => Some(own.side.begin_life(unit, fields)),
+        Given::Unit(unit) => Some(own.side.begin_life(unit, type_id.0, fields)),
         Given::Empty => {
             own.side.ask();
             None

@@ -6,6 +6,7 @@ use crate::ranks::Rank;
 use bm_class::Class;
 use bm_exec::Machine;
 use bm_journal::{Entry, ObjId, Values};
+use bm_lang::TypeId;
 use bm_word::{Name, NoMemory};
 use bm_world::{Lives, Since};
 
@@ -41,8 +42,14 @@ impl<'a, 's, W: Lives, B: Since<W>, L: Rank> Machine for At<'a, 's, W, B, L> {
 
     ghost keeps = { λ a b. RunsOn W.Knows L.number a.program.now a.own.now b.own.now × (b.program.now ≡ a.program.now) };
 
-    fn create(&mut self, class: Class, name: Name, values: Values) -> Option<ObjId> {
-        make::<W, B, L>(self.own, self.program, class, name, values)
+    fn create(
+        &mut self,
+        class: Class,
+        type_id: TypeId,
+        name: Name,
+        values: Values,
+    ) -> Option<ObjId> {
+        make::<W, B, L>(self.own, self.program, class, type_id, name, values)
     }
 
     fn acquire(&mut self, object: ObjId) {

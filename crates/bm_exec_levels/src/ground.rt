@@ -20,6 +20,7 @@ use crate::sections::{enter_section, leave_section};
 use bm_class::Class;
 use bm_exec::Machine;
 use bm_journal::{Domain, Entry, Level, ObjId, Values};
+use bm_lang::TypeId;
 use bm_word::{Name, NoMemory};
 use bm_world::{Lives, Since};
 use std::marker::PhantomData;
@@ -147,8 +148,14 @@ impl<'a, 's, W: Lives, B: Since<W>> Machine for Ground<'a, 's, W, B> {
 
     ghost keeps = { λ a b. Scripted W.Knows a.within a.own.now b.own.now × (b.program.now ≡ a.program.now) × (b.within ≡ a.within) };
 
-    fn create(&mut self, class: Class, name: Name, values: Values) -> Option<ObjId> {
-        make::<W, B, Ordinary>(self.own, self.program, class, name, values)
+    fn create(
+        &mut self,
+        class: Class,
+        type_id: TypeId,
+        name: Name,
+        values: Values,
+    ) -> Option<ObjId> {
+        make::<W, B, Ordinary>(self.own, self.program, class, type_id, name, values)
     }
 
     fn acquire(&mut self, object: ObjId) {

@@ -25,12 +25,13 @@ pub record Sides : Type 0 where
   pub plain : Side
   pub tracing : Side
 
--- An object that lives: the class of its unit, which life of the unit it is, the unit's home, which is the processor that gave it, how many
--- references there are to it, and the values of its fields.
+-- An object that lives: the class of its unit, which life of the unit it is, the unit's home, which is the processor that gave it, its type, by
+-- its number among those declared, how many references there are to it, and the values of its fields.
 pub record Living : Type 0 where
   pub class : ℕ
   pub life : ℕ
   pub home : ℕ
+  pub type : ℕ
   pub count : ℕ
   pub values : List ℕ
 

@@ -217,9 +217,9 @@ given-up-leads p l u life seen s h has more =
       now_is = ap F still ∙ ap (λ x. F (G x)) (same-drop p l L0.dropping (Some d0) none);
     }
 
-made-leads : (p l u life : ℕ) (values : List ℕ) (seal : Option Seal) (s : Shared) → IsGiven u life s.lives → Leads (by p ((l, given u life (seal_told seal)) ∷ [])) (plainly s) (plainly (act_after p (act.Makes u life values seal) s))
-made-leads p l u life values None s f = record { fit = (record { words = tt; numbers = tt; looks = tt; lives = f; pages = tt; boxes = tt }, tt); now_is = refl }
-made-leads p l u life values (Some x) s f = record { fit = (record { words = tt; numbers = tt; looks = tt; lives = f; pages = tt; boxes = tt }, tt); now_is = refl }
+made-leads : (p l u life type : ℕ) (values : List ℕ) (seal : Option Seal) (s : Shared) → IsGiven u life s.lives → Leads (by p ((l, given u life (seal_told seal)) ∷ [])) (plainly s) (plainly (act_after p (act.Makes u life type values seal) s))
+made-leads p l u life type values None s f = record { fit = (record { words = tt; numbers = tt; looks = tt; lives = f; pages = tt; boxes = tt }, tt); now_is = refl }
+made-leads p l u life type values (Some x) s f = record { fit = (record { words = tt; numbers = tt; looks = tt; lives = f; pages = tt; boxes = tt }, tt); now_is = refl }
 
 -- ---- parcels
 
@@ -429,7 +429,7 @@ comes p l (chunk.FindingNone c) s f h =
       steady = steady-like s (acts_over p (acts_of (chunk.FindingNone c)) s) refl refl refl (full-box p c (drop 1) s.boxes full-drop h.full) h;
     }
 comes p l (chunk.Sweeping c us parcels) s f h = sweeping-comes p l c us parcels s f h
-comes p l (chunk.Making u life values seal) s f h = record { leads = made-leads p l u life values seal s f.0; steady = steady-like s (acts_over p (acts_of (chunk.Making u life values seal)) s) refl refl refl h.full h }
+comes p l (chunk.Making u life type values seal) s f h = record { leads = made-leads p l u life type values seal s f.0; steady = steady-like s (acts_over p (acts_of (chunk.Making u life type values seal)) s) refl refl refl h.full h }
 comes p l (chunk.Acquiring u life seen) s f h = record {
   leads = record { fit = (record { words = tt; numbers = tt; looks = tt; lives = f.0; pages = tt; boxes = tt }, tt); now_is = refl };
   steady = steady-like s (acts_over p (acts_of (chunk.Acquiring u life seen)) s) refl refl refl h.full h;

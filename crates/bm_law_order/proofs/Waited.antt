@@ -77,9 +77,9 @@ pub record Goes (p : ℕ) (es : Log) (m : Waiting) (now : ℕ → Wait) : Type 0
 one-goes : (p l : ℕ) (e : Entry) (m : Waiting) (now : ℕ → Wait) → Leaves p l e m → now ≡ m.waits → Goes p ((l, e) ∷ []) m now
 one-goes p l e m now s n = record { fit = (s.fits, tt); now_is = s.stays ∙ sym n }
 
-sealed-fits : (p l u life : ℕ) (values : List ℕ) (seal : Option Seal) (m : Waiting) (now : ℕ → Wait) → m.waits u ≡ waited_for seal → HasPassed seal → now ≡ on_unit u Nothing m.waits → Goes p (at_level l (entries_of (chunk.Making u life values seal))) m now
-sealed-fits p l u life values None m now h q n = record { fit = (h, tt); now_is = sym n }
-sealed-fits p l u life values (Some s) m now h q n = record { fit = ((h, q), tt); now_is = sym n }
+sealed-fits : (p l u life type : ℕ) (values : List ℕ) (seal : Option Seal) (m : Waiting) (now : ℕ → Wait) → m.waits u ≡ waited_for seal → HasPassed seal → now ≡ on_unit u Nothing m.waits → Goes p (at_level l (entries_of (chunk.Making u life type values seal))) m now
+sealed-fits p l u life type values None m now h q n = record { fit = (h, tt); now_is = sym n }
+sealed-fits p l u life type values (Some s) m now h q n = record { fit = ((h, q), tt); now_is = sym n }
 
 ending-goes : (p l u life home : ℕ) (delayed : Bool) (m : Waiting) (now : ℕ → Wait) → now ≡ on_unit u (wait_after delayed) m.waits → Goes p (at_level l (entries_of (chunk.Ending u life home delayed))) m now
 ending-goes p l u life home true m now n = record { fit = (tt, (tt, (tt, tt))); now_is = sym n }
@@ -111,7 +111,7 @@ chunk-goes p l (chunk.Sending c to us) m now h r = absurd r
 chunk-goes p l (chunk.Sweeping c us parcels) m now h r = one-goes p l _ m now (record { fits = tt; stays = refl }) (receives-keep c parcels m.waits now h)
 chunk-goes p l (chunk.Draining c to us) m now h r = record { fit = (tt, tt); now_is = drained c ((m.lists p).rows c).deferred.plain (m.passed p) us m.waits h.1.0.0 ∙ sym (h.1.1 ∙ h.1.0.1) }
 chunk-goes p l (chunk.Releasing c to us x n) m now h r = record { fit = (tt, tt); now_is = released c x n us m.waits ((m.lists p).rows c).deferred.plain (m.passed p) r.1.0 r.1.1 ∙ sym (h.1.1 ∙ h.1.0) }
-chunk-goes p l (chunk.Making u life values seal) m now h r = sealed-fits p l u life values seal m now h.1.0.0 h.1.0.1.0 (h.1.1 ∙ h.1.0.1.1)
+chunk-goes p l (chunk.Making u life type values seal) m now h r = sealed-fits p l u life type values seal m now h.1.0.0 h.1.0.1.0 (h.1.1 ∙ h.1.0.1.1)
 chunk-goes p l (chunk.Acquiring u life seen) m now h r = one-goes p l (entry.Acquire u life seen) m now (record { fits = tt; stays = refl }) (h.1.1 ∙ h.1.0)
 chunk-goes p l (chunk.Finding u life place value) m now h r = one-goes p l (entry.Get u life place value) m now (record { fits = tt; stays = refl }) (h.1.1 ∙ h.1.0)
 chunk-goes p l (chunk.GivingUp u life seen) m now h r = record { fit = (tt, (tt, tt)); now_is = sym (h.1.1 ∙ h.1.0) }

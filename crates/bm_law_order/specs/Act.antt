@@ -22,8 +22,8 @@ sealed us = map (λ u. let s : Sealed = record { unit = u.number; seal = u.seal 
 -- number that it left, and one that came too late the even number that was named and the other one that it found; a look has the
 -- words that it found. A life ends by a free, plain or with delay. Units that don't wait go to another processor (`Drains`) or back to
 -- the stock (`GivesBack`), and units that have waited for a plain period go as one parcel with its stamp and number (`Releases`): so tells
--- who knows what the units wait for. Where nobody does, they are sent or returned. A life is made with the values of its fields, of which a read
--- finds one, by its place; and a reference to it is acquired, or given up where others are left: each names how many there were.
+-- who knows what the units wait for. Where nobody does, they are sent or returned. A life is made as an object of a type, by its number among those declared, with
+-- the values of its fields, of which a read finds one, by its place; and a reference to it is acquired, or given up where others are left: each names how many there were.
 pub data Act : Type 0 where
   Enters : Domain → (word : ℕ) → Act
   Leaves : Domain → (word : ℕ) → Act
@@ -40,7 +40,7 @@ pub data Act : Type 0 where
   Drains : (class to : ℕ) → List ℕ → Act
   Releases : (class to : ℕ) → List ℕ → (stamp seen : ℕ) → Act
   GivesBack : List ℕ → Act
-  Makes : (unit life : ℕ) → (values : List ℕ) → Option Seal → Act
+  Makes : (unit life type : ℕ) → (values : List ℕ) → Option Seal → Act
   Acquires : (unit life seen : ℕ) → Act
   Finds : (unit life place value : ℕ) → Act
   GivesUp : (unit life seen : ℕ) → Act

@@ -36,7 +36,7 @@ act_after p (act.Receives c us) s = record s { boxes = on_box p c (drop 1) s.box
 act_after p (act.Drains c to us) s = record s { boxes = on_box to c (λ parcels. parcels ++ us ∷ []) s.boxes }
 act_after p (act.Releases c to us stamp seen) s = record s { boxes = on_box to c (λ parcels. parcels ++ us ∷ []) s.boxes }
 act_after p (act.GivesBack us) s = record s { pool = all_back (reverse us) s.pool }
-act_after p (act.Makes u life values seal) s = record s { lives = given_life p u s.lives }
+act_after p (act.Makes u life type values seal) s = record s { lives = given_life p u s.lives }
 act_after p (act.Acquires u life seen) s = record s { lives = recounted (λ n. n + 1) u s.lives }
 act_after p (act.GivesUp u life seen) s = record s { lives = recounted (λ n. n - 1) u s.lives }
 act_after p (act.Ends u life home delayed) s = record s { lives = with_life u None s.lives }
@@ -77,7 +77,7 @@ ActFits p (act.Receives c us) s = us ≡ oldest (s.boxes p c)
 ActFits p (act.Drains c to us) s = IsParcel s.processors to us
 ActFits p (act.Releases c to us stamp seen) s = IsParcel s.processors to us
 ActFits p (act.GivesBack us) s = AllOut (reverse us) s.pool
-ActFits p (act.Makes u life values seal) s = IsGiven u life s.lives
+ActFits p (act.Makes u life type values seal) s = IsGiven u life s.lives
 ActFits p (act.Acquires u life seen) s = Has u life seen s.lives
 ActFits p (act.Finds u life place value) s = IsAlive u life s.lives
 ActFits p (act.GivesUp u life seen) s = Has u life seen s.lives × (1 < seen)

@@ -37,7 +37,7 @@ pub data Chunk : Type 0 where
   Receiving : (class : ℕ) → List ℕ → Chunk
   FindingNone : (class : ℕ) → Chunk
   Sweeping : (class : ℕ) → List ℕ → List (List ℕ) → Chunk
-  Making : (unit life : ℕ) → (values : List ℕ) → Option Seal → Chunk
+  Making : (unit life type : ℕ) → (values : List ℕ) → Option Seal → Chunk
   Acquiring : (unit life seen : ℕ) → Chunk
   Finding : (unit life place value : ℕ) → Chunk
   GivingUp : (unit life seen : ℕ) → Chunk
@@ -70,7 +70,7 @@ acts_of (GivingBack c us) = act.GivesBack us ∷ []
 acts_of (Receiving c us) = act.Receives c us ∷ []
 acts_of (FindingNone c) = act.Receives c [] ∷ []
 acts_of (Sweeping c us parcels) = map (act.Receives c) parcels ++ act.Receives c [] ∷ []
-acts_of (Making u life values seal) = act.Makes u life values seal ∷ []
+acts_of (Making u life type values seal) = act.Makes u life type values seal ∷ []
 acts_of (Acquiring u life seen) = act.Acquires u life seen ∷ []
 acts_of (Finding u life place value) = act.Finds u life place value ∷ []
 acts_of (GivingUp u life seen) = act.GivesUp u life seen ∷ []
@@ -94,7 +94,7 @@ entries_of (Releasing c to us stamp seen) = entry.Send c to (Whole us) ∷ []
 entries_of (GivingBack c us) = entry.Return c (Whole us) ∷ []
 entries_of (Receiving c us) = entry.Receive c (Whole us) ∷ []
 entries_of (Sweeping c us parcels) = entry.Sweep c (Whole (us ++ concat parcels)) ∷ []
-entries_of (Making u life values seal) = given u life (seal_told seal) ∷ []
+entries_of (Making u life type values seal) = given u life (seal_told seal) ∷ []
 entries_of (Acquiring u life seen) = entry.Acquire u life seen ∷ []
 entries_of (Finding u life place value) = entry.Get u life place value ∷ []
 entries_of (GivingUp u life seen) = entry.Drop u life ∷ entry.Still seen ∷ []
@@ -107,7 +107,7 @@ abbrev pub is_judged : Chunk → Bool
 is_judged (Passing c d x n) = true
 is_judged (Beginning d n ws) = true
 is_judged (WholePeriod n ws p) = true
-is_judged (Making u life values seal) = true
+is_judged (Making u life type values seal) = true
 is_judged (Ending u life home delayed) = true
 is_judged (Releasing c to us stamp seen) = true
 is_judged (Returning c us) = true

@@ -14,7 +14,7 @@ with_fields u values fields v = if eqb v u then values else fields v
 
 -- What lives were made with before an act and after it: a read finds a value of its life, at its place.
 abbrev pub MadeBy : Act → (before now : Fields) → Type 0
-MadeBy (act.Makes u life values seal) before now = now ≡ with_fields u values before
+MadeBy (act.Makes u life type values seal) before now = now ≡ with_fields u values before
 MadeBy (act.Ends u life home delayed) before now = now ≡ with_fields u [] before
 MadeBy (act.Finds u life place value) before now = (slice_get (before u) place ≡ Some value) × (now ≡ before)
 MadeBy _ before now = now ≡ before

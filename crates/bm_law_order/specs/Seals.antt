@@ -125,7 +125,7 @@ NoneAmong waits us = All (λ u. waits u ≢ Batch) us
 
 -- What units wait for before an act and after it: a unit begins a life with the seal of what it has waited for.
 abbrev pub WaitsBy : Act → (before now : ℕ → Wait) → Type 0
-WaitsBy (act.Makes u life values seal) before now = (before u ≡ waited_for seal) × (HasPassed seal × (now ≡ on_unit u Nothing before))
+WaitsBy (act.Makes u life type values seal) before now = (before u ≡ waited_for seal) × (HasPassed seal × (now ≡ on_unit u Nothing before))
 WaitsBy (act.Ends u life home delayed) before now = now ≡ on_unit u (wait_after delayed) before
 WaitsBy (act.Sends c to us) before now = (u : ℕ) → Goes (seal_among us u) (before u) (now u)
 WaitsBy (act.Returns us) before now = (u : ℕ) → Goes (seal_among us u) (before u) (now u)

@@ -38,7 +38,7 @@ between-passed g p turns rest seats world done b = record {
   so_far = b.so_far;
   waits = b.waits;
   seated = b.seated;
-  apart = b.apart;
+  add_up = b.add_up;
   shares_many = b.shares_many;
   few = b.few;
 }

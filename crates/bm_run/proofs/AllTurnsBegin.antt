@@ -23,7 +23,7 @@ use Rattle.bm_law_scenario.specs.Opened.{opened_classes}
 use Rattle.bm_law_work.specs.Grown.{GrewBy}
 use Rattle.bm_cache.specs.Opening.{Fills, fill_log}
 use Rattle.bm_due.specs.Due.{planned_for}
-use Rattle.bm_exec.specs.Living.{Lives}
+use Rattle.bm_exec.specs.Living.{Living, Lives, count_in}
 use Rattle.bm_exec_levels.specs.AtProcessor.{lists_of, log_of}
 use Rattle.bm_exec_levels.specs.Ready.{left_cost, left_of}
 use Rattle.bm_exec_levels.specs.declared.kept.Kept.{Kept}
@@ -32,7 +32,7 @@ use Rattle.bm_exec_levels.specs.declared.program.Program.{Program}
 use Rattle.bm_world.specs.LivingState.{LivingState, known_living}
 use Rattle.bm_run.specs.AllTurns.{AllTold, AreSeats, IsSeatOf}
 use Rattle.bm_run.specs.Asked.{in_its_turn}
-use Rattle.bm_run.specs.Between.{AreApart, Between, all_openings, ended_of}
+use Rattle.bm_run.specs.Between.{AddUp, Between, all_openings, ended_of, owns}
 use Rattle.bm_run.specs.InTurns.{AreTaken, TurnsSoFar}
 use Rattle.bm_run.specs.Lines.{AreDeclared, lines_cost, works_for}
 use Rattle.bm_run.specs.LogsSoFar.{AnswersAll, LogsSoFar, WaitsSoFar}
@@ -43,6 +43,7 @@ use Rattle.bm_run.specs.SoFar.{at_turn}
 use Rattle.bm_run.specs.Turns.{IsOutside, lines_left, owned_by, stands_in, still_begun}
 use Rattle.bm_run.specs.declared.seats.Seat.{Seat}
 use Rattle.bm_run.specs.declared.turns.Begun.{Begun}
+use Rattle.bm_run.proofs.Sums.{sum-none}
 use Rattle.bm_run.specs.declared.turns.Remaining.{Remaining}
 use Rattle.bm_run.proofs.Bounds.{Within, cost-kept, few-planned, within}
 use Rattle.bm_run.proofs.Declared.{all-declared}
@@ -255,12 +256,15 @@ sum-shares : (n : ℕ) → sum_by (λ k. k) (replicate n share) ≡ n * share
 sum-shares zero = refl
 sum-shares (suc n) = (let h = sum-shares n in let c = sum_by-cons (λ (k : ℕ). k) share (replicate n share) in omega (arith, h, c))
 
--- where none lives none is anyone's
-none-apart : (n : ℕ) (lives : Lives) → ((u : ℕ) → lives u ≡ None) → AreApart n (λ p. lives) lives
-none-apart n lives none = record {
-  once = λ p q u lp lq f g. absurd (f.living f.other);
-  some = λ u living. absurd (living (none u));
+-- where none lives nobody has a reference
+none-add-up : (n : ℕ) (lives : Lives) → ((u : ℕ) → lives u ≡ None) → AddUp n (λ p. lives) lives
+none-add-up n lives none = record {
+  some = λ u l e. absurd (some-none l (sym (none u) ∙ e));
+  sums = λ u. sum-none n (λ p. owns lives lives u) (λ r lt. omega arith) ∙ sym (ap count_in (none u));
 }
+  where
+    some-none : (l : Living) → None ≡ Some l → ⊥
+    some-none l e = cc
 
 -- Open processors, each of which tells its log and has a seat, are between turns, of which none has been taken.
 pub between-begin : (g : Program) (turns : List ℕ) (kept : List Kept) (seats : List Seat) (world : LivingState) → HasConditions g.scenario.now → first_limit g.scenario.now ≡ None → AreOpen g (opened_classes g.scenario.now.types) kept world → AllTold kept → AreSeats g.scenario.now.runs 0 kept seats → Between g turns turns seats world
@@ -295,7 +299,7 @@ between-begin g turns kept seats world fine limits opens tell are =
           let at = seat-at s.runs 0 p p kept seats seat are f (omega arith) in
           subst (λ k. IsSeated g p (get_or logs p []) (known_living world).objects.lives k world seat) (sym (get_or-replicate n p share 0 lt))
           (seat-begins g p at.0 world seat fine (within s p lt limits) (opens.each p at.0 at.1) (tell p at.0 at.1) at.2 (get_or logs p []) (opened.1.opened p lt));
-      apart = none-apart n (known_living world).objects.lives o.none;
+      add_up = none-add-up n (known_living world).objects.lives o.none;
       shares_many = length-replicate n share;
       few = (let a = o.asked in let sum = sum-shares n in omega (arith, a, sum, most));
     }

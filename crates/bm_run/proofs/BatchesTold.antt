@@ -63,14 +63,14 @@ quiet-answered l (entry.Drop u life) rest q = absurd (cc)
 quiet-answered l entry.Last rest q = absurd (cc)
 quiet-answered l _ rest q = tt
 
-given-answered : (l u life : ℕ) (values : List ℕ) (seal : Option Seal) (rest : Log) → AreAnswered rest → AreAnswered (at_level l (entries_of (chunk.Making u life values seal)) ++ rest)
-given-answered l u life values None rest h = (tt, h)
-given-answered l u life values (Some s) rest h = (tt, h)
+given-answered : (l u life type : ℕ) (values : List ℕ) (seal : Option Seal) (rest : Log) → AreAnswered rest → AreAnswered (at_level l (entries_of (chunk.Making u life type values seal)) ++ rest)
+given-answered l u life type values None rest h = (tt, h)
+given-answered l u life type values (Some s) rest h = (tt, h)
 
 -- the lines of a chunk end no drop without its answers
 chunk-answered : (l : ℕ) (c : Chunk) (rest : Log) → AreAnswered rest → AreAnswered (at_level l (entries_of c) ++ rest)
 chunk-answered l (chunk.Quiet e q) rest h = (quiet-answered l e rest q, h)
-chunk-answered l (chunk.Making u life values seal) rest h = given-answered l u life values seal rest h
+chunk-answered l (chunk.Making u life type values seal) rest h = given-answered l u life type values seal rest h
 chunk-answered l (chunk.GivingUp u life seen) rest h = ((refl, tt), (tt, h))
 chunk-answered l (chunk.Ending u life home true) rest h = ((refl, tt), ((refl, tt), (tt, h)))
 chunk-answered l (chunk.Ending u life home false) rest h = ((refl, tt), ((refl, tt), (tt, h)))
@@ -258,9 +258,9 @@ quiet-batches p l _ m q = tt
 abbrev Batches : ℕ → Log → Waiting → Type 0
 Batches p log m = AllFit waiting_after BatchFits (by p log) m
 
-made-batches : (p l u life : ℕ) (values : List ℕ) (seal : Option Seal) (m : Waiting) → Batches p (at_level l (entries_of (chunk.Making u life values seal))) m
-made-batches p l u life values None m = (tt, tt)
-made-batches p l u life values (Some x) m = (tt, tt)
+made-batches : (p l u life type : ℕ) (values : List ℕ) (seal : Option Seal) (m : Waiting) → Batches p (at_level l (entries_of (chunk.Making u life type values seal))) m
+made-batches p l u life type values None m = (tt, tt)
+made-batches p l u life type values (Some x) m = (tt, tt)
 
 go-split : (es fs : List Act) (a c : ℕ → Wait) → WaitLeads (es ++ fs) a c → (b : ℕ → Wait) × (WaitLeads es a b × WaitLeads fs b c)
 go-split [] fs a c h = (a, (refl, h))
@@ -295,7 +295,7 @@ module _ (p : ℕ) (since : Log) (start : LivingState) (own : start.side.grace.p
   chunk-batches l o (chunk.Missing d even n) now w j send low = tt
   chunk-batches l o (chunk.FindingNone c) now w j send low = tt
   chunk-batches l o (chunk.WholePeriod n ws q) now w j send low = (tt, (tt, tt))
-  chunk-batches l o (chunk.Making u life values seal) now w j send low = made-batches p l u life values seal (left_by o)
+  chunk-batches l o (chunk.Making u life type values seal) now w j send low = made-batches p l u life type values seal (left_by o)
   chunk-batches l o (chunk.GivingUp u life seen) now w j send low = (tt, (tt, tt))
   chunk-batches l o (chunk.Ending u life home true) now w j send low = (tt, (tt, (tt, tt)))
   chunk-batches l o (chunk.Ending u life home false) now w j send low = (tt, (tt, (tt, tt)))

@@ -34,7 +34,7 @@ use Rattle.bm_exec_levels.specs.declared.kept.Kept.{Kept}
 use Rattle.bm_exec_levels.specs.declared.processor.Processor.{Processor}
 use Rattle.bm_exec_levels.specs.declared.program.Program.{Program}
 use Rattle.bm_run.specs.Asked.{in_its_turn}
-use Rattle.bm_run.specs.Between.{AllClosed, AllStopped, Between, ClosesAs, IsFinal, all_openings, ended_of}
+use Rattle.bm_run.specs.Between.{AllClosed, AllStopped, Between, ClosesAs, IsFinal, all_openings, ended_of, owns}
 use Rattle.bm_run.specs.Closers.{AllDriven, BeginsClosing, CloseTogether, Gathered, IsResting, Keeps, TellsLog, log_kept}
 use Rattle.bm_run.specs.InTurns.{one_by_one}
 use Rattle.bm_run.specs.LogsSoFar.{LogsSoFar, Stretched}
@@ -53,6 +53,7 @@ use Rattle.bm_law_scenario.proofs.PartLaws.{among}
 use Rattle.bm_grace.specs.AtRest.{IsDriven}
 use Rattle.bm_grace.specs.Kept.{parity}
 use Rattle.bm_grace.specs.Known.{Lives, Living}
+use Rattle.bm_world.specs.Lives.{count_in}
 use Rattle.bm_grace.specs.PlainState.{DomainState}
 use Rattle.bm_world.specs.Told.{told_boxes}
 use Rattle.bm_world.specs.ToldLiving.{told_living}
@@ -66,6 +67,7 @@ use Rattle.bm_run.proofs.ClosersSteps.{AfterSteps, Did, steps-taken}
 use Rattle.bm_run.proofs.ClosersTaken.{fine-leaves, same-kept}
 use Rattle.bm_run.proofs.LogLaw.{RowsKept, here, tells-here}
 use Rattle.bm_run.proofs.Sections.{runs-none}
+use Rattle.bm_run.proofs.Sums.{sum-none}
 use Rattle.bm_run.proofs.WholeInTurns.{first-alone}
 
 -- ---- lists
@@ -378,9 +380,11 @@ module _ (g : Program) (turns : List ℕ) (seats : List Seat) (world : LivingSta
         by : (o : Option Living) → (known_living world).objects.lives u ≡ o → (known_living world).objects.lives u ≡ None
         by None e = e
         by (Some v) e =
-            let there : (known_living world).objects.lives u ≢ None = λ z. absurd (cc) in
-            let a = b.apart.some u there in
-            ap (λ (f : Lives). f u) (stopped-owns g turns seats world b stopped a.0 a.1) ∙ a.2.other
+            let none = sum-none g.scenario.now.processors (λ p. owns (b.bases p) (known_living world).objects.lives u) (λ p lt. (let same = ap (λ (f : Lives). count_in (f u)) (stopped-owns g turns seats world b stopped p lt) in omega (arith, same))) in
+            let all = b.add_up.sums u in
+            let mine = ap count_in e in
+            let some = b.add_up.some u v e in
+            absurd (omega (arith, none, all, mine, some))
 
     each-swept : (p : ℕ) → p < c.now.processors → IsAmong (OwnAfter Sweeps) c.now p
     each-swept p lt = c.has p (subst (λ k. p < k) c.same lt)

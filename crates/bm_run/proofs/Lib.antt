@@ -58,6 +58,7 @@ pub mod SeatAdded
 pub mod SeatAfter
 pub mod SeatAlone
 pub mod SeatLives
+pub mod Sums
 pub mod SeatTurn
 pub mod ClosersStep
 pub mod ClosersTaken

@@ -179,9 +179,9 @@ module _ (p : ℕ) where
     | inr y ↦ rw y.0 (h v)
   ]
 
-  making : (l u life : ℕ) (values : List ℕ) (seal : Option Seal) (x : Owned) (s : Shared) (fields now : Fields) → asked_values (x.objects.asking p l) ≡ Some values → life ≡ s.lives.begun u + 1 → now ≡ with_fields u values fields → Agree x.objects.made s.lives fields →
-      Follows p ((l, given u life (seal_told seal)) ∷ []) x (acts_over p (act.Makes u life values seal ∷ []) s).lives now
-  making l u life values seal x s fields now a next n h =
+  making : (l u life type : ℕ) (values : List ℕ) (seal : Option Seal) (x : Owned) (s : Shared) (fields now : Fields) → asked_values (x.objects.asking p l) ≡ Some values → life ≡ s.lives.begun u + 1 → now ≡ with_fields u values fields → Agree x.objects.made s.lives fields →
+      Follows p ((l, given u life (seal_told seal)) ∷ []) x (acts_over p (act.Makes u life type values seal ∷ []) s).lives now
+  making l u life type values seal x s fields now a next n h =
       let k = is-asked (x.objects.asking p l) values a in
       of-seal seal k.0 k.1 (λ v.
       subst (λ (f : Fields). MadeAs (if eqb v u then Some (record { maker = p; count = 1 }) else s.lives.holds v) (if eqb v u then s.lives.begun v + 1 else s.lives.begun v) (f v) (if eqb v u then Some (record { life = life; asked = k.0 }) else x.objects.made v)) (sym n)
@@ -190,7 +190,7 @@ module _ (p : ℕ) where
       After : (ℕ → Option Made) → Type 0
       After made = (v : ℕ) → MadeAs (if eqb v u then Some (record { maker = p; count = 1 }) else s.lives.holds v) (if eqb v u then s.lives.begun v + 1 else s.lives.begun v) (now v) (made v)
 
-      of-seal : (seal : Option Seal) (asked : Asked) → x.objects.asking p l ≡ Some asked → After (λ v. if eqb v u then Some (record { life = life; asked = asked }) else x.objects.made v) → Follows p ((l, given u life (seal_told seal)) ∷ []) x (acts_over p (act.Makes u life values seal ∷ []) s).lives now
+      of-seal : (seal : Option Seal) (asked : Asked) → x.objects.asking p l ≡ Some asked → After (λ v. if eqb v u then Some (record { life = life; asked = asked }) else x.objects.made v) → Follows p ((l, given u life (seal_told seal)) ∷ []) x (acts_over p (act.Makes u life type values seal ∷ []) s).lives now
       of-seal None asked is h = record { fit = (record { asked = asked; is = is }, tt); agrees = subst (λ (o : Option Asked). After (made_after (entry.Given u life) o x.objects.made)) (sym is) h }
       of-seal (Some z) asked is h = record { fit = (record { asked = asked; is = is }, tt); agrees = subst (λ (o : Option Asked). After (made_after (entry.GivenAfter u life z.stamp z.seen) o x.objects.made)) (sym is) h }
 
@@ -218,7 +218,7 @@ module _ (p : ℕ) where
   module _ (closing : Bool) (since : Log) (start : LivingState) where
     chunk-owned : (l : ℕ) (c : Chunk) (x : Owned) (s : Shared) (fields now : Fields) (log : Log) → x.lives ≡ s.lives → Agree x.objects.made s.lives fields → asked_values (x.objects.asking p l) ≡ asked_over (own_entries l log) None → ActsFit p (acts_of c) s → MadeLead (acts_of c) fields now → polled knows_living closing since start l log c →
         Follows p (at_level l (entries_of c)) x (acts_over p (acts_of c) s).lives now
-    chunk-owned l (chunk.Making u life values seal) x s fields now log e h a f m j = making l u life values seal x s fields now (a ∙ j) f.0.next_is (m.1.1 ∙ m.1.0) h
+    chunk-owned l (chunk.Making u life type values seal) x s fields now log e h a f m j = making l u life type values seal x s fields now (a ∙ j) f.0.next_is (m.1.1 ∙ m.1.0) h
     chunk-owned l (chunk.Finding u life place value) x s fields now log e h a f m j = finding l u life place value x s fields now e f m.1.0.0 (m.1.1 ∙ m.1.0.1) h
     chunk-owned l (chunk.Acquiring u life seen) x s fields now log e h a f m j = record {
       fit = (tt, tt);

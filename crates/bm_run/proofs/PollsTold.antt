@@ -158,9 +158,9 @@ quiet-fits p l _ m q = tt
 abbrev FitsAt : ℕ → Log → Polling → Type 0
 FitsAt p log m = AllFit polling_after PollFits (by p log) m
 
-made-fits : (p l u life : ℕ) (values : List ℕ) (seal : Option Seal) (m : Polling) → FitsAt p (at_level l (entries_of (chunk.Making u life values seal))) m
-made-fits p l u life values None m = (tt, tt)
-made-fits p l u life values (Some x) m = (tt, tt)
+made-fits : (p l u life type : ℕ) (values : List ℕ) (seal : Option Seal) (m : Polling) → FitsAt p (at_level l (entries_of (chunk.Making u life type values seal))) m
+made-fits p l u life type values None m = (tt, tt)
+made-fits p l u life type values (Some x) m = (tt, tt)
 
 -- ---- a log of a processor, behind an order that leads to what the world told when it was tied
 
@@ -299,7 +299,7 @@ module _ (n pages p : ℕ) (o : Order) (since : Log) (start : LivingState) (lead
   chunk-fits closing l added (chunk.Passing c d x m) h = (pass-fits l c d x m added h, tt)
   chunk-fits closing l added (chunk.Beginning d m ws) h = (begin-fits l d m added h, tt)
   chunk-fits closing l added (chunk.WholePeriod m ws q) h = (begin-fits l q.domain m added h, (tt, tt))
-  chunk-fits closing l added (chunk.Making u life values seal) h = made-fits p l u life values seal (polls_at added)
+  chunk-fits closing l added (chunk.Making u life type values seal) h = made-fits p l u life type values seal (polls_at added)
   chunk-fits closing l added (chunk.Acquiring u life seen) h = (tt, tt)
   chunk-fits closing l added (chunk.Finding u life place value) h = (tt, tt)
   chunk-fits closing l added (chunk.GivingUp u life seen) h = (tt, (tt, tt))

@@ -1,55 +1,107 @@
--- Whose the objects are that live, after a turn of one processor.
-use Rattle.std.specs.Prelude.{◌≢◌, eqb, if◌then◌else◌}
-use Rattle.std.proofs.Common.{◌≡◌, ◌⊎◌, ◌<◌, ℕ, List, Option, None, Some, refl, sym, ap, subst, ◌∙◌, inl, inr}
+-- Whose references there are to the objects that live, after a turn of one processor.
+use Rattle.std.specs.Prelude.{◌≢◌, ◌-◌, ◌≤◌, Bool, eqb, if◌then◌else◌, nat_lt, slice_get}
+use Rattle.std.proofs.Common.{◌≡◌, ◌⊎◌, ◌<◌, ◌+◌, ℕ, zero, suc, true, false, List, Option, None, Some, refl, sym, ap, subst, ◌∙◌, inl, inr, arith, eq-eqb}
 use Rattle.std.proofs.Math.Path.{fun_ext}
-use Rattle.std.proofs.lemmas.Bool.{cases_eq}
-use Rattle.std.proofs.lemmas.Bool.Decides.{eqb_tells}
+use Rattle.std.proofs.lemmas.Bool.Decides.{Decides-eqb, eqb_tells, nat_tests}
 use Rattle.bm_lang.specs.declared.scenario.Parts.{Parts}
 use Rattle.bm_lang.specs.declared.scenario.TypeDeclaration.{TypeDeclaration}
 use Rattle.bm_lang.specs.declared.scenario.TypeId.{TypeId}
-use Rattle.bm_law_scenario.specs.Held.{Names, Object}
-use Rattle.bm_exec.specs.Living.{Holds, IsReached, Living, Lives}
-use Rattle.bm_run.specs.Between.{AreApart, IsOwned}
+use Rattle.bm_law_scenario.specs.Held.{Held, Names, Nothing, Null, Object}
+use Rattle.bm_exec.specs.Living.{Adds, Holds, IsHeld, Living, Lives, Referring, count_in, refers}
+use Rattle.bm_run.specs.Between.{AddUp, owns, sum_below}
 use Rattle.bm_run.specs.Turns.{held_by, owned_by}
 use Rattle.bm_run.specs.declared.turns.Begun.{Begun}
+use Rattle.bm_run.proofs.Sums.{sum-changed, two-below}
 
 some-none : {A : Type 0} (x : A) → Some x ≡ None → ⊥
 some-none x e = cc
 
--- none where the first lives and isn't among the others, and else the last one
-abbrev pub pick : (lived base lives : Option Living) → Option Living
-pick (Some l) None x = None
-pick (Some l) (Some k) x = x
-pick None b x = x
+some-is : {A : Type 0} (x y : A) → Some x ≡ Some y → x ≡ y
+some-is x y e = cc
 
--- The objects that aren't a processor's own, which had its own among those that lived: where one of them was none, and else those
--- that live now.
+-- an object with so many references
+abbrev With : (count : ℕ) → Living → Living
+With count l = record l { count = count }
+
+-- ---- references beside those of others
+
+-- so many references less; no object where none is left
+abbrev pub fewer : (k : ℕ) → Option Living → Option Living
+fewer zero o = o
+fewer (suc k) None = None
+fewer (suc k) (Some l) = if nat_lt (suc k) l.count then Some (record l { count = l.count - suc k }) else None
+
+adds-count : (k : ℕ) (o a : Option Living) → Adds k o a → count_in a ≡ count_in o + k
+adds-count zero o a h = (let same = ap count_in h in omega (arith, same))
+adds-count (suc k) None a h = (let same = ap count_in h.1 in let all = h.2 in omega (arith, same, all))
+adds-count (suc k) (Some l) a h = (let same = ap count_in h.1 in omega (arith, same))
+
+-- what others have a reference to is the same object with another count
+adds-same : (k : ℕ) (l : Living) (a : Option Living) → Adds k (Some l) a → a ≡ Some (With (count_in a) l)
+adds-same zero l a h = h ∙ ap (λ n. Some (With n l)) (sym (ap count_in h))
+adds-same (suc k) l a h = h.1 ∙ ap (λ n. Some (With n l)) (sym (ap count_in h.1))
+
+below-said : (k n : ℕ) (b : Bool) → nat_lt k n ≡ b → (k < n) ⊎ (n ≤ k)
+below-said k n true e = inl (grind (arith, nat_tests))
+below-said k n false e = inr (grind (arith, nat_tests))
+
+fewer-adds : (k : ℕ) (a : Option Living) → k ≤ count_in a → Adds k (fewer k a) a
+fewer-adds zero a le = refl
+fewer-adds (suc k) None le = absurd (omega (arith, le))
+fewer-adds (suc k) (Some l) le = by (nat_lt (suc k) l.count) refl
+  where
+    by : (b : Bool) → nat_lt (suc k) l.count ≡ b → Adds (suc k) (if b then Some (record l { count = l.count - suc k }) else None) (Some l)
+    by true e =
+        let lt : suc k < l.count = grind (arith, nat_tests) in
+        let back : l.count ≡ (l.count - suc k) + suc k = omega (arith, lt) in
+        (omega (arith, lt), ap (λ n. Some (With n l)) back)
+    by false e = (let most : l.count ≤ suc k = grind (arith, nat_tests) in (l, refl, omega (arith, le, most)))
+
+fewer-count : (k : ℕ) (a : Option Living) → count_in (fewer k a) ≡ count_in a - k
+fewer-count zero a = omega arith
+fewer-count (suc k) None = omega arith
+fewer-count (suc k) (Some l) = by (nat_lt (suc k) l.count) refl
+  where
+    by : (b : Bool) → nat_lt (suc k) l.count ≡ b → count_in (if b then Some (record l { count = l.count - suc k }) else None) ≡ l.count - suc k
+    by true e = refl
+    by false e = (let most : l.count ≤ suc k = grind (arith, nat_tests) in omega (arith, most))
+
+true-false : true ≡ false → ⊥
+true-false e = cc
+
+-- some name refers to a unit
+referring-some : (u k : ℕ) (x : List ℕ) (names : Names) → refers u (names x) ≡ true → Referring u k names → (j : ℕ) × (k ≡ suc j)
+referring-some u zero x names e r = absurd (true-false (sym e ∙ r x))
+referring-some u (suc j) x names e r = (j, refl)
+
+-- what refers to a unit is a reference to it
+refers-is : (u : ℕ) (v : Held) → refers u v ≡ true → (t : TypeId) × (n : ℕ) × (v ≡ Object t u n)
+refers-is u Nothing e = absurd (cc)
+refers-is u Null e = absurd (cc)
+refers-is u (Object t w n) e = (t, n, ap (λ k. Object t k n) ((Decides-eqb w u).0 e))
+
+-- a processor's own references
+pub own-adds : (s : Parts) (base lives : Lives) (b : Option Begun) → owned_by s base lives b → (u : ℕ) → Adds (owns base lives u) (base u) (lives u)
+own-adds s base lives None h u =
+    let same : lives u ≡ base u = ap (λ (f : Lives). f u) h in
+    let none : 0 ≡ owns base lives u = (let e = ap count_in same in omega (arith, e)) in
+    subst (λ k. Adds k (base u) (lives u)) none same
+own-adds s base lives (Some b) h u =
+    let r = h.reached u in
+    let all = adds-count r.own (base u) (lives u) r.adds in
+    let own : r.own ≡ owns base lives u = omega (arith, all) in
+    subst (λ k. Adds k (base u) (lives u)) own r.adds
+
+-- those that aren't a processor's own, once there are these
 abbrev pub others_of : (lives now base : Lives) → Lives
-others_of lives now base = λ u. pick (lives u) (base u) (now u)
+others_of lives now base = λ u. fewer (owns base lives u) (now u)
 
 -- those of each processor, after a turn of processor p
 abbrev pub bases_after : (p : ℕ) (lives now : Lives) (bases : ℕ → Lives) → ℕ → Lives
 bases_after p lives now bases q = if eqb q p then bases q else others_of lives now (bases q)
 
--- a unit was its own, or it wasn't
-which : (lives now base : Lives) (u : ℕ) → (IsOwned base lives u × (others_of lives now base u ≡ None)) ⊎ ((IsOwned base lives u → ⊥) × (others_of lives now base u ≡ now u))
-which lives now base u = by (lives u) (base u) refl refl
-  where
-    to : (a b : Option Living) → lives u ≡ a → base u ≡ b → others_of lives now base u ≡ pick a b (now u)
-    to a b e f = ap (λ z. pick z (base u) (now u)) e ∙ ap (λ z. pick a z (now u)) f
-
-    by : (a b : Option Living) → lives u ≡ a → base u ≡ b → (IsOwned base lives u × (others_of lives now base u ≡ None)) ⊎ ((IsOwned base lives u → ⊥) × (others_of lives now base u ≡ now u))
-    by (Some l) None e f = inl (record { other = f; living = λ z. some-none l (sym e ∙ z) }, to (Some l) None e f)
-    by (Some l) (Some k) e f = inr (λ o. some-none k (sym f ∙ o.other), to (Some l) (Some k) e f)
-    by None b e f = inr (λ o. o.living e, to None b e f)
-
--- what lives beside a processor's own lives
-pub owned-below : (s : Parts) (base lives : Lives) (b : Option Begun) → owned_by s base lives b → (u : ℕ) (l : Living) → base u ≡ Some l → lives u ≡ Some l
-owned-below s base lives None h u l e = ap (λ (f : Lives). f u) h ∙ e
-owned-below s base lives (Some b) h u l e = h.before u l e
-
--- Processor p took a turn, before and after which the objects of `bases p` lived beside its own.
-module _ (n p : ℕ) (bases : ℕ → Lives) (lives now : Lives) (turn : p < n) (apart : AreApart n bases lives) (before : (u : ℕ) (l : Living) → bases p u ≡ Some l → lives u ≡ Some l) (after : (u : ℕ) (l : Living) → bases p u ≡ Some l → now u ≡ Some l) where
+-- Processor p took a turn, before and after which the others had the references of `bases p`.
+module _ (s : Parts) (n p : ℕ) (bases : ℕ → Lives) (lives now : Lives) (turn : p < n) (up : AddUp n bases lives) (b b' : Option Begun) (before : owned_by s (bases p) lives b) (after : owned_by s (bases p) now b') where
   abbrev bases' : ℕ → Lives
   bases' = bases_after p lives now bases
 
@@ -65,111 +117,161 @@ module _ (n p : ℕ) (bases : ℕ → Lives) (lives now : Lives) (turn : p < n) 
     | inr y ↦ rw y.0 refl
   ]
 
-  -- what is another one's own isn't its own
-  not-mine : (q u : ℕ) → q < n → q ≢ p → IsOwned (bases q) lives u → bases p u ≡ None → ⊥
-  not-mine q u lt ne o e = ne (sym (apart.once p q u turn lt (record { other = e; living = o.living }) o))
+  was : (u : ℕ) → count_in (lives u) ≡ count_in (bases p u) + owns (bases p) lives u
+  was u = adds-count (owns (bases p) lives u) (bases p u) (lives u) (own-adds s (bases p) lives b before u)
 
-  -- .. and lives as it did
-  kept-unit : (q u : ℕ) → q < n → q ≢ p → IsOwned (bases q) lives u → now u ≡ lives u
-  kept-unit q u lt ne o = by (bases p u) refl
-    where
-      by : (x : Option Living) → bases p u ≡ x → now u ≡ lives u
-      by None e = absurd (not-mine q u lt ne o e)
-      by (Some l) e = after u l e ∙ sym (before u l e)
+  is : (u : ℕ) → count_in (now u) ≡ count_in (bases p u) + owns (bases p) now u
+  is u = adds-count (owns (bases p) now u) (bases p u) (now u) (own-adds s (bases p) now b' after u)
 
-  module _ (types : List TypeDeclaration) (q : ℕ) (lt : q < n) (ne : q ≢ p) (names : Names) (h : Holds types (bases q) lives names) where
-    owned : (x : List ℕ) (t : TypeId) (u k : ℕ) → names x ≡ Object t u k → IsOwned (bases q) lives u
-    owned x t u k e = (let v = h.living x t u k e in record { other = h.apart x t u k e; living = λ z. some-none _ (sym v.alive.is ∙ z) })
+  -- what another one has p doesn't have
+  enough : (q u : ℕ) → q < n → q ≢ p → owns (bases q) lives u ≤ count_in (bases p u)
+  enough q u lt ne =
+      let two = two-below n p q (λ r. owns (bases r) lives u) turn lt ne in
+      let all = up.sums u in
+      let old = was u in
+      omega (arith, two, all, old)
 
-    holds-apart : (x : List ℕ) (t : TypeId) (u k : ℕ) → names x ≡ Object t u k → others_of lives now (bases q) u ≡ None
-    holds-apart x t u k e = elim (which lives now (bases q) u) [
-      | inl y ↦ y.1
-      | inr y ↦ absurd (y.0 (owned x t u k e))
-    ]
+  enough-now : (q u : ℕ) → q < n → q ≢ p → owns (bases q) lives u ≤ count_in (now u)
+  enough-now q u lt ne =
+      let most = enough q u lt ne in
+      let new = is u in
+      omega (arith, most, new)
 
-    holds-before : (u : ℕ) (l : Living) → others_of lives now (bases q) u ≡ Some l → now u ≡ Some l
-    holds-before u l e = elim (which lives now (bases q) u) [
-      | inl y ↦ absurd (some-none l (sym e ∙ y.1))
-      | inr y ↦ sym y.1 ∙ e
-    ]
+  module _ (q : ℕ) (lt : q < n) (ne : q ≢ p) (names : Names) (h : Holds s.types (bases q) lives names) where
+    own-is : (u : ℕ) → (h.reached u).own ≡ owns (bases q) lives u
+    own-is u = (let all = adds-count (h.reached u).own (bases q u) (lives u) (h.reached u).adds in omega (arith, all))
 
-    holds-reached : (u : ℕ) (l : Living) → now u ≡ Some l → (others_of lives now (bases q) u ≡ Some l) ⊎ IsReached u l names
-    holds-reached u l e = elim (which lives now (bases q) u) [
-      | inl y ↦ named y.0 (h.reached u l (sym (kept-unit q u lt ne y.0) ∙ e))
-      | inr y ↦ inl (y.1 ∙ e)
-    ]
+    -- p leaves what another one's name holds, which others than p have a reference to
+    left-alone : (x : List ℕ) (t : TypeId) (u k : ℕ) → names x ≡ Object t u k → (l : Living) × (bases p u ≡ Some l)
+    left-alone x t u k e =
+        let r = referring-some u (h.reached u).own x names (ap (refers u) e ∙ eq-eqb u u refl) (h.reached u).held in
+        let own = own-is u in
+        let one = r.1 in
+        let most = enough q u lt ne in
+        of-base (bases p u) refl (omega (arith, own, one, most))
       where
-        named : IsOwned (bases q) lives u → (bases q u ≡ Some l) ⊎ IsReached u l names → (others_of lives now (bases q) u ≡ Some l) ⊎ IsReached u l names
-        named o (inl f) = absurd (some-none l (sym f ∙ o.other))
-        named o (inr f) = inr f
+        of-base : (o : Option Living) → bases p u ≡ o → 0 < count_in (bases p u) → (l : Living) × (bases p u ≡ Some l)
+        of-base None f some = (let none = ap count_in f in absurd (omega (arith, none, some)))
+        of-base (Some l) f some = (l, f)
 
-    pub holds-others : Holds types (others_of lives now (bases q)) now names
+    module _ (x : List ℕ) (t : TypeId) (u k : ℕ) (e : names x ≡ Object t u k) where
+      abbrev held : IsHeld s.types lives t u k
+      held = h.living x t u k e
+
+      abbrev object : Living
+      object = record { class = held.class; life = k; home = held.alive.home; type = held.alive.type; count = held.alive.count; values = held.alive.values }
+
+      still : now u ≡ Some (With (count_in (now u)) object)
+      still =
+          let l = left-alone x t u k e in
+          let F : Option Living → Type 0 = λ o. Adds (owns (bases p) lives u) o (lives u) in
+          let G : Option Living → Type 0 = λ o. Adds (owns (bases p) now u) o (now u) in
+          let old = adds-same (owns (bases p) lives u) l.0 (lives u) (subst F l.1 (own-adds s (bases p) lives b before u)) in
+          let new = adds-same (owns (bases p) now u) l.0 (now u) (subst G l.1 (own-adds s (bases p) now b' after u)) in
+          let same : With (count_in (lives u)) l.0 ≡ object = some-is _ _ (sym old ∙ held.alive.is) in
+          new ∙ ap (λ m. Some (With (count_in (now u)) m)) same
+
+      -- where objects of its type aren't counted there is no other reference
+      alone : held.declared.counted ≡ false → count_in (now u) ≡ 1
+      alone uncounted =
+          let one : count_in (lives u) ≡ 1 = ap count_in held.alive.is ∙ held.single uncounted in
+          let r = referring-some u (h.reached u).own x names (ap (refers u) e ∙ eq-eqb u u refl) (h.reached u).held in
+          let own = own-is u in
+          let some = r.1 in
+          let most = enough q u lt ne in
+          let old = was u in
+          let base : count_in (bases p u) ≡ 1 = omega (arith, one, own, some, most, old) in
+          of-begun b' after base
+        where
+          of-begun : (z : Option Begun) → owned_by s (bases p) now z → count_in (bases p u) ≡ 1 → count_in (now u) ≡ 1
+          of-begun None same base = ap (λ (f : Lives). count_in (f u)) same ∙ base
+          of-begun (Some z) hold base = of-own (hold.reached u).own refl
+            where
+              of-own : (j : ℕ) → (hold.reached u).own ≡ j → count_in (now u) ≡ 1
+              of-own zero none = (let all = adds-count (hold.reached u).own (bases p u) (now u) (hold.reached u).adds in omega (arith, all, none, base))
+              of-own (suc j) more =
+                  let some = subst (λ i. Referring u i (held_by z)) more (hold.reached u).held in
+                  let name = refers-is u (held_by z some.0) some.1 in
+                  let its = hold.living some.0 name.0 u name.1 name.2 in
+                  let object-is = some-is _ _ (sym still ∙ its.alive.is) in
+                  let types-same : t.0 ≡ name.0.0 = sym held.typed ∙ (ap (λ (l : Living). l.type) object-is ∙ its.typed) in
+                  let declared : held.declared ≡ its.declared = some-is held.declared its.declared (sym held.of_class.found ∙ (ap (slice_get s.types) types-same ∙ its.of_class.found)) in
+                  ap count_in its.alive.is ∙ its.single (ap (λ (d : TypeDeclaration). d.counted) (sym declared) ∙ uncounted)
+
+      held-now : IsHeld s.types now t u k
+      held-now = record {
+        class = held.class;
+        declared = held.declared;
+        of_class = held.of_class;
+        alive = record { home = held.alive.home; type = held.alive.type; count = count_in (now u); values = held.alive.values; is = still };
+        typed = held.typed;
+        single = alone;
+        fields = held.fields;
+        few = held.few;
+      }
+
+    pub holds-others : Holds s.types (others_of lives now (bases q)) now names
     holds-others = record {
-      living = λ x t u k e. let v = h.living x t u k e in record {
-        class = v.class;
-        declared = v.declared;
-        of_class = v.of_class;
-        alive = record { home = v.alive.home; count = v.alive.count; values = v.alive.values; is = kept-unit q u lt ne (owned x t u k e) ∙ v.alive.is };
-        single = v.single;
-        fields = v.fields;
-        few = v.few;
+      living = held-now;
+      reached = λ u. record {
+        own = (h.reached u).own;
+        held = (h.reached u).held;
+        adds = subst (λ k. Adds k (others_of lives now (bases q) u) (now u)) (sym (own-is u)) (fewer-adds (owns (bases q) lives u) (now u) (enough-now q u lt ne));
       };
-      typed = h.typed;
-      apart = holds-apart;
-      before = holds-before;
-      reached = holds-reached;
     }
 
   none-own : (q : ℕ) → lives ≡ bases q → now ≡ others_of lives now (bases q)
-  none-own q e = fun_ext (λ u. elim (which lives now (bases q) u) [
-    | inl y ↦ absurd (y.0.living (ap (λ (f : Lives). f u) e ∙ y.0.other))
-    | inr y ↦ sym y.1
-  ])
+  none-own q e = fun_ext (λ u. ap (λ k. fewer k (now u)) (none u))
+    where
+      none : (u : ℕ) → 0 ≡ owns (bases q) lives u
+      none u = (let same = ap (λ (f : Lives). count_in (f u)) e in omega (arith, same))
 
-  owned-others : (s : Parts) (q : ℕ) → q < n → q ≢ p → (b : Option Begun) → owned_by s (bases q) lives b → owned_by s (others_of lives now (bases q)) now b
-  owned-others s q lt ne None h = none-own q h
-  owned-others s q lt ne (Some b) h = holds-others s.types q lt ne (held_by b) h
+  owned-others : (q : ℕ) → q < n → q ≢ p → (z : Option Begun) → owned_by s (bases q) lives z → owned_by s (others_of lives now (bases q)) now z
+  owned-others q lt ne None h = none-own q h
+  owned-others q lt ne (Some z) h = holds-others q lt ne (held_by z) h
 
   -- each other one owns what it owned
-  pub owned-after : (s : Parts) (q : ℕ) → q < n → q ≢ p → (b : Option Begun) → owned_by s (bases q) lives b → owned_by s (bases' q) now b
-  owned-after s q lt ne b h = subst (λ (x : Lives). owned_by s x now b) (sym (base-other q ne)) (owned-others s q lt ne b h)
+  pub owned-after : (q : ℕ) → q < n → q ≢ p → (z : Option Begun) → owned_by s (bases q) lives z → owned_by s (bases' q) now z
+  owned-after q lt ne z h = subst (λ (x : Lives). owned_by s x now z) (sym (base-other q ne)) (owned-others q lt ne z h)
 
-  -- what is another one's own now was so before
-  was-owned : (q u : ℕ) → q ≢ p → IsOwned (bases' q) now u → IsOwned (bases q) lives u
-  was-owned q u ne o = elim (which lives now (bases q) u) [
-    | inl y ↦ y.0
-    | inr y ↦ absurd (o.living (sym y.1 ∙ (ap (λ (f : Lives). f u) (sym (base-other q ne)) ∙ o.other)))
-  ]
-
-  still-owned : (q u : ℕ) → q ≢ p → IsOwned (bases q) lives u → now u ≢ None → IsOwned (bases' q) now u
-  still-owned q u ne o living = elim (which lives now (bases q) u) [
-    | inl y ↦ record { other = ap (λ (f : Lives). f u) (base-other q ne) ∙ y.1; living = living }
-    | inr y ↦ absurd (y.0 o)
-  ]
-
-  -- p's own isn't another one's
-  apart-from : (a b u : ℕ) → a ≡ p → b < n → b ≢ p → IsOwned (bases' a) now u → IsOwned (bases' b) now u → ⊥
-  apart-from a b u same lt ne o k =
-      not-mine b u lt ne (was-owned b u ne k) (ap (λ (f : Lives). f u) (sym base-own) ∙ subst (λ x. bases' x u ≡ None) same o.other)
-
-  once-after : (a b u : ℕ) → a < n → b < n → IsOwned (bases' a) now u → IsOwned (bases' b) now u → a ≡ b
-  once-after a b u la lb o k = by (cases_eq a p) (cases_eq b p)
+  -- and the references add up again
+  pub add-up-after : AddUp n bases' now
+  add-up-after = record { some = some-after; sums = sums-after }
     where
-      by : (a ≡ p) ⊎ (a ≢ p) → (b ≡ p) ⊎ (b ≢ p) → a ≡ b
-      by (inl x) (inl y) = x ∙ sym y
-      by (inl x) (inr y) = absurd (apart-from a b u x lb y o k)
-      by (inr x) (inl y) = absurd (apart-from b a u y la x k o)
-      by (inr x) (inr y) = apart.once a b u la lb (was-owned a u x o) (was-owned b u y k)
+      some-others : (u : ℕ) (l : Living) → bases p u ≡ Some l → 0 < l.count
+      some-others u l e = of-own (owns (bases p) lives u) (subst (λ o. Adds (owns (bases p) lives u) o (lives u)) e (own-adds s (bases p) lives b before u))
+        where
+          of-own : (k : ℕ) → Adds k (Some l) (lives u) → 0 < l.count
+          of-own zero h = up.some u l h
+          of-own (suc k) h = h.0
 
-  some-after : (u : ℕ) → now u ≢ None → (q : ℕ) × (q < n) × IsOwned (bases' q) now u
-  some-after u living = by (bases p u) refl
-    where
-      by : (x : Option Living) → bases p u ≡ x → (q : ℕ) × (q < n) × IsOwned (bases' q) now u
-      by None e = (p, turn, record { other = ap (λ (f : Lives). f u) base-own ∙ e; living = living })
-      by (Some l) e =
-          let r = apart.some u (λ z. some-none l (sym (before u l e) ∙ z)) in
-          (r.0, r.1, still-owned r.0 u (λ y. some-none l (sym e ∙ subst (λ x. bases x u ≡ None) y r.2.other)) r.2 living)
+      some-after : (u : ℕ) (l : Living) → now u ≡ Some l → 0 < l.count
+      some-after u l e = of-base (bases p u) refl (owns (bases p) now u) (own-adds s (bases p) now b' after u)
+        where
+          of-base : (o : Option Living) → bases p u ≡ o → (k : ℕ) → Adds k (bases p u) (now u) → 0 < l.count
+          of-base None f zero h = absurd (some-none l (sym e ∙ (h ∙ f)))
+          of-base None f (suc k) h = (let a = subst (λ o. Adds (suc k) o (now u)) f h in let same = ap (λ (z : Living). z.count) (some-is l a.0 (sym e ∙ a.1)) in let all = a.2 in omega (arith, same, all))
+          of-base (Some m) f k h =
+              let all = adds-count k (bases p u) (now u) h in
+              let base = ap count_in f in
+              let mine = ap count_in e in
+              let some = some-others u m f in
+              omega (arith, all, base, mine, some)
 
-  -- and each unit that lives is one's own again
-  pub apart-after : AreApart n bases' now
-  apart-after = record { once = once-after; some = some-after }
+      sums-after : (u : ℕ) → sum_below n (λ r. owns (bases' r) now u) ≡ count_in (now u)
+      sums-after u =
+          let f : ℕ → ℕ = λ r. owns (bases r) lives u in
+          let g : ℕ → ℕ = λ r. owns (bases' r) now u in
+          let others = sum-changed n p f g turn (λ r lr ne. other r lr ne) in
+          let own : g p ≡ owns (bases p) now u = ap (λ (z : Lives). owns z now u) base-own in
+          let all = up.sums u in
+          let old = was u in
+          let new = is u in
+          omega (arith, others, own, all, old, new)
+        where
+          other : (r : ℕ) → r < n → r ≢ p → owns (bases' r) now u ≡ owns (bases r) lives u
+          other r lr ne =
+              let base = ap (λ (z : Lives). count_in (z u)) (base-other r ne) in
+              let left = fewer-count (owns (bases r) lives u) (now u) in
+              let most = enough-now r u lr ne in
+              omega (arith, base, left, most)

@@ -34,7 +34,7 @@ use Rattle.bm_run.proofs.PiecesCut.{joined-more, taken-more}
 use Rattle.bm_run.proofs.SeatAdded.{Added, gone-added}
 use Rattle.bm_run.proofs.SeatAfter.{SeatLeft, leaves-here, may-turn, same-kept, seat-after}
 use Rattle.bm_run.proofs.SeatAlone.{seat-alone}
-use Rattle.bm_run.proofs.SeatLives.{apart-after, base-own, bases_after, owned-after, owned-below}
+use Rattle.bm_run.proofs.SeatLives.{add-up-after, base-own, bases_after, owned-after}
 use Rattle.bm_run.proofs.Stretch.{stretched}
 use Rattle.bm_run.proofs.TurnTaken.{sealed-at, side-at, so-many, turn-batches, turn-sealed}
 use Rattle.bm_run.proofs.TurnsInOrder.{turn-lowest, turn-named}
@@ -247,16 +247,10 @@ module _ (g : Program) (turns rest : List ℕ) (seats : List Seat) (world : Livi
         let most = b.few in
         omega (arith, sums, asked, most)
 
-    lived-before : (u : ℕ) (l : Living) → b.bases p u ≡ Some l → lives u ≡ Some l
-    lived-before = owned-below s (b.bases p) lives seat.remaining.begun before.owns
-
-    lived-after : (u : ℕ) (l : Living) → b.bases p u ≡ Some l → lives' u ≡ Some l
-    lived-after = owned-below s (b.bases p) lives' seat'.remaining.begun own-seat.owns
-
     own-after : IsSeated g p (get_or logs' p []) (bases' p) (get_or shares' p 0) now seat'
     own-after =
         seated-as g p t.log (get_or logs' p []) (b.bases p) (bases' p) left.share' (get_or shares' p 0) now seat' (more.log_is ∙ sym (get_or-set_same b.logs p (since ++ added) [] below))
-        (sym (base-own n p b.bases lives lives' turn b.apart lived-before lived-after)) (sym (get_or-set_same b.shares p left.share' 0 shares-below)) own-seat
+        (sym (base-own s n p b.bases lives lives' turn b.add_up seat.remaining.begun seat'.remaining.begun before.owns own-seat.owns)) (sym (get_or-set_same b.shares p left.share' 0 shares-below)) own-seat
 
     other-after : (q : ℕ) (x : Seat) → q ≢ p → slice_get seats q ≡ Some x → IsSeated g q (get_or logs' q []) (bases' q) (get_or shares' q 0) now x
     other-after q x ne at =
@@ -268,7 +262,7 @@ module _ (g : Program) (turns rest : List ℕ) (seats : List Seat) (world : Livi
         let most : get_or shares' q 0 ≤ sum_by (λ y. y) shares' = get_or-le-sum_by (λ y. y) shares' q 0 (subst (λ (k : ℕ). q < k) (sym (length-set b.shares p left.share' ∙ b.shares_many)) lt) in
         let asks = h.asks in
         let all = few in
-        let own : owned_by s (bases' q) lives' x.remaining.begun = owned-after n p b.bases lives lives' turn b.apart lived-before lived-after s q lt ne x.remaining.begun h.owns in
+        let own : owned_by s (bases' q) lives' x.remaining.begun = owned-after s n p b.bases lives lives' turn b.add_up seat.remaining.begun seat'.remaining.begun before.owns own-seat.owns q lt ne x.remaining.begun h.owns in
         seated-as g q (get_or b.logs q []) (get_or logs' q []) (bases' q) (bases' q) (get_or b.shares q 0) (get_or shares' q 0) now x (sym (get_or-set_other b.logs p q (since ++ added) [] ne)) refl (sym same)
         (seat-alone g q (get_or b.logs q []) (b.bases q) (bases' q) (get_or b.shares q 0) world now x h alone (omega (arith, same, most, asks, all)) own)
 
@@ -295,7 +289,7 @@ module _ (g : Program) (turns rest : List ℕ) (seats : List Seat) (world : Livi
       so_far = subst (λ (x : Order). LogsSoFar n s.pages x logs' now) order-is went.so_far;
       waits = subst (λ (x : Order). WaitsSoFar x now) order-is waits;
       seated = seated;
-      apart = apart-after n p b.bases lives lives' turn b.apart lived-before lived-after;
+      add_up = add-up-after s n p b.bases lives lives' turn b.add_up seat.remaining.begun seat'.remaining.begun before.owns own-seat.owns;
       shares_many = length-set b.shares p left.share' ∙ b.shares_many;
       few = few;
     }

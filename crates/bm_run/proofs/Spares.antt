@@ -51,7 +51,7 @@ ended-none n stamp seen (u ∷ us) waits h =
     rw e.0 (ended-none n stamp seen us waits e.1)
 
 spared-one : (n : ℕ) (a : Act) (x y : ℕ → Wait) → Spares n a → WaitsBy a x y → y n ≡ x n
-spared-one n (act.Makes u life values seal) x y s w = ap (λ (f : ℕ → Wait). f n) w.1.1 ∙ rw (ne_eqb n u s) refl
+spared-one n (act.Makes u life type values seal) x y s w = ap (λ (f : ℕ → Wait). f n) w.1.1 ∙ rw (ne_eqb n u s) refl
 spared-one n (act.Ends u life home delayed) x y s w = ap (λ (f : ℕ → Wait). f n) w ∙ rw (ne_eqb n u s) refl
 spared-one n (act.Sends c to us) x y s w = rw (among-none n us s) at (w n)
 spared-one n (act.Returns us) x y s w = rw (among-none n us s) at (w n)
@@ -131,7 +131,7 @@ module _ (p q n : ℕ) (other : q ≢ p) where
   chunk-spares l (chunk.Acquiring u life seen) w s h f = (tt, tt)
   chunk-spares l (chunk.Finding u life place value) w s h f = (tt, tt)
   chunk-spares l (chunk.GivingUp u life seen) w s h f = (tt, tt)
-  chunk-spares l (chunk.Making u life values seal) w s h f = (made-other w l u life seal s h f.0.lists, tt)
+  chunk-spares l (chunk.Making u life type values seal) w s h f = (made-other w l u life seal s h f.0.lists, tt)
   chunk-spares l (chunk.Ending u life home delayed) w s h f = (lives-other w u f.0.shared.lives.has.held s h f.0.shared.lives.has.holds, tt)
   chunk-spares l (chunk.Sending c to us) w s h f = (sent-none w l c (units_of us) s h f.0.lists.1, tt)
   chunk-spares l (chunk.Draining c to us) w s h f = (sent-none w l c us s h f.0.lists.1, tt)

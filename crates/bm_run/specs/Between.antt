@@ -1,5 +1,5 @@
 -- What is so of a whole run between two turns. (This project's own.)
-use Rattle.std.specs.Prelude.{◌≡◌, ◌≢◌, ◌<◌, ◌+◌, ◌^◌, ◌++◌, ◌∷◌, ℕ, Bool, true, List, [], None, Some, get_or, length, map, slice_get, sum_by}
+use Rattle.std.specs.Prelude.{◌≡◌, ◌<◌, ◌+◌, ◌-◌, ◌^◌, ◌++◌, ◌∷◌, ℕ, zero, suc, Bool, true, List, [], Some, None, get_or, length, map, slice_get, sum_by}
 use Rattle.bm_journal.specs.declared.ids.Domain.{Domain}
 use Rattle.bm_journal.specs.declared.entry.Entry.TheVariants as entry
 use Rattle.bm_lang.specs.declared.scenario.Parts.{Parts}
@@ -20,7 +20,7 @@ use Rattle.bm_law_scenario.specs.Grammar.{AreScripts, lines_of}
 use Rattle.bm_law_scenario.specs.Handlers.{HandlersDone}
 use Rattle.bm_due.specs.Standing.{HandlersStand}
 use Rattle.bm_cache.specs.Tokens.{Token, number_of}
-use Rattle.bm_exec.specs.Living.{Lives}
+use Rattle.bm_exec.specs.Living.{Living, Lives, count_in}
 use Rattle.bm_exec_levels.specs.declared.program.Program.{Program}
 use Rattle.bm_world.specs.LivingState.{LivingState, known_living}
 use Rattle.bm_run.specs.InTurns.{AreTaken, TurnsSoFar, one_by_one}
@@ -29,17 +29,20 @@ use Rattle.bm_run.specs.Openings.{openings}
 use Rattle.bm_run.specs.Seated.{IsSeated, opening_lists, opening_log}
 use Rattle.bm_run.specs.declared.seats.Seat.{Seat}
 
--- ---- whose objects live
+-- ---- whose references there are
 
--- unit u lives, and not among these others
-pub record IsOwned (base lives : Lives) (u : ℕ) : Type 0 where
-  pub other : base u ≡ None
-  pub living : lives u ≢ None
+-- how many references there are to unit u beside those of `base`
+abbrev pub owns : (base lives : Lives) → (u : ℕ) → ℕ
+owns base lives u = count_in (lives u) - count_in (base u)
 
--- Each unit that lives is one processor's own: `bases p` are those of the others.
-pub record AreApart (processors : ℕ) (bases : ℕ → Lives) (lives : Lives) : Type 0 where
-  pub once : (p q u : ℕ) → p < processors → q < processors → IsOwned (bases p) lives u → IsOwned (bases q) lives u → p ≡ q
-  pub some : (u : ℕ) → lives u ≢ None → (p : ℕ) × (p < processors) × IsOwned (bases p) lives u
+abbrev pub sum_below : ℕ → (ℕ → ℕ) → ℕ
+sum_below zero f = 0
+sum_below (suc n) f = sum_below n f + f n
+
+-- To each object that lives there are references, which are those of the processors: `bases p` are those that the others have.
+pub record AddUp (processors : ℕ) (bases : ℕ → Lives) (lives : Lives) : Type 0 where
+  pub some : (u : ℕ) (l : Living) → lives u ≡ Some l → 0 < l.count
+  pub sums : (u : ℕ) → sum_below processors (λ p. owns (bases p) lives u) ≡ count_in (lives u)
 
 -- ---- the turns
 
@@ -65,7 +68,7 @@ pub record Between (g : Program) (turns rest : List ℕ) (seats : List Seat) (wo
   pub so_far : LogsSoFar g.scenario.now.processors g.scenario.now.pages (all_openings g.scenario.now ++ order) logs world
   pub waits : WaitsSoFar (all_openings g.scenario.now ++ order) world
   pub seated : (p : ℕ) (seat : Seat) → slice_get seats p ≡ Some seat → IsSeated g p (get_or logs p []) (bases p) (get_or shares p 0) world seat
-  pub apart : AreApart g.scenario.now.processors bases (known_living world).objects.lives
+  pub add_up : AddUp g.scenario.now.processors bases (known_living world).objects.lives
   pub shares_many : length shares ≡ g.scenario.now.processors
   pub few : world.asked + sum_by (λ n. n) shares < 2 ^ 22
 

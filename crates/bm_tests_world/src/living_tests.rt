@@ -75,7 +75,7 @@ fn a_unit_lives_twice(rt: HostRuntime) {
     let unit = fetch_one(&rt, &mut world, class);
     assert_eq!(rt; unit.number(), 0);
     assert_eq!(rt; unit.life(), 0);
-    let object = world.begin_life(unit, fields(&rt, &[]));
+    let object = world.begin_life(unit, 0, fields(&rt, &[]));
     assert!(rt; object == ObjId { unit: 0, life: 1 });
     let ended = world.end_life(object.unit, false);
     assert_eq!(rt; ended.life(), 1);
@@ -84,7 +84,7 @@ fn a_unit_lives_twice(rt: HostRuntime) {
     let again = fetch_one(&rt, &mut world, class);
     assert_eq!(rt; again.number(), 0);
     assert_eq!(rt; again.life(), 1);
-    let second = world.begin_life(again, fields(&rt, &[]));
+    let second = world.begin_life(again, 0, fields(&rt, &[]));
     assert!(rt; second == ObjId { unit: 0, life: 2 });
     let last = world.end_life(second.unit, false);
     world.put_back(parcel_of(&rt, last));
@@ -116,7 +116,7 @@ fn a_unit_waits_between_two_lives(rt: HostRuntime) {
     let class = Class::new(1).expect(&rt, "an index is a class");
     let mut world = living_side(&rt);
     let unit = fetch_one(&rt, &mut world, class);
-    let object = world.begin_life(unit, fields(&rt, &[]));
+    let object = world.begin_life(unit, 0, fields(&rt, &[]));
     let mut ended = world.end_life(object.unit, true);
     assert!(rt; ended.seal() == None);
     let stamp = world.stamp(Domain::Plain);
@@ -131,7 +131,7 @@ fn a_unit_waits_between_two_lives(rt: HostRuntime) {
     let again = receive_unit(&rt, &mut world, class);
     assert_eq!(rt; again.life(), 1);
     assert!(rt; again.seal() == Some(Seal { stamp: 2, seen: 2 }));
-    let second = world.begin_life(again, fields(&rt, &[]));
+    let second = world.begin_life(again, 0, fields(&rt, &[]));
     assert!(rt; second == ObjId { unit: 0, life: 2 });
     let last = world.end_life(second.unit, false);
     assert!(rt; last.seal() == None);
@@ -148,7 +148,7 @@ fn a_unit_has_two_references(rt: HostRuntime) {
     let class = Class::new(1).expect(&rt, "an index is a class");
     let mut world = living_side(&rt);
     let unit = fetch_one(&rt, &mut world, class);
-    let object = world.begin_life(unit, fields(&rt, &[]));
+    let object = world.begin_life(unit, 0, fields(&rt, &[]));
     assert_eq!(rt; world.references(object.unit), 1);
     assert_eq!(rt; world.acquire(object), 1);
     assert_eq!(rt; world.references(object.unit), 2);
@@ -168,7 +168,7 @@ fn a_unit_has_fields(rt: HostRuntime) {
     let class = Class::new(1).expect(&rt, "an index is a class");
     let mut world = living_side(&rt);
     let unit = fetch_one(&rt, &mut world, class);
-    let object = world.begin_life(unit, fields(&rt, &[7, 9]));
+    let object = world.begin_life(unit, 3, fields(&rt, &[7, 9]));
     assert_eq!(rt; world.read(object, 0), 7);
     assert_eq!(rt; world.read(object, 1), 9);
     let last = world.end_life(object.unit, false);

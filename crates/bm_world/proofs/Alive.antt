@@ -378,9 +378,9 @@ more-counted asked more None le h = tt
 more-counted asked more (Some o) le h = (h.0, (let a = h.1 in omega (arith, a, le)))
 
 -- a unit of mine begins a life
-pub living-begun : (post : PostState) (plain tracing : ℕ) (slots : Slotted) (begun : List ℕ) (standings : Standings) (asked : ℕ) (values : List ℕ) (u : UnitState) → asked + 1 < 2 ^ 31 → (rights_with_living post plain tracing slots begun standings).mine u.number ≡ true → may_live begun u.number u.life ≡ true → u.home < post.processors → AreLiving post plain tracing slots begun standings asked → AreLiving post plain tracing (set slots u.number (Some (new_object values (next_life u)))) (set begun u.number (u.life + 1)) (set standings u.number Nothing) (asked + 1)
-living-begun post plain tracing slots begun standings asked values u room mine fit home k = record {
-  size = length-set slots u.number (Some (new_object values (next_life u))) ∙ k.size;
+pub living-begun : (post : PostState) (plain tracing : ℕ) (slots : Slotted) (begun : List ℕ) (standings : Standings) (asked type : ℕ) (values : List ℕ) (u : UnitState) → asked + 1 < 2 ^ 31 → (rights_with_living post plain tracing slots begun standings).mine u.number ≡ true → may_live begun u.number u.life ≡ true → u.home < post.processors → AreLiving post plain tracing slots begun standings asked → AreLiving post plain tracing (set slots u.number (Some (new_object type values (next_life u)))) (set begun u.number (u.life + 1)) (set standings u.number Nothing) (asked + 1)
+living-begun post plain tracing slots begun standings asked type values u room mine fit home k = record {
+  size = length-set slots u.number (Some (new_object type values (next_life u))) ∙ k.size;
   counts = length-set begun u.number (u.life + 1) ∙ k.counts;
   number = λ m v e. elim (either m v e) [ inl x ↦ subst (λ w. w.number ≡ m) (sym x.1) (sym x.0) | inr x ↦ k.number m v x.1 ];
   mine = λ m v e. elim (either m v e) [ inl x ↦ subst (λ j. is_mine post j ≡ true) (sym x.0) is-mine | inr x ↦ k.mine m v x.1 ];
@@ -391,8 +391,8 @@ living-begun post plain tracing slots begun standings asked values u room mine f
   unsealed = λ m v e. elim (either m v e) [ inl x ↦ ap (λ (w : UnitState). w.seal) x.1 | inr x ↦ k.unsealed m v x.1 ];
   home = λ m v e. elim (either m v e) [ inl x ↦ subst (λ w. w.home < post.processors) (sym x.1) home | inr x ↦ k.home m v x.1 ];
   counted = λ m. elim (cases_eq m u.number) [
-    | inl same ↦ subst (IsCounted (asked + 1)) (sym (ap (object_at (set slots u.number (Some (new_object values (next_life u))))) same ∙ object-same slots u.number (Some (new_object values (next_life u))) there)) (omega arith, omega arith)
-    | inr other ↦ subst (IsCounted (asked + 1)) (sym (object-other slots u.number m (Some (new_object values (next_life u))) other)) (more-counted asked (asked + 1) (object_at slots m) (omega arith) (k.counted m))
+    | inl same ↦ subst (IsCounted (asked + 1)) (sym (ap (object_at (set slots u.number (Some (new_object type values (next_life u))))) same ∙ object-same slots u.number (Some (new_object type values (next_life u))) there)) (omega arith, omega arith)
+    | inr other ↦ subst (IsCounted (asked + 1)) (sym (object-other slots u.number m (Some (new_object type values (next_life u))) other)) (more-counted asked (asked + 1) (object_at slots m) (omega arith) (k.counted m))
   ];
   few = room;
   most = λ m. most-begun begun u.number u.life asked m counts-there (lives-as begun u.number u.life fit) (k.most m);
@@ -425,11 +425,11 @@ living-begun post plain tracing slots begun standings asked values u room mine f
     stands-there : u.number < length standings
     stands-there = let r = number in let s = k.standing.size in omega (arith, r, s)
 
-    either : (m : ℕ) (v : UnitState) → unit_at (set slots u.number (Some (new_object values (next_life u)))) m ≡ Some v → ((m ≡ u.number) × (v ≡ next_life u)) ⊎ ((m ≢ u.number) × (unit_at slots m ≡ Some v))
+    either : (m : ℕ) (v : UnitState) → unit_at (set slots u.number (Some (new_object type values (next_life u)))) m ≡ Some v → ((m ≡ u.number) × (v ≡ next_life u)) ⊎ ((m ≢ u.number) × (unit_at slots m ≡ Some v))
     either m v e =
         elim (cases_eq m u.number) [
-          | inl same ↦ inl (same, some-one v (next_life u) (sym e ∙ (ap (unit_at (set slots u.number (Some (new_object values (next_life u))))) same ∙ at-same slots u.number (Some (new_object values (next_life u))) there)))
-          | inr other ↦ inr (other, sym (at-other slots u.number m (Some (new_object values (next_life u))) other) ∙ e)
+          | inl same ↦ inl (same, some-one v (next_life u) (sym e ∙ (ap (unit_at (set slots u.number (Some (new_object type values (next_life u))))) same ∙ at-same slots u.number (Some (new_object type values (next_life u))) there)))
+          | inr other ↦ inr (other, sym (at-other slots u.number m (Some (new_object type values (next_life u))) other) ∙ e)
         ]
 
 and-false : (b : Bool) → b && false ≡ false

@@ -32,11 +32,11 @@ counts-set begun n x e = fun_ext (λ v. elim (eqb_tells n v) [
 ])
 
 -- a unit begins a life
-pub known-begun : (values : List ℕ) (u : UnitState) (w : LivingState) → object_at (set w.slots u.number (Some (new_object values (next_life u)))) u.number ≡ Some (new_object values (next_life u)) → begun_at (set w.begun u.number (u.life + 1)) u.number ≡ u.life + 1 → known_living (with_begun values u w) ≡ life_begun values u (known_living w)
-known-begun values u w s b =
+pub known-begun : (type : ℕ) (values : List ℕ) (u : UnitState) (w : LivingState) → object_at (set w.slots u.number (Some (new_object type values (next_life u)))) u.number ≡ Some (new_object type values (next_life u)) → begun_at (set w.begun u.number (u.life + 1)) u.number ≡ u.life + 1 → known_living (with_begun type values u w) ≡ life_begun type values u (known_living w)
+known-begun type values u w s b =
     let K : Lives → (ℕ → ℕ) → Known = λ xs ys. record (known_of w.side) { objects = record { lives = xs; begun = ys; asked = w.asked + 1 } } in
-    ap (λ xs. K xs (begun_at (set w.begun u.number (u.life + 1)))) (lives-set w.slots u.number (Some (new_object values (next_life u))) s)
-    ∙ ap (K (with_life u.number (Some (life_of_unit 1 values (next_life u))) (lives_of w.slots))) (counts-set w.begun u.number (u.life + 1) b)
+    ap (λ xs. K xs (begun_at (set w.begun u.number (u.life + 1)))) (lives-set w.slots u.number (Some (new_object type values (next_life u))) s)
+    ∙ ap (K (with_life u.number (Some (life_of_unit type 1 values (next_life u))) (lives_of w.slots))) (counts-set w.begun u.number (u.life + 1) b)
 
 -- a life ends
 pub known-ended : (delayed : Bool) (n : ℕ) (w : LivingState) → object_at (set w.slots n None) n ≡ None → known_living (with_ended delayed n w) ≡ life_ended n (known_living w)
@@ -72,7 +72,7 @@ is-living slots n life l h = of-slot (object_at slots n) refl h.is
     of-slot (Some o) e f = record {
       object = o;
       is = e;
-      now_is = (let same : life_of_unit o.count o.values o.unit ≡ l = cc in ap (λ (x : Living). x.life) same ∙ h.life);
+      now_is = (let same : life_of_unit o.type_number o.count o.values o.unit ≡ l = cc in ap (λ (x : Living). x.life) same ∙ h.life);
       within = within slots n o.unit (ap unit_of e);
     }
 
@@ -120,9 +120,9 @@ others-as post plain tracing slots slots' begun begun' standings standings' u e 
         let may : may_live begun' n life ≡ may_live begun n life = rw (f n h) refl in
         ap (λ (b : Bool). b && test (standing_at standings' n)) may ∙ ap (λ x. may_live begun n life && test x) (g n h)
 
-pub begun-others : (values : List ℕ) (u : UnitState) (w : LivingState) → OthersAsBefore u.number (rights_living w) (rights_living (with_begun values u w))
-begun-others values u w = others-as w.side.post w.side.grace.plain.number w.side.grace.tracing.number w.slots (set w.slots u.number (Some (new_object values (next_life u)))) w.begun (set w.begun u.number (u.life + 1)) w.standings (set w.standings u.number Nothing) u.number
-    (λ n h. at-other w.slots u.number n (Some (new_object values (next_life u))) h) (λ n h. get_or-set_other w.begun u.number n (u.life + 1) 0 h) (λ n h. get_or-set_other w.standings u.number n Nothing Nothing h)
+pub begun-others : (type : ℕ) (values : List ℕ) (u : UnitState) (w : LivingState) → OthersAsBefore u.number (rights_living w) (rights_living (with_begun type values u w))
+begun-others type values u w = others-as w.side.post w.side.grace.plain.number w.side.grace.tracing.number w.slots (set w.slots u.number (Some (new_object type values (next_life u)))) w.begun (set w.begun u.number (u.life + 1)) w.standings (set w.standings u.number Nothing) u.number
+    (λ n h. at-other w.slots u.number n (Some (new_object type values (next_life u))) h) (λ n h. get_or-set_other w.begun u.number n (u.life + 1) 0 h) (λ n h. get_or-set_other w.standings u.number n Nothing Nothing h)
 
 pub ended-others : (delayed : Bool) (n : ℕ) (w : LivingState) → OthersAsBefore n (rights_living w) (rights_living (with_ended delayed n w))
 ended-others delayed n w = others-as w.side.post w.side.grace.plain.number w.side.grace.tracing.number w.slots (set w.slots n None) w.begun w.begun w.standings (standings_after delayed n w.side.grace w.standings) n (λ m h. at-other w.slots n m None h) (λ m h. refl) (λ m h. as-before delayed m h)

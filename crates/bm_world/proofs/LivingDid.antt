@@ -134,10 +134,10 @@ lives-set slots n x m lt =
     ]
 
 -- a unit of this processor's begins a life
-pub does-make : (values : List ℕ) (u : UnitState) (a b : LivingState) → b ≡ with_begun values u a → standing_at a.standings u.number ≡ standing_of u.seal → IsTimed a.side.grace.plain.number a.side.grace.tracing.number (standing_at a.standings u.number) → u.number < length a.standings → unit_at a.slots u.number ≡ None → u.life ≡ begun_at a.begun u.number → ((n : ℕ) → begun_at b.begun n ≡ (if eqb u.number n then begun_at a.begun n + 1 else begun_at a.begun n)) → u.number < length a.slots → u.home ≡ a.side.grace.processor → LivingDoes (act.Makes u.number (u.life + 1) values u.seal ∷ []) a b
-does-make values u a b e stands timed within-standings none next counts there home = record {
+pub does-make : (type : ℕ) (values : List ℕ) (u : UnitState) (a b : LivingState) → b ≡ with_begun type values u a → standing_at a.standings u.number ≡ standing_of u.seal → IsTimed a.side.grace.plain.number a.side.grace.tracing.number (standing_at a.standings u.number) → u.number < length a.standings → unit_at a.slots u.number ≡ None → u.life ≡ begun_at a.begun u.number → ((n : ℕ) → begun_at b.begun n ≡ (if eqb u.number n then begun_at a.begun n + 1 else begun_at a.begun n)) → u.number < length a.slots → u.home ≡ a.side.grace.processor → LivingDoes (act.Makes u.number (u.life + 1) type values u.seal ∷ []) a b
+does-make type values u a b e stands timed within-standings none next counts there home = record {
   waits = (waits_told b.standings, ((ap told_standing stands ∙ told-is u.seal, (passed-is a.side.grace.plain.number a.side.grace.tracing.number u.seal (subst (IsTimed a.side.grace.plain.number a.side.grace.tracing.number) stands timed), fun_ext (λ n. ap (λ (ss : List Standing). waits_told ss n) (ap (λ (w : LivingState). w.standings) e) ∙ told-set a.standings u.number n Nothing within-standings))), refl));
-  made = (fields_told b, (fun_ext (λ m. ap (λ (w : LivingState). fields_told w m) e ∙ fields-set a.slots u.number (Some (new_object values (next_life u))) m there), refl));
+  made = (fields_told b, (fun_ext (λ m. ap (λ (w : LivingState). fields_told w m) e ∙ fields-set a.slots u.number (Some (new_object type values (next_life u))) m there), refl));
   keeps = λ n s. ap (λ (w : LivingState). standing_at w.standings n) e ∙ get_or-set_other a.standings u.number n Nothing Nothing s.0;
   did = λ p s. record {
     leads = record {
@@ -158,7 +158,7 @@ does-make values u a b e stands timed within-standings none next counts there ho
     held : (p : ℕ) → u.home ≡ p → (n : ℕ) → (if eqb n u.number then Some (record { maker = p; count = 1 }) else life_of (object_at a.slots n)) ≡ life_of (object_at b.slots n)
     held p h n =
         ap (λ (q : ℕ). let v : Life = record { maker = q; count = 1 } in if eqb n u.number then Some v else life_of (object_at a.slots n)) (sym h)
-        ∙ (sym (lives-set a.slots u.number (Some (new_object values (next_life u))) n there) ∙ ap (λ (w : LivingState). life_of (object_at w.slots n)) (sym e))
+        ∙ (sym (lives-set a.slots u.number (Some (new_object type values (next_life u))) n there) ∙ ap (λ (w : LivingState). life_of (object_at w.slots n)) (sym e))
 
 -- a life ends
 pub does-end : (delayed : Bool) (n : ℕ) (u : UnitState) (a b : LivingState) → b ≡ with_ended delayed n a → standing_at a.standings n ≡ Nothing → n < length a.standings → life_of (object_at a.slots n) ≡ Some (record { maker = u.home; count = 1 }) → u.life ≡ begun_at a.begun n → n < length a.slots → LivingDoes (act.Ends n u.life u.home delayed ∷ []) a b

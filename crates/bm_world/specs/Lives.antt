@@ -6,9 +6,10 @@ use Rattle.bm_page.specs.UnitState.{UnitState}
 use Rattle.bm_grace.specs.Known.{Known, Living, Lives}
 use Rattle.bm_grace.specs.Rights.{Rights}
 
--- the object that a unit is, with so many references and these values
-abbrev pub life_of_unit : (count : ℕ) → (values : List ℕ) → UnitState → Living
-life_of_unit count values unit = record { class = unit.class; life = unit.life; home = unit.home; count = count; values = values }
+-- the object of this type that a unit is, with so many references and these values
+abbrev pub life_of_unit : (type count : ℕ) → (values : List ℕ) → UnitState → Living
+life_of_unit type count values unit =
+    record { class = unit.class; life = unit.life; home = unit.home; type = type; count = count; values = values }
 
 -- unit u lives life n, and this is its object
 pub record HasLife (lives : Lives) (u n : ℕ) (object : Living) : Type 0 where
@@ -19,6 +20,11 @@ pub record HasLife (lives : Lives) (u n : ℕ) (object : Living) : Type 0 where
 abbrev pub count_in : Option Living → ℕ
 count_in None = 0
 count_in (Some object) = object.count
+
+-- the number of its type
+abbrev pub type_in : Option Living → ℕ
+type_in None = 0
+type_in (Some object) = object.type
 
 -- the values of its fields
 abbrev pub values_in : Option Living → List ℕ
@@ -38,11 +44,11 @@ with_life u l lives = λ v. if eqb u v then l else lives v
 abbrev pub asked_once : Known → Known
 asked_once k = record k { objects = record k.objects { asked = k.objects.asked + 1 } }
 
--- An object was asked for, with these values of its fields, and a unit began its next life for it: there is one reference to it.
-abbrev pub life_begun : (values : List ℕ) → UnitState → Known → Known
-life_begun values unit k = record k {
+-- An object of this type was asked for, with these values of its fields, and a unit began its next life for it: there is one reference to it.
+abbrev pub life_begun : (type : ℕ) → (values : List ℕ) → UnitState → Known → Known
+life_begun type values unit k = record k {
   objects = record {
-    lives = with_life unit.number (Some (life_of_unit 1 values (record unit { life = unit.life + 1 }))) k.objects.lives;
+    lives = with_life unit.number (Some (life_of_unit type 1 values (record unit { life = unit.life + 1 }))) k.objects.lives;
     begun = λ n. if eqb unit.number n then unit.life + 1 else k.objects.begun n;
     asked = k.objects.asked + 1;
   };

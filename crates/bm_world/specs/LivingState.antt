@@ -35,7 +35,7 @@ pub record LivingState : Type 0 where
 -- an object that lives, as it is known
 abbrev pub living_of : Option Object → Option Living
 living_of None = None
-living_of (Some object) = Some (life_of_unit object.count object.values object.unit)
+living_of (Some object) = Some (life_of_unit object.type_number object.count object.values object.unit)
 
 abbrev pub lives_of : List (Option Object) → Lives
 lives_of slots = λ n. living_of (object_at slots n)
@@ -83,11 +83,11 @@ next_life unit = record unit { life = unit.life + 1; seal = None }
 abbrev pub with_asked : LivingState → LivingState
 with_asked world = record world { asked = world.asked + 1 }
 
--- .. and a unit begins its next life for it, in its slot, with these values; it waits for nothing
-abbrev pub with_begun : (values : List ℕ) → UnitState → LivingState → LivingState
-with_begun values unit world =
+-- .. and a unit begins its next life for it, in its slot, of this type and with these values; it waits for nothing
+abbrev pub with_begun : (type : ℕ) → (values : List ℕ) → UnitState → LivingState → LivingState
+with_begun type values unit world =
     record world {
-      slots = slice_set world.slots unit.number (Some (new_object values (next_life unit)));
+      slots = slice_set world.slots unit.number (Some (new_object type values (next_life unit)));
       begun = slice_set world.begun unit.number (unit.life + 1);
       standings = slice_set world.standings unit.number Nothing;
       asked = world.asked + 1;

@@ -30,8 +30,8 @@ values_of None = []
 values_of (Some object) = object.values
 
 -- an object that was made just now has one reference
-abbrev pub new_object : (values : List ℕ) → UnitState → Object
-new_object values unit = record { unit = unit; count = 1; values = values }
+abbrev pub new_object : (type : ℕ) → (values : List ℕ) → UnitState → Object
+new_object type values unit = record { unit = unit; type_number = type; count = 1; values = values }
 
 -- the same object with another number of references
 abbrev pub with_count : (count : ℕ) → Option Object → Option Object

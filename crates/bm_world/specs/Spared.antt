@@ -7,7 +7,7 @@ use Rattle.bm_law_order.specs.Act as act
 -- An act spares unit n: it neither begins nor ends a life of it, and neither sends it nor returns it. So it doesn't change what the unit waits
 -- for.
 abbrev pub Spares : ℕ → Act → Type 0
-Spares n (act.Makes u life values seal) = n ≢ u
+Spares n (act.Makes u life type values seal) = n ≢ u
 Spares n (act.Ends u life home delayed) = n ≢ u
 Spares n (act.Sends c to us) = times n (units_of us) ≡ 0
 Spares n (act.Returns us) = times n (units_of us) ≡ 0

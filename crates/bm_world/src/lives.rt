@@ -7,7 +7,7 @@ ghost use Rattle.bm_grace.specs.Rights.{AsBefore};
 ghost use Rattle.bm_page.specs.declared.units.Seal.{Seal as SealValue};
 ghost use Rattle.bm_post.specs.Rights.{Gains, IsSettled, Loses};
 ghost use Rattle.bm_grace.specs.Known.{Living};
-ghost use Rattle.bm_world.specs.Lives.{HasLife, OthersAsBefore, asked_once, count_in, life_acquired, life_begun, life_ended, life_given_up, life_of_unit, values_in};
+ghost use Rattle.bm_world.specs.Lives.{HasLife, OthersAsBefore, asked_once, count_in, life_acquired, life_begun, life_ended, life_given_up, life_of_unit, type_in, values_in};
 
 use crate::World;
 use bm_journal::{ObjId, Values};
@@ -26,9 +26,9 @@ pub trait Lives: World {
         ensures rest { StaysAtRest Self.rest self.old self.new }
         ensures does { Self.does [] self.old self.new };
 
-    /// An object is asked for, with these values of its fields, and a unit of mine begins its next life for it, to which there is one
+    /// An object of a type, by its number among those declared, is asked for, with these values of its fields, and a unit of mine begins its next life for it, to which there is one
     /// reference. It is mine no more, and of all other units everything is as before.
-    fn begin_life(&mut self, unit: Unit, values: Values) -> ObjId
+    fn begin_life(&mut self, unit: Unit, type_number: usize, values: Values) -> ObjId
         requires room { (Self.known self.old).objects.asked + 1 < 2 ^ 31 }
         requires mine { (Self.rights self.old).mine unit.number ≡ true }
         requires settled { IsSettled (Self.rights self.old) unit }
@@ -36,12 +36,12 @@ pub trait Lives: World {
         ensures object { result ≡ record { unit = unit.number; life = unit.life + 1 } }
         ensures next { unit.life ≡ (Self.known self.old).objects.begun unit.number }
         ensures none { (Self.known self.old).objects.lives unit.number ≡ None }
-        ensures known { Self.known self.new ≡ life_begun values unit (Self.known self.old) }
+        ensures known { Self.known self.new ≡ life_begun type_number values unit (Self.known self.old) }
         ensures gone { Loses (unit.number ∷ []) (Self.rights self.old) (Self.rights self.new) }
         ensures others { OthersAsBefore unit.number (Self.rights self.old) (Self.rights self.new) }
         ensures rest { StaysAtRest Self.rest self.old self.new }
         ensures does { unit.home ≡ (Self.known self.old).grace.processor
-            → Self.does (act.Makes unit.number (unit.life + 1) values unit.seal ∷ []) self.old self.new };
+            → Self.does (act.Makes unit.number (unit.life + 1) type_number values unit.seal ∷ []) self.old self.new };
 
     /// How many references there are to an object that lives.
     fn references(&self, number: u16) -> u32
@@ -86,7 +86,7 @@ pub trait Lives: World {
         requires lives { is_some ((Self.known self.old).objects.lives number) ≡ true }
         requires only { count_in ((Self.known self.old).objects.lives number) ≡ 1 }
         ensures lived { let was = (Self.known self.old).objects.lives number in
-            was ≡ Some (life_of_unit 1 (values_in was) result) }
+            was ≡ Some (life_of_unit (type_in was) 1 (values_in was) result) }
         ensures number { result.number ≡ number }
         ensures last { result.life ≡ (Self.known self.old).objects.begun number }
         ensures known { Self.known self.new ≡ life_ended number (Self.known self.old) }

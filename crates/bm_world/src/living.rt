@@ -27,7 +27,7 @@ ghost use Rattle.bm_grace.specs.Begins.{begin_act};
 ghost use Rattle.bm_world.specs.LivingState.{HaveLived, LivingAtRest, begun_at, idle-living, known_living, lives_of, rights_living, room-living, with_acquired, with_asked, standings_after, with_begun, with_ended, with_given_up};
 ghost use Rattle.bm_world.specs.Standings.{left_by, standing_at};
 ghost use Rattle.bm_world.specs.declared.standing.Standing.TheVariants.{Nothing as WaitsForNothing};
-ghost use Rattle.bm_world.specs.Lives.{HasLife, OthersAsBefore, asked_once, count_in, life_acquired, life_begun, life_ended, life_given_up, life_of_unit, values_in};
+ghost use Rattle.bm_world.specs.Lives.{HasLife, OthersAsBefore, asked_once, count_in, life_acquired, life_begun, life_ended, life_given_up, life_of_unit, type_in, values_in};
 ghost use Rattle.bm_page.specs.declared.units.Seal.{Seal as SealValue};
 
 use crate::begun::Begun;
@@ -476,7 +476,7 @@ impl Lives for LivingSide {
         self.asked += 1;
     }
 
-    fn begin_life(&mut self, unit: Unit, values: Values) -> ObjId
+    fn begin_life(&mut self, unit: Unit, type_number: usize, values: Values) -> ObjId
         requires room { self.old.asked + 1 < 2 ^ 31 }
         requires mine { (rights_living self.old).mine unit.number ≡ true }
         requires settled { IsSettled (rights_living self.old) unit }
@@ -484,13 +484,13 @@ impl Lives for LivingSide {
         ensures object { result ≡ record { unit = unit.number; life = unit.life + 1 } }
         ensures next { unit.life ≡ begun_at self.old.begun unit.number }
         ensures none { lives_of self.old.slots unit.number ≡ None }
-        ensures state { self.new ≡ with_begun values unit self.old }
-        ensures known { known_living self.new ≡ life_begun values unit (known_living self.old) }
+        ensures state { self.new ≡ with_begun type_number values unit self.old }
+        ensures known { known_living self.new ≡ life_begun type_number values unit (known_living self.old) }
         ensures gone { Loses (unit.number ∷ []) (rights_living self.old) (rights_living self.new) }
         ensures others { OthersAsBefore unit.number (rights_living self.old) (rights_living self.new) }
         ensures rest { StaysAtRest LivingAtRest self.old self.new }
         ensures does { unit.home ≡ self.old.side.grace.processor
-            → LivingDoes (act.Makes unit.number (unit.life + 1) values unit.seal ∷ []) self.old self.new }
+            → LivingDoes (act.Makes unit.number (unit.life + 1) type_number values unit.seal ∷ []) self.old self.new }
     {
         self.side.processors_agree();
         let mut unit = unit;
@@ -501,7 +501,7 @@ impl Lives for LivingSide {
         };
         self.begun.set(object.unit, object.life);
         self.standings.set(object.unit, Standing::Nothing);
-        self.slots.put(unit, values);
+        self.slots.put(unit, type_number, values);
         self.asked += 1;
         object
     }
@@ -560,7 +560,7 @@ impl Lives for LivingSide {
         requires only { count_in (lives_of self.old.slots number) ≡ 1 }
         ensures unit { unit_at self.old.slots number ≡ Some result }
         ensures lived { let was = lives_of self.old.slots number in
-            was ≡ Some (life_of_unit 1 (values_in was) result) }
+            was ≡ Some (life_of_unit (type_in was) 1 (values_in was) result) }
         ensures number { result.number ≡ number }
         ensures last { result.life ≡ begun_at self.old.begun number }
         ensures state { self.new ≡ with_ended delayed number self.old }

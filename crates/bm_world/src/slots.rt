@@ -13,9 +13,11 @@ use std::mem;
 /// How many unit numbers there are.
 const NUMBERS: usize = 65_536;
 
-/// An object that lives: its unit, how many references there are to it, and the values of its fields.
+/// An object that lives: its unit, the number of its type among those declared, how many references there are to it, and the values of
+/// its fields.
 pub struct Object {
     pub unit: Unit,
+    pub type_number: usize,
     pub count: u32,
     pub values: Values,
 }
@@ -41,17 +43,19 @@ impl Slots {
         Ok(Slots { slots })
     }
 
-    /// Puts a unit into its slot, which is empty, as an object with these values of its fields, to which there is one reference.
-    pub fn put(&mut self, unit: Unit, values: Values)
+    /// Puts a unit into its slot, which is empty, as an object of this type with these values of its fields, to which there is one
+    /// reference.
+    pub fn put(&mut self, unit: Unit, type_number: usize, values: Values)
         requires size { length self.old.slots.items ≡ 2 ^ 16 }
         requires number { unit.number < 2 ^ 16 }
         requires empty { unit_at self.old.slots.items unit.number ≡ None }
         ensures { self.new.slots.items
-            ≡ slice_set self.old.slots.items unit.number (Some (new_object values unit)) }
+            ≡ slice_set self.old.slots.items unit.number (Some (new_object type_number values unit)) }
     {
         let place = unit.number() as usize;
         let object = Object {
             unit,
+            type_number,
             count: 1,
             values,
         };
@@ -72,6 +76,7 @@ impl Slots {
             Some(object) => {
                 let Object {
                     unit,
+                    type_number: _,
                     count: _,
                     values: _,
                 } = object;
@@ -133,6 +138,7 @@ fn give_up_slots(slots: Vec<Option<Object>>) {
         if let Some(object) = slot {
             let Object {
                 unit,
+                type_number: _,
                 count: _,
                 values: _,
             } = object;

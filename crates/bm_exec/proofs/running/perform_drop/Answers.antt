@@ -6,7 +6,7 @@ use Rattle.bm_exec.specs.Yields.{Unyielding}
 use Rattle.bm_exec.proofs.Yields.{disposed-unyielding, given-up-unyielding, unyielding-join}
 use Rattle.bm_exec.specs.Seen.{names_of}
 use Rattle.bm_exec.proofs.Fields.{declared-is, not-there}
-use Rattle.bm_exec.proofs.Objects.{own-reached}
+use Rattle.bm_exec.proofs.Objects.{held-some}
 use Rattle.bm_exec.proofs.Performing.{drop-performed, still-performed}
 use Rattle.bm_exec.proofs.Results.{on-ok, both-ok, get-is}
 use Rattle.bm_exec.proofs.KnownNames.{owning-there}
@@ -34,12 +34,12 @@ returns-clause-performed g c =
     let held = rw c.as_bytes.ensures.value at (rw c.in-Object.is at c.holding.ensures) in
     let h = c.requires.holds.1 in
     let living = h.living c.args.name.now _ _ _ (sym held) in
-    let reached = own-reached c.args.types.now.declared.now c.requires.holds.0 (g.M.Machine.lives m0) (names_of c.args.names.now) c.args.name.now _ _ _ _ (sym held) living.alive.is h in
     let counted : count_in (g.M.Machine.lives m0 c.in-Object.object.unit) ≡ living.alive.count = ap count_in living.alive.is in
+    let some : 0 < living.alive.count = subst (λ k. 0 < k) counted (held-some c.args.types.now.declared.now c.requires.holds.0 (g.M.Machine.lives m0) (names_of c.args.names.now) c.args.name.now _ _ _ (sym held) h) in
     let d : TypeDeclaration = c.in-Some.declared.now in
     let found : d ≡ living.declared = declared-is c.args.types.now.declared.now _ d living.declared (get-is c.args.types.now.declared.now _ d c.in-Some.ensures.lookup.3.0 (c.in-Some.ensures.lookup.3.1 _)) living.of_class.found in
     let facts = both-ok r _ _ (both-ok r _ _ s.settled s.down) (both-ok r _ _ (both-ok r _ _ s.sound s.processor) (both-ok r _ _ s.lives s.asked)) in
-    on-ok r _ _ facts (λ f os. elim (one-or-more living.alive.count reached.some) [
+    on-ok r _ _ facts (λ f os. elim (one-or-more living.alive.count some) [
       | inl one ↦
           let gone = subst (λ (x : TypeDeclaration). Disposed (g.M.Machine.level m0) x.counted living.class c.in-Object.object (g.M.Machine.lists m0) (g.M.Machine.log m0) (g.M.Machine.log m1) (g.M.Machine.lives m0) (g.M.Machine.lives m1)) found (c.dispose.ensures.disposed living.class living.alive (counted ∙ one)) in
           drop-performed c.args.types.now.declared.now c.args.types.now.classes.now (g.M.Machine.level m0) (g.M.Machine.around m0) (g.M.Machine.behind c.args.machine.now) (g.M.Machine.processor m0) (g.M.Machine.lists m0) (g.M.Machine.lists m1) (g.M.Machine.lists m2) c.args.name.now _ c.in-Object.object
@@ -79,9 +79,9 @@ returns-clause-yields g c =
     let held = rw c.as_bytes.ensures.value at (rw c.in-Object.is at c.holding.ensures) in
     let h = c.requires.holds.1 in
     let living = h.living c.args.name.now _ _ _ (sym held) in
-    let reached = own-reached c.args.types.now.declared.now c.requires.holds.0 (g.M.Machine.lives m0) (names_of c.args.names.now) c.args.name.now _ _ _ _ (sym held) living.alive.is h in
     let counted : count_in (g.M.Machine.lives m0 c.in-Object.object.unit) ≡ living.alive.count = ap count_in living.alive.is in
-    let quiet : Unyielding (g.M.Machine.level m0) (g.M.Machine.log m0) (g.M.Machine.log m1) = elim (one-or-more living.alive.count reached.some) [
+    let some : 0 < living.alive.count = subst (λ k. 0 < k) counted (held-some c.args.types.now.declared.now c.requires.holds.0 (g.M.Machine.lives m0) (names_of c.args.names.now) c.args.name.now _ _ _ (sym held) h) in
+    let quiet : Unyielding (g.M.Machine.level m0) (g.M.Machine.log m0) (g.M.Machine.log m1) = elim (one-or-more living.alive.count some) [
       | inl one ↦ disposed-unyielding _ _ _ _ _ _ _ _ _ (c.dispose.ensures.disposed living.class living.alive (counted ∙ one))
       | inr more ↦ given-up-unyielding _ _ _ _ _ _ (c.dispose.ensures.others (subst (λ k. 1 < k) (sym counted) more))
     ] in

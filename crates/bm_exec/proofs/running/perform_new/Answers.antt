@@ -32,5 +32,5 @@ returns-clause-yields g c =
     let m1 = c.create-reply.new.self in
     let m2 = c.settle.new.self in
     on-ok c.settle.result _ _ c.settle.ensures.yields (λ y.
-    unyielding-join (g.M.Machine.level m0) (g.M.Machine.log m0) (g.M.Machine.log m1) (g.M.Machine.log m2) (created-unyielding _ _ _ _ _ _ _ _ _ c.create-reply.ensures.created)
+    unyielding-join (g.M.Machine.level m0) (g.M.Machine.log m0) (g.M.Machine.log m1) (g.M.Machine.log m2) (created-unyielding _ _ _ _ _ _ _ _ _ _ c.create-reply.ensures.created)
     (subst (λ l. Unyielding l (g.M.Machine.log m1) (g.M.Machine.log m2)) c.create-reply.ensures.level y))

@@ -82,7 +82,7 @@ returns-clause-disposed g c class alive =
     let f = c.release.ensures.freed in
     let lives = (known_of g.W.Knows m).objects.lives in
     let home : home_of (lives o.unit) ≡ Some u.home = ap home_of e.lived in
-    let is : u.class ≡ class = (living-now lives o.unit o.life class 1 _ u e.lived alive).1 in
+    let is : u.class ≡ class = (living-now lives o.unit o.life class _ 1 _ u e.lived alive).1 in
     given-up c.args.counted l _ class o u (lists_of m) _ f.rest _ _ _ _ lives (known_of g.W.Knows c.release.new.own).objects.lives e.number is (ap (seen number_of) (c.note-2.ensures.same ∙ c.note.ensures.same)) home n.records n'.records f.records f.allowed (c.release.ensures.lives ∙ ap (λ (x : Known). x.objects.lives) e.known)
 
 pub returns-clause-between : goal.returns-clause-between
@@ -135,7 +135,7 @@ release-requires-clause-tied g c =
     let u : UnitState = c.end_life-unit.result in
     let e = c.end_life-unit.ensures in
     let alive = c.requires.living in
-    let now : u.life ≡ o.life = (living-now (known_of g.W.Knows m).objects.lives o.unit o.life alive.0 1 _ u e.lived alive.1).0 in
+    let now : u.life ≡ o.life = (living-now (known_of g.W.Knows m).objects.lives o.unit o.life alive.0 _ 1 _ u e.lived alive.1).0 in
     let k : Processor g.row.W.Denot = record m { caches = c.note-2.new.self; side = c.end_life-unit.new.self } in
     let F : ℕ → Type 0 = λ x. FreesAt g.W.Knows g.B.Since.since g.B.Since.start l x u.home k in
     subst F (sym e.number) (tied-freeing g.W.Knows g.B.Since.since g.B.Since.start c.args.counted l o.unit o.life u.home m k c.note.new.self.recorder.told n.records n'.records (subst (λ x. g.W.Knows.does (act.Ends o.unit x u.home c.args.counted ∷ []) m.side k.side) now e.does, ap (λ (x : Known). x.grace.processor) e.known) (either c.args.counted (λ d. Awaits g.W.Knows d o.unit k) (λ f. e.undue f) (λ f. e.unsettled f)) c.requires.tied)

@@ -12,7 +12,7 @@ use Rattle.bm_page.specs.UnitState.{UnitState}
 use Rattle.bm_page.specs.declared.units.Seal.{Seal}
 use Rattle.bm_grace.specs.Known.{Known, Lives}
 use Rattle.bm_cache.specs.Tokens.{Token, seal_numbers}
-use Rattle.bm_exec.specs.Living.{with_life}
+use Rattle.bm_exec.specs.Living.{new_life, with_life}
 use Rattle.bm_exec_levels.specs.AtProcessor.{log_of}
 use Rattle.bm_exec_levels.specs.Hosting.{at-say, with_caches, with_side}
 use Rattle.bm_exec_levels.specs.AtTie.{asked-behind, tied-begun, tied-did, tied-quiet}
@@ -40,12 +40,12 @@ returns-in-Unit-clause-created g c =
     let b = c.begin_life.ensures in
     let kept = c.allocate.ensures.lives in
     let none : (known_of g.W.Knows m).objects.lives u.number ≡ None = ap (λ (f : Lives). f u.number) (sym kept) ∙ b.none in
-    let V : List ℕ → Type 0 = λ v. (g.W.Knows.known c.begin_life.new.self).objects.lives ≡ with_life u.number (Some (record { class = u.class; life = u.life + 1; home = u.home; count = 1; values = v })) (known_of g.W.Knows k).objects.lives in
+    let V : List ℕ → Type 0 = λ v. (g.W.Knows.known c.begin_life.new.self).objects.lives ≡ with_life u.number (Some (new_life u.class c.args.type_id.0 (u.life + 1) u.home v)) (known_of g.W.Knows k).objects.lives in
     let lived = subst V c.duplicate-fields.ensures (ap (λ (x : Known). x.objects.lives) b.known) in
     let class = c.in-Unit.ensures.class in
-    let F : ℕ → Lives → Type 0 = λ z f. (g.W.Knows.known c.begin_life.new.self).objects.lives ≡ with_life u.number (Some (record { class = z; life = u.life + 1; home = u.home; count = 1; values = c.args.values })) f in
+    let F : ℕ → Lives → Type 0 = λ z f. (g.W.Knows.known c.begin_life.new.self).objects.lives ≡ with_life u.number (Some (new_life z c.args.type_id.0 (u.life + 1) u.home c.args.values)) f in
     let now = subst (F c.args.class) kept (subst (λ z. F z (known_of g.W.Knows k).objects.lives) class lived) in
-    rw b.object (made-one g.L.Rank.number c.args.class c.args.name c.args.values _ _ _ u a.0 a.1 (known_of g.W.Knows m).objects.lives (g.W.Knows.known c.begin_life.new.self).objects.lives n.records a.4 none now)
+    rw b.object (made-one g.L.Rank.number c.args.class c.args.type_id.0 c.args.name c.args.values _ _ _ u a.0 a.1 (known_of g.W.Knows m).objects.lives (g.W.Knows.known c.begin_life.new.self).objects.lives n.records a.4 none now)
 
 -- no more were asked for than before the allocation
 pub returns-in-Unit-clause-at : goal.returns-in-Unit-clause-at
@@ -54,7 +54,7 @@ returns-in-Unit-clause-at g c =
     let most = c.allocate.ensures.between.stays.asks_most in
     let room = c.requires.room in
     let asks : asked_of g.W.Knows c.args.program.now.scenario.now k + 1 < 2 ^ 22 = omega (arith, most, room) in
-    at-begun g.W.Knows g.L.Rank.number c.args.program.now k c.begin_life.new.self c.duplicate-fields.result c.in-Unit.unit c.begin_life.ensures.known asks c.in-Unit.ensures.sound.0
+    at-begun g.W.Knows g.L.Rank.number c.args.program.now k c.begin_life.new.self c.args.type_id.0 c.duplicate-fields.result c.in-Unit.unit c.begin_life.ensures.known asks c.in-Unit.ensures.sound.0
 
 pub returns-in-Unit-clause-between : goal.returns-in-Unit-clause-between
 returns-in-Unit-clause-between g c =
@@ -80,7 +80,7 @@ pub returns-in-Empty-clause-created : goal.returns-in-Empty-clause-created
 returns-in-Empty-clause-created g c =
     let n = rw c.level.ensures.number at c.note.ensures.step in
     let a = c.in-Empty.ensures.answer in
-    made-none g.L.Rank.number c.args.class c.args.name c.args.values _ _ _ _ (known_of g.W.Knows c.args.own.now).objects.lives (g.W.Knows.known c.ask.new.self).objects.lives n.records a.1.records (inl (a.0, refl)) (ap (λ (x : Known). x.objects.lives) c.ask.ensures.known ∙ c.allocate.ensures.lives)
+    made-none g.L.Rank.number c.args.class c.args.type_id.0 c.args.name c.args.values _ _ _ _ (known_of g.W.Knows c.args.own.now).objects.lives (g.W.Knows.known c.ask.new.self).objects.lives n.records a.1.records (inl (a.0, refl)) (ap (λ (x : Known). x.objects.lives) c.ask.ensures.known ∙ c.allocate.ensures.lives)
 
 pub returns-in-Empty-clause-at : goal.returns-in-Empty-clause-at
 returns-in-Empty-clause-at g c =
@@ -108,7 +108,7 @@ pub returns-in-Busy-clause-created : goal.returns-in-Busy-clause-created
 returns-in-Busy-clause-created g c =
     let n = rw c.level.ensures.number at c.note.ensures.step in
     let a = c.in-Busy.ensures.answer in
-    made-none g.L.Rank.number c.args.class c.args.name c.args.values _ _ _ _ (known_of g.W.Knows c.args.own.now).objects.lives (g.W.Knows.known c.ask-in-Busy.new.self).objects.lives n.records a.2.records (inr (_, a.0, a.1, refl)) (ap (λ (x : Known). x.objects.lives) c.ask-in-Busy.ensures.known ∙ c.allocate.ensures.lives)
+    made-none g.L.Rank.number c.args.class c.args.type_id.0 c.args.name c.args.values _ _ _ _ (known_of g.W.Knows c.args.own.now).objects.lives (g.W.Knows.known c.ask-in-Busy.new.self).objects.lives n.records a.2.records (inr (_, a.0, a.1, refl)) (ap (λ (x : Known). x.objects.lives) c.ask-in-Busy.ensures.known ∙ c.allocate.ensures.lives)
 
 pub returns-in-Busy-clause-at : goal.returns-in-Busy-clause-at
 returns-in-Busy-clause-at g c =
@@ -163,7 +163,7 @@ returns-in-Unit-clause-tied g c =
     let i = c.args.class in
     let before : List Entry = entry.Enter i 1 ∷ entry.Pop i u.number ∷ entry.Count i a.0 ∷ entry.Leave i a.1 ∷ raise_below i a.0 in
     let F : Option (ℕ × ℕ) → Type 0 = λ z. Records g.L.Rank.number (before ++ given u.number (u.life + 1) z ∷ []) c.note.new.self.recorder.told (log_of k) in
-    tied-begun g.W.Knows g.B.Since.since g.B.Since.start g.L.Rank.number u.number (u.life + 1) c.duplicate-fields.result u.seal before c.note.new.self.recorder.told k (with_side k c.begin_life.new.self) (subst (λ v. IfSome c.note.new.self.recorder.told (AsksFor g.L.Rank.number v)) (sym c.duplicate-fields.ensures) (asked-behind g.L.Rank.number c.args.name c.args.values (log_of c.args.own.now) c.note.new.self.recorder.told n.records)) (raises-none i a.0 c.duplicate-fields.result) (subst F (seals-same u.seal) a.4) refl (b.does home, ap (λ (x : Known). x.grace.processor) b.known) s.1
+    tied-begun g.W.Knows g.B.Since.since g.B.Since.start g.L.Rank.number u.number (u.life + 1) c.args.type_id.0 c.duplicate-fields.result u.seal before c.note.new.self.recorder.told k (with_side k c.begin_life.new.self) (subst (λ v. IfSome c.note.new.self.recorder.told (AsksFor g.L.Rank.number v)) (sym c.duplicate-fields.ensures) (asked-behind g.L.Rank.number c.args.name c.args.values (log_of c.args.own.now) c.note.new.self.recorder.told n.records)) (raises-none i a.0 c.duplicate-fields.result) (subst F (seals-same u.seal) a.4) refl (b.does home, ap (λ (x : Known). x.grace.processor) b.known) s.1
 
 pub returns-in-Empty-clause-tied : goal.returns-in-Empty-clause-tied
 returns-in-Empty-clause-tied g c =

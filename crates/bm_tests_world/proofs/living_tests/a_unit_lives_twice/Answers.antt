@@ -15,17 +15,17 @@ put_back-requires-clause-mine g c =
 pub end_life-ended-requires-clause-only : goal.end_life-ended-requires-clause-only
 end_life-ended-requires-clause-only g c =
     let b = c.begin_life-object.ensures in
-    ap count_in (begun-here c.fields.result c.fetch_one-unit.result (known_living c.fetch_one-unit.new.world) (known_living c.begin_life-object.new.self) c.begin_life-object.result b.object b.known)
+    ap count_in (begun-here 0 c.fields.result c.fetch_one-unit.result (known_living c.fetch_one-unit.new.world) (known_living c.begin_life-object.new.self) c.begin_life-object.result b.object b.known)
 
 pub end_life-last-requires-clause-lives : goal.end_life-last-requires-clause-lives
 end_life-last-requires-clause-lives g c =
     let b = c.begin_life-second.ensures in
-    ap is_some (begun-here c.fields-2.result c.fetch_one-again.result (known_living c.fetch_one-again.new.world) (known_living c.begin_life-second.new.self) c.begin_life-second.result b.object b.known)
+    ap is_some (begun-here 0 c.fields-2.result c.fetch_one-again.result (known_living c.fetch_one-again.new.world) (known_living c.begin_life-second.new.self) c.begin_life-second.result b.object b.known)
 
 pub end_life-last-requires-clause-only : goal.end_life-last-requires-clause-only
 end_life-last-requires-clause-only g c =
     let b = c.begin_life-second.ensures in
-    ap count_in (begun-here c.fields-2.result c.fetch_one-again.result (known_living c.fetch_one-again.new.world) (known_living c.begin_life-second.new.self) c.begin_life-second.result b.object b.known)
+    ap count_in (begun-here 0 c.fields-2.result c.fetch_one-again.result (known_living c.fetch_one-again.new.world) (known_living c.begin_life-second.new.self) c.begin_life-second.result b.object b.known)
 
 pub put_back-requires-2-clause-mine : goal.put_back-requires-2-clause-mine
 put_back-requires-2-clause-mine g c =

@@ -25,7 +25,7 @@ invariant_of-self c =
     let put = rw c.begin_life.ensures at c.put.ensures in
     let said = rw c.begin_life.ensures at (rw c.life.ensures at (rw c.number.ensures at c.set.ensures)) in
     let stood = rw c.begin_life.ensures at (rw c.number.ensures at c.set-2.ensures.standings) in
-    (rw (put, said, stood) (living-begun i.side.post i.side.grace.plain.number i.side.grace.tracing.number i.slots.slots.items i.begun.counts.items i.standings.standings.items i.asked c.args.values u room mine settled home c.self.invariant.0), ap length c.set-2.ensures.before ∙ c.self.invariant.1)
+    (rw (put, said, stood) (living-begun i.side.post i.side.grace.plain.number i.side.grace.tracing.number i.slots.slots.items i.begun.counts.items i.standings.standings.items i.asked c.args.type_number c.args.values u room mine settled home c.self.invariant.0), ap length c.set-2.ensures.before ∙ c.self.invariant.1)
 
 pub returns-clause-next : goal.returns-clause-next
 returns-clause-next c =
@@ -47,7 +47,7 @@ returns-clause-gone c =
     let put = rw c.begin_life.ensures at c.put.ensures in
     let said = rw c.begin_life.ensures at (rw c.life.ensures at (rw c.number.ensures at c.set.ensures)) in
     let stood = rw c.begin_life.ensures at (rw c.number.ensures at c.set-2.ensures.standings) in
-    rw (← c.self.view_is, put, said, stood) (begun-gone i.side.post i.side.grace.plain.number i.side.grace.tracing.number i.slots.slots.items i.begun.counts.items (set i.begun.counts.items u.number (u.life + 1)) i.standings.standings.items (set i.standings.standings.items u.number Nothing) u.number (new_object c.args.values (next_life u)) there)
+    rw (← c.self.view_is, put, said, stood) (begun-gone i.side.post i.side.grace.plain.number i.side.grace.tracing.number i.slots.slots.items i.begun.counts.items (set i.begun.counts.items u.number (u.life + 1)) i.standings.standings.items (set i.standings.standings.items u.number Nothing) u.number (new_object c.args.type_number c.args.values (next_life u)) there)
 
 pub returns-clause-does : goal.returns-clause-does
 returns-clause-does c h =
@@ -69,7 +69,7 @@ returns-clause-does c h =
     let stood = rw c.begin_life.ensures at (rw c.number.ensures at c.set-2.ensures.standings) in
     let home = subst (λ (s : LivingState). u.home ≡ s.side.grace.processor) (sym c.self.view_is) h in
     let lives = lives-as i.begun.counts.items u.number u.life settled in
-    rw (← c.self.view_is, put, said, stood) (does-make c.args.values u a (with_begun c.args.values u a) refl (stands-so (standing_at i.standings.standings.items u.number) u.seal (waited i.begun.counts.items i.standings.standings.items u.number u.life u.seal used)) (c.self.invariant.0.standing.timed u.number) stands (lives-not i.side.grace.plain.number i.side.grace.tracing.number i.standings.standings.items i.side.post i.slots.slots.items i.begun.counts.items u.number mine) lives (λ n. counted i.begun.counts.items u.number u.life n counts lives) there home)
+    rw (← c.self.view_is, put, said, stood) (does-make c.args.type_number c.args.values u a (with_begun c.args.type_number c.args.values u a) refl (stands-so (standing_at i.standings.standings.items u.number) u.seal (waited i.begun.counts.items i.standings.standings.items u.number u.life u.seal used)) (c.self.invariant.0.standing.timed u.number) stands (lives-not i.side.grace.plain.number i.side.grace.tracing.number i.standings.standings.items i.side.post i.slots.slots.items i.begun.counts.items u.number mine) lives (λ n. counted i.begun.counts.items u.number u.life n counts lives) there home)
 
 pub returns-clause-none : goal.returns-clause-none
 returns-clause-none c =
@@ -91,7 +91,7 @@ returns-clause-known c =
     let counts : u.number < length i.begun.counts.items = omega (arith, number, sizes) in
     let put = rw c.begin_life.ensures at c.put.ensures in
     let said = rw c.begin_life.ensures at (rw c.life.ensures at (rw c.number.ensures at c.set.ensures)) in
-    rw (← c.self.view_is, put, said) (known-begun c.args.values u a (object-same i.slots.slots.items u.number (Some (new_object c.args.values (next_life u))) there) (get_or-set_same i.begun.counts.items u.number (u.life + 1) 0 counts))
+    rw (← c.self.view_is, put, said) (known-begun c.args.type_number c.args.values u a (object-same i.slots.slots.items u.number (Some (new_object c.args.type_number c.args.values (next_life u))) there) (get_or-set_same i.begun.counts.items u.number (u.life + 1) 0 counts))
 
 pub returns-clause-others : goal.returns-clause-others
 returns-clause-others c =
@@ -101,4 +101,4 @@ returns-clause-others c =
     let put = rw c.begin_life.ensures at c.put.ensures in
     let said = rw c.begin_life.ensures at (rw c.life.ensures at (rw c.number.ensures at c.set.ensures)) in
     let stood = rw c.begin_life.ensures at (rw c.number.ensures at c.set-2.ensures.standings) in
-    rw (← c.self.view_is, put, said, stood) (begun-others c.args.values u a)
+    rw (← c.self.view_is, put, said, stood) (begun-others c.args.type_number c.args.values u a)

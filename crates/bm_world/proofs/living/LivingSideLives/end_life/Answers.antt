@@ -7,7 +7,7 @@ use Rattle.bm_world.proofs.SlotLemmas.{object-same, the-object, within}
 use Rattle.bm_grace.specs.Known.{Living}
 use Rattle.bm_law_order.specs.Lives.{Life}
 use Rattle.bm_page.specs.UnitState.{UnitState}
-use Rattle.bm_world.specs.Lives.{count_in, life_of_unit, values_in}
+use Rattle.bm_world.specs.Lives.{count_in, life_of_unit, type_in, values_in}
 use Rattle.bm_world.specs.Slots.{object_at}
 use Rattle.bm_world.specs.ToldLiving.{life_of}
 use Rattle.bm_world.proofs.living.LivingSideLives.end_life.Goals as goal
@@ -88,8 +88,10 @@ returns-clause-lived c =
     let only : count_in (lives_of i.slots.slots.items n) ≡ 1 = subst (λ (s : LivingState). count_in (lives_of s.slots n) ≡ 1) (sym c.self.view_is) c.requires.only in
     let one : o.object.count ≡ 1 = sym (ap (λ x. count_in (living_of x)) o.is) ∙ only in
     let told : values_in (lives_of i.slots.slots.items n) ≡ o.object.values = ap (λ x. values_in (living_of x)) o.is in
-    let F : ℕ → List ℕ → UnitState → Option Living = λ k values v. Some (life_of_unit k values v) in
-    rw (← c.self.view_is) (ap living_of o.is ∙ (ap (λ k. F k o.object.values o.object.unit) one ∙ (ap (F 1 o.object.values) o.unit ∙ ap (λ vs. F 1 vs u) (sym told))))
+    let typed : type_in (lives_of i.slots.slots.items n) ≡ o.object.type_number = ap (λ x. type_in (living_of x)) o.is in
+    let F : ℕ → ℕ → List ℕ → UnitState → Option Living = λ t k values v. Some (life_of_unit t k values v) in
+    let t = o.object.type_number in
+    rw (← c.self.view_is) (ap living_of o.is ∙ (ap (λ k. F t k o.object.values o.object.unit) one ∙ (ap (F t 1 o.object.values) o.unit ∙ (ap (λ vs. F t 1 vs u) (sym told) ∙ ap (λ z. F z 1 (values_in (lives_of i.slots.slots.items n)) u) (sym typed)))))
 
 pub returns-clause-known : goal.returns-clause-known
 returns-clause-known c =
