@@ -11,6 +11,7 @@ use Rattle.bm_law.specs.State.{State}
 use Rattle.bm_law.specs.Lists.{Log, Leaves, after}
 use Rattle.bm_law.specs.Spans.{Records}
 use Rattle.bm_journal.specs.declared.ids.Domain.TheVariants.{Plain}
+use Rattle.bm_law_scenario.specs.Declared.{unmapped}
 use Rattle.bm_law_scenario.specs.Held.{Nothing, Null, Object, Names, with_name}
 use Rattle.bm_law_scenario.specs.Opened.{OfClass}
 use Rattle.bm_law.proofs.Folds.{after-append}
@@ -46,10 +47,10 @@ safe-reply e os names x t values (Some o) s = rw (store-with x (Object t o.unit 
 
 -- what a call leaves, then the work behind it, and then the rest
 called : (types : List TypeDeclaration) (l : ℕ) (z : Around) (w : Option (List ℕ)) (p : ℕ) (a : Action) (s s1 s' : State ℕ) (names names' : Names) (os : List Open) (log log1 log' : Option Log) → IfSome log (λ es. Leaves p es s) → IfSome log1 (λ es. Leaves p es s1) → IfSome log' (λ es. Leaves p es s') →
-    GrewBy (RunsAction types l (is_inside z) (Behind w) a names names') s log log1 → GrewBy (Behind w) s1 log1 log' → (last : Names) (final : Option Log) → GrewBy (RunsStack types l z w os names' last) s' log' final → GrewBy (Followed (RunsStatement types l (is_inside z) w a) (RunsStack types l z w os) names last) s log final
+    GrewBy (RunsAction (unmapped types) l (is_inside z) (Behind w) a names names') s log log1 → GrewBy (Behind w) s1 log1 log' → (last : Names) (final : Option Log) → GrewBy (RunsStack types l z w os names' last) s' log' final → GrewBy (Followed (RunsStatement types l (is_inside z) w a) (RunsStack types l z w os) names last) s log final
 called types l z w p a s s1 s' names names' os log log1 log' x x1 x' y b last final more =
     let g : GrewBy (RunsStatement types l (is_inside z) w a names names') s log log' =
-    grew-join (RunsAction types l (is_inside z) (Behind w) a names names') (Behind w) (RunsStatement types l (is_inside z) w a names names') p s s1 log log1 log' (λ one two i j. (names', record { one = one; two = two; part_is = refl; is_first = i; is_second = (refl, j) })) x x1 y b in
+    grew-join (RunsAction (unmapped types) l (is_inside z) (Behind w) a names names') (Behind w) (RunsStatement types l (is_inside z) w a names names') p s s1 log log1 log' (λ one two i j. (names', record { one = one; two = two; part_is = refl; is_first = i; is_second = (refl, j) })) x x1 y b in
     grew-join (RunsStatement types l (is_inside z) w a names names') (RunsStack types l z w os names' last) (Followed (RunsStatement types l (is_inside z) w a) (RunsStack types l z w os) names last) p s s' log log' final
     (λ one two i j. (names', record { one = one; two = two; part_is = refl; is_first = i; is_second = j })) x x' g more
 
@@ -75,7 +76,7 @@ pub drop-performed : (types : List TypeDeclaration) (classes : List ℕ) (l : �
     lives'' ≡ lives' → GrewBy (Behind w) s1 log1 log' → Behind w s' [] → (os : List Open) → Performed types l z z w s s' (Drop x) names names' os os lives lives'' asked asked' log log'
 drop-performed types classes l z w p s s1 s' x t o names names' lives lives' lives'' asked asked' log log1 log' c d leaves leaves1 leaves' cs of held one gone e n same work down os = record {
   grew = called types l z w p (Drop x) s s1 s' names names' os log log1 log' leaves leaves1 leaves'
-      (grew-map (Say l (λ own. RunsGivingUp types x (batch_in s) names own names')) (RunsAction types l (is_inside z) (Behind w) (Drop x) names names') s log log1 (λ part y. y)
+      (grew-map (Say l (λ own. RunsGivingUp types x (batch_in s) names own names')) (RunsAction (unmapped types) l (is_inside z) (Behind w) (Drop x) names names') s log log1 (λ part y. y)
       (grew-say l (λ own. RunsGivingUp types x (batch_in s) names own names') (entry.Drop o.unit o.life ∷ entry.Last ∷ gone.own) s log log1 gone.records
       (inr (record { type = t; unit = o.unit; life = o.life; held = held; class = c; declared = d; of_class = of; home = gone.home; batch = is_some (s.rows c).deferred.plain; batch_is = knows-batch s c; own = gone.own; part_is = refl; frees = gone.frees; after_is = e })))) work;
   safe = λ s y. rw e (rw (store-with x Nothing names) y.1.3);
@@ -93,7 +94,7 @@ pub still-performed : (types : List TypeDeclaration) (l : ℕ) (z : Around) (w :
     lives'' ≡ lives' → GrewBy (Behind w) s1 log1 log' → Behind w s' [] → (os : List Open) → Performed types l z z w s s' (Drop x) names names' os os lives lives'' asked asked' log log'
 still-performed types l z w p s s1 s' x t o names names' lives lives' lives'' asked asked' log log1 log' leaves leaves1 leaves' of held gone e n same work down os = record {
   grew = called types l z w p (Drop x) s s1 s' names names' os log log1 log' leaves leaves1 leaves'
-      (grew-map (Say l (λ own. RunsGivingUp types x (batch_in s) names own names')) (RunsAction types l (is_inside z) (Behind w) (Drop x) names names') s log log1 (λ part y. y)
+      (grew-map (Say l (λ own. RunsGivingUp types x (batch_in s) names own names')) (RunsAction (unmapped types) l (is_inside z) (Behind w) (Drop x) names names') s log log1 (λ part y. y)
       (grew-say l (λ own. RunsGivingUp types x (batch_in s) names own names') (entry.Drop o.unit o.life ∷ entry.Still gone.seen ∷ []) s log log1 gone.records
       (inl (record { type = t; unit = o.unit; life = o.life; held = held; of_type = of; seen = gone.seen; others = gone.others; part_is = refl; after_is = e })))) work;
   safe = λ s y. rw e (rw (store-with x Nothing names) y.1.3);
@@ -145,17 +146,17 @@ get-performed types l z w p s s' x field t o place names lives lives' asked aske
     }
 
 -- a block that runs once
-rest-once : (types : List TypeDeclaration) (l : ℕ) (i : Bool) (w : Option (List ℕ)) (o : Open) (body : Block) → o.rest.now ≡ block_list body → o.repeats ≡ 0 → (names last : Names) (s : State ℕ) (part : Log) → RunsRest types l i w o names last s part → RunsBlock types l i (Behind w) body names last s part
+rest-once : (types : List TypeDeclaration) (l : ℕ) (i : Bool) (w : Option (List ℕ)) (o : Open) (body : Block) → o.rest.now ≡ block_list body → o.repeats ≡ 0 → (names last : Names) (s : State ℕ) (part : Log) → RunsRest types l i w o names last s part → RunsBlock (unmapped types) l i (Behind w) body names last s part
 rest-once types l i w o body r n names last s part x =
     let y : Followed (RunsList types l i w (block_list body)) Done names last s part = rw n at (rw r at x) in
     rw (block-runs types l i w body) (undone-last (RunsList types l i w (block_list body)) names last s part y)
 
-pub block-once : (types : List TypeDeclaration) (l : ℕ) (z : Around) (w : Option (List ℕ)) (o : Open) (body : Block) → o.rest.now ≡ block_list body → o.repeats ≡ 0 → o.leaves ≡ false → (names last : Names) (s : State ℕ) (part : Log) → RunsOpen types l z w o names last s part → RunsBlock types l (is_inside z) (Behind w) body names last s part
+pub block-once : (types : List TypeDeclaration) (l : ℕ) (z : Around) (w : Option (List ℕ)) (o : Open) (body : Block) → o.rest.now ≡ block_list body → o.repeats ≡ 0 → o.leaves ≡ false → (names last : Names) (s : State ℕ) (part : Log) → RunsOpen types l z w o names last s part → RunsBlock (unmapped types) l (is_inside z) (Behind w) body names last s part
 block-once types l z w o body r n f names last s part x = rest-once types l (is_inside z) w o body r n names last s part (rw f at x)
 
-block-times : (types : List TypeDeclaration) (l : ℕ) (z : Around) (w : Option (List ℕ)) (o : Open) (k : ℕ) (body : Block) (b : Bor Block) → o.rest.now ≡ [] → o.repeats ≡ k → o.body ≡ Some b → b.now ≡ body → o.leaves ≡ false → (names last : Names) (s : State ℕ) (part : Log) → RunsOpen types l z w o names last s part → Times (RunsBlock types l (is_inside z) (Behind w) body) k names last s part
+block-times : (types : List TypeDeclaration) (l : ℕ) (z : Around) (w : Option (List ℕ)) (o : Open) (k : ℕ) (body : Block) (b : Bor Block) → o.rest.now ≡ [] → o.repeats ≡ k → o.body ≡ Some b → b.now ≡ body → o.leaves ≡ false → (names last : Names) (s : State ℕ) (part : Log) → RunsOpen types l z w o names last s part → Times (RunsBlock (unmapped types) l (is_inside z) (Behind w) body) k names last s part
 block-times types l z w o k body b r n f g q names last s part x =
-    let B = RunsBlock types l (is_inside z) (Behind w) body in
+    let B = RunsBlock (unmapped types) l (is_inside z) (Behind w) body in
     let y : Followed Done (Times B k) names last s part = rw g at (rw f at (rw n at (rw r at (rw q at x)))) in
     undone-first (Times B k) names last s part y
 
@@ -166,13 +167,13 @@ stack-over types l z w o os names last s part f x =
     subst (λ (y : Around). Followed (RunsOpen types l z w o) (RunsAround types l y w os) names last s part) same x
 
 -- a block that a statement opened, and what is around it: the block of that statement, at least
-opened : (types : List TypeDeclaration) (l : ℕ) (z : Around) (w : Option (List ℕ)) (a : Action) (o : Open) (before : List Open) (names last : Names) (s : State ℕ) (part : Log) → 0 < length before → o.leaves ≡ false → ((m : Names) (p : Log) → RunsOpen types l z w o names m s p → RunsAction types l (is_inside z) (Behind w) a names m s p) →
+opened : (types : List TypeDeclaration) (l : ℕ) (z : Around) (w : Option (List ℕ)) (a : Action) (o : Open) (before : List Open) (names last : Names) (s : State ℕ) (part : Log) → 0 < length before → o.leaves ≡ false → ((m : Names) (p : Log) → RunsOpen types l z w o names m s p → RunsAction (unmapped types) l (is_inside z) (Behind w) a names m s p) →
     RunsStack types l z w (o ∷ before) names last s part → Followed (RunsStatement types l (is_inside z) w a) (RunsStack types l z w before) names last s part
 opened types l z w a o [] names last s part some g f x = absurd (omega (arith, some))
 opened types l z w a o (p ∷ ps) names last s part some g f x =
     let B = Leaving (Behind w) in
     map-first (Followed (RunsOpen types l z w o) B) (RunsStatement types l (is_inside z) w a) (RunsStack types l z w (p ∷ ps)) names last s part
-    (λ m q y. map-first (RunsOpen types l z w o) (RunsAction types l (is_inside z) (Behind w) a) B names m s q f y)
+    (λ m q y. map-first (RunsOpen types l z w o) (RunsAction (unmapped types) l (is_inside z) (Behind w) a) B names m s q f y)
     (front (RunsOpen types l z w o) B (RunsStack types l z w (p ∷ ps)) names last s part (stack-over types l z w o (p ∷ ps) names last s part g x))
 
 pub once-safe : (e : Setting) (o : Open) (os : List Open) (names : Names) (body : Block) → o.rest.now ≡ block_list body → o.repeats ≡ 0 → safe.SafeBlock e (store_of names) body (λ r. SafeStack e r os) → SafeStack e (store_of names) (o ∷ os)
@@ -206,7 +207,7 @@ sections-inner base z o os f h =
     (λ e. absurd (cc), subst (λ (y : Around). Sectioned base y os) (sym same) h)
 
 push-performed : (types : List TypeDeclaration) (l : ℕ) (z : Around) (w : Option (List ℕ)) (s : State ℕ) (a : Action) (names : Names) (before now : List Open) (rest : List Statement) (n : ℕ) (body : Block) (lives : Lives) (asked : ℕ) (log : Option Log) → 0 < length before → Behind w s [] → (o : Pushed before now rest n false body) →
-    ((m : Names) (p : Log) → RunsOpen types l z w o.top names m s p → RunsAction types l (is_inside z) (Behind w) a names m s p) →
+    ((m : Names) (p : Log) → RunsOpen types l z w o.top names m s p → RunsAction (unmapped types) l (is_inside z) (Behind w) a names m s p) →
     ((e : Setting) → safe.SafeAction e (store_of names) a (λ r. SafeStack e r before) → SafeStack e (store_of names) (o.top ∷ before)) →
     ((p : Test) → Inherits p → p (length before) a ≡ true → (list_meets (p (suc (length before))) o.top.rest.now ≡ true) × (list_meets (p (suc (length before))) (block_list body) ≡ true)) →
     suc (open_cost o.top) ≤ action_cost a →
@@ -256,7 +257,7 @@ other-performed types l z w s x body other otherwise names before now lives aske
     (λ p h y. let c = h.other (length before) x body other (rw q at y) in (rw o.rest_is c, c))
     (let c = once-cost types o.top other o.rest_is o.repeats_is in let d : else_cost otherwise ≡ block_cost other = ap else_cost q in omega (arith, c, d, max-right (block_cost body) (else_cost otherwise)))
 
-skip-runs : (types : List TypeDeclaration) (l : ℕ) (z : Around) (w : Option (List ℕ)) (s : State ℕ) (x : List ℕ) (body : Block) (otherwise : Held-Action-If-2) (names : Names) → names x ≡ Null → otherwise ≡ None' → RunsAction types l (is_inside z) (Behind w) (If' x body otherwise) names names s []
+skip-runs : (types : List TypeDeclaration) (l : ℕ) (z : Around) (w : Option (List ℕ)) (s : State ℕ) (x : List ℕ) (body : Block) (otherwise : Held-Action-If-2) (names : Names) → names x ≡ Null → otherwise ≡ None' → RunsAction (unmapped types) l (is_inside z) (Behind w) (If' x body otherwise) names names s []
 skip-runs types l z w s x body otherwise names held q = rw held (rw q (refl, refl))
 
 pub skip-performed : (types : List TypeDeclaration) (l : ℕ) (z : Around) (w : Option (List ℕ)) (s : State ℕ) (x : List ℕ) (body : Block) (otherwise : Held-Action-If-2) (names : Names) (before : List Open) (lives : Lives) (asked : ℕ) (log : Option Log) → Behind w s [] → names x ≡ Null → otherwise ≡ None' → Performed types l z z w s s (If' x body otherwise) names names before before lives lives asked asked log log
@@ -278,7 +279,7 @@ skip-performed types l z w s x body otherwise names before lives asked log down 
 pub inner-performed : (types : List TypeDeclaration) (l : ℕ) (z : Around) (w : Option (List ℕ)) (s : State ℕ) (body : Block) (names : Names) (before now : List Open) (lives : Lives) (asked : ℕ) (log : Option Log) → is_inside z ≡ true → 0 < length before → Behind w s [] → Pushed before now (block_list body) 0 false body → Performed types l z z w s s (Section body) names names before now lives lives asked asked log log
 inner-performed types l z w s body names before now lives asked log inside some down o =
     push-performed types l z w s (Section body) names before now (block_list body) 0 body lives asked log some down o
-    (λ m p y. rw inside (subst (λ i. RunsBlock types l i (Behind w) body names m s p) inside (block-once types l z w o.top body o.rest_is o.repeats_is o.leaves_is names m s p y)))
+    (λ m p y. rw inside (subst (λ i. RunsBlock (unmapped types) l i (Behind w) body names m s p) inside (block-once types l z w o.top body o.rest_is o.repeats_is o.leaves_is names m s p y)))
     (λ e y. once-safe e o.top before names body o.rest_is o.repeats_is y)
     (λ p h y. let c = h.within (length before) body y in (rw o.rest_is c, c))
     (let c = once-cost types o.top body o.rest_is o.repeats_is in omega (arith, c))
@@ -314,14 +315,14 @@ section-runs types l z w v o p os body out r n f names last s one two h x =
     let k = u.1 in
     let g = k.is_first in
     let c : Followed (RunsRest types l i w o) (LeavesSection l y) names g.0 (after s one) g.1.one = subst (λ b. ClosedBy b l y (RunsRest types l i w o) names g.0 (after s one) g.1.one) f g.1.is_first in
-    let inner : RunsBlock types l true (Behind w) body names c.0 (after s one) c.1.one = subst (λ b. RunsBlock types l b (Behind w) body names c.0 (after s one) c.1.one) (begun-inside z v) (rest-once types l i w o body r n names c.0 (after s one) c.1.one c.1.is_first) in
+    let inner : RunsBlock (unmapped types) l true (Behind w) body names c.0 (after s one) c.1.one = subst (λ b. RunsBlock (unmapped types) l b (Behind w) body names c.0 (after s one) c.1.one) (begun-inside z v) (rest-once types l i w o body r n names c.0 (after s one) c.1.one c.1.is_first) in
     let ends = c.1.is_second in
     let word : ends.0 ≡ v = (let q = ends.1 in cc) in
     let stands : Stand l (entry.Out Plain (v + 1) ∷ []) (after (after s one) c.1.one) c.1.two = subst (λ k. Stand l (entry.Out Plain (k + 1) ∷ []) (after (after s one) c.1.one) c.1.two) word ends.2.1 in
-    let inner' : RunsBlock types l true (Behind w) body names g.0 (after s one) c.1.one = subst (λ m. RunsBlock types l true (Behind w) body names m (after s one) c.1.one) (sym ends.2.0) inner in
-    let whole : Within false l (RunsBlock types l true (Behind w) body) names g.0 s (one ++ g.1.one) =
+    let inner' : RunsBlock (unmapped types) l true (Behind w) body names g.0 (after s one) c.1.one = subst (λ m. RunsBlock (unmapped types) l true (Behind w) body names m (after s one) c.1.one) (sym ends.2.0) inner in
+    let whole : Within false l (RunsBlock (unmapped types) l true (Behind w) body) names g.0 s (one ++ g.1.one) =
     (v, record { one = one; two = g.1.one; part_is = refl; is_first = h; is_second = record { one = c.1.one; two = c.1.two; part_is = c.1.part_is; is_first = inner'; is_second = stands } }) in
-    let act : RunsAction types l (is_inside z) (Behind w) (Section body) names g.0 s (one ++ g.1.one) = subst (λ b. Within b l (RunsBlock types l true (Behind w) body) names g.0 s (one ++ g.1.one)) (sym out) whole in
+    let act : RunsAction (unmapped types) l (is_inside z) (Behind w) (Section body) names g.0 s (one ++ g.1.one) = subst (λ b. Within b l (RunsBlock (unmapped types) l true (Behind w) body) names g.0 s (one ++ g.1.one)) (sym out) whole in
     let A : State ℕ → Type 0 = λ q. Behind w q g.1.two in
     let G : State ℕ → Type 0 = λ q. S u.0 last q k.two in (
       u.0,

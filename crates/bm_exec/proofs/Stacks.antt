@@ -6,6 +6,7 @@ use Rattle.std.specs.Option.{option_to_list}
 use Rattle.bm_lang.specs.declared.scenario.Statement.{Statement}
 use Rattle.bm_lang.specs.declared.scenario.TypeDeclaration.{TypeDeclaration}
 use Rattle.bm_lang.specs.Limits.{action_cost, block_cost}
+use Rattle.bm_law_scenario.specs.Declared.{unmapped}
 use Rattle.bm_law_scenario.specs.Held.{Names}
 use Rattle.bm_law.specs.State.{State}
 use Rattle.bm_law.specs.Lists.{Log, after}
@@ -96,7 +97,7 @@ over-safe e o os r (inr h) names x = safe-none e o.repeats (store_of names) (λ 
 -- one whose statements have ended and that runs again
 again-rest : (types : List TypeDeclaration) (l : ℕ) (i : Bool) (w : Option (List ℕ)) (o p : Open) (n : ℕ) (body : Bor Block) → o.rest.now ≡ [] → o.repeats ≡ suc n → o.body ≡ Some body → p.rest.now ≡ block_list body.now → p.repeats ≡ n → p.body ≡ Some body → (names last : Names) (s : State ℕ) (part : Log) → RunsRest types l i w p names last s part → RunsRest types l i w o names last s part
 again-rest types l i w o p n body e m h r k b names last s part x =
-    let B = RunsBlock types l i (Behind w) body.now in
+    let B = RunsBlock (unmapped types) l i (Behind w) body.now in
     let y : Followed (RunsList types l i w (block_list body.now)) (Times B n) names last s part = rw b at (rw k at (rw r at x)) in
     let z : Followed B (Times B n) names last s part = rw (sym (block-runs types l i w body.now)) at y in
     let F : Option (Bor Block) → Type 0 = λ q. Followed (RunsList types l i w o.rest.now) (Times (RunsBody types l i w q) o.repeats) names last s part in

@@ -3,6 +3,7 @@ use Rattle.std.proofs.Common.{◌≡◌, true, false, ◌&&◌, List, [], length
 use Rattle.bm_lang.specs.declared.scenario.Block.{Block}
 use Rattle.bm_lang.specs.declared.scenario.TypeDeclaration.{TypeDeclaration}
 use Rattle.bm_lang.specs.Limits.{block_cost}
+use Rattle.bm_law_scenario.specs.Declared.{unmapped}
 use Rattle.bm_law_scenario.specs.Held.{Names, no_names}
 use Rattle.bm_law.specs.State.{State}
 use Rattle.bm_law.specs.Lists.{Log}
@@ -41,7 +42,7 @@ start-meets p b now o e =
 pub start-safe : (e : Setting) (b : Block) (now : List Open) (names : Names) → names ≡ no_names → Pushed [] now (block_list b) 0 false b → safe.SafeBlock e safe.empty_store b safe.OwnsNothing → SafeStack e (store_of names) now
 start-safe e b now names q p s = rw q (rw p.now_is (once-safe e p.top [] no_names b p.rest_is p.repeats_is s))
 
-pub start-runs : (types : List TypeDeclaration) (l : ℕ) (z : Around) (w : Option (List ℕ)) (b : Block) (now : List Open) → Pushed [] now (block_list b) 0 false b → (names last : Names) (s : State ℕ) (part : Log) → RunsStack types l z w now names last s part → RunsBlock types l (is_inside z) (Behind w) b names last s part
+pub start-runs : (types : List TypeDeclaration) (l : ℕ) (z : Around) (w : Option (List ℕ)) (b : Block) (now : List Open) → Pushed [] now (block_list b) 0 false b → (names last : Names) (s : State ℕ) (part : Log) → RunsStack types l z w now names last s part → RunsBlock (unmapped types) l (is_inside z) (Behind w) b names last s part
 start-runs types l z w b now p names last s part x = block-once types l z w p.top b p.rest_is p.repeats_is p.leaves_is names last s part (undone-last (RunsOpen types l z w p.top) names last s part (rw p.now_is at x))
 
 pub start-sections : (z : Around) (b : Block) (now : List Open) → Pushed [] now (block_list b) 0 false b → Sectioned z z now

@@ -5,6 +5,7 @@ use Rattle.bm_lang.specs.declared.scenario.TypeDeclaration.{TypeDeclaration}
 use Rattle.bm_lang.specs.Limits.{block_cost}
 use Rattle.bm_law.specs.State.{State}
 use Rattle.bm_law.specs.Lists.{Log}
+use Rattle.bm_law_scenario.specs.Declared.{unmapped}
 use Rattle.bm_law_scenario.specs.Held.{Names, no_names}
 use Rattle.bm_law_scenario.specs.Runs.{RunsBlock}
 use Rattle.bm_check.specs.Statements.{Setting}
@@ -34,7 +35,7 @@ pub record CanGoOn (types : List TypeDeclaration) (z : Around) (w : Option (List
 -- what they run is the script's block, and they cost what it does.
 pub record IsAtStart (types : List TypeDeclaration) (body : Block) (names : NameTable) (blocks : List Open) : Type 0 where
   pub can : (z : Around) (w : Option (List ℕ)) (s : State ℕ) (lives : Lives) → Behind w s [] → CanGoOn types z w s lives names blocks
-  pub runs : (l : ℕ) (z : Around) (w : Option (List ℕ)) (last : Names) (s : State ℕ) (part : Log) → RunsStack types l z w blocks (names_of names) last s part → RunsBlock types l (is_inside z) (Behind w) body no_names last s part
+  pub runs : (l : ℕ) (z : Around) (w : Option (List ℕ)) (last : Names) (s : State ℕ) (part : Log) → RunsStack types l z w blocks (names_of names) last s part → RunsBlock (unmapped types) l (is_inside z) (Behind w) body no_names last s part
   pub holds : (lives : Lives) → Holds types lives lives (names_of names)
   pub sections : (z : Around) → Sectioned z z blocks
   pub cost : stack_cost blocks ≡ block_cost body

@@ -8,6 +8,7 @@ use Rattle.bm_lang.specs.declared.scenario.TypeDeclaration.{TypeDeclaration}
 use Rattle.bm_check.specs.Statements.{Setting}
 use Rattle.bm_check.specs.Values.{Store, SafeAction}
 use Rattle.bm_law_work.specs.Parts.{Part, Nothing}
+use Rattle.bm_law_scenario.specs.Declared.{unmapped}
 use Rattle.bm_law_scenario.specs.Works.{UntilDown}
 use Rattle.bm_law_scenario.specs.Runs.{Run, Leaving, Done, Followed, RunsAction}
 
@@ -27,7 +28,7 @@ Behind (Some classes) = UntilDown classes
 
 -- a statement, in a plain section or in none, and what stands after it
 abbrev pub RunsStatement : List TypeDeclaration → ℕ → (inside : Bool) → Option (List ℕ) → Action → Run
-RunsStatement types l i w a = Followed (RunsAction types l i (Behind w) a) (Leaving (Behind w))
+RunsStatement types l i w a = Followed (RunsAction (unmapped types) l i (Behind w) a) (Leaving (Behind w))
 
 abbrev pub RunsList : List TypeDeclaration → ℕ → (inside : Bool) → Option (List ℕ) → List Statement → Run
 RunsList types l i w [] = Done

@@ -8,6 +8,7 @@ use Rattle.bm_lang.specs.Limits.{action_cost}
 use Rattle.bm_law.specs.State.{State}
 use Rattle.bm_law.specs.Lists.{Log}
 use Rattle.bm_law_work.specs.Grown.{GrewBy}
+use Rattle.bm_law_scenario.specs.Declared.{unmapped}
 use Rattle.bm_law_scenario.specs.Held.{Names, no_names, OwnsNothing}
 use Rattle.bm_law_scenario.specs.Runs.{Followed, RunsBlock}
 use Rattle.bm_check.specs.Statements.{Setting}
@@ -54,5 +55,5 @@ pub record Ran (types : List TypeDeclaration) (l : ℕ) (z : Around) (w : Option
 -- nothing, and at the end its names own nothing.
 pub record RanScript (types : List TypeDeclaration) (l : ℕ) (inside : Bool) (w : Option (List ℕ)) (s : State ℕ) (script : Script) (log log' : Option Log) : Type 0 where
   pub after : Names
-  pub grew : GrewBy (RunsBlock types l inside (Behind w) script.body no_names after) s log log'
+  pub grew : GrewBy (RunsBlock (unmapped types) l inside (Behind w) script.body no_names after) s log log'
   pub owns_nothing : (x : List ℕ) → OwnsNothing (after x)

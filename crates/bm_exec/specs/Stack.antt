@@ -9,6 +9,7 @@ use Rattle.bm_check.specs.declared.name_state.HeldLock.TheVariants.{Nothing as N
 use Rattle.bm_check.specs.Statements.{Setting}
 use Rattle.bm_check.specs.Values as safe
 use Rattle.bm_law_work.specs.Parts.{Stand}
+use Rattle.bm_law_scenario.specs.Declared.{unmapped}
 use Rattle.bm_law_scenario.specs.Runs.{Run, Leaving, Done, Followed, Times, RunsBlock}
 use Rattle.bm_exec.specs.Around.{Around, is_inside, with_begun}
 use Rattle.bm_exec.specs.declared.frame.Open.{Open}
@@ -17,7 +18,7 @@ use Rattle.bm_exec.specs.Lists.{Behind, RunsList, SafeList}
 -- a block that may run again, if there is one
 abbrev pub RunsBody : List TypeDeclaration → ℕ → (inside : Bool) → Option (List ℕ) → Option (Bor Block) → Run
 RunsBody types l i w None = Done
-RunsBody types l i w (Some body) = RunsBlock types l i (Behind w) body.now
+RunsBody types l i w (Some body) = RunsBlock (unmapped types) l i (Behind w) body.now
 
 -- the end of the section that a statement began
 abbrev pub Leaves : ℕ → Around → Run

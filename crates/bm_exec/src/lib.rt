@@ -1,7 +1,7 @@
 //! The runner of scripts, over any machine.
 //!
 //! - `Machine` is the trait: what a statement needs of a processor. `create` asks for an object, `acquire` for one more reference to
-//!   it, and `dispose` gives one up, and ends the object with its last one; `enter` and
+//!   it, `read` reads a field of it, and `dispose` gives a reference up, and ends the object with its last one; `enter` and
 //!   `leave` are a plain section's begin and end, `pause` is a yield, `settle` is the work after a statement; `keeps` is what a call
 //!   leaves as it was.
 //! - `Frame` is where a running script stands: a position over the scenario's own blocks, with those that are open (`Open`), in

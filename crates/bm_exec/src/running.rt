@@ -115,7 +115,7 @@ fn perform_acquire<'s, M: Machine>(
     of: &'s Name,
 )
     requires sound { M.sound machine.old }
-    requires room { M.asked machine.old + 2 < 2 ^ 22 }
+    requires room { M.asked machine.old + 1 < 2 ^ 22 }
     requires holds { (base : Lives) × Holds types.now.declared.now base (M.lives machine.old) (names_of names.old) }
     requires owned { is_owning (value_of (names_of names.old of.now)) ≡ true }
     requires counted { (t : TypeIdValue) → value_of (names_of names.old of.now) ≡ Owning t → IsCounted types.now.declared.now t.0 }
@@ -128,7 +128,7 @@ fn perform_acquire<'s, M: Machine>(
     ensures processor { M.processor machine.new ≡ M.processor machine.old }
     ensures behind { M.behind machine.new ≡ M.behind machine.old }
     ensures through { M.through machine.new ≡ M.through machine.old }
-    ensures asked { M.asked machine.new ≤ M.asked machine.old + 2 }
+    ensures asked { M.asked machine.new ≤ M.asked machine.old + 1 }
     ensures around { M.around machine.new ≡ M.around machine.old }
     ensures keeps { M.keeps machine.old machine.new }
     ensures yields { Unyielding (M.level machine.old) (M.log machine.old) (M.log machine.new) }
@@ -172,7 +172,7 @@ fn perform_get<'s, M: Machine>(
     ensures processor { M.processor machine.new ≡ M.processor machine.old }
     ensures behind { M.behind machine.new ≡ M.behind machine.old }
     ensures through { M.through machine.new ≡ M.through machine.old }
-    ensures asked { M.asked machine.new ≤ M.asked machine.old + 2 }
+    ensures asked { M.asked machine.new ≤ M.asked machine.old }
     ensures around { M.around machine.new ≡ M.around machine.old }
     ensures keeps { M.keeps machine.old machine.new }
     ensures yields { Unyielding (M.level machine.old) (M.log machine.old) (M.log machine.new) }

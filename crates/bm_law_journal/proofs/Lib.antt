@@ -3,3 +3,4 @@ pub mod LentLaws
 pub mod Shared
 pub mod Ungraphed
 pub mod Owned
+pub mod HandedOver

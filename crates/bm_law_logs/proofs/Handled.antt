@@ -1,5 +1,5 @@
 -- Fronts and whole logs with handlers.
-use Rattle.std.proofs.Common.{◌≡◌, ◌<◌, ℕ, zero, suc, true, false, List, [], ◌∷◌, ◌++◌, refl, sym, ap, subst, ◌∙◌, inl, inr, arith}
+use Rattle.std.proofs.Common.{◌≡◌, ◌<◌, ℕ, zero, suc, true, false, List, [], ◌∷◌, ◌++◌, None, refl, sym, ap, subst, ◌∙◌, inl, inr, arith}
 use Rattle.std.specs.List.{list_any}
 use Rattle.std.proofs.lemmas.Bool.{and_from}
 use Rattle.std.proofs.lemmas.Bool.Decides.{eqb_tells}
@@ -12,8 +12,11 @@ use Rattle.bm_law.specs.Spans.{own_entries}
 use Rattle.bm_law.specs.State.{State, opening}
 use Rattle.bm_law.proofs.Null.{apart-answers, pops-fit, replies-append}
 use Rattle.bm_law.proofs.Spans.{own-append}
+use Rattle.bm_law_work.specs.Parts.{Part, Nothing as Nothing_part, Stand, Then}
 use Rattle.bm_law_work.proofs.Each.{AllOf}
 use Rattle.bm_due.specs.Standing.{HandlersStand}
+use Rattle.bm_law_scenario.specs.Closing.{AreSweeps, Closing, Empties, EndsPeriods, close_of}
+use Rattle.bm_law_scenario.specs.Declared.{declared_in}
 use Rattle.bm_law_scenario.specs.Grammar.{Front, IsLog}
 use Rattle.bm_law_scenario.specs.Handlers.{HandlersDone}
 use Rattle.bm_law_scenario.specs.Opened.{opened_classes, uses_class}
@@ -22,9 +25,12 @@ use Rattle.bm_law_scenario.proofs.Levels.{levels}
 use Rattle.bm_law_scenario.proofs.Spares.{AllSpare, Spares}
 use Rattle.bm_law_logs.specs.ClosingEntries.{IsOfClosing}
 use Rattle.bm_law_logs.specs.Owed.{AllReplied}
-use Rattle.bm_law_scenario.proofs.FrontLaws.{front-has}
+use Rattle.bm_law_scenario.proofs.BlockLaws.{law-empties}
+use Rattle.bm_law_scenario.proofs.FrontLaws.{front-has, written}
+use Rattle.bm_law_scenario.proofs.PartLaws.{Has, Laws, has-laws, has-stand}
+use Rattle.bm_law_scenario.proofs.RunsAll.{Closed}
 use Rattle.bm_law_logs.proofs.OfClosing.{closing-writes}
-use Rattle.bm_law_logs.proofs.Replied.{replied}
+use Rattle.bm_law_logs.proofs.Replied.{apart, replied}
 use Rattle.bm_law_logs.proofs.Spared.{spared}
 
 -- a level is that of ordinary code, or above it
@@ -85,14 +91,29 @@ closes-apart : (es : List Entry) → AllOf IsOfClosing es → all_apart es ≡ t
 closes-apart [] h = refl
 closes-apart (e ∷ es) h = and_from (is_apart e) (all_apart es) (closing-apart e h.0) (closes-apart es h.1)
 
+close-replied : (p : ℕ) → AllReplied (entry.Ended ∷ close_of p)
+close-replied zero = apart (entry.Ended ∷ entry.Close ∷ []) refl
+close-replied (suc p) = apart (entry.Ended ∷ []) refl
+
+-- so does the closing
+closing-replied : (s : Parts) (p : ℕ) (front : Log) → Has AllReplied (Closing (declared_in s) p (opened_classes s.types) front)
+closing-replied s p front =
+    let classes : List ℕ = opened_classes s.types in
+    let closed : Closed (declared_in s) AllReplied = (replied s).closed in
+    let laws : Laws (Has AllReplied) = has-laws AllReplied (record { none = closed.none; join = closed.join }) in
+    let rest : Part = Then (EndsPeriods front) (AreSweeps classes) in
+    let empties : Part = Empties p (declared_in s) in
+    laws.both (Stand 0 (entry.Ended ∷ close_of p)) (Then empties rest) (has-stand AllReplied (entry.Ended ∷ close_of p) (close-replied p))
+    (laws.both empties rest
+    (law-empties (declared_in s) (Has AllReplied) laws (written s AllReplied (replied s)).calls Nothing_part laws.nothing (λ slot was by. has-stand AllReplied (entry.Xchg slot None was by ∷ []) (apart (entry.Xchg slot None was by ∷ []) refl)) p)
+    (λ t part h. apart (own_entries 0 part) (closes-apart (own_entries 0 part) (closing-writes classes front t part h))))
+
 ordinary-replies : (s : Parts) (p : ℕ) (log : Log) → IsLog s p log → RepliesFit Nothing (own_entries 0 log)
 ordinary-replies s p log i =
-    let classes : List ℕ = opened_classes s.types in
     let front : AllReplied (own_entries 0 i.front) = front-has s AllReplied (replied s) p (opening p) i.front i.is_front in
-    let apart : all_apart (own_entries 0 i.closing) ≡ true = closes-apart (own_entries 0 i.closing) (closing-writes p classes i.front (after (opening p) i.front) i.closing i.is_closing) in
-    let behind : RepliesFit Nothing (own_entries 0 i.closing) = (apart-answers (own_entries 0 i.closing) apart).0 in
+    let closing : AllReplied (own_entries 0 i.closing) = closing-replied s p i.front (after (opening p) i.front) i.closing i.is_closing in
     let parts : own_entries 0 log ≡ own_entries 0 i.front ++ own_entries 0 i.closing = ap (own_entries 0) i.log_is ∙ own-append 0 i.front i.closing in
-    subst (λ (es : List Entry). RepliesFit Nothing es) (sym parts) (replies-append Nothing (own_entries 0 i.front) (own_entries 0 i.closing) front.replies (subst (λ (k : Asked). RepliesFit k (own_entries 0 i.closing)) (sym front.owed) behind))
+    subst (λ (es : List Entry). RepliesFit Nothing es) (sym parts) (replies-append Nothing (own_entries 0 i.front) (own_entries 0 i.closing) front.replies (subst (λ (k : Asked). RepliesFit k (own_entries 0 i.closing)) (sym front.owed) closing.replies))
 
 pub null-handled : (s : Parts) (p : ℕ) (log : Log) (last : State ℕ) → HandlersStand s p log → HandlersDone s p log → IsLog s p log → Leaves p log last → NullLaw p log
 null-handled s p log last stand done i leaves = record {

@@ -1,5 +1,5 @@
--- A closing is of the entries of closings.
-use Rattle.std.proofs.Common.{ℕ, zero, suc, List, [], ◌∷◌, ◌++◌, Option, Some, None, sym, subst, inl, inr}
+-- What a closing leaves behind the maps is of the entries of closings.
+use Rattle.std.proofs.Common.{ℕ, List, [], ◌∷◌, ◌++◌, Option, Some, None, sym, subst, inl, inr}
 use Rattle.bm_journal.specs.declared.ids.Domain.{Domain}
 use Rattle.bm_journal.specs.declared.ids.Domain.TheVariants.{Plain, Tracing}
 use Rattle.bm_journal.specs.declared.units.Units.TheVariants.{Whole}
@@ -8,9 +8,9 @@ use Rattle.bm_journal.specs.declared.entry.Entry.TheVariants as entry
 use Rattle.bm_law.specs.Lists.{Log}
 use Rattle.bm_law.specs.State.{seven_lists}
 use Rattle.bm_law.specs.SweepPhrases.{MayBegin, MayFinish, PollPhrase, SweepPhrase}
-use Rattle.bm_law_work.specs.Parts.{Stand, Then}
-use Rattle.bm_law_work.proofs.Each.{AllOf, PartOf, of-append, part-nothing, part-say, part-stand, part-then}
-use Rattle.bm_law_scenario.specs.Closing.{AreSweeps, Closing, EndsOne, EndsPeriods, SweepOf, SweepWhere, close_of, in_progress}
+use Rattle.bm_law_work.specs.Parts.{Then}
+use Rattle.bm_law_work.proofs.Each.{AllOf, PartOf, of-append, part-nothing, part-say, part-then}
+use Rattle.bm_law_scenario.specs.Closing.{AreSweeps, EndsOne, EndsPeriods, SweepOf, SweepWhere, in_progress}
 use Rattle.bm_law_logs.specs.ClosingEntries.{IsOfClosing}
 
 abbrev Closes : List Entry → Type 0
@@ -42,11 +42,7 @@ of-sweeps : (cs : List ℕ) → PartOf IsOfClosing 0 (AreSweeps cs)
 of-sweeps [] s part h = part-nothing IsOfClosing 0 s part h
 of-sweeps (c ∷ cs) s part h = part-then IsOfClosing 0 (SweepWhere c (seven_lists (s.rows c) ++ h.0)) (AreSweeps cs) (of-where c (seven_lists (s.rows c) ++ h.0)) (of-sweeps cs) s part h.1
 
-of-ended : (p : ℕ) → Closes (entry.Ended ∷ close_of p)
-of-ended zero = (tt, (tt, tt))
-of-ended (suc p) = (tt, tt)
-
-pub closing-writes : (p : ℕ) (classes : List ℕ) (front : Log) → PartOf IsOfClosing 0 (Closing p classes front)
-closing-writes p classes front =
+pub closing-writes : (classes : List ℕ) (front : Log) → PartOf IsOfClosing 0 (Then (EndsPeriods front) (AreSweeps classes))
+closing-writes classes front =
     let ends : PartOf IsOfClosing 0 (EndsPeriods front) = part-then IsOfClosing 0 (EndsOne Plain (in_progress Plain None front)) (EndsOne Tracing (in_progress Tracing None front)) (of-ends Plain (in_progress Plain None front)) (of-ends Tracing (in_progress Tracing None front)) in
-    part-then IsOfClosing 0 (Stand 0 (entry.Ended ∷ close_of p)) (Then (EndsPeriods front) (AreSweeps classes)) (part-stand IsOfClosing 0 (entry.Ended ∷ close_of p) (of-ended p)) (part-then IsOfClosing 0 (EndsPeriods front) (AreSweeps classes) ends (of-sweeps classes))
+    part-then IsOfClosing 0 (EndsPeriods front) (AreSweeps classes) ends (of-sweeps classes)

@@ -4,12 +4,12 @@ use Rattle.bm_journal.specs.declared.ids.Domain.TheVariants.{Plain}
 use Rattle.bm_journal.specs.declared.entry.Entry.{Entry}
 use Rattle.bm_journal.specs.declared.entry.Entry.TheVariants as entry
 use Rattle.bm_lang.specs.declared.scenario.Parts.{Parts}
-use Rattle.bm_lang.specs.declared.scenario.TypeDeclaration.{TypeDeclaration}
 use Rattle.bm_law.specs.Null.{Asked, Nothing, RepliesFit, asked_at_end, all_apart, is_apart}
 use Rattle.bm_law.specs.Phrases.{AllocPhrase}
 use Rattle.bm_law.specs.Spans.{own_entries}
 use Rattle.bm_law.proofs.Null.{replies-append, asked-append, alloc-answers, apart-answers, apart-delay, apart-free}
 use Rattle.bm_law_work.proofs.Each.{AllOf}
+use Rattle.bm_law_scenario.specs.Declared.{Declared, declared_in}
 use Rattle.bm_law_scenario.specs.Calls.{Allocates}
 use Rattle.bm_law_scenario.proofs.Freed.{either-free}
 use Rattle.bm_law_scenario.proofs.RunsAll.{Closed}
@@ -24,7 +24,7 @@ join v w a b = record {
   owed = asked-append Nothing v w ∙ (ap (λ (k : Asked). asked_at_end k w) a.owed ∙ b.owed);
 }
 
-apart : (own : List Entry) → all_apart own ≡ true → AllReplied own
+pub apart : (own : List Entry) → all_apart own ≡ true → AllReplied own
 apart own e = let h = apart-answers own e in record { replies = h.0; owed = h.1 }
 
 phrase-of : (c : ℕ) (own : List Entry) (reply : Option (ℕ × ℕ)) → Allocates c own reply → AllocPhrase c own
@@ -35,8 +35,8 @@ phrase-of c own (Some o) x = inl (o.0, o.1, x.0, x.1, x.2, x.3)
 new : (name values : List ℕ) (c : ℕ) (own : List Entry) (reply : Option (ℕ × ℕ)) → Allocates c own reply → AllReplied (entry.New name values ∷ own)
 new name values c own reply a = let h = alloc-answers c own (phrase-of c own reply a) in record { replies = (refl, h.0); owed = h.1 }
 
-closed : (types : List TypeDeclaration) → Closed types AllReplied
-closed types = record {
+closed : (d : Declared) → Closed d AllReplied
+closed d = record {
   none = record { replies = tt; owed = refl };
   join = join;
   new = λ x t values names part after r. subst AllReplied (sym r.part_is) (new r.declared.name values r.class r.own r.reply r.allocates);
@@ -44,6 +44,7 @@ closed types = record {
   still = λ x names part after r. subst AllReplied (sym r.part_is) (apart (entry.Drop r.unit r.life ∷ entry.Still r.seen ∷ []) refl);
   acquired = λ y x names part after r. subst AllReplied (sym r.part_is) (apart (entry.Acquire r.unit r.life r.seen ∷ []) refl);
   read = λ x field names part after r. subst AllReplied (sym r.part_is) (apart (entry.Get r.unit r.life r.place r.value ∷ []) refl);
+  exchanged = λ y slot given names part after r. subst AllReplied (sym r.part_is) (apart (entry.Xchg r.declared.name r.put r.was r.by ∷ []) refl);
   enters = λ w. apart (entry.In Plain w ∷ []) refl;
   leaves = λ w. apart (entry.Out Plain w ∷ []) refl;
   yields = apart (entry.Yield ∷ []) refl;
@@ -68,7 +69,7 @@ all-work-apart c (e ∷ es) h = both (is_apart e) (all_apart es) (work-apart c e
 
 pub replied : (s : Parts) → Written s AllReplied
 replied s = record {
-  closed = closed s.types;
+  closed = closed (declared_in s);
   fill = λ c us m. apart (entry.Fill c _ ∷ []) refl;
   begins = λ d name w. apart (entry.Script name ∷ entry.In d w ∷ []) refl;
   ends = λ d name w. apart (entry.Out d w ∷ entry.Done name ∷ []) refl;

@@ -11,9 +11,10 @@ use Rattle.bm_law.specs.Lists.{Leaves, Log}
 use Rattle.bm_law.specs.State.{State, opening, seven_lists}
 use Rattle.bm_law_work.specs.Parts.{Part, Nothing, Say, Stand, Then}
 use Rattle.bm_law_work.proofs.Each.{AllOf, of-map, part-say, part-stand}
+use Rattle.bm_law_scenario.specs.Declared.{declared_in}
 use Rattle.bm_law_scenario.specs.CallEntries.{IsOfStatement, IsOfHandler}
-use Rattle.bm_law_scenario.specs.Calls.{RunsAcquire, RunsGet, RunsDrop, RunsNew, RunsStill, any_batch}
-use Rattle.bm_law_scenario.specs.Closing.{AreSweeps, Closing, EndsOne, EndsPeriods, IsEnd, SweepWhere, close_of, in_progress}
+use Rattle.bm_law_scenario.specs.Calls.{RunsAcquire, RunsExchange, RunsGet, RunsDrop, RunsNew, RunsStill, any_batch}
+use Rattle.bm_law_scenario.specs.Closing.{AreSweeps, Closing, Empties, EndsOne, EndsPeriods, IsEnd, SweepWhere, close_of, in_progress}
 use Rattle.bm_law_scenario.specs.Fills.{AreFills, prefill}
 use Rattle.bm_law_scenario.specs.Grammar.{Front, IsLog}
 use Rattle.bm_law_scenario.specs.Handlers.{HandlersDone}
@@ -25,6 +26,7 @@ use Rattle.bm_law_scenario.specs.WorkEntries.{KeepsBatch}
 use Rattle.bm_law_logs.proofs.Batches.{ReturnsBy, Stood, keeps-say, nothing-at, returns-laws, then-at}
 use Rattle.bm_law_scenario.proofs.FrontLaws.{Fronted, front-law}
 use Rattle.bm_law_scenario.proofs.PartLaws.{law-as}
+use Rattle.bm_law_scenario.proofs.BlockLaws.{law-empties}
 use Rattle.bm_law_logs.proofs.Returned.{where-by, work-by}
 
 abbrev Keep : List Entry → Type 0
@@ -56,7 +58,7 @@ stands own q = keeps-say (Stand 0 own) (part-stand KeepsBatch 0 own q)
 
 front-by : (s : Parts) → Fronted s ReturnsBy
 front-by s =
-    let calls = of-calls s.types in
+    let calls = of-calls (declared_in s) in
     record {
       calls = record {
         new = λ x t values names after. says (λ own. RunsNew s.types x t values names own after) (λ own h. of-map IsOfStatement KeepsBatch call-keeps own (calls.new x t values names own after h));
@@ -64,6 +66,7 @@ front-by s =
         still = λ x names after. says (λ own. RunsStill s.types x names own after) (λ own h. of-map IsOfStatement KeepsBatch call-keeps own (calls.still x names own after h));
         acquired = λ y x names after. says (λ own. RunsAcquire s.types y x names own after) (λ own h. of-map IsOfStatement KeepsBatch call-keeps own (calls.acquired y x names own after h));
         read = λ x field names after. says (λ own. RunsGet s.types x field names own after) (λ own h. of-map IsOfStatement KeepsBatch call-keeps own (calls.read x field names own after h));
+        exchanged = λ y slot given names after. says (λ own. RunsExchange s.maps y slot given names own after) (λ own h. of-map IsOfStatement KeepsBatch call-keeps own (calls.exchanged y slot given names own after h));
         enters = λ w. stands (entry.In Plain w ∷ []) (tt, tt);
         leaves = λ w. stands (entry.Out Plain w ∷ []) (tt, tt);
         yields = stands (entry.Yield ∷ []) (tt, tt);
@@ -90,14 +93,19 @@ close-keeps : (p : ℕ) → Keep (entry.Ended ∷ close_of p)
 close-keeps zero = (tt, (tt, tt))
 close-keeps (suc p) = (tt, tt)
 
-closing-by : (p : ℕ) (classes : List ℕ) (log : Log) → ReturnsBy (Closing p classes log)
-closing-by p classes log =
+empties-by : (s : Parts) (p : ℕ) → ReturnsBy (Empties p (declared_in s))
+empties-by s p = law-empties (declared_in s) ReturnsBy returns-laws (front-by s).calls Nothing nothing-at (λ slot was by. stands (entry.Xchg slot None was by ∷ []) (tt, tt)) p
+
+closing-by : (s : Parts) (p : ℕ) (classes : List ℕ) (log : Log) → ReturnsBy (Closing (declared_in s) p classes log)
+closing-by s p classes log =
     let head : Part = Stand 0 (entry.Ended ∷ close_of p) in
     let ends : Part = EndsPeriods log in
-    returns-laws.both head (Then ends (AreSweeps classes)) (stands (entry.Ended ∷ close_of p) (close-keeps p))
+    let empties : Part = Empties p (declared_in s) in
+    returns-laws.both head (Then empties (Then ends (AreSweeps classes))) (stands (entry.Ended ∷ close_of p) (close-keeps p))
+    (returns-laws.both empties (Then ends (AreSweeps classes)) (empties-by s p)
     (returns-laws.both ends (AreSweeps classes)
     (returns-laws.both (EndsOne Plain (in_progress Plain None log)) (EndsOne Tracing (in_progress Tracing None log)) (ends-by Plain (in_progress Plain None log)) (ends-by Tracing (in_progress Tracing None log)))
-    (sweeps-by classes))
+    (sweeps-by classes)))
 
 -- ---- a log
 
@@ -107,7 +115,7 @@ none-stands p k x u e = absurd (cc)
 pub returned-log : (s : Parts) (p : ℕ) (log : Log) (last : State ℕ) → HandlersStand s p log → HandlersDone s p log → IsLog s p log → Leaves p log last → ReturnsFit (opening p) None (λ c. []) log
 returned-log s p log last stand done i leaves =
     let classes = opened_classes s.types in
-    let closes : Part = Closing p classes i.front in
+    let closes : Part = Closing (declared_in s) p classes i.front in
     let above : AllAbove KeepsBatch log = above-map IsOfHandler KeepsBatch handler-keeps log (handlers-above s p log stand done) in
     let whole : Then (Front s p) closes (opening p) log = record { one = i.front; two = i.closing; part_is = i.log_is; is_first = i.is_front; is_second = i.is_closing } in
-    (then-at (opening p) (Front s p) closes (front-law s ReturnsBy returns-laws (front-by s) p (opening p)) (closing-by p classes i.front) None (λ c. []) log leaves.named above (none-stands p) whole).fit
+    (then-at (opening p) (Front s p) closes (front-law s ReturnsBy returns-laws (front-by s) p (opening p)) (closing-by s p classes i.front) None (λ c. []) log leaves.named above (none-stands p) whole).fit

@@ -5,6 +5,7 @@ use Rattle.bm_journal.specs.declared.entry.Entry.TheVariants as entry
 use Rattle.bm_lang.specs.declared.scenario.Parts.{Parts}
 use Rattle.bm_law.specs.Spans.{own_entries}
 use Rattle.bm_law_work.proofs.Each.{AllOf, of-append, of-map}
+use Rattle.bm_law_scenario.specs.Declared.{declared_in}
 use Rattle.bm_law_scenario.specs.CallEntries.{IsOfStatement}
 use Rattle.bm_law_scenario.specs.Opened.{opened_classes}
 use Rattle.bm_law_scenario.specs.WorkEntries.{IsOfWork}
@@ -41,7 +42,7 @@ work-sends cs c m _ q = tt
 pub front-sends : (s : Parts) → Written s (AllSendOf (opened_classes s.types))
 front-sends s =
     let cs : List ℕ = opened_classes s.types in
-    let calls = of-calls s.types in
+    let calls = of-calls (declared_in s) in
     record {
       closed = record {
         none = tt;
@@ -51,6 +52,7 @@ front-sends s =
         still = λ x names part after r. of-map IsOfStatement (SendsOf cs) (call-sends cs) part (calls.still x names part after r);
         acquired = λ y x names part after r. of-map IsOfStatement (SendsOf cs) (call-sends cs) part (calls.acquired y x names part after r);
         read = λ x field names part after r. of-map IsOfStatement (SendsOf cs) (call-sends cs) part (calls.read x field names part after r);
+        exchanged = λ y slot given names part after r. of-map IsOfStatement (SendsOf cs) (call-sends cs) part (calls.exchanged y slot given names part after r);
         enters = λ w. (tt, tt);
         leaves = λ w. (tt, tt);
         yields = (tt, tt);

@@ -14,6 +14,7 @@ use Rattle.bm_law.specs.Spans.{own_entries}
 use Rattle.bm_law.specs.State.{State}
 use Rattle.bm_law_work.specs.WorkPhrases.{Work}
 use Rattle.bm_law_work.proofs.Each.{AllOf}
+use Rattle.bm_law_scenario.specs.Declared.{Declared, declared_in}
 use Rattle.bm_law_scenario.specs.Opened.{OfClass, is_class, object_size, opened_classes, uses_class}
 use Rattle.bm_law_scenario.proofs.RunsAll.{Closed}
 use Rattle.bm_law_scenario.proofs.Spares.{AllSpare, Spares, other-row, spare-alloc, spare-delay, spare-free, spare-join}
@@ -108,15 +109,16 @@ all-work-spare : (k c : ℕ) (es : List Entry) → k ≢ c → AllOf (IsOfWork c
 all-work-spare k c [] ne h = tt
 all-work-spare k c (e ∷ es) ne h = (work-spares k c e ne h.0, all-work-spare k c es ne h.1)
 
-closed : (types : List TypeDeclaration) (c : ℕ) → list_any (uses_class c) types ≡ false → Closed types (AllSpare c)
-closed types c e = record {
+closed : (d : Declared) (c : ℕ) → list_any (uses_class c) d.types ≡ false → Closed d (AllSpare c)
+closed d c e = record {
   none = tt;
   join = spare-join c;
-  new = λ x t values names part after r. subst (AllSpare c) (sym r.part_is) (λ l us s. refl, spare-alloc c r.class r.own r.reply (other-class types c r.class e (used types t.0 r.class r.declared r.of_class)) r.allocates);
-  dropped = λ x names part after r. subst (AllSpare c) (sym r.part_is) (λ l us s. refl, (λ l us s. refl, (let ne = other-class types c r.class e (used types r.type.0 r.class r.declared r.of_class) in either-free (AllSpare c) r.declared.counted r.class r.unit r.home r.batch r.own (spare-free c r.class r.unit r.home r.own ne) (spare-delay c r.class r.unit r.home r.batch r.own ne) r.frees)));
+  new = λ x t values names part after r. subst (AllSpare c) (sym r.part_is) (λ l us s. refl, spare-alloc c r.class r.own r.reply (other-class d.types c r.class e (used d.types t.0 r.class r.declared r.of_class)) r.allocates);
+  dropped = λ x names part after r. subst (AllSpare c) (sym r.part_is) (λ l us s. refl, (λ l us s. refl, (let ne = other-class d.types c r.class e (used d.types r.type.0 r.class r.declared r.of_class) in either-free (AllSpare c) r.declared.counted r.class r.unit r.home r.batch r.own (spare-free c r.class r.unit r.home r.own ne) (spare-delay c r.class r.unit r.home r.batch r.own ne) r.frees)));
   still = λ x names part after r. subst (AllSpare c) (sym r.part_is) (λ l us s. refl, (λ l us s. refl, tt));
   acquired = λ y x names part after r. subst (AllSpare c) (sym r.part_is) (λ l us s. refl, tt);
   read = λ x field names part after r. subst (AllSpare c) (sym r.part_is) (λ l us s. refl, tt);
+  exchanged = λ y slot given names part after r. subst (AllSpare c) (sym r.part_is) (λ l us s. refl, tt);
   enters = λ w. (λ l us s. refl, tt);
   leaves = λ w. (λ l us s. refl, tt);
   yields = (λ l us s. refl, tt);
@@ -136,7 +138,7 @@ ends-spare c w d name = (λ l us t. refl, (λ l us t. refl, tt))
 
 pub spared : (s : Parts) (c : ℕ) → list_any (uses_class c) s.types ≡ false → Written s (AllSpare c)
 spared s c e = record {
-  closed = closed s.types c e;
+  closed = closed (declared_in s) c e;
   fill = λ d us m. fill-spares s.types c d us e m;
   begins = λ d name w. begins-spare c w d name;
   ends = λ d name w. ends-spare c w d name;

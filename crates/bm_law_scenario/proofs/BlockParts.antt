@@ -7,20 +7,20 @@ use Rattle.bm_lang.specs.declared.scenario.Action.TheOpen.{Block-F}
 use Rattle.bm_lang.specs.declared.scenario.Action.TheBlock.{hidden-the_row-Statement-0}
 use Rattle.bm_lang.specs.declared.scenario.Block.{Block, roll-Block, rolls-Block', Row_of-Statement, end_of-Statement, more_of-Statement, items-the_row-Statement, items_hidden-the_row-Statement-0}
 use Rattle.bm_lang.specs.declared.scenario.Statement.{Statement}
-use Rattle.bm_lang.specs.declared.scenario.TypeDeclaration.{TypeDeclaration}
 use Rattle.bm_law_work.specs.Parts.{Part}
+use Rattle.bm_law_scenario.specs.Declared.{Declared}
 use Rattle.bm_law_scenario.specs.Runs.{Run, Leaving, Done, Followed, RunsAction, RunsBlock, RunsRow}
 
 -- statements, one after the other
-abbrev pub RunsList : List TypeDeclaration → ℕ → Part → List Statement → Run
-RunsList types l behind [] = Done
-RunsList types l behind (s ∷ ss) = Followed (Followed (RunsAction types l true behind s.action) (Leaving behind)) (RunsList types l behind ss)
+abbrev pub RunsList : Declared → ℕ → Part → List Statement → Run
+RunsList d l behind [] = Done
+RunsList d l behind (s ∷ ss) = Followed (Followed (RunsAction d l true behind s.action) (Leaving behind)) (RunsList d l behind ss)
 
-row-runs : (types : List TypeDeclaration) (l : ℕ) (behind : Part) (n : Count) (row : Row_of-Statement n) → RunsRow types l true behind row ≡ RunsList types l behind (items-the_row-Statement n row)
-row-runs types l behind _ end_of-Statement = refl
-row-runs types l behind _ (more_of-Statement line action rest) = ap (Followed (Followed (RunsAction types l true behind action) (Leaving behind))) (row-runs types l behind _ rest)
+row-runs : (d : Declared) (l : ℕ) (behind : Part) (n : Count) (row : Row_of-Statement n) → RunsRow d l true behind row ≡ RunsList d l behind (items-the_row-Statement n row)
+row-runs d l behind _ end_of-Statement = refl
+row-runs d l behind _ (more_of-Statement line action rest) = ap (Followed (Followed (RunsAction d l true behind action) (Leaving behind))) (row-runs d l behind _ rest)
 
-pub block-parts : (types : List TypeDeclaration) (l : ℕ) (behind : Part) (v : Vec Statement) (end : ℕ) → RunsBlock types l true behind (roll-Block (record { statements = v; end_line = end })) ≡ RunsList types l behind v.items
-block-parts types l behind v end =
+pub block-parts : (d : Declared) (l : ℕ) (behind : Part) (v : Vec Statement) (end : ℕ) → RunsBlock d l true behind (roll-Block (record { statements = v; end_line = end })) ≡ RunsList d l behind v.items
+block-parts d l behind v end =
     let b : Block-F Action Block Statement = record { statements = v; end_line = end } in
-    ap (RunsBlock types l true behind) (rolls-Block' b) ∙ (row-runs types l behind _ (hidden-the_row-Statement-0 v) ∙ ap (RunsList types l behind) (items_hidden-the_row-Statement-0 v))
+    ap (RunsBlock d l true behind) (rolls-Block' b) ∙ (row-runs d l behind _ (hidden-the_row-Statement-0 v) ∙ ap (RunsList d l behind) (items_hidden-the_row-Statement-0 v))

@@ -10,12 +10,12 @@ use Rattle.bm_journal.specs.declared.entry.Entry.TheVariants as entry
 use Rattle.bm_lang.specs.declared.scenario.RunLine.{RunLine}
 use Rattle.bm_lang.specs.declared.scenario.Parts.{Parts}
 use Rattle.bm_lang.specs.declared.scenario.Script.{Script}
-use Rattle.bm_lang.specs.declared.scenario.TypeDeclaration.{TypeDeclaration}
 use Rattle.bm_page.specs.Stock.{Stock, fetched}
 use Rattle.bm_law.specs.State.{State}
 use Rattle.bm_law.specs.Lists.{Log, next, after}
 use Rattle.bm_law.specs.Phrases.{given, raise_below, overtaken, overtaken_delayed, raise_unless, DelayPhrase, FreePhrase}
 use Rattle.bm_law.specs.SweepPhrases.{PollPhrase}
+use Rattle.bm_law_scenario.specs.Declared.{Declared, declared_in}
 use Rattle.bm_law_scenario.specs.Held.{no_names}
 use Rattle.bm_law_scenario.specs.Calls.{Allocates}
 use Rattle.bm_law_scenario.specs.Fills.{AreFills, numbers_of, prefill}
@@ -119,8 +119,8 @@ calm-delay : (c u home : ℕ) (batch : Bool) (own : List Entry) → DelayPhrase 
 calm-delay c u home batch own (inl x) = subst AllCalm (sym x.1) (calm (entry.Delay u home) (λ p s b. tt) (λ p b. refl) (λ d. refl), (calm (entry.Enter c 1) (λ p s b. tt) (λ p b. refl) (λ d. refl), (calm (entry.Delayed c u) (λ p s b. tt) (λ p b. refl) (λ d. refl), (calm (entry.Leave c x.0) (λ p s b. tt) (λ p b. refl) (λ d. refl), calm-unless batch c))))
 calm-delay c u home batch own (inr x) = subst AllCalm (sym x.5) (calm (entry.Delay u home) (λ p s b. tt) (λ p b. refl) (λ d. refl), (calm (entry.Enter c x.0) (λ p s b. tt) (λ p b. refl) (λ d. refl), calm-join (overtaken_delayed c x.1) (entry.LookDelayed c x.2 ∷ entry.PutDelayed c u ∷ entry.Leave c x.3 ∷ raise_unless batch c) (calm-delayed c x.1) (calm (entry.LookDelayed c x.2) (λ p s b. tt) (λ p b. refl) (λ d. refl), (calm (entry.PutDelayed c u) (λ p s b. tt) (λ p b. refl) (λ d. refl), (calm (entry.Leave c x.3) (λ p s b. tt) (λ p b. refl) (λ d. refl), calm-unless batch c)))))
 
-calm-closed : (types : List TypeDeclaration) → Closed types AllCalm
-calm-closed types = record {
+calm-closed : (d : Declared) → Closed d AllCalm
+calm-closed d = record {
   none = tt;
   join = calm-join;
   new = λ x t values names part after r. subst AllCalm (sym r.part_is) (calm (entry.New r.declared.name values) (λ p s b. tt) (λ p b. refl) (λ d. refl), calm-alloc r.class r.own r.reply r.allocates);
@@ -128,6 +128,7 @@ calm-closed types = record {
   still = λ x names part after r. subst AllCalm (sym r.part_is) (calm (entry.Drop r.unit r.life) (λ p s b. tt) (λ p b. refl) (λ d. refl), (calm (entry.Still r.seen) (λ p s b. tt) (λ p b. refl) (λ d. refl), tt));
   acquired = λ y x names part after r. subst AllCalm (sym r.part_is) (calm (entry.Acquire r.unit r.life r.seen) (λ p s b. tt) (λ p b. refl) (λ d. refl), tt);
   read = λ x field names part after r. subst AllCalm (sym r.part_is) (calm (entry.Get r.unit r.life r.place r.value) (λ p s b. tt) (λ p b. refl) (λ d. refl), tt);
+  exchanged = λ y slot given names part after r. subst AllCalm (sym r.part_is) (calm (entry.Xchg r.declared.name r.put r.was r.by) (λ p s b. tt) (λ p b. refl) (λ d. refl), tt);
   enters = λ w. (calm (entry.In Plain w) (λ p s b. tt) (λ p b. refl) (λ d. refl), tt);
   leaves = λ w. (calm (entry.Out Plain w) (λ p s b. tt) (λ p b. refl) (λ d. refl), tt);
   yields = (calm entry.Yield (λ p s b. tt) (λ p b. refl) (λ d. refl), tt);
@@ -142,7 +143,7 @@ calm-fills (c ∷ cs) pool own f =
     subst AllCalm (sym f.1) (calm (entry.Fill c (Whole (numbers_of got.units))) (λ p s b. tt) (λ p b. refl) (λ d. refl), calm-fills cs got.pool f.0 f.2)
 
 calm-script : (s : Parts) (x : Script) (w : ℕ) (own : List Entry) → IsScript s x w own → AllCalm own
-calm-script s x w own i = subst AllCalm (sym i.own_is) (calm (entry.Script x.name) (λ p s b. tt) (λ p b. refl) (λ d. refl), (calm (entry.In (section_of x.kind) w) (λ p s b. tt) (λ p b. refl) (λ d. refl), calm-join i.part (entry.Out (section_of x.kind) (w + 1) ∷ entry.Done x.name ∷ []) (block-all s.types AllCalm (calm-closed s.types) (starts_inside x) x.body no_names i.part i.after i.runs) (calm (entry.Out (section_of x.kind) (w + 1)) (λ p s b. tt) (λ p b. refl) (λ d. refl), (calm (entry.Done x.name) (λ p s b. tt) (λ p b. refl) (λ d. refl), tt))))
+calm-script s x w own i = subst AllCalm (sym i.own_is) (calm (entry.Script x.name) (λ p s b. tt) (λ p b. refl) (λ d. refl), (calm (entry.In (section_of x.kind) w) (λ p s b. tt) (λ p b. refl) (λ d. refl), calm-join i.part (entry.Out (section_of x.kind) (w + 1) ∷ entry.Done x.name ∷ []) (block-all (declared_in s) AllCalm (calm-closed (declared_in s)) (starts_inside x) x.body no_names i.part i.after i.runs) (calm (entry.Out (section_of x.kind) (w + 1)) (λ p s b. tt) (λ p b. refl) (λ d. refl), (calm (entry.Done x.name) (λ p s b. tt) (λ p b. refl) (λ d. refl), tt))))
 
 pub calm-scripts : (s : Parts) (rs : List RunLine) (own : List Entry) → AreScripts s rs own → AllCalm own
 calm-scripts s [] own e = subst AllCalm (sym e) tt

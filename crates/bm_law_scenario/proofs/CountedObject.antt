@@ -18,6 +18,8 @@ use Rattle.bm_law.proofs.Agree.{leaves-lists}
 use Rattle.bm_law.proofs.Null.{pops-fit}
 use Rattle.bm_law_work.specs.Parts as part
 use Rattle.bm_law_work.proofs.Pages.{short-named}
+use Rattle.bm_law_scenario.specs.Opened.{opened_classes}
+use Rattle.bm_law_scenario.specs.Declared.{declared_in, unmapped}
 use Rattle.bm_law_scenario.specs.Calls.{Allocates, RunsAcquire, RunsDrop, RunsNew, batch_in}
 use Rattle.bm_law_scenario.specs.Grammar.{IsLog}
 use Rattle.bm_law_scenario.specs.Held.{Null, Object, OwnsNothing, no_names}
@@ -37,6 +39,7 @@ use Rattle.bm_law_scenario.proofs.Told.{one-log}
 use Rattle.bm_law_scenario.proofs.Unplanned.{done-ordinary}
 use Rattle.bm_law_scenario.proofs.WorkedDropped.{of-counted}
 use Rattle.bm_law_scenario.proofs.WorkedShared.{acquires-seen, left-seen}
+use Rattle.bm_law_scenario.proofs.Unslotted.{bare-closing}
 
 abbrev last : State ℕ
 last = after (opening 0) counted_log
@@ -134,9 +137,9 @@ last-runs s none = record {
   after_is = refl;
 }
 
-inner-runs : RunsBlock counted_types 0 true part.Nothing (block_of (acquires_and_drops 8) (lit≤ tt) 8) holding_three neither_holds at_drops (ordinary shared)
+inner-runs : RunsBlock (unmapped counted_types) 0 true part.Nothing (block_of (acquires_and_drops 8) (lit≤ tt) 8) holding_three neither_holds at_drops (ordinary shared)
 inner-runs =
-    let list : RunsList counted_types 0 part.Nothing (acquires_and_drops 8) holding_three neither_holds at_drops (ordinary shared) = (
+    let list : RunsList (unmapped counted_types) 0 part.Nothing (acquires_and_drops 8) holding_three neither_holds at_drops (ordinary shared) = (
       both_hold,
       then-of _ _ at_drops (acquires 1) (gives_one_up 2 ++ delays_and_raises)
           (both_hold, then-of _ _ _ (acquires 1) [] (says _ _ _ acquire-runs) (refl, refl)) (
@@ -146,17 +149,17 @@ inner-runs =
                 (neither_holds, then-of _ _ _ delays_and_raises [] (neither_holds, then-of _ _ _ delays_and_raises [] (says _ _ _ (inr (last-runs at_last refl))) (refl, refl)) (refl, refl)),
           ),
     ) in
-    subst (λ (run : Run). run holding_three neither_holds at_drops (ordinary shared)) (sym (block-parts counted_types 0 part.Nothing (vector_of (acquires_and_drops 8) (lit≤ tt)) 8)) list
+    subst (λ (run : Run). run holding_three neither_holds at_drops (ordinary shared)) (sym (block-parts (unmapped counted_types) 0 part.Nothing (vector_of (acquires_and_drops 8) (lit≤ tt)) 8)) list
 
-body-runs : RunsBlock counted_types 0 true part.Nothing makes_and_shares no_names neither_holds at_call (ordinary (counted_call ++ shared))
+body-runs : RunsBlock (unmapped counted_types) 0 true part.Nothing makes_and_shares no_names neither_holds at_call (ordinary (counted_call ++ shared))
 body-runs =
-    let list : RunsList counted_types 0 part.Nothing (makes_counted ∷ shares_unless_null 8 ∷ []) no_names neither_holds at_call (ordinary (counted_call ++ shared)) = (
+    let list : RunsList (unmapped counted_types) 0 part.Nothing (makes_counted ∷ shares_unless_null 8 ∷ []) no_names neither_holds at_call (ordinary (counted_call ++ shared)) = (
       holding_three,
       then-of _ _ at_call counted_call shared
           (holding_three, then-of _ _ _ counted_call [] (says _ _ _ new-runs) (refl, refl))
           (neither_holds, then-of _ _ _ shared [] (neither_holds, then-of _ _ _ shared [] inner-runs (refl, refl)) (refl, refl)),
     ) in
-    subst (λ (run : Run). run no_names neither_holds at_call (ordinary (counted_call ++ shared))) (sym (block-parts counted_types 0 part.Nothing (vector_of (makes_counted ∷ shares_unless_null 8 ∷ []) (lit≤ tt)) 9)) list
+    subst (λ (run : Run). run no_names neither_holds at_call (ordinary (counted_call ++ shared))) (sym (block-parts (unmapped counted_types) 0 part.Nothing (vector_of (makes_counted ∷ shares_unless_null 8 ∷ []) (lit≤ tt)) 9)) list
 
 owns-nothing : (y : List ℕ) → OwnsNothing (neither_holds y)
 owns-nothing y = both (bytes_eq y_name y) (bytes_eq x_name y)
@@ -194,8 +197,8 @@ is-log = record {
         (then-of _ _ _ (counted_call ++ shared) stops (neither_holds, body-runs, owns-nothing) (then-of _ _ _ stops [] (stands _ _) refl)))
         refl,
   );
-  is_closing = then-of _ _ _ (entry.Ended ∷ entry.Close ∷ []) sweeps (stands _ _)
-      (then-of _ _ _ [] sweeps (then-of _ _ _ [] [] refl refl) ([], then-of _ _ _ sweeps [] (says _ _ _ (record { phrase = sweep; taken = refl; waited = lit≤ tt; given = refl })) refl));
+  is_closing = bare-closing (declared_in counted_object) 0 (opened_classes counted_object.types) (ordinary (entry.Fill 0 (Whole one_page) ∷ script)) _ _ refl (then-of _ _ _ (entry.Ended ∷ entry.Close ∷ []) sweeps (stands _ _)
+      (then-of _ _ _ [] sweeps (then-of _ _ _ [] [] refl refl) ([], then-of _ _ _ sweeps [] (says _ _ _ (record { phrase = sweep; taken = refl; waited = lit≤ tt; given = refl })) refl)));
 }
 
 words : SectionWords counted_log

@@ -9,6 +9,7 @@ use Rattle.bm_law.specs.Spans.{own_entries}
 use Rattle.bm_due.specs.Standing.{HandlersStand}
 use Rattle.bm_law_work.proofs.Each.{AllOf, of-append, of-map}
 use Rattle.bm_law_scenario.specs.CallEntries.{IsOfStatement, IsOfHandler}
+use Rattle.bm_law_scenario.specs.Declared.{declared_in}
 use Rattle.bm_law_scenario.specs.Handlers.{AreHandlers, HandlerPhrase, HandlersDone, enclosed, more, none}
 use Rattle.bm_law_scenario.specs.Held.{no_names}
 use Rattle.bm_law_scenario.specs.SectionWords.{is_outside}
@@ -21,7 +22,7 @@ use Rattle.bm_law_scenario.proofs.SameRuns.{alone-owned}
 
 -- What the parts of handlers of a scenario have.
 pub record Framed (s : Parts) (P : List Entry → Type 0) : Type 0 where
-  pub closed : Closed s.types P
+  pub closed : Closed (declared_in s) P
   pub begins : (name : List ℕ) → P (entry.Handler name ∷ [])
   pub ends : (name : List ℕ) → P (entry.Back name ∷ [])
 
@@ -32,7 +33,7 @@ enclosed-has s P k w part h = elim (is_outside w) as (λ b. P (if b then entry.I
 ]
 
 phrase-has : (s : Parts) (P : List Entry → Type 0) (k : Framed s P) (name : List ℕ) (w : ℕ) (own : List Entry) → HandlerPhrase s name w own → P own
-phrase-has s P k name w own h = subst P (sym h.own_is) (enclosed-has s P k w h.part (block-all s.types P k.closed true h.script.body no_names h.part h.after (alone-owned s.types h.script.body no_names h.after h.part h.runs)))
+phrase-has s P k name w own h = subst P (sym h.own_is) (enclosed-has s P k w h.part (block-all (declared_in s) P k.closed true h.script.body no_names h.part h.after (alone-owned (declared_in s) h.script.body no_names h.after h.part h.runs)))
 
 -- they have it together
 pub handlers-have : (s : Parts) (P : List Entry → Type 0) → Framed s P → (es : List Entry) → AreHandlers s es → P es
@@ -51,7 +52,7 @@ call-handler _ h = h
 
 of-handlers : (s : Parts) → Framed s (λ es. AllOf IsOfHandler es)
 of-handlers s =
-    let k = of-calls s.types in
+    let k = of-calls (declared_in s) in
     record {
       closed = record {
         none = tt;
@@ -61,6 +62,7 @@ of-handlers s =
         still = λ x names part after r. of-map IsOfStatement IsOfHandler call-handler part (k.still x names part after r);
         acquired = λ y x names part after r. of-map IsOfStatement IsOfHandler call-handler part (k.acquired y x names part after r);
         read = λ x field names part after r. of-map IsOfStatement IsOfHandler call-handler part (k.read x field names part after r);
+        exchanged = λ y slot given names part after r. of-map IsOfStatement IsOfHandler call-handler part (k.exchanged y slot given names part after r);
         enters = λ w. (tt, tt);
         leaves = λ w. (tt, tt);
         yields = (tt, tt);

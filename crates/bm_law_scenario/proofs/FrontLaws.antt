@@ -12,7 +12,8 @@ use Rattle.bm_page.specs.Stock.{Stock, fetched}
 use Rattle.bm_law_work.specs.Parts.{Part, Nothing, Say, Stand, Then}
 use Rattle.bm_law_work.specs.WorkPhrases.{Work}
 use Rattle.bm_law_scenario.specs.Fills.{AreFills, numbers_of, prefill}
-use Rattle.bm_law_scenario.specs.Calls.{RunsAcquire, RunsGet, RunsDrop, RunsNew, RunsStill, any_batch}
+use Rattle.bm_law_scenario.specs.Calls.{RunsAcquire, RunsExchange, RunsGet, RunsDrop, RunsNew, RunsStill, any_batch}
+use Rattle.bm_law_scenario.specs.Declared.{declared_in}
 use Rattle.bm_law_scenario.specs.Held.{Names, no_names}
 use Rattle.bm_law_scenario.specs.Runs.{RunsBlock}
 use Rattle.bm_law_scenario.specs.Opened.{opened_classes}
@@ -25,7 +26,7 @@ use Rattle.bm_law_scenario.proofs.BlockLaws.{Called, law-block}
 
 -- what the parts of a front of a scenario have
 pub record Fronted (s : Parts) (L : Part → Type 0) : Type 0 where
-  pub calls : Called s.types L
+  pub calls : Called (declared_in s) L
   pub fills : (pool : Stock) → L (Say 0 (AreFills (opened_classes s.types) pool))
   pub begins : (d : Domain) (name : List ℕ) (w : ℕ) → L (Stand 0 (entry.Script name ∷ entry.In d w ∷ []))
   pub ends : (d : Domain) (name : List ℕ) (w : ℕ) → L (Stand 0 (entry.Out d w ∷ entry.Done name ∷ []))
@@ -36,8 +37,8 @@ module _ (s : Parts) (L : Part → Type 0) (k : Laws L) (f : Fronted s L) where
   body x =
       let classes : List ℕ = opened_classes s.types in
       let works : L (behind_statement s) = law-if L k s.deferred (UntilDown classes) Nothing (law-until L k classes f.work) k.nothing in
-      k.cases Names (λ names. RunsBlock s.types 0 (starts_inside x) (behind_statement s) x.body no_names names) (IsBody s x)
-      (λ names. law-block s.types L k f.calls (behind_statement s) works (starts_inside x) x.body no_names names) (λ t part h. (h.0, h.1))
+      k.cases Names (λ names. RunsBlock (declared_in s) 0 (starts_inside x) (behind_statement s) x.body no_names names) (IsBody s x)
+      (λ names. law-block (declared_in s) L k f.calls (behind_statement s) works (starts_inside x) x.body no_names names) (λ t part h. (h.0, h.1))
 
   script : (x : Script) (w : ℕ) → L (IsScript s x w)
   script x w =
@@ -63,7 +64,7 @@ module _ (s : Parts) (L : Part → Type 0) (k : Laws L) (f : Fronted s L) where
 -- ---- what the entries of ordinary code in a front have
 
 pub record Written (s : Parts) (P : List Entry → Type 0) : Type 0 where
-  pub closed : Closed s.types P
+  pub closed : Closed (declared_in s) P
   pub fill : (c : ℕ) (us : List ℕ) → among c (opened_classes s.types) ≡ true → P (entry.Fill c (Whole us) ∷ [])
   pub begins : (d : Domain) (name : List ℕ) (w : ℕ) → P (entry.Script name ∷ entry.In d w ∷ [])
   pub ends : (d : Domain) (name : List ℕ) (w : ℕ) → P (entry.Out d w ∷ entry.Done name ∷ [])
@@ -76,7 +77,7 @@ module _ (s : Parts) (P : List Entry → Type 0) (k : Written s P) where
       let units = numbers_of (fetched c (prefill c) pool).units in
       subst P (sym f.1) (k.closed.join (entry.Fill c (Whole units) ∷ []) f.0 (k.fill c units (m c (first-among c c cs refl))) (fills-have cs (fetched c (prefill c) pool).pool f.0 (λ d e. m d (later-among d c cs e)) f.2))
 
-  written : Fronted s (Has P)
+  pub written : Fronted s (Has P)
   written =
       let classes : List ℕ = opened_classes s.types in
       record {
@@ -86,6 +87,7 @@ module _ (s : Parts) (P : List Entry → Type 0) (k : Written s P) where
           still = λ x names after. has-say P (λ own. RunsStill s.types x names own after) (λ own h. k.closed.still x names own after h);
           acquired = λ y x names after. has-say P (λ own. RunsAcquire s.types y x names own after) (λ own h. k.closed.acquired y x names own after h);
           read = λ x field names after. has-say P (λ own. RunsGet s.types x field names own after) (λ own h. k.closed.read x field names own after h);
+          exchanged = λ y slot given names after. has-say P (λ own. RunsExchange s.maps y slot given names own after) (λ own h. k.closed.exchanged y slot given names own after h);
           enters = λ w. has-stand P (entry.In Plain w ∷ []) (k.closed.enters w);
           leaves = λ w. has-stand P (entry.Out Plain w ∷ []) (k.closed.leaves w);
           yields = has-stand P (entry.Yield ∷ []) k.closed.yields;

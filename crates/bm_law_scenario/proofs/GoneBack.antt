@@ -8,6 +8,7 @@ use Rattle.bm_lang.specs.declared.scenario.Parts.{Parts}
 use Rattle.bm_law.specs.Lists.{Log}
 use Rattle.bm_law.specs.Spans.{own_entries}
 use Rattle.bm_law.proofs.Spans.{own-append}
+use Rattle.bm_law_scenario.specs.Declared.{declared_in}
 use Rattle.bm_law_scenario.specs.CallEntries.{IsOfStatement}
 use Rattle.bm_law_scenario.specs.Held.{no_names}
 use Rattle.bm_law_scenario.specs.SectionWords.{is_outside, word_after}
@@ -40,6 +41,7 @@ call-within (entry.Still k) h = refl
 call-within entry.Last h = refl
 call-within (entry.Acquire u life k) h = refl
 call-within (entry.Get u life place value) h = refl
+call-within (entry.Xchg name put was by) h = refl
 call-within (entry.Free u home) h = refl
 call-within (entry.Delay u home) h = refl
 call-within (entry.Enter c a) h = refl
@@ -72,7 +74,7 @@ enclosed-within w part h = elim (is_outside w) as (λ b. all_within (if b then e
 ]
 
 pub phrase-calls : (s : Parts) (name : List ℕ) (w : ℕ) (own : List Entry) (h : HandlerPhrase s name w own) → OfCalls h.part
-phrase-calls s name w own h = block-all s.types OfCalls (of-calls s.types) true h.script.body no_names h.part h.after (alone-owned s.types h.script.body no_names h.after h.part h.runs)
+phrase-calls s name w own h = block-all (declared_in s) OfCalls (of-calls (declared_in s)) true h.script.body no_names h.part h.after (alone-owned (declared_in s) h.script.body no_names h.after h.part h.runs)
 
 pub phrase-within : (s : Parts) (name : List ℕ) (w : ℕ) (own : List Entry) → HandlerPhrase s name w own → all_within own ≡ true
 phrase-within s name w own h = subst (λ es. all_within es ≡ true) (sym h.own_is) (enclosed-within w h.part (calls-within h.part (phrase-calls s name w own h)))

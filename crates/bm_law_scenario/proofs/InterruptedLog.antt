@@ -18,6 +18,8 @@ use Rattle.bm_law.proofs.Null.{pops-fit}
 use Rattle.bm_law.proofs.Spans.{own-append}
 use Rattle.bm_law_work.specs.Parts as part
 use Rattle.bm_law_work.proofs.Parts.{ordinary-say, ordinary-stand, then-of}
+use Rattle.bm_law_scenario.specs.Opened.{opened_classes}
+use Rattle.bm_law_scenario.specs.Declared.{declared_in, unmapped}
 use Rattle.bm_law_scenario.specs.Held.{no_names}
 use Rattle.bm_law_scenario.specs.Runs.{Run, RunsBlock}
 use Rattle.bm_law_scenario.specs.Parcels.{ParcelLaw}
@@ -39,6 +41,7 @@ use Rattle.bm_law_scenario.proofs.Taken.{holding}
 use Rattle.bm_law_scenario.proofs.Told.{one-log}
 use Rattle.bm_law_scenario.proofs.Unplanned.{done-stretch}
 use Rattle.bm_law_scenario.proofs.WorkedHandled.{interrupted-done}
+use Rattle.bm_law_scenario.proofs.Unslotted.{bare-closing}
 
 -- ---- the lists and the other laws
 
@@ -105,21 +108,21 @@ drop = ordinary (gave 3 4)
 abbrev stops : Log
 stops = ordinary (entry.Out Plain 2 ∷ entry.Done (codes "main") ∷ [])
 
-inner-runs : (s : State ℕ) → RunsBlock types 0 true part.Nothing (block_of (drops_x 8 ∷ []) (lit≤ tt) 8) holding dropped s drop
+inner-runs : (s : State ℕ) → RunsBlock (unmapped types) 0 true part.Nothing (block_of (drops_x 8 ∷ []) (lit≤ tt) 8) holding dropped s drop
 inner-runs s =
-    let list : RunsList types 0 part.Nothing (drops_x 8 ∷ []) holding dropped s drop =
+    let list : RunsList (unmapped types) 0 part.Nothing (drops_x 8 ∷ []) holding dropped s drop =
     (dropped, then-of _ _ s drop [] (dropped, then-of _ _ s drop [] (ordinary-say _ (gave 3 4) s drop (inr (uncounted types x_name s holding dropped (gave 3 4) drop-runs (no-count types drop-runs.type.0 drop-runs.declared (refl, tt) drop-runs.of_class.found))) refl) (refl, refl)) (refl, refl)) in
-    subst (λ (run : Run). run holding dropped s drop) (sym (block-parts types 0 part.Nothing (vector_of (drops_x 8 ∷ []) (lit≤ tt)) 8)) list
+    subst (λ (run : Run). run holding dropped s drop) (sym (block-parts (unmapped types) 0 part.Nothing (vector_of (drops_x 8 ∷ []) (lit≤ tt)) 8)) list
 
-body-runs : (s : State ℕ) → RunsBlock types 0 true part.Nothing (makes_and_drops 7 8 9) no_names dropped s (call ++ drop)
+body-runs : (s : State ℕ) → RunsBlock (unmapped types) 0 true part.Nothing (makes_and_drops 7 8 9) no_names dropped s (call ++ drop)
 body-runs s =
-    let list : RunsList types 0 part.Nothing (makes_x 7 ∷ drops_x_unless_null 8 ∷ []) no_names dropped s (call ++ drop) = (
+    let list : RunsList (unmapped types) 0 part.Nothing (makes_x 7 ∷ drops_x_unless_null 8 ∷ []) no_names dropped s (call ++ drop) = (
       holding,
       then-of _ _ s call drop
           (holding, then-of _ _ s call [] (ordinary-say _ (asks ∷ took 3) s call new-runs refl) (refl, refl))
           (dropped, then-of _ _ _ drop [] (dropped, then-of _ _ _ drop [] (inner-runs _) (refl, refl)) (refl, refl)),
     ) in
-    subst (λ (run : Run). run no_names dropped s (call ++ drop)) (sym (block-parts types 0 part.Nothing (vector_of (makes_x 7 ∷ drops_x_unless_null 8 ∷ []) (lit≤ tt)) 9)) list
+    subst (λ (run : Run). run no_names dropped s (call ++ drop)) (sym (block-parts (unmapped types) 0 part.Nothing (vector_of (makes_x 7 ∷ drops_x_unless_null 8 ∷ []) (lit≤ tt)) 9)) list
 
 -- ---- the log
 
@@ -146,8 +149,8 @@ is-log = record {
         (then-of _ _ _ (call ++ drop) stops (dropped, body-runs _, dropped-owns_nothing) (then-of _ _ _ stops [] (ordinary-stand _ _ _ refl) refl)))
         refl,
   );
-  is_closing = then-of _ _ _ (ordinary (entry.Ended ∷ entry.Close ∷ [])) (ordinary (swept (3 ∷ 2 ∷ 1 ∷ 0 ∷ []))) (ordinary-stand _ _ _ refl)
-      (then-of _ _ _ [] (ordinary (swept (3 ∷ 2 ∷ 1 ∷ 0 ∷ []))) (then-of _ _ _ [] [] refl refl) ([], then-of _ _ _ (ordinary (swept (3 ∷ 2 ∷ 1 ∷ 0 ∷ []))) [] (ordinary-say _ (swept (3 ∷ 2 ∷ 1 ∷ 0 ∷ [])) _ _ (record { phrase = sweep; taken = refl; waited = lit≤ tt; given = refl }) refl) refl));
+  is_closing = bare-closing (declared_in (handled (makes_and_drops 7 8 9))) 0 (opened_classes (handled (makes_and_drops 7 8 9)).types) (fills ++ script) _ _ refl (then-of _ _ _ (ordinary (entry.Ended ∷ entry.Close ∷ [])) (ordinary (swept (3 ∷ 2 ∷ 1 ∷ 0 ∷ []))) (ordinary-stand _ _ _ refl)
+      (then-of _ _ _ [] (ordinary (swept (3 ∷ 2 ∷ 1 ∷ 0 ∷ []))) (then-of _ _ _ [] [] refl refl) ([], then-of _ _ _ (ordinary (swept (3 ∷ 2 ∷ 1 ∷ 0 ∷ []))) [] (ordinary-say _ (swept (3 ∷ 2 ∷ 1 ∷ 0 ∷ [])) _ _ (record { phrase = sweep; taken = refl; waited = lit≤ tt; given = refl }) refl) refl)));
 }
 
 phrases : HandlersDone (handled (makes_and_drops 7 8 9)) 0 interrupted_log

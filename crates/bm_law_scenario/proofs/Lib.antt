@@ -17,6 +17,8 @@ pub mod NoObject
 pub mod WorkedDropped
 pub mod WorkedShared
 pub mod CountedObject
+pub mod HandedOver
+pub mod WrongSlots
 pub mod ThreeCalls
 pub mod Wrong
 pub mod WrongScripts
@@ -37,6 +39,8 @@ pub mod OfCall
 pub mod GoneBack
 pub mod Levels
 pub mod Unplanned
+pub mod Unslotted
+pub mod Mapped
 pub mod EachLevel
 pub mod Ended
 pub mod WorkedHandled

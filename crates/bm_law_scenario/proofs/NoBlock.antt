@@ -18,6 +18,8 @@ use Rattle.bm_law.proofs.Agree.{leaves-lists}
 use Rattle.bm_law.proofs.Null.{pops-fit}
 use Rattle.bm_law_work.specs.Parts.{Part}
 use Rattle.bm_law_work.specs.WorkPhrases.{Work}
+use Rattle.bm_law_scenario.specs.Opened.{opened_classes}
+use Rattle.bm_law_scenario.specs.Declared.{declared_in, unmapped}
 use Rattle.bm_law_scenario.specs.Held.{no_names}
 use Rattle.bm_law_scenario.specs.Works.{UntilDown}
 use Rattle.bm_law_scenario.specs.Runs.{Run, RunsBlock}
@@ -35,6 +37,7 @@ use Rattle.bm_law_scenario.proofs.Ordinary.{all-ordinary, stands, says, then-of}
 use Rattle.bm_law_scenario.proofs.BlockParts.{RunsList, block-parts}
 use Rattle.bm_law_scenario.proofs.OpeningBlock.{first-block}
 use Rattle.bm_law_scenario.proofs.Told.{one-log}
+use Rattle.bm_law_scenario.proofs.Unslotted.{bare-closing}
 
 -- ---- the lists and the other laws
 
@@ -111,11 +114,11 @@ until = UntilDown (10 ∷ [])
 abbrev s0 : State ℕ
 s0 = after (opening 0) (ordinary begins)
 
-body-runs : RunsBlock (block ∷ []) 0 true until (block_of (makes_never ∷ []) (lit≤ tt) 9) no_names no_names s0 []
+body-runs : RunsBlock (unmapped (block ∷ [])) 0 true until (block_of (makes_never ∷ []) (lit≤ tt) 9) no_names no_names s0 []
 body-runs =
-    let list : RunsList (block ∷ []) 0 until (makes_never ∷ []) no_names no_names s0 [] =
+    let list : RunsList (unmapped (block ∷ [])) 0 until (makes_never ∷ []) no_names no_names s0 [] =
     (no_names, then-of _ _ s0 [] [] (no_names, then-of _ _ s0 [] [] (refl, refl) (refl, (0, (refl, refl)))) (refl, refl)) in
-    subst (λ (run : Run). run no_names no_names s0 []) (sym (block-parts (block ∷ []) 0 until (vector_of (makes_never ∷ []) (lit≤ tt)) 9)) list
+    subst (λ (run : Run). run no_names no_names s0 []) (sym (block-parts (unmapped (block ∷ [])) 0 until (vector_of (makes_never ∷ []) (lit≤ tt)) 9)) list
 
 -- ---- the log
 
@@ -136,7 +139,7 @@ is-log = record {
         (then-of _ _ _ [] (stops ++ work1) (no_names, body-runs, λ y. tt) (then-of _ _ _ stops work1 (stands _ _) (then-of _ _ _ work1 [] (then-of _ _ _ work1 [] is-work1 refl) (0, (refl, refl))))))
         refl,
   );
-  is_closing = then-of _ _ _ (entry.Ended ∷ entry.Close ∷ []) swept (stands _ _) (then-of _ _ _ [] swept (then-of _ _ _ [] [] refl refl) ([], then-of _ _ _ swept [] (says _ _ _ (record { phrase = sweep; taken = refl; waited = lit≤ tt; given = refl })) refl));
+  is_closing = bare-closing (declared_in no_block) 0 (opened_classes no_block.types) (ordinary (entry.Fill 10 (Whole (0 ∷ [])) ∷ script)) _ _ refl (then-of _ _ _ (entry.Ended ∷ entry.Close ∷ []) swept (stands _ _) (then-of _ _ _ [] swept (then-of _ _ _ [] [] refl refl) ([], then-of _ _ _ swept [] (says _ _ _ (record { phrase = sweep; taken = refl; waited = lit≤ tt; given = refl })) refl)));
 }
 
 words : SectionWords no_block_log

@@ -13,6 +13,8 @@ use Rattle.bm_law.specs.Null.{Nothing, NullLaw, RepliesFit}
 use Rattle.bm_law.specs.Spans.{own_entries}
 use Rattle.bm_law.specs.Worked.{Emptied}
 use Rattle.bm_law.proofs.Null.{pops-fit}
+use Rattle.bm_law_scenario.specs.Opened.{opened_classes}
+use Rattle.bm_law_scenario.specs.Declared.{declared_in}
 use Rattle.bm_law_scenario.proofs.Opening.{no-page}
 use Rattle.bm_law_scenario.specs.Held.{no_names}
 use Rattle.bm_law.specs.Ordinary.{ordinary}
@@ -28,6 +30,7 @@ use Rattle.bm_law_scenario.proofs.Ordinary.{all-ordinary, says, stands, then-of}
 use Rattle.bm_law_scenario.proofs.SameLogs.{scripts-told}
 use Rattle.bm_law_scenario.proofs.Unplanned.{done-ordinary}
 use Rattle.bm_law_scenario.proofs.Told.{one-log}
+use Rattle.bm_law_scenario.proofs.Unslotted.{bare-closing}
 
 -- the lists that the log leaves
 abbrev last : State ℕ
@@ -73,7 +76,7 @@ is-log = record {
   closing = ordinary (entry.Ended ∷ entry.Close ∷ []);
   log_is = refl;
   is_front = then-of _ _ (opening 0) (entry.Fill 0 (Whole []) ∷ []) part (says _ _ _ ([], ap (λ units. entry.Fill 0 (Whole units) ∷ []) (sym no-page), refl)) (scripts-told no_object (refl, tt) refl (lines_of 0 no_object.runs) _ part (_, refl, (1, part, [], refl, record { part = asks ∷ took_none; after = with_null no_names; own_is = refl; runs = null-runs 7 8 9 no_names; owns_nothing = null-owns_nothing }, refl)));
-  is_closing = then-of _ _ _ (entry.Ended ∷ entry.Close ∷ []) [] (stands _ _) (then-of _ _ _ [] [] (then-of _ _ _ [] [] refl refl) ([], then-of _ _ _ [] [] refl refl));
+  is_closing = bare-closing (declared_in no_object) 0 (opened_classes no_object.types) (ordinary (entry.Fill 0 (Whole []) ∷ part)) _ _ refl (then-of _ _ _ (entry.Ended ∷ entry.Close ∷ []) [] (stands _ _) (then-of _ _ _ [] [] (then-of _ _ _ [] [] refl refl) ([], then-of _ _ _ [] [] refl refl)));
 }
 
 words : SectionWords no_object_log

@@ -4,11 +4,11 @@ use Rattle.bm_class.specs.Sizes.{size_of_class}
 use Rattle.bm_class.specs.Watermarks.{low_of_size, high_of_size}
 use Rattle.bm_journal.specs.declared.entry.Entry.{Entry}
 use Rattle.bm_journal.specs.declared.entry.Entry.TheVariants as entry
-use Rattle.bm_lang.specs.declared.scenario.TypeDeclaration.{TypeDeclaration}
 use Rattle.bm_law.specs.Phrases.{given, raise_below, overtaken, overtaken_delayed, raise_unless, DelayPhrase, FreePhrase}
 use Rattle.bm_law_work.proofs.Each.{AllOf, of-append}
 use Rattle.bm_law_scenario.specs.CallEntries.{IsOfStatement}
 use Rattle.bm_law_scenario.specs.Calls.{Allocates}
+use Rattle.bm_law_scenario.specs.Declared.{Declared}
 use Rattle.bm_law_scenario.proofs.Freed.{either-free}
 use Rattle.bm_law_scenario.proofs.RunsAll.{Closed}
 
@@ -48,8 +48,8 @@ of-delay : (c u home : ℕ) (batch : Bool) (own : List Entry) → DelayPhrase c 
 of-delay c u home batch own (inl x) = subst OfCalls (sym x.1) (tt, (tt, (tt, (tt, of-unless batch c))))
 of-delay c u home batch own (inr x) = subst OfCalls (sym x.5) (tt, (tt, of-append IsOfStatement (overtaken_delayed c x.1) (entry.LookDelayed c x.2 ∷ entry.PutDelayed c u ∷ entry.Leave c x.3 ∷ raise_unless batch c) (of-overtaken_delayed c x.1) (tt, (tt, (tt, of-unless batch c)))))
 
-pub of-calls : (types : List TypeDeclaration) → Closed types OfCalls
-of-calls types = record {
+pub of-calls : (d : Declared) → Closed d OfCalls
+of-calls d = record {
   none = tt;
   join = of-append IsOfStatement;
   new = λ x t values names part after r. subst OfCalls (sym r.part_is) (tt, of-alloc r.class r.own r.reply r.allocates);
@@ -57,6 +57,7 @@ of-calls types = record {
   still = λ x names part after r. subst OfCalls (sym r.part_is) (tt, (tt, tt));
   acquired = λ y x names part after r. subst OfCalls (sym r.part_is) (tt, tt);
   read = λ x field names part after r. subst OfCalls (sym r.part_is) (tt, tt);
+  exchanged = λ y slot given names part after r. subst OfCalls (sym r.part_is) (tt, tt);
   enters = λ w. (tt, tt);
   leaves = λ w. (tt, tt);
   yields = (tt, tt);

@@ -18,9 +18,10 @@ use Rattle.bm_law.proofs.Agree.{leaves-lists}
 use Rattle.bm_law.proofs.Null.{pops-fit}
 use Rattle.bm_law_work.specs.Parts.{Part}
 use Rattle.bm_law_work.specs.WorkPhrases.{Work}
+use Rattle.bm_law_scenario.specs.Declared.{declared_in, unmapped}
 use Rattle.bm_law_scenario.specs.Held.{Names, no_names, OwnsNothing, with_name}
 use Rattle.bm_law_scenario.specs.Held as held
-use Rattle.bm_law_scenario.specs.Opened.{OfClass}
+use Rattle.bm_law_scenario.specs.Opened.{OfClass, opened_classes}
 use Rattle.bm_law_scenario.specs.Calls.{Allocates, RunsNew, RunsDrop, batch_in}
 use Rattle.bm_law_scenario.specs.Works.{UntilDown}
 use Rattle.bm_law_scenario.specs.Runs.{Run, RunsBlock}
@@ -38,6 +39,7 @@ use Rattle.bm_law_scenario.proofs.Ordinary.{all-ordinary, stands, says, then-of}
 use Rattle.bm_law_scenario.proofs.BlockParts.{RunsList, block-parts}
 use Rattle.bm_law_scenario.proofs.OpeningBlock.{first-block}
 use Rattle.bm_law_scenario.proofs.Told.{one-log}
+use Rattle.bm_law_scenario.proofs.Unslotted.{bare-closing}
 
 -- ---- the lists and the other laws
 
@@ -180,21 +182,21 @@ drop-runs = record {
 abbrev until : Part
 until = UntilDown (10 ∷ [])
 
-inner-runs : RunsBlock (block ∷ []) 0 true until (block_of (drops_x 8 ∷ []) (lit≤ tt) 8) holding dropped s3 (ordinary (drops 2))
+inner-runs : RunsBlock (unmapped (block ∷ [])) 0 true until (block_of (drops_x 8 ∷ []) (lit≤ tt) 8) holding dropped s3 (ordinary (drops 2))
 inner-runs =
-    let list : RunsList (block ∷ []) 0 until (drops_x 8 ∷ []) holding dropped s3 (ordinary (drops 2)) =
+    let list : RunsList (unmapped (block ∷ [])) 0 until (drops_x 8 ∷ []) holding dropped s3 (ordinary (drops 2)) =
     (dropped, then-of _ _ _ (drops 2) [] (dropped, then-of _ _ _ (drops 2) [] (says _ _ _ (inr drop-runs)) (refl, (0, (refl, refl)))) (refl, refl)) in
-    subst (λ (run : Run). run holding dropped s3 (ordinary (drops 2))) (sym (block-parts (block ∷ []) 0 until (vector_of (drops_x 8 ∷ []) (lit≤ tt)) 8)) list
+    subst (λ (run : Run). run holding dropped s3 (ordinary (drops 2))) (sym (block-parts (unmapped (block ∷ [])) 0 until (vector_of (drops_x 8 ∷ []) (lit≤ tt)) 8)) list
 
-body-runs : RunsBlock (block ∷ []) 0 true until makes_and_drops_block no_names dropped s0 (ordinary (takes ++ work1 ++ drops 2))
+body-runs : RunsBlock (unmapped (block ∷ [])) 0 true until makes_and_drops_block no_names dropped s0 (ordinary (takes ++ work1 ++ drops 2))
 body-runs =
-    let list : RunsList (block ∷ []) 0 until (makes_block ∷ drops_x_unless_null 8 ∷ []) no_names dropped s0 (ordinary (takes ++ work1 ++ drops 2)) = (
+    let list : RunsList (unmapped (block ∷ [])) 0 until (makes_block ∷ drops_x_unless_null 8 ∷ []) no_names dropped s0 (ordinary (takes ++ work1 ++ drops 2)) = (
       holding,
       then-of _ _ s0 (takes ++ work1) (drops 2)
           (holding, then-of _ _ _ takes work1 (says _ _ _ new-runs) (refl, (1, then-of _ _ _ work1 [] is-work1 (refl, refl))))
           (dropped, then-of _ _ _ (drops 2) [] (dropped, then-of _ _ _ (drops 2) [] inner-runs (refl, (0, (refl, refl)))) (refl, refl)),
     ) in
-    subst (λ (run : Run). run no_names dropped s0 (ordinary (takes ++ work1 ++ drops 2))) (sym (block-parts (block ∷ []) 0 until (vector_of (makes_block ∷ drops_x_unless_null 8 ∷ []) (lit≤ tt)) 9)) list
+    subst (λ (run : Run). run no_names dropped s0 (ordinary (takes ++ work1 ++ drops 2))) (sym (block-parts (unmapped (block ∷ [])) 0 until (vector_of (makes_block ∷ drops_x_unless_null 8 ∷ []) (lit≤ tt)) 9)) list
 
 owns-nothing : (y : List ℕ) → OwnsNothing (dropped y)
 owns-nothing y = elim (bytes_eq x_name y) as (λ b. OwnsNothing (cond b held.Nothing (cond b (held.Object item_id 0 1) held.Nothing))) [ true ↦ tt | false ↦ tt ]
@@ -218,7 +220,7 @@ is-log = record {
         (then-of _ _ _ (takes ++ work1 ++ drops 2) (stops ++ work2) (dropped, body-runs, owns-nothing) (then-of _ _ _ stops work2 (stands _ _) (then-of _ _ _ work2 [] (then-of _ _ _ work2 [] is-work2 refl) (0, (refl, refl))))))
         refl,
   );
-  is_closing = then-of _ _ _ (entry.Ended ∷ entry.Close ∷ []) swept (stands _ _) (then-of _ _ _ [] swept (then-of _ _ _ [] [] refl refl) ([], then-of _ _ _ swept [] (says _ _ _ (record { phrase = sweep; taken = refl; waited = lit≤ tt; given = refl })) refl));
+  is_closing = bare-closing (declared_in one_block) 0 (opened_classes one_block.types) (ordinary (entry.Fill 10 (Whole (0 ∷ [])) ∷ script)) _ _ refl (then-of _ _ _ (entry.Ended ∷ entry.Close ∷ []) swept (stands _ _) (then-of _ _ _ [] swept (then-of _ _ _ [] [] refl refl) ([], then-of _ _ _ swept [] (says _ _ _ (record { phrase = sweep; taken = refl; waited = lit≤ tt; given = refl })) refl)));
 }
 
 words : SectionWords one_block_log

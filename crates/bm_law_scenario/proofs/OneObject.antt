@@ -14,6 +14,8 @@ use Rattle.bm_law.specs.Spans.{own_entries}
 use Rattle.bm_law.specs.SweepPhrases.{SweepPhrase}
 use Rattle.bm_law.specs.Worked.{Emptied}
 use Rattle.bm_law.proofs.Null.{pops-fit}
+use Rattle.bm_law_scenario.specs.Opened.{opened_classes}
+use Rattle.bm_law_scenario.specs.Declared.{declared_in}
 use Rattle.bm_law_scenario.proofs.Opening.{first-four}
 use Rattle.bm_law.specs.Ordinary.{ordinary}
 use Rattle.bm_law_scenario.specs.Grammar.{IsLog, lines_of}
@@ -28,6 +30,7 @@ use Rattle.bm_law_scenario.proofs.Ordinary.{all-ordinary, says, stands, then-of}
 use Rattle.bm_law_scenario.proofs.SameLogs.{scripts-told}
 use Rattle.bm_law_scenario.proofs.Unplanned.{done-ordinary}
 use Rattle.bm_law_scenario.proofs.Told.{one-log}
+use Rattle.bm_law_scenario.proofs.Unslotted.{bare-closing}
 
 -- the lists that the log leaves
 abbrev last : State ℕ
@@ -93,8 +96,8 @@ is-log = record {
   closing = ordinary (entry.Ended ∷ entry.Close ∷ swept (3 ∷ 2 ∷ 1 ∷ 0 ∷ []));
   log_is = refl;
   is_front = then-of _ _ (opening 0) (entry.Fill 0 (Whole one_page) ∷ []) part (says _ _ _ ([], ap (λ units. entry.Fill 0 (Whole units) ∷ []) (sym first-four), refl)) (scripts-told one_object (refl, tt) refl (lines_of 0 one_object.runs) _ part (_, refl, (1, part, [], refl, record { part = asks ∷ took 3 ++ gave 3 4; after = dropped; own_is = refl; runs = object-runs 7 8 9; owns_nothing = dropped-owns_nothing }, refl)));
-  is_closing = then-of _ _ _ (entry.Ended ∷ entry.Close ∷ []) sweeps (stands _ _)
-      (then-of _ _ _ [] sweeps (then-of _ _ _ [] [] refl refl) ([], then-of _ _ _ sweeps [] (says _ _ _ (record { phrase = sweep; taken = refl; waited = lit≤ tt; given = refl })) refl));
+  is_closing = bare-closing (declared_in one_object) 0 (opened_classes one_object.types) (ordinary (entry.Fill 0 (Whole one_page) ∷ part)) _ _ refl (then-of _ _ _ (entry.Ended ∷ entry.Close ∷ []) sweeps (stands _ _)
+      (then-of _ _ _ [] sweeps (then-of _ _ _ [] [] refl refl) ([], then-of _ _ _ sweeps [] (says _ _ _ (record { phrase = sweep; taken = refl; waited = lit≤ tt; given = refl })) refl)));
 }
 
 words : SectionWords one_object_log

@@ -11,6 +11,7 @@ use Rattle.bm_law.specs.Alone.{at_level}
 use Rattle.bm_law.specs.Lists.{Log, Leaves}
 use Rattle.bm_law.specs.Null.{NullLaw}
 use Rattle.bm_law.specs.Worked.{Emptied}
+use Rattle.bm_law_scenario.specs.Declared.{declared_in}
 use Rattle.bm_law_scenario.specs.Held.{Names, no_names, OwnsNothing}
 use Rattle.bm_law_scenario.specs.Fills.{AreFills}
 use Rattle.bm_law_scenario.specs.Opened.{opened_classes}
@@ -29,7 +30,7 @@ pub record IsScript (s : Parts) (script : Script) (w : ℕ) (own : List Entry) :
   pub part : List Entry
   pub after : Names
   pub own_is : own ≡ entry.Script script.name ∷ entry.In (section_of script.kind) w ∷ part ++ entry.Out (section_of script.kind) (w + 1) ∷ entry.Done script.name ∷ []
-  pub runs : RunsBlock s.types (starts_inside script) script.body no_names part after
+  pub runs : RunsBlock (declared_in s) (starts_inside script) script.body no_names part after
   pub owns_nothing : (x : List ℕ) → OwnsNothing (after x)
 
 -- the scripts that these lines run, in order

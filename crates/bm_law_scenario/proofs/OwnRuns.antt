@@ -6,9 +6,9 @@ use Rattle.bm_journal.specs.declared.entry.Entry.{Entry}
 use Rattle.bm_journal.specs.declared.entry.Entry.TheVariants as entry
 use Rattle.bm_lang.specs.declared.scenario.Action.{Action, New, Drop, Acquire, Get, Exchange, If', Repeat, Section, Lock, Unlock, Yield, PushFront, PushBack, PopFront, PopBack, Add, First, Remove, Held-Action-If-2, None', Some'}
 use Rattle.bm_lang.specs.declared.scenario.Block.{Block, Block', Row_of-Statement, end_of-Statement, more_of-Statement}
-use Rattle.bm_lang.specs.declared.scenario.TypeDeclaration.{TypeDeclaration}
+use Rattle.bm_law_scenario.specs.Declared.{Declared}
 use Rattle.bm_law_scenario.specs.Held.{Held, Nothing, Null, Object, Names}
-use Rattle.bm_law_scenario.specs.Calls.{RunsAcquire, RunsGet, RunsGivingUp, RunsNew, any_batch}
+use Rattle.bm_law_scenario.specs.Calls.{RunsAcquire, RunsExchange, RunsGet, RunsGivingUp, RunsNew, any_batch}
 
 -- from these names, this part of a log, to those names
 abbrev pub Run : Type 1
@@ -49,35 +49,35 @@ Within false block = λ names part after. (w : ℕ) × Then (Leaving (entry.In P
 
 -- The statements that run so far, in a plain section or in none. No journal has any of the others.
 abbrev mutual
-  pub RunsAction : List TypeDeclaration → (inside : Bool) → Action → Run
-  RunsAction types i (New x t values) = RunsNew types x t values
-  RunsAction types i (Drop x) = RunsGivingUp types x any_batch
-  RunsAction types i (Acquire y x) = RunsAcquire types y x
-  RunsAction types i (If' x body otherwise) = λ names. Chosen (names x) (RunsBlock types i body) (RunsElse types i otherwise) names
-  RunsAction types i (Repeat n body) = Times (RunsBlock types i body) n
-  RunsAction types i (Section body) = Within i (RunsBlock types true body)
-  RunsAction types i Yield = Leaving (entry.Yield ∷ [])
-  RunsAction types i (Get x field) = RunsGet types x field
-  RunsAction types i (Exchange y slot x) = λ names part after. ⊥
-  RunsAction types i (Lock graph) = λ names part after. ⊥
-  RunsAction types i Unlock = λ names part after. ⊥
-  RunsAction types i (PushFront list x) = λ names part after. ⊥
-  RunsAction types i (PushBack list x) = λ names part after. ⊥
-  RunsAction types i (PopFront x list) = λ names part after. ⊥
-  RunsAction types i (PopBack x list) = λ names part after. ⊥
-  RunsAction types i (Add tree x) = λ names part after. ⊥
-  RunsAction types i (First x tree) = λ names part after. ⊥
-  RunsAction types i (Remove y tree x) = λ names part after. ⊥
+  pub RunsAction : Declared → (inside : Bool) → Action → Run
+  RunsAction d i (New x t values) = RunsNew d.types x t values
+  RunsAction d i (Drop x) = RunsGivingUp d.types x any_batch
+  RunsAction d i (Acquire y x) = RunsAcquire d.types y x
+  RunsAction d i (If' x body otherwise) = λ names. Chosen (names x) (RunsBlock d i body) (RunsElse d i otherwise) names
+  RunsAction d i (Repeat n body) = Times (RunsBlock d i body) n
+  RunsAction d i (Section body) = Within i (RunsBlock d true body)
+  RunsAction d i Yield = Leaving (entry.Yield ∷ [])
+  RunsAction d i (Get x field) = RunsGet d.types x field
+  RunsAction d i (Exchange y slot x) = RunsExchange d.maps y slot x
+  RunsAction d i (Lock graph) = λ names part after. ⊥
+  RunsAction d i Unlock = λ names part after. ⊥
+  RunsAction d i (PushFront list x) = λ names part after. ⊥
+  RunsAction d i (PushBack list x) = λ names part after. ⊥
+  RunsAction d i (PopFront x list) = λ names part after. ⊥
+  RunsAction d i (PopBack x list) = λ names part after. ⊥
+  RunsAction d i (Add tree x) = λ names part after. ⊥
+  RunsAction d i (First x tree) = λ names part after. ⊥
+  RunsAction d i (Remove y tree x) = λ names part after. ⊥
 
   -- an absent `else` is an empty block
-  pub RunsElse : List TypeDeclaration → (inside : Bool) → Held-Action-If-2 → Run
-  RunsElse types i None' = Done
-  RunsElse types i (Some' body) = RunsBlock types i body
+  pub RunsElse : Declared → (inside : Bool) → Held-Action-If-2 → Run
+  RunsElse d i None' = Done
+  RunsElse d i (Some' body) = RunsBlock d i body
 
-  pub RunsBlock : List TypeDeclaration → (inside : Bool) → Block → Run
-  RunsBlock types i (Block' shape row end_line) = RunsRow types i row
+  pub RunsBlock : Declared → (inside : Bool) → Block → Run
+  RunsBlock d i (Block' shape row end_line) = RunsRow d i row
 
   -- statements, one after the other
-  pub RunsRow : List TypeDeclaration → (inside : Bool) → {m : _} → Row_of-Statement m → Run
-  RunsRow types i end_of-Statement = Done
-  RunsRow types i (more_of-Statement line action rest) = Then (RunsAction types i action) (RunsRow types i rest)
+  pub RunsRow : Declared → (inside : Bool) → {m : _} → Row_of-Statement m → Run
+  RunsRow d i end_of-Statement = Done
+  RunsRow d i (more_of-Statement line action rest) = Then (RunsAction d i action) (RunsRow d i rest)

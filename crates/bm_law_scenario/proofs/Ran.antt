@@ -6,6 +6,7 @@ use Rattle.bm_journal.specs.declared.entry.Entry.{Entry}
 use Rattle.bm_journal.specs.declared.entry.Entry.TheVariants as entry
 use Rattle.bm_lang.specs.declared.scenario.Action.{Repeat}
 use Rattle.bm_law.specs.Phrases.{FreePhrase}
+use Rattle.bm_law_scenario.specs.Declared.{unmapped}
 use Rattle.bm_law_scenario.specs.Held.{Nothing, Null, Object, Names, no_names, with_name, OwnsNothing}
 use Rattle.bm_law_scenario.specs.Opened.{OfClass}
 use Rattle.bm_law_scenario.specs.Calls.{Allocates, RunsNew, RunsDrop, any_batch}
@@ -67,14 +68,14 @@ drop-runs = record {
   after_is = refl;
 }
 
-inner-runs : (line : ℕ) → RunsBlock types true (block_of (drops_x line ∷ []) (lit≤ tt) line) holding (gave 3 4) dropped
+inner-runs : (line : ℕ) → RunsBlock (unmapped types) true (block_of (drops_x line ∷ []) (lit≤ tt) line) holding (gave 3 4) dropped
 inner-runs line =
-    let list : RunsList types (drops_x line ∷ []) holding (gave 3 4) dropped = record { middle = dropped; one = gave 3 4; two = []; part_is = refl; first_runs = inr drop-runs; second_runs = (refl, refl) } in
-    subst (λ (run : Run). run holding (gave 3 4) dropped) (sym (block-runs types (vector_of (drops_x line ∷ []) (lit≤ tt)) line)) list
+    let list : RunsList (unmapped types) (drops_x line ∷ []) holding (gave 3 4) dropped = record { middle = dropped; one = gave 3 4; two = []; part_is = refl; first_runs = inr drop-runs; second_runs = (refl, refl) } in
+    subst (λ (run : Run). run holding (gave 3 4) dropped) (sym (block-runs (unmapped types) (vector_of (drops_x line ∷ []) (lit≤ tt)) line)) list
 
-pub object-runs : (first second end : ℕ) → RunsBlock types true (makes_and_drops first second end) no_names (asks ∷ took 3 ++ gave 3 4) dropped
+pub object-runs : (first second end : ℕ) → RunsBlock (unmapped types) true (makes_and_drops first second end) no_names (asks ∷ took 3 ++ gave 3 4) dropped
 object-runs first second end =
-    let list : RunsList types (makes_x first ∷ drops_x_unless_null second ∷ []) no_names (asks ∷ took 3 ++ gave 3 4) dropped = record {
+    let list : RunsList (unmapped types) (makes_x first ∷ drops_x_unless_null second ∷ []) no_names (asks ∷ took 3 ++ gave 3 4) dropped = record {
       middle = holding;
       one = asks ∷ took 3;
       two = gave 3 4;
@@ -82,7 +83,7 @@ object-runs first second end =
       first_runs = new-runs;
       second_runs = record { middle = dropped; one = gave 3 4; two = []; part_is = refl; first_runs = inner-runs second; second_runs = (refl, refl) };
     } in
-    subst (λ (run : Run). run no_names (asks ∷ took 3 ++ gave 3 4) dropped) (sym (block-runs types (vector_of (makes_x first ∷ drops_x_unless_null second ∷ []) (lit≤ tt)) end)) list
+    subst (λ (run : Run). run no_names (asks ∷ took 3 ++ gave 3 4) dropped) (sym (block-runs (unmapped types) (vector_of (makes_x first ∷ drops_x_unless_null second ∷ []) (lit≤ tt)) end)) list
 
 pub dropped-owns_nothing : (y : List ℕ) → OwnsNothing (dropped y)
 dropped-owns_nothing y = elim (bytes_eq x_name y) as (λ b. OwnsNothing (cond b Nothing (cond b (Object item_id 3 1) Nothing))) [ true ↦ tt | false ↦ tt ]
@@ -109,9 +110,9 @@ null-new_runs names = record {
   after_is = refl;
 }
 
-pub null-runs : (first second end : ℕ) (names : Names) → RunsBlock types true (makes_and_drops first second end) names (asks ∷ took_none) (with_null names)
+pub null-runs : (first second end : ℕ) (names : Names) → RunsBlock (unmapped types) true (makes_and_drops first second end) names (asks ∷ took_none) (with_null names)
 null-runs first second end names =
-    let list : RunsList types (makes_x first ∷ drops_x_unless_null second ∷ []) names (asks ∷ took_none) (with_null names) = record {
+    let list : RunsList (unmapped types) (makes_x first ∷ drops_x_unless_null second ∷ []) names (asks ∷ took_none) (with_null names) = record {
       middle = with_null names;
       one = asks ∷ took_none;
       two = [];
@@ -119,15 +120,15 @@ null-runs first second end names =
       first_runs = null-new_runs names;
       second_runs = record { middle = with_null names; one = []; two = []; part_is = refl; first_runs = (refl, refl); second_runs = (refl, refl) };
     } in
-    subst (λ (run : Run). run names (asks ∷ took_none) (with_null names)) (sym (block-runs types (vector_of (makes_x first ∷ drops_x_unless_null second ∷ []) (lit≤ tt)) end)) list
+    subst (λ (run : Run). run names (asks ∷ took_none) (with_null names)) (sym (block-runs (unmapped types) (vector_of (makes_x first ∷ drops_x_unless_null second ∷ []) (lit≤ tt)) end)) list
 
 -- twice
 abbrev pub two_nulls : List Entry
 two_nulls = asks ∷ took_none ++ asks ∷ took_none
 
-pub twice-runs : (line end : ℕ) → RunsBlock types true (makes_and_drops_twice line end) no_names two_nulls (with_null (with_null no_names))
+pub twice-runs : (line end : ℕ) → RunsBlock (unmapped types) true (makes_and_drops_twice line end) no_names two_nulls (with_null (with_null no_names))
 twice-runs line end =
-    let list : RunsList types (record { line = line; action = Repeat 2 (makes_and_drops line line line) } ∷ []) no_names two_nulls (with_null (with_null no_names)) = record {
+    let list : RunsList (unmapped types) (record { line = line; action = Repeat 2 (makes_and_drops line line line) } ∷ []) no_names two_nulls (with_null (with_null no_names)) = record {
       middle = with_null (with_null no_names);
       one = two_nulls;
       two = [];
@@ -149,7 +150,7 @@ twice-runs line end =
       };
       second_runs = (refl, refl);
     } in
-    subst (λ (run : Run). run no_names two_nulls (with_null (with_null no_names))) (sym (block-runs types (vector_of (record { line = line; action = Repeat 2 (makes_and_drops line line line) } ∷ []) (lit≤ tt)) end)) list
+    subst (λ (run : Run). run no_names two_nulls (with_null (with_null no_names))) (sym (block-runs (unmapped types) (vector_of (record { line = line; action = Repeat 2 (makes_and_drops line line line) } ∷ []) (lit≤ tt)) end)) list
 
 pub null-owns_nothing : (y : List ℕ) → OwnsNothing (with_null no_names y)
 null-owns_nothing y = elim (bytes_eq x_name y) as (λ b. OwnsNothing (cond b Null Nothing)) [ true ↦ tt | false ↦ tt ]

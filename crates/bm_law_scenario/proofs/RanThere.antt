@@ -9,6 +9,7 @@ use Rattle.bm_law.specs.Spans.{AllFrom, own_entries}
 use Rattle.bm_law.specs.State.{State}
 use Rattle.bm_law.proofs.Spans.{from-append, own-append}
 use Rattle.bm_law_work.specs.Parts.{Nothing, Say}
+use Rattle.bm_law_scenario.specs.Declared.{declared_in}
 use Rattle.bm_law_scenario.specs.Handlers.{HandlerPhrase, HandlerRun, InSection, enclosed}
 use Rattle.bm_law_scenario.specs.Held.{no_names}
 use Rattle.bm_law_scenario.specs.Runs.{RunsBlock}
@@ -19,7 +20,7 @@ pub phrase-of-run : (s : Parts) (l : ℕ) (name : List ℕ) (w : ℕ) (lists : S
 phrase-of-run s l name w lists log r = by (is_outside w) refl r.runs
   where
     -- the entries of its block, and the part of the log that they are of
-    phrase : (own run : List Entry) (before : State ℕ) (part : Log) → own ≡ enclosed w run → own_entries l part ≡ run → RunsBlock s.types l true Nothing r.script.body no_names r.after before part → HandlerPhrase s name w own
+    phrase : (own run : List Entry) (before : State ℕ) (part : Log) → own ≡ enclosed w run → own_entries l part ≡ run → RunsBlock (declared_in s) l true Nothing r.script.body no_names r.after before part → HandlerPhrase s name w own
     phrase own run before part e f h = record {
       index = r.index;
       script = r.script;
@@ -39,14 +40,14 @@ phrase-of-run s l name w lists log r = by (is_outside w) refl r.runs
     in_none : (run : List Entry) → is_outside w ≡ false → enclosed w run ≡ run
     in_none run e = rw e refl
 
-    by : (b : Bool) → is_outside w ≡ b → InSection b l w (RunsBlock s.types l true Nothing r.script.body) no_names r.after lists log → Say l (HandlerPhrase s name w) lists log
+    by : (b : Bool) → is_outside w ≡ b → InSection b l w (RunsBlock (declared_in s) l true Nothing r.script.body) no_names r.after lists log → Say l (HandlerPhrase s name w) lists log
     by false e h =
-        let from = ((block-same l s.types true r.script.body).owned no_names r.after lists log h).0 in
+        let from = ((block-same l (declared_in s) true r.script.body).owned no_names r.after lists log h).0 in
         (own_entries l log, phrase (own_entries l log) (own_entries l log) lists log (sym (in_none (own_entries l log) e)) refl h, record { from = from; own_is = refl })
     by true e h =
         let u = h.is_second in
         let m = lists_after lists h.one in
-        let from = ((block-same l s.types true r.script.body).owned no_names r.after m u.one u.is_first).0 in
+        let from = ((block-same l (declared_in s) true r.script.body).owned no_names r.after m u.one u.is_first).0 in
         let F : Log → Type 0 = AllFrom l in
         let two : F h.two = subst F (sym u.part_is) (from-append l u.one u.two from u.is_second.from) in
         let run = own_entries l u.one in

@@ -1,80 +1,82 @@
 -- What holds of all that a block leaves in a log.
-use Rattle.std.proofs.Common.{ℕ, suc, zero, ◌+◌, Bool, true, false, List, [], ◌∷◌, ◌++◌, inl, inr, sym, subst}
+use Rattle.std.proofs.Common.{ℕ, suc, zero, ◌+◌, Bool, true, false, List, [], ◌∷◌, Option, ◌++◌, inl, inr, sym, subst}
 use Rattle.bm_journal.specs.declared.ids.Domain.TheVariants.{Plain}
 use Rattle.bm_journal.specs.declared.entry.Entry.{Entry}
 use Rattle.bm_journal.specs.declared.entry.Entry.TheVariants as entry
 use Rattle.bm_lang.specs.declared.scenario.Action.{Action, New, Drop, Acquire, Get, Exchange, If', Repeat, Section, Lock, Unlock, Yield, PushFront, PushBack, PopFront, PopBack, Add, First, Remove, Held-Action-If-2, None', Some'}
 use Rattle.bm_lang.specs.declared.scenario.Block.{Block, Block', Row_of-Statement, end_of-Statement, more_of-Statement}
-use Rattle.bm_lang.specs.declared.scenario.TypeDeclaration.{TypeDeclaration}
+use Rattle.bm_lang.specs.declared.scenario.MapId.{MapId}
 use Rattle.bm_lang.specs.declared.scenario.TypeId.{TypeId}
+use Rattle.bm_law_scenario.specs.Declared.{Declared}
 use Rattle.bm_law_scenario.specs.Held.{Held, Nothing, Null, Object, Names}
-use Rattle.bm_law_scenario.specs.Calls.{RunsAcquire, RunsGet, RunsDrop, RunsGivingUp, RunsNew, RunsStill, any_batch}
+use Rattle.bm_law_scenario.specs.Calls.{RunsAcquire, RunsExchange, RunsGet, RunsDrop, RunsGivingUp, RunsNew, RunsStill, any_batch}
 use Rattle.bm_law_scenario.proofs.OwnRuns.{Times, Chosen, Within, RunsAction, RunsElse, RunsBlock, RunsRow}
 
 -- A property of stretches that joins, and that each `new`, each `acquire` and each `drop` has, by its reply, each begin and end of a plain
 -- section and each `yield`.
-pub record Closed (types : List TypeDeclaration) (P : List Entry → Type 0) : Type 0 where
+pub record Closed (d : Declared) (P : List Entry → Type 0) : Type 0 where
   pub none : P []
   pub join : (v w : List Entry) → P v → P w → P (v ++ w)
-  pub new : (x : List ℕ) (t : TypeId) (values : List ℕ) (names : Names) (part : List Entry) (after : Names) → RunsNew types x t values names part after → P part
-  pub dropped : (x : List ℕ) (names : Names) (part : List Entry) (after : Names) → RunsDrop types x any_batch names part after → P part
-  pub still : (x : List ℕ) (names : Names) (part : List Entry) (after : Names) → RunsStill types x names part after → P part
-  pub acquired : (y x : List ℕ) (names : Names) (part : List Entry) (after : Names) → RunsAcquire types y x names part after → P part
-  pub read : (x field : List ℕ) (names : Names) (part : List Entry) (after : Names) → RunsGet types x field names part after → P part
+  pub new : (x : List ℕ) (t : TypeId) (values : List ℕ) (names : Names) (part : List Entry) (after : Names) → RunsNew d.types x t values names part after → P part
+  pub dropped : (x : List ℕ) (names : Names) (part : List Entry) (after : Names) → RunsDrop d.types x any_batch names part after → P part
+  pub still : (x : List ℕ) (names : Names) (part : List Entry) (after : Names) → RunsStill d.types x names part after → P part
+  pub acquired : (y x : List ℕ) (names : Names) (part : List Entry) (after : Names) → RunsAcquire d.types y x names part after → P part
+  pub read : (x field : List ℕ) (names : Names) (part : List Entry) (after : Names) → RunsGet d.types x field names part after → P part
+  pub exchanged : (y : List ℕ) (slot : MapId) (given : Option (List ℕ)) (names : Names) (part : List Entry) (after : Names) → RunsExchange d.maps y slot given names part after → P part
   pub enters : (w : ℕ) → P (entry.In Plain w ∷ [])
   pub leaves : (w : ℕ) → P (entry.Out Plain w ∷ [])
   pub yields : P (entry.Yield ∷ [])
 
 -- a reference that is given up, the last or another one
-gives-up-all : (types : List TypeDeclaration) (P : List Entry → Type 0) (k : Closed types P) (x : List ℕ) (names : Names) (part : List Entry) (after : Names) → RunsGivingUp types x any_batch names part after → P part
-gives-up-all types P k x names part after (inl r) = k.still x names part after r
-gives-up-all types P k x names part after (inr r) = k.dropped x names part after r
+gives-up-all : (d : Declared) (P : List Entry → Type 0) (k : Closed d P) (x : List ℕ) (names : Names) (part : List Entry) (after : Names) → RunsGivingUp d.types x any_batch names part after → P part
+gives-up-all d P k x names part after (inl r) = k.still x names part after r
+gives-up-all d P k x names part after (inr r) = k.dropped x names part after r
 
 chosen-all : (P : List Entry → Type 0) (v : Held) (first second : Names → List Entry → Names → Type 0) (names : Names) (part : List Entry) (after : Names) → (first names part after → P part) → (second names part after → P part) → Chosen v first second names part after → P part
 chosen-all P Nothing first second names part after f g r = absurd r
 chosen-all P Null first second names part after f g r = g r
 chosen-all P (Object t u n) first second names part after f g r = f r
 
-times-all : (types : List TypeDeclaration) (P : List Entry → Type 0) (k : Closed types P) (run : Names → List Entry → Names → Type 0) (n : ℕ) (names : Names) (part : List Entry) (after : Names) → ((a : Names) (p : List Entry) (b : Names) → run a p b → P p) → Times run n names part after → P part
-times-all types P k run zero names part after f r = subst P (sym r.0) k.none
-times-all types P k run (suc n) names part after f r = subst P (sym r.part_is) (k.join r.one r.two (f names r.one r.middle r.first_runs) (times-all types P k run n r.middle r.two after f r.second_runs))
+times-all : (d : Declared) (P : List Entry → Type 0) (k : Closed d P) (run : Names → List Entry → Names → Type 0) (n : ℕ) (names : Names) (part : List Entry) (after : Names) → ((a : Names) (p : List Entry) (b : Names) → run a p b → P p) → Times run n names part after → P part
+times-all d P k run zero names part after f r = subst P (sym r.0) k.none
+times-all d P k run (suc n) names part after f r = subst P (sym r.part_is) (k.join r.one r.two (f names r.one r.middle r.first_runs) (times-all d P k run n r.middle r.two after f r.second_runs))
 
-within-all : (types : List TypeDeclaration) (P : List Entry → Type 0) (k : Closed types P) (i : Bool) (run : Names → List Entry → Names → Type 0) (names : Names) (part : List Entry) (after : Names) → ((a : Names) (p : List Entry) (b : Names) → run a p b → P p) → Within i run names part after → P part
-within-all types P k true run names part after f r = f names part after r
-within-all types P k false run names part after f r =
+within-all : (d : Declared) (P : List Entry → Type 0) (k : Closed d P) (i : Bool) (run : Names → List Entry → Names → Type 0) (names : Names) (part : List Entry) (after : Names) → ((a : Names) (p : List Entry) (b : Names) → run a p b → P p) → Within i run names part after → P part
+within-all d P k true run names part after f r = f names part after r
+within-all d P k false run names part after f r =
     let t = r.1.second_runs in
     let first = subst P (sym r.1.first_runs.0) (k.enters r.0) in
     let last = subst P (sym t.second_runs.0) (k.leaves (r.0 + 1)) in
     subst P (sym r.1.part_is) (k.join r.1.one r.1.two first (subst P (sym t.part_is) (k.join t.one t.two (f r.1.middle t.one t.middle t.first_runs) last)))
 
 mutual
-  action-all : (types : List TypeDeclaration) (P : List Entry → Type 0) (k : Closed types P) (i : Bool) (a : Action) (names : Names) (part : List Entry) (after : Names) → RunsAction types i a names part after → P part
-  action-all types P k i (New x t values) names part after r = k.new x t values names part after r
-  action-all types P k i (Drop x) names part after r = gives-up-all types P k x names part after r
-  action-all types P k i (Acquire y x) names part after r = k.acquired y x names part after r
-  action-all types P k i (If' x body otherwise) names part after r = chosen-all P (names x) (RunsBlock types i body) (RunsElse types i otherwise) names part after (λ y. block-all types P k i body names part after y) (λ y. else-all types P k i otherwise names part after y) r
-  action-all types P k i (Repeat n body) names part after r = times-all types P k (RunsBlock types i body) n names part after (λ a p b y. block-all types P k i body a p b y) r
-  action-all types P k i (Section body) names part after r = within-all types P k i (RunsBlock types true body) names part after (λ a p b y. block-all types P k true body a p b y) r
-  action-all types P k i (Get x field) names part after r = k.read x field names part after r
-  action-all types P k i (Exchange y slot x) names part after r = absurd r
-  action-all types P k i (Lock graph) names part after r = absurd r
-  action-all types P k i Unlock names part after r = absurd r
-  action-all types P k i Yield names part after r = subst P (sym r.0) k.yields
-  action-all types P k i (PushFront list x) names part after r = absurd r
-  action-all types P k i (PushBack list x) names part after r = absurd r
-  action-all types P k i (PopFront x list) names part after r = absurd r
-  action-all types P k i (PopBack x list) names part after r = absurd r
-  action-all types P k i (Add tree x) names part after r = absurd r
-  action-all types P k i (First x tree) names part after r = absurd r
-  action-all types P k i (Remove y tree x) names part after r = absurd r
+  action-all : (d : Declared) (P : List Entry → Type 0) (k : Closed d P) (i : Bool) (a : Action) (names : Names) (part : List Entry) (after : Names) → RunsAction d i a names part after → P part
+  action-all d P k i (New x t values) names part after r = k.new x t values names part after r
+  action-all d P k i (Drop x) names part after r = gives-up-all d P k x names part after r
+  action-all d P k i (Acquire y x) names part after r = k.acquired y x names part after r
+  action-all d P k i (If' x body otherwise) names part after r = chosen-all P (names x) (RunsBlock d i body) (RunsElse d i otherwise) names part after (λ y. block-all d P k i body names part after y) (λ y. else-all d P k i otherwise names part after y) r
+  action-all d P k i (Repeat n body) names part after r = times-all d P k (RunsBlock d i body) n names part after (λ a p b y. block-all d P k i body a p b y) r
+  action-all d P k i (Section body) names part after r = within-all d P k i (RunsBlock d true body) names part after (λ a p b y. block-all d P k true body a p b y) r
+  action-all d P k i (Get x field) names part after r = k.read x field names part after r
+  action-all d P k i (Exchange y slot x) names part after r = k.exchanged y slot x names part after r
+  action-all d P k i (Lock graph) names part after r = absurd r
+  action-all d P k i Unlock names part after r = absurd r
+  action-all d P k i Yield names part after r = subst P (sym r.0) k.yields
+  action-all d P k i (PushFront list x) names part after r = absurd r
+  action-all d P k i (PushBack list x) names part after r = absurd r
+  action-all d P k i (PopFront x list) names part after r = absurd r
+  action-all d P k i (PopBack x list) names part after r = absurd r
+  action-all d P k i (Add tree x) names part after r = absurd r
+  action-all d P k i (First x tree) names part after r = absurd r
+  action-all d P k i (Remove y tree x) names part after r = absurd r
 
-  else-all : (types : List TypeDeclaration) (P : List Entry → Type 0) (k : Closed types P) (i : Bool) (o : Held-Action-If-2) (names : Names) (part : List Entry) (after : Names) → RunsElse types i o names part after → P part
-  else-all types P k i None' names part after r = subst P (sym r.0) k.none
-  else-all types P k i (Some' body) names part after r = block-all types P k i body names part after r
+  else-all : (d : Declared) (P : List Entry → Type 0) (k : Closed d P) (i : Bool) (o : Held-Action-If-2) (names : Names) (part : List Entry) (after : Names) → RunsElse d i o names part after → P part
+  else-all d P k i None' names part after r = subst P (sym r.0) k.none
+  else-all d P k i (Some' body) names part after r = block-all d P k i body names part after r
 
-  pub block-all : (types : List TypeDeclaration) (P : List Entry → Type 0) (k : Closed types P) (i : Bool) (b : Block) (names : Names) (part : List Entry) (after : Names) → RunsBlock types i b names part after → P part
-  block-all types P k i (Block' shape row end_line) names part after r = row-all types P k i row names part after r
+  pub block-all : (d : Declared) (P : List Entry → Type 0) (k : Closed d P) (i : Bool) (b : Block) (names : Names) (part : List Entry) (after : Names) → RunsBlock d i b names part after → P part
+  block-all d P k i (Block' shape row end_line) names part after r = row-all d P k i row names part after r
 
-  row-all : (types : List TypeDeclaration) (P : List Entry → Type 0) (k : Closed types P) (i : Bool) {m : _} (row : Row_of-Statement m) (names : Names) (part : List Entry) (after : Names) → RunsRow types i row names part after → P part
-  row-all types P k i end_of-Statement names part after r = subst P (sym r.0) k.none
-  row-all types P k i (more_of-Statement line action rest) names part after r = subst P (sym r.part_is) (k.join r.one r.two (action-all types P k i action names r.one r.middle r.first_runs) (row-all types P k i rest r.middle r.two after r.second_runs))
+  row-all : (d : Declared) (P : List Entry → Type 0) (k : Closed d P) (i : Bool) {m : _} (row : Row_of-Statement m) (names : Names) (part : List Entry) (after : Names) → RunsRow d i row names part after → P part
+  row-all d P k i end_of-Statement names part after r = subst P (sym r.0) k.none
+  row-all d P k i (more_of-Statement line action rest) names part after r = subst P (sym r.part_is) (k.join r.one r.two (action-all d P k i action names r.one r.middle r.first_runs) (row-all d P k i rest r.middle r.two after r.second_runs))

@@ -18,12 +18,13 @@ use Rattle.bm_law.proofs.Alone.{at-own, level-append, level-own}
 use Rattle.bm_law.proofs.Folds.{Leaves-append}
 use Rattle.bm_law_work.specs.Parts.{Part, Stand, Then, If}
 use Rattle.bm_law_work.specs.Parts as part
+use Rattle.bm_law_scenario.specs.Declared.{declared_in}
 use Rattle.bm_law_scenario.specs.Held.{Names, no_names}
 use Rattle.bm_law_scenario.specs.Fills.{AreFills}
 use Rattle.bm_law_scenario.specs.Opened.{opened_classes, uses_class}
 use Rattle.bm_law_scenario.specs.Works.{UntilDown, WorkBehind}
 use Rattle.bm_law_scenario.specs.Runs.{RunsBlock}
-use Rattle.bm_law_scenario.specs.Closing.{close_of, in_progress, EndsOne, EndsPeriods, SweepOf, SweepWhere, AreSweeps, Closing}
+use Rattle.bm_law_scenario.specs.Closing.{close_of, in_progress, EndsOne, EndsPeriods, SweepOf, SweepWhere, AreSweeps}
 use Rattle.bm_law.specs.Inboxes.{Inboxes, inboxes_after}
 use Rattle.bm_law_scenario.specs.Parcels.{no_parcels, ParcelsFit, sends_alone}
 use Rattle.bm_due.specs.Due.{planned_for}
@@ -37,6 +38,7 @@ use Rattle.bm_law_scenario.proofs.Freed.{NoCounts}
 use Rattle.bm_law_scenario.proofs.SameRuns.{block-same}
 use Rattle.bm_law_scenario.proofs.Spares.{spared, spare-sweep}
 use Rattle.bm_law_scenario.proofs.Calm.{Empty, AllCalm, calm-join, calm-quiet, calm-idle, quiet-fitted, quiet-behind, calm-fills, calm-scripts, calm-ended}
+use Rattle.bm_law_scenario.proofs.Unslotted.{BareClosing, closing-bare, no-maps}
 
 -- ---- scripts
 
@@ -54,7 +56,7 @@ script-told s loose e x w l es k =
     let l2 = after l1 (ordinary k.part) in
     let bare : behind_script s (after l2 (ordinary last)) [] = subst (λ (P : Part). P (after l2 (ordinary last)) []) (sym (none-script s e)) refl in
     let body : IsBody s x l1 (ordinary k.part) =
-    (k.after, subst (λ (P : Part). RunsBlock s.types 0 (starts_inside x) P x.body no_names k.after l1 (ordinary k.part)) (sym (none-statement s e)) ((block-same 0 s.types (starts_inside x) x.body).told loose no_names k.after l1 k.part k.runs), k.owns_nothing) in
+    (k.after, subst (λ (P : Part). RunsBlock (declared_in s) 0 (starts_inside x) P x.body no_names k.after l1 (ordinary k.part)) (sym (none-statement s e)) ((block-same 0 (declared_in s) (starts_inside x) x.body).told loose no_names k.after l1 k.part k.runs), k.owns_nothing) in
     let stop : Then (Stand 0 last) (behind_script s) l2 (ordinary last) = record { one = ordinary last; two = []; part_is = refl; is_first = stands last l2; is_second = bare } in
     subst (λ v. IsScript s x w l (ordinary v)) (sym k.own_is)
     (then-of (Stand 0 head) (Then (IsBody s x) (Then (Stand 0 last) (behind_script s))) l head (k.part ++ last) (stands head l) (then-of (IsBody s x) (Then (Stand 0 last) (behind_script s)) l1 k.part last body stop))
@@ -71,7 +73,7 @@ script-owned s e x w l es h =
     let bare : ordinary v.right ≡ [] = subst (λ (P : Part). P (after l2 (ordinary v.left)) (ordinary v.right)) (none-script s e) v.is_second in
     let none : v.right ≡ [] = sym (level-own 0 v.right) ∙ ap (own_entries 0) bare in
     let names : Names = u.is_first.0 in
-    let runs = ((block-same 0 s.types (starts_inside x) x.body).owned no_names names l1 (ordinary u.left) (subst (λ (P : Part). RunsBlock s.types 0 (starts_inside x) P x.body no_names names l1 (ordinary u.left)) (none-statement s e) u.is_first.1)).1 in
+    let runs = ((block-same 0 (declared_in s) (starts_inside x) x.body).owned no_names names l1 (ordinary u.left) (subst (λ (P : Part). RunsBlock (declared_in s) 0 (starts_inside x) P x.body no_names names l1 (ordinary u.left)) (none-statement s e) u.is_first.1)).1 in
     record {
       part = own_entries 0 (ordinary u.left);
       after = names;
@@ -186,7 +188,7 @@ record Closed (p : ℕ) (classes : List ℕ) (s : State ℕ) (es : List Entry) :
   whole : es ≡ (entry.Ended ∷ close_of p) ++ sweeps
   are : own.AreSweeps s classes sweeps
 
-closing-owned : (p : ℕ) (classes : List ℕ) (front : List Entry) (s : State ℕ) (boxes : Inboxes) (es : List Entry) → From 0 classes → AllCalm front → Empty boxes → Closing p classes (ordinary front) s (ordinary es) → ParcelsFit p s boxes (ordinary es) → Closed p classes s es
+closing-owned : (p : ℕ) (classes : List ℕ) (front : List Entry) (s : State ℕ) (boxes : Inboxes) (es : List Entry) → From 0 classes → AllCalm front → Empty boxes → BareClosing p classes (ordinary front) s (ordinary es) → ParcelsFit p s boxes (ordinary es) → Closed p classes s es
 closing-owned p classes front s boxes es f c z h fit =
     let head : List Entry = entry.Ended ∷ close_of p in
     let t = parted (Stand 0 head) (Then (EndsPeriods (ordinary front)) (AreSweeps classes)) s es h in
@@ -210,8 +212,8 @@ alone-off : (s : Parts) → s.deferred ≡ false → sends_alone s ≡ true
 alone-off s e = ap (λ b. not b || nat_eq s.processors 1) e
 
 -- the entries of a lawful log are so by the grammar of entries
-pub owned-log : (s : Parts) → s.deferred ≡ false → (p : ℕ) → planned_for p s ≡ [] → (log : Log) → LawfulLog s p log → own.LawfulLog s p log
-owned-log s e p none log h =
+pub owned-log : (s : Parts) → s.deferred ≡ false → s.maps ≡ [] → (p : ℕ) → planned_for p s ≡ [] → (log : Log) → LawfulLog s p log → own.LawfulLog s p log
+owned-log s e unmapped p none log h =
     let i = h.is_log in
     let classes = opened_classes s.types in
     let start = opening p in
@@ -223,8 +225,8 @@ owned-log s e p none log h =
     let fills : AreFills classes (stock_for s p) t.left = said (AreFills classes (stock_for s p)) start t.left t.is_first in
     let scripts = scripts-owned s e (lines_of p s.runs) (after start (ordinary t.left)) t.right t.is_second in
     let calm : AllCalm x.left = subst AllCalm (sym t.whole) (calm-join t.left t.right (calm-fills classes (stock_for s p) t.left fills) (calm-scripts s (lines_of p s.runs) t.right scripts)) in
-    let G : Log → Log → Type 0 = λ v w. Closing p classes v (after start v) w in
-    let close : G (ordinary x.left) (ordinary x.right) = subst (λ w. G (ordinary x.left) w) x.two_is (subst (λ v. G v i.closing) x.one_is i.is_closing) in
+    let G : Log → Log → Type 0 = λ v w. BareClosing p classes v (after start v) w in
+    let close : G (ordinary x.left) (ordinary x.right) = subst (λ w. G (ordinary x.left) w) x.two_is (subst (λ v. G v i.closing) x.one_is (closing-bare (declared_in s) p classes i.front (after start i.front) i.closing (no-maps p (declared_in s) unmapped) i.is_closing)) in
     let whole : log ≡ ordinary x.left ++ ordinary x.right = all ∙ ap ordinary x.whole ∙ level-append 0 x.left x.right in
     let fit = quiet-fitted p start no_parcels x.left (ordinary x.right) (calm-quiet x.left calm) (λ c. refl) (subst (ParcelsFit p start no_parcels) whole (h.parcels (alone-off s e))) in
     let end = closing-owned p classes x.left (after start (ordinary x.left)) fit.0 x.right (opened-from s.types) calm fit.1 close fit.2 in

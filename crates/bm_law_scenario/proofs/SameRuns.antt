@@ -5,7 +5,6 @@ use Rattle.bm_journal.specs.declared.entry.Entry.{Entry}
 use Rattle.bm_journal.specs.declared.entry.Entry.TheVariants as entry
 use Rattle.bm_lang.specs.declared.scenario.Action.{Action, New, Drop, Acquire, Get, Exchange, If', Repeat, Section, Lock, Unlock, Yield, PushFront, PushBack, PopFront, PopBack, Add, First, Remove, Held-Action-If-2, None', Some'}
 use Rattle.bm_lang.specs.declared.scenario.Block.{Block, Block', Row_of-Statement, end_of-Statement, more_of-Statement}
-use Rattle.bm_lang.specs.declared.scenario.TypeDeclaration.{TypeDeclaration}
 use Rattle.bm_law.specs.State.{State, opening}
 use Rattle.bm_law.specs.Lists.{Log, after}
 use Rattle.bm_law.specs.Alone.{at_level}
@@ -14,46 +13,47 @@ use Rattle.bm_law.proofs.Spans.{from-append, own-append}
 use Rattle.bm_law.proofs.Alone.{level-append, level-from, level-own}
 use Rattle.bm_law_work.specs.Parts.{Stand, Then}
 use Rattle.bm_law_work.specs.Parts as part
+use Rattle.bm_law_scenario.specs.Declared.{Declared}
 use Rattle.bm_law_scenario.specs.Held.{Held, Nothing, Null, Object, Names}
-use Rattle.bm_law_scenario.specs.Calls.{RunsAcquire, RunsGet, RunsGivingUp, RunsNew, any_batch, batch_in}
+use Rattle.bm_law_scenario.specs.Calls.{RunsAcquire, RunsExchange, RunsGet, RunsGivingUp, RunsNew, any_batch, batch_in}
 use Rattle.bm_law_scenario.specs.Runs.{Run, Leaving, Done, Followed, Times, Calls, Chosen, Within, RunsAction, RunsAlone, RunsElse, RunsBlock, RunsRow}
 use Rattle.bm_law_scenario.proofs.Freed.{NoCounts, loosely, no-count, uncounted}
 use Rattle.bm_law_scenario.proofs.OwnRuns as own
 
 -- Each part of a run is of level l and above, and its entries of that level are a run by entries; and such entries alone are a
 -- run.
-pub record Same (types : List TypeDeclaration) (l : ℕ) (R : Run) (Q : own.Run) : Type 0 where
+pub record Same (d : Declared) (l : ℕ) (R : Run) (Q : own.Run) : Type 0 where
   pub owned : (names after : Names) (s : State ℕ) (log : Log) → R names after s log → AllFrom l log × Q names (own_entries l log) after
-  pub told : NoCounts types → (names after : Names) (s : State ℕ) (es : List Entry) → Q names es after → R names after s (at_level l es)
+  pub told : NoCounts d.types → (names after : Names) (s : State ℕ) (es : List Entry) → Q names es after → R names after s (at_level l es)
 
-none-same : (types : List TypeDeclaration) (l : ℕ) → Same types l (λ names after s log. ⊥) (λ names es after. ⊥)
-none-same types l = record { owned = λ names after s log h. absurd h; told = λ loose names after s es h. absurd h }
+none-same : (d : Declared) (l : ℕ) → Same d l (λ names after s log. ⊥) (λ names es after. ⊥)
+none-same d l = record { owned = λ names after s log h. absurd h; told = λ loose names after s es h. absurd h }
 
-done-same : (types : List TypeDeclaration) (l : ℕ) → Same types l Done own.Done
-done-same types l = record {
+done-same : (d : Declared) (l : ℕ) → Same d l Done own.Done
+done-same d l = record {
   owned = λ names after s log h. (let F : Log → Type 0 = AllFrom l in subst F (sym h.1) tt, (ap (own_entries l) h.1, h.0));
   told = λ loose names after s es h. (h.1, ap (at_level l) h.0);
 }
 
-calls-same : (types : List TypeDeclaration) (l : ℕ) (call : Names → List Entry → Names → Type 0) → Same types l (Calls l call) call
-calls-same types l call = record {
+calls-same : (d : Declared) (l : ℕ) (call : Names → List Entry → Names → Type 0) → Same d l (Calls l call) call
+calls-same d l call = record {
   owned = λ names after s log h. (h.2.from, subst (λ es. call names es after) (sym h.2.own_is) h.1);
   told = λ loose names after s es h. (es, h, record { from = level-from l es; own_is = level-own l es });
 }
 
 -- what code knows of batches its entries don't say
-told-drop : (types : List TypeDeclaration) (x : List ℕ) (s : State ℕ) (names after : Names) (own : List Entry) → NoCounts types → RunsGivingUp types x any_batch names own after → RunsGivingUp types x (batch_in s) names own after
-told-drop types x s names after own loose (inl h) = inl h
-told-drop types x s names after own loose (inr h) = inr (uncounted types x s names after own h (no-count types h.type.0 h.declared loose h.of_class.found))
+told-drop : (d : Declared) (x : List ℕ) (s : State ℕ) (names after : Names) (own : List Entry) → NoCounts d.types → RunsGivingUp d.types x any_batch names own after → RunsGivingUp d.types x (batch_in s) names own after
+told-drop d x s names after own loose (inl h) = inl h
+told-drop d x s names after own loose (inr h) = inr (uncounted d.types x s names after own h (no-count d.types h.type.0 h.declared loose h.of_class.found))
 
-drop-same : (l : ℕ) (types : List TypeDeclaration) (x : List ℕ) → Same types l (λ names after s. Calls l (RunsGivingUp types x (batch_in s)) names after s) (RunsGivingUp types x any_batch)
-drop-same l types x = record {
-  owned = λ names after s log h. (h.2.from, subst (λ es. RunsGivingUp types x any_batch names es after) (sym h.2.own_is) (loosely types x (batch_in s) names after h.0 h.1));
-  told = λ loose names after s es h. (es, told-drop types x s names after es loose h, record { from = level-from l es; own_is = level-own l es });
+drop-same : (l : ℕ) (d : Declared) (x : List ℕ) → Same d l (λ names after s. Calls l (RunsGivingUp d.types x (batch_in s)) names after s) (RunsGivingUp d.types x any_batch)
+drop-same l d x = record {
+  owned = λ names after s log h. (h.2.from, subst (λ es. RunsGivingUp d.types x any_batch names es after) (sym h.2.own_is) (loosely d.types x (batch_in s) names after h.0 h.1));
+  told = λ loose names after s es h. (es, told-drop d x s names after es loose h, record { from = level-from l es; own_is = level-own l es });
 }
 
-followed-same : (types : List TypeDeclaration) (l : ℕ) (R R' : Run) (Q Q' : own.Run) → Same types l R Q → Same types l R' Q' → Same types l (Followed R R') (own.Then Q Q')
-followed-same types l R R' Q Q' a b = record {
+followed-same : (d : Declared) (l : ℕ) (R R' : Run) (Q Q' : own.Run) → Same d l R Q → Same d l R' Q' → Same d l (Followed R R') (own.Then Q Q')
+followed-same d l R R' Q Q' a b = record {
   owned = λ names last s log h.
       let t = h.1 in
       let f = a.owned names h.0 s t.one t.is_first in
@@ -82,8 +82,8 @@ followed-same types l R R' Q Q' a b = record {
 }
 
 -- nothing stands behind a statement
-bare-same : (types : List TypeDeclaration) (l : ℕ) (R : Run) (Q : own.Run) → Same types l R Q → Same types l (Followed R (Leaving part.Nothing)) Q
-bare-same types l R Q a = record {
+bare-same : (d : Declared) (l : ℕ) (R : Run) (Q : own.Run) → Same d l R Q → Same d l (Followed R (Leaving part.Nothing)) Q
+bare-same d l R Q a = record {
   owned = λ names last s log h.
       let t = h.1 in
       let whole : log ≡ t.one = t.part_is ∙ (ap (λ w. t.one ++ w) t.is_second.1 ∙ append-nil t.one) in
@@ -101,31 +101,31 @@ bare-same types l R Q a = record {
   );
 }
 
-times-same : (types : List TypeDeclaration) (l : ℕ) (R : Run) (Q : own.Run) (n : ℕ) → Same types l R Q → Same types l (Times R n) (own.Times Q n)
-times-same types l R Q zero a = done-same types l
-times-same types l R Q (suc n) a = followed-same types l R (Times R n) Q (own.Times Q n) a (times-same types l R Q n a)
+times-same : (d : Declared) (l : ℕ) (R : Run) (Q : own.Run) (n : ℕ) → Same d l R Q → Same d l (Times R n) (own.Times Q n)
+times-same d l R Q zero a = done-same d l
+times-same d l R Q (suc n) a = followed-same d l R (Times R n) Q (own.Times Q n) a (times-same d l R Q n a)
 
-chosen-same : (types : List TypeDeclaration) (l : ℕ) (F O : Run) (G P : own.Run) → Same types l F G → Same types l O P → (v : Held) → Same types l (Chosen v F O) (own.Chosen v G P)
-chosen-same types l F O G P a b Nothing = none-same types l
-chosen-same types l F O G P a b Null = b
-chosen-same types l F O G P a b (Object t u n) = a
+chosen-same : (d : Declared) (l : ℕ) (F O : Run) (G P : own.Run) → Same d l F G → Same d l O P → (v : Held) → Same d l (Chosen v F O) (own.Chosen v G P)
+chosen-same d l F O G P a b Nothing = none-same d l
+chosen-same d l F O G P a b Null = b
+chosen-same d l F O G P a b (Object t u n) = a
 
-if-same : (types : List TypeDeclaration) (l : ℕ) (F O : Run) (G P : own.Run) (x : List ℕ) → Same types l F G → Same types l O P → Same types l (λ names. Chosen (names x) F O names) (λ names. own.Chosen (names x) G P names)
-if-same types l F O G P x a b = record {
-  owned = λ names. (chosen-same types l F O G P a b (names x)).owned names;
-  told = λ loose names. (chosen-same types l F O G P a b (names x)).told loose names;
+if-same : (d : Declared) (l : ℕ) (F O : Run) (G P : own.Run) (x : List ℕ) → Same d l F G → Same d l O P → Same d l (λ names. Chosen (names x) F O names) (λ names. own.Chosen (names x) G P names)
+if-same d l F O G P x a b = record {
+  owned = λ names. (chosen-same d l F O G P a b (names x)).owned names;
+  told = λ loose names. (chosen-same d l F O G P a b (names x)).told loose names;
 }
 
 -- these entries stand there, and the names hold what they held
-stand-same : (types : List TypeDeclaration) (l : ℕ) (stands : List Entry) → Same types l (Leaving (Stand l stands)) (own.Leaving stands)
-stand-same types l stands = record {
+stand-same : (d : Declared) (l : ℕ) (stands : List Entry) → Same d l (Leaving (Stand l stands)) (own.Leaving stands)
+stand-same d l stands = record {
   owned = λ names after s log h. (h.1.from, (h.1.own_is, h.0));
   told = λ loose names after s es h. (h.1, record { from = level-from l es; own_is = level-own l es ∙ h.0 });
 }
 
-within-same : (types : List TypeDeclaration) (l : ℕ) (R : Run) (Q : own.Run) (i : Bool) → Same types l R Q → Same types l (Within i l R) (own.Within i Q)
-within-same types l R Q true a = a
-within-same types l R Q false a = record {
+within-same : (d : Declared) (l : ℕ) (R : Run) (Q : own.Run) (i : Bool) → Same d l R Q → Same d l (Within i l R) (own.Within i Q)
+within-same d l R Q true a = a
+within-same d l R Q false a = record {
   owned = λ names last s log h.
       let t = h.1 in
       let u = t.is_second in
@@ -175,52 +175,52 @@ within-same types l R Q false a = record {
 }
 
 mutual
-  action-same : (l : ℕ) (types : List TypeDeclaration) (i : Bool) (a : Action) → Same types l (RunsAction types l i part.Nothing a) (own.RunsAction types i a)
-  action-same l types i (New x t values) = calls-same types l (RunsNew types x t values)
-  action-same l types i (Drop x) = drop-same l types x
-  action-same l types i (Acquire y x) = calls-same types l (RunsAcquire types y x)
-  action-same l types i (If' x body otherwise) = if-same types l (RunsBlock types l i part.Nothing body) (RunsElse types l i part.Nothing otherwise) (own.RunsBlock types i body) (own.RunsElse types i otherwise) x (block-same l types i body) (else-same l types i otherwise)
-  action-same l types i (Repeat n body) = times-same types l (RunsBlock types l i part.Nothing body) (own.RunsBlock types i body) n (block-same l types i body)
-  action-same l types i (Section body) = within-same types l (RunsBlock types l true part.Nothing body) (own.RunsBlock types true body) i (block-same l types true body)
-  action-same l types i (Get x field) = calls-same types l (RunsGet types x field)
-  action-same l types i (Exchange y slot x) = none-same types l
-  action-same l types i (Lock graph) = none-same types l
-  action-same l types i Unlock = none-same types l
-  action-same l types i Yield = stand-same types l (entry.Yield ∷ [])
-  action-same l types i (PushFront list x) = none-same types l
-  action-same l types i (PushBack list x) = none-same types l
-  action-same l types i (PopFront x list) = none-same types l
-  action-same l types i (PopBack x list) = none-same types l
-  action-same l types i (Add tree x) = none-same types l
-  action-same l types i (First x tree) = none-same types l
-  action-same l types i (Remove y tree x) = none-same types l
+  action-same : (l : ℕ) (d : Declared) (i : Bool) (a : Action) → Same d l (RunsAction d l i part.Nothing a) (own.RunsAction d i a)
+  action-same l d i (New x t values) = calls-same d l (RunsNew d.types x t values)
+  action-same l d i (Drop x) = drop-same l d x
+  action-same l d i (Acquire y x) = calls-same d l (RunsAcquire d.types y x)
+  action-same l d i (If' x body otherwise) = if-same d l (RunsBlock d l i part.Nothing body) (RunsElse d l i part.Nothing otherwise) (own.RunsBlock d i body) (own.RunsElse d i otherwise) x (block-same l d i body) (else-same l d i otherwise)
+  action-same l d i (Repeat n body) = times-same d l (RunsBlock d l i part.Nothing body) (own.RunsBlock d i body) n (block-same l d i body)
+  action-same l d i (Section body) = within-same d l (RunsBlock d l true part.Nothing body) (own.RunsBlock d true body) i (block-same l d true body)
+  action-same l d i (Get x field) = calls-same d l (RunsGet d.types x field)
+  action-same l d i (Exchange y slot x) = calls-same d l (RunsExchange d.maps y slot x)
+  action-same l d i (Lock graph) = none-same d l
+  action-same l d i Unlock = none-same d l
+  action-same l d i Yield = stand-same d l (entry.Yield ∷ [])
+  action-same l d i (PushFront list x) = none-same d l
+  action-same l d i (PushBack list x) = none-same d l
+  action-same l d i (PopFront x list) = none-same d l
+  action-same l d i (PopBack x list) = none-same d l
+  action-same l d i (Add tree x) = none-same d l
+  action-same l d i (First x tree) = none-same d l
+  action-same l d i (Remove y tree x) = none-same d l
 
-  else-same : (l : ℕ) (types : List TypeDeclaration) (i : Bool) (o : Held-Action-If-2) → Same types l (RunsElse types l i part.Nothing o) (own.RunsElse types i o)
-  else-same l types i None' = done-same types l
-  else-same l types i (Some' body) = block-same l types i body
+  else-same : (l : ℕ) (d : Declared) (i : Bool) (o : Held-Action-If-2) → Same d l (RunsElse d l i part.Nothing o) (own.RunsElse d i o)
+  else-same l d i None' = done-same d l
+  else-same l d i (Some' body) = block-same l d i body
 
-  pub block-same : (l : ℕ) (types : List TypeDeclaration) (i : Bool) (b : Block) → Same types l (RunsBlock types l i part.Nothing b) (own.RunsBlock types i b)
-  block-same l types i (Block' shape row end_line) = row-same l types i row
+  pub block-same : (l : ℕ) (d : Declared) (i : Bool) (b : Block) → Same d l (RunsBlock d l i part.Nothing b) (own.RunsBlock d i b)
+  block-same l d i (Block' shape row end_line) = row-same l d i row
 
-  row-same : (l : ℕ) (types : List TypeDeclaration) (i : Bool) {m : _} (row : Row_of-Statement m) → Same types l (RunsRow types l i part.Nothing row) (own.RunsRow types i row)
-  row-same l types i end_of-Statement = done-same types l
-  row-same l types i (more_of-Statement line action rest) =
-      followed-same types l (Followed (RunsAction types l i part.Nothing action) (Leaving part.Nothing)) (RunsRow types l i part.Nothing rest) (own.RunsAction types i action) (own.RunsRow types i rest)
-      (bare-same types l (RunsAction types l i part.Nothing action) (own.RunsAction types i action) (action-same l types i action)) (row-same l types i rest)
+  row-same : (l : ℕ) (d : Declared) (i : Bool) {m : _} (row : Row_of-Statement m) → Same d l (RunsRow d l i part.Nothing row) (own.RunsRow d i row)
+  row-same l d i end_of-Statement = done-same d l
+  row-same l d i (more_of-Statement line action rest) =
+      followed-same d l (Followed (RunsAction d l i part.Nothing action) (Leaving part.Nothing)) (RunsRow d l i part.Nothing rest) (own.RunsAction d i action) (own.RunsRow d i rest)
+      (bare-same d l (RunsAction d l i part.Nothing action) (own.RunsAction d i action) (action-same l d i action)) (row-same l d i rest)
 
 -- the same of a block that stands alone
-pub alone-owned : (types : List TypeDeclaration) (b : Block) (names last : Names) (es : List Entry) → RunsAlone types b names es last → own.RunsBlock types true b names es last
-alone-owned types b names last es h = subst (λ v. own.RunsBlock types true b names v last) h.own_is ((block-same h.level types true b).owned names last h.lists h.log h.runs).1
+pub alone-owned : (d : Declared) (b : Block) (names last : Names) (es : List Entry) → RunsAlone d b names es last → own.RunsBlock d true b names es last
+alone-owned d b names last es h = subst (λ v. own.RunsBlock d true b names v last) h.own_is ((block-same h.level d true b).owned names last h.lists h.log h.runs).1
 
 -- Where no type has a count, these entries of a level alone are a run from any lists; and so they are those of some part.
-pub level-told : (types : List TypeDeclaration) (l : ℕ) (b : Block) (names last : Names) (s : State ℕ) (es : List Entry) → NoCounts types → own.RunsBlock types true b names es last → RunsBlock types l true part.Nothing b names last s (at_level l es)
-level-told types l b names last s es none h = (block-same l types true b).told none names last s es h
+pub level-told : (d : Declared) (l : ℕ) (b : Block) (names last : Names) (s : State ℕ) (es : List Entry) → NoCounts d.types → own.RunsBlock d true b names es last → RunsBlock d l true part.Nothing b names last s (at_level l es)
+level-told d l b names last s es none h = (block-same l d true b).told none names last s es h
 
-pub alone-told : (types : List TypeDeclaration) (b : Block) (names last : Names) (es : List Entry) → NoCounts types → own.RunsBlock types true b names es last → RunsAlone types b names es last
-alone-told types b names last es none h = record {
+pub alone-told : (d : Declared) (b : Block) (names last : Names) (es : List Entry) → NoCounts d.types → own.RunsBlock d true b names es last → RunsAlone d b names es last
+alone-told d b names last es none h = record {
   level = 1;
   lists = opening 0;
   log = at_level 1 es;
-  runs = level-told types 1 b names last (opening 0) es none h;
+  runs = level-told d 1 b names last (opening 0) es none h;
   own_is = level-own 1 es;
 }

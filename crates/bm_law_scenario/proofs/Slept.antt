@@ -6,6 +6,7 @@ use Rattle.bm_journal.specs.declared.entry.Entry.{Entry}
 use Rattle.bm_journal.specs.declared.entry.Entry.TheVariants as entry
 use Rattle.bm_lang.specs.declared.scenario.Block.{roll-Block}
 use Rattle.bm_lang.specs.declared.scenario.Statement.{Statement}
+use Rattle.bm_law_scenario.specs.Declared.{unmapped}
 use Rattle.bm_law_scenario.specs.Held.{Names}
 use Rattle.bm_law_scenario.specs.WorkedJournal.{vector_of}
 use Rattle.bm_law_scenario.specs.WorkedSections.{naps, section_with, yields}
@@ -32,15 +33,15 @@ is-then first second v w f g = record {
   told = λ names. record { middle = names; one = v; two = w; part_is = refl; first_runs = f.told names; second_runs = g.told names };
 }
 
-is-block : (i : Bool) (v : Vec Statement) (end : ℕ) (own : List Entry) → Is (RunsListIn [] i v.items) own → Is (RunsBlock [] i (roll-Block (record { statements = v; end_line = end }))) own
-is-block i v end own h = subst (λ (run : Run). Is run own) (sym (block-runs-in [] i v end)) h
+is-block : (i : Bool) (v : Vec Statement) (end : ℕ) (own : List Entry) → Is (RunsListIn (unmapped []) i v.items) own → Is (RunsBlock (unmapped []) i (roll-Block (record { statements = v; end_line = end }))) own
+is-block i v end own h = subst (λ (run : Run). Is run own) (sym (block-runs-in (unmapped []) i v end)) h
 
 -- ---- the block of one `yield`, and the section of it in a plain section
 
-yielded : Is (RunsBlock [] true (roll-Block (record { statements = vector_of (yields ∷ []) (lit≤ tt); end_line = 7 }))) (entry.Yield ∷ [])
+yielded : Is (RunsBlock (unmapped []) true (roll-Block (record { statements = vector_of (yields ∷ []) (lit≤ tt); end_line = 7 }))) (entry.Yield ∷ [])
 yielded = is-block true (vector_of (yields ∷ []) (lit≤ tt)) 7 _ (is-then _ _ _ _ (is-leaving (entry.Yield ∷ [])) is-done)
 
-inner : Is (RunsBlock [] true (roll-Block (record { statements = vector_of (section_with yields ∷ []) (lit≤ tt); end_line = 7 }))) (entry.Yield ∷ [])
+inner : Is (RunsBlock (unmapped []) true (roll-Block (record { statements = vector_of (section_with yields ∷ []) (lit≤ tt); end_line = 7 }))) (entry.Yield ∷ [])
 inner = is-block true (vector_of (section_with yields ∷ []) (lit≤ tt)) 7 _ (is-then _ _ _ _ yielded is-done)
 
 last : Is (Then (Leaving (entry.Yield ∷ [])) Done) (entry.Yield ∷ [])
@@ -48,34 +49,34 @@ last = is-then _ _ _ _ (is-leaving (entry.Yield ∷ [])) is-done
 
 -- ---- as a plain script: two yields
 
-pub awake-is : Is (RunsBlock [] true naps) (entry.Yield ∷ entry.Yield ∷ [])
+pub awake-is : Is (RunsBlock (unmapped []) true naps) (entry.Yield ∷ entry.Yield ∷ [])
 awake-is = is-block true (vector_of (section_with (section_with yields) ∷ yields ∷ []) (lit≤ tt)) 8 _ (is-then _ _ _ _ inner last)
 
-pub awake-only : (names after : Names) (part : List Entry) → RunsBlock [] true naps names part after → (part ≡ entry.Yield ∷ entry.Yield ∷ []) × (after ≡ names)
+pub awake-only : (names after : Names) (part : List Entry) → RunsBlock (unmapped []) true naps names part after → (part ≡ entry.Yield ∷ entry.Yield ∷ []) × (after ≡ names)
 awake-only = awake-is.only
 
-pub awake-told : (names : Names) → RunsBlock [] true naps names (entry.Yield ∷ entry.Yield ∷ []) names
+pub awake-told : (names : Names) → RunsBlock (unmapped []) true naps names (entry.Yield ∷ entry.Yield ∷ []) names
 awake-told = awake-is.told
 
 -- ---- as a sleepable one: the first of them in a plain section
 
 -- the outer section, whose word is w
-outer : (w : ℕ) → Is (Then (Leaving (entry.In Plain w ∷ [])) (Then (RunsBlock [] true (roll-Block (record { statements = vector_of (section_with yields ∷ []) (lit≤ tt); end_line = 7 }))) (Leaving (entry.Out Plain (w + 1) ∷ [])))) (entry.In Plain w ∷ entry.Yield ∷ entry.Out Plain (w + 1) ∷ [])
+outer : (w : ℕ) → Is (Then (Leaving (entry.In Plain w ∷ [])) (Then (RunsBlock (unmapped []) true (roll-Block (record { statements = vector_of (section_with yields ∷ []) (lit≤ tt); end_line = 7 }))) (Leaving (entry.Out Plain (w + 1) ∷ [])))) (entry.In Plain w ∷ entry.Yield ∷ entry.Out Plain (w + 1) ∷ [])
 outer w = is-then _ _ _ _ (is-leaving _) (is-then _ _ _ _ inner (is-leaving _))
 
 abbrev pub slept : ℕ → List Entry
 slept w = entry.In Plain w ∷ entry.Yield ∷ entry.Out Plain (w + 1) ∷ entry.Yield ∷ []
 
-pub asleep-only : (names after : Names) (part : List Entry) → RunsBlock [] false naps names part after → (w : ℕ) × (part ≡ slept w) × (after ≡ names)
+pub asleep-only : (names after : Names) (part : List Entry) → RunsBlock (unmapped []) false naps names part after → (w : ℕ) × (part ≡ slept w) × (after ≡ names)
 asleep-only names after part h =
     let v : Vec Statement = vector_of (section_with (section_with yields) ∷ yields ∷ []) (lit≤ tt) in
-    let r : RunsListIn [] false v.items names part after = subst (λ (run : Run). run names part after) (block-runs-in [] false v 8) h in
+    let r : RunsListIn (unmapped []) false v.items names part after = subst (λ (run : Run). run names part after) (block-runs-in (unmapped []) false v 8) h in
     let a = (outer r.first_runs.0).only names r.middle r.one r.first_runs.1 in
     let b = last.only r.middle after r.two r.second_runs in
     (r.first_runs.0, r.part_is ∙ ap (λ z. z ++ r.two) a.0 ∙ ap (λ z. (entry.In Plain r.first_runs.0 ∷ entry.Yield ∷ entry.Out Plain (r.first_runs.0 + 1) ∷ []) ++ z) b.0, b.1 ∙ a.1)
 
-pub asleep-told : (w : ℕ) (names : Names) → RunsBlock [] false naps names (slept w) names
+pub asleep-told : (w : ℕ) (names : Names) → RunsBlock (unmapped []) false naps names (slept w) names
 asleep-told w names =
     let v : Vec Statement = vector_of (section_with (section_with yields) ∷ yields ∷ []) (lit≤ tt) in
-    let r : RunsListIn [] false v.items names (slept w) names = record { middle = names; one = entry.In Plain w ∷ entry.Yield ∷ entry.Out Plain (w + 1) ∷ []; two = entry.Yield ∷ []; part_is = refl; first_runs = (w, (outer w).told names); second_runs = last.told names } in
-    subst (λ (run : Run). run names (slept w) names) (sym (block-runs-in [] false v 8)) r
+    let r : RunsListIn (unmapped []) false v.items names (slept w) names = record { middle = names; one = entry.In Plain w ∷ entry.Yield ∷ entry.Out Plain (w + 1) ∷ []; two = entry.Yield ∷ []; part_is = refl; first_runs = (w, (outer w).told names); second_runs = last.told names } in
+    subst (λ (run : Run). run names (slept w) names) (sym (block-runs-in (unmapped []) false v 8)) r

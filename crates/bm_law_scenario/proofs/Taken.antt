@@ -7,6 +7,7 @@ use Rattle.bm_class.specs.Watermarks.{low_of_size, high_of_size}
 use Rattle.bm_lang.specs.declared.scenario.TypeDeclaration.{TypeDeclaration}
 use Rattle.bm_lang.specs.declared.scenario.TypeId.{TypeId}
 use Rattle.bm_law.specs.Phrases.{raise_below, raise_above, given, overtaken, alloc_took, alloc_empty, alloc_busy, FreePhrase}
+use Rattle.bm_law_scenario.specs.Declared.{unmapped}
 use Rattle.bm_law_scenario.specs.Held.{Object, Names, no_names, with_name}
 use Rattle.bm_law_scenario.specs.Opened.{object_size}
 use Rattle.bm_law_scenario.specs.Worked.{item}
@@ -107,10 +108,10 @@ new-enters rest names after part tail more call d h e =
 
 -- ---- the block of the `if`
 
-pub if-taken : (line : ℕ) (after : Names) (tail more : List Entry) → Stays (RunsList types (drops_x_unless_null line ∷ [])) holding after tail more → Stays (Then (RunsDrop types x_name any_batch) Done) holding after tail more
+pub if-taken : (line : ℕ) (after : Names) (tail more : List Entry) → Stays (RunsList (unmapped types) (drops_x_unless_null line ∷ [])) holding after tail more → Stays (Then (RunsDrop types x_name any_batch) Done) holding after tail more
 if-taken line after tail more h =
     let r = h.runs in
-    let inner : RunsList types (drops_x line ∷ []) holding r.one r.middle = subst (λ (run : Run). run holding r.one r.middle) (block-runs types (vector_of (drops_x line ∷ []) (lit≤ tt)) line) r.first_runs in
+    let inner : RunsList (unmapped types) (drops_x line ∷ []) holding r.one r.middle = subst (λ (run : Run). run holding r.one r.middle) (block-runs (unmapped types) (vector_of (drops_x line ∷ []) (lit≤ tt)) line) r.first_runs in
     record {
       part = r.one;
       more_is = h.more_is ∙ ap (λ p. p ++ tail) (r.part_is ∙ (ap (λ t. r.one ++ t) r.second_runs.0 ∙ append-nil r.one));

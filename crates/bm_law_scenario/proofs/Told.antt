@@ -12,6 +12,7 @@ use Rattle.bm_lang.specs.declared.scenario.Script.{Script}
 use Rattle.bm_law.specs.State.{State, seven_lists}
 use Rattle.bm_law.specs.Lists.{Log, Leaves, lists_of}
 use Rattle.bm_law.proofs.Agree.{lists-leaves}
+use Rattle.bm_law_scenario.specs.Declared.{unmapped}
 use Rattle.bm_law_scenario.specs.Held.{Names, no_names, OwnsNothing}
 use Rattle.bm_law_scenario.proofs.OwnRuns.{RunsBlock}
 use Rattle.bm_page.specs.Stock.{fetched}
@@ -44,7 +45,7 @@ pub record IsMade (body : Block) (own : List Entry) : Type 0 where
   pub after : Names
   pub sweeps : List Entry
   pub own_is : own ≡ entry.Fill 0 (Whole units) ∷ entry.Script (codes "main") ∷ entry.In Plain 1 ∷ part ++ entry.Out Plain 2 ∷ entry.Done (codes "main") ∷ entry.Ended ∷ entry.Close ∷ sweeps
-  pub runs : RunsBlock types true body no_names part after
+  pub runs : RunsBlock (unmapped types) true body no_names part after
   pub owns_nothing : (x : List ℕ) → OwnsNothing (after x)
   pub before : State ℕ
   pub before_is : Leaves 0 (ordinary (entry.Fill 0 (Whole units) ∷ entry.Script (codes "main") ∷ entry.In Plain 1 ∷ part ++ entry.Out Plain 2 ∷ entry.Done (codes "main") ∷ [])) before

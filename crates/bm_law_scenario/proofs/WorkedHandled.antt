@@ -15,6 +15,7 @@ use Rattle.bm_law.specs.State.{State}
 use Rattle.bm_law.proofs.Alone.{level-from}
 use Rattle.bm_law_work.specs.Parts as part
 use Rattle.bm_law.specs.Spans.{own_entries}
+use Rattle.bm_law_scenario.specs.Declared.{declared_in, unmapped}
 use Rattle.bm_law_scenario.specs.Calls.{Allocates, RunsNew}
 use Rattle.bm_law_scenario.specs.Handlers.{HandlerPhrase, HandlersDone, InSection, RunsThere, enclosed}
 use Rattle.bm_law_scenario.specs.Held.{Names, OwnsNothing, no_names}
@@ -34,16 +35,16 @@ use Rattle.bm_law_scenario.proofs.Unplanned.{done-stretch, log_within}
 
 -- ---- the worked ones
 
-idle-runs : RunsBlock types true idle no_names [] no_names
+idle-runs : RunsBlock (unmapped types) true idle no_names [] no_names
 idle-runs =
-    let list : RunsList types [] no_names [] no_names = (refl, refl) in
-    subst (λ (run : Run). run no_names [] no_names) (sym (block-runs types (vector_of [] (lit≤ tt)) 11)) list
+    let list : RunsList (unmapped types) [] no_names [] no_names = (refl, refl) in
+    subst (λ (run : Run). run no_names [] no_names) (sym (block-runs (unmapped types) (vector_of [] (lit≤ tt)) 11)) list
 
 busy-allocates : Allocates 0 (entry.Enter 0 2 ∷ entry.Leave 0 1 ∷ entry.Raise 0 ∷ entry.Busy 2 ∷ []) None
 unfolding size_of_class low_of_size
 busy-allocates = inr (2, 1, omega arith, refl)
 
-busy-runs : RunsBlock types true (makes_and_drops 7 8 9) no_names finds_busy (with_null no_names)
+busy-runs : RunsBlock (unmapped types) true (makes_and_drops 7 8 9) no_names finds_busy (with_null no_names)
 busy-runs =
     let new : RunsNew types x_name item_id (7 ∷ []) no_names finds_busy (with_null no_names) = record {
       class = 0;
@@ -55,7 +56,7 @@ busy-runs =
       allocates = busy-allocates;
       after_is = refl;
     } in
-    let list : RunsList types (makes_x 7 ∷ drops_x_unless_null 8 ∷ []) no_names finds_busy (with_null no_names) = record {
+    let list : RunsList (unmapped types) (makes_x 7 ∷ drops_x_unless_null 8 ∷ []) no_names finds_busy (with_null no_names) = record {
       middle = with_null no_names;
       one = finds_busy;
       two = [];
@@ -63,7 +64,7 @@ busy-runs =
       first_runs = new;
       second_runs = record { middle = with_null no_names; one = []; two = []; part_is = refl; first_runs = (refl, refl); second_runs = (refl, refl) };
     } in
-    subst (λ (run : Run). run no_names finds_busy (with_null no_names)) (sym (block-runs types (vector_of (makes_x 7 ∷ drops_x_unless_null 8 ∷ []) (lit≤ tt)) 9)) list
+    subst (λ (run : Run). run no_names finds_busy (with_null no_names)) (sym (block-runs (unmapped types) (vector_of (makes_x 7 ∷ drops_x_unless_null 8 ∷ []) (lit≤ tt)) 9)) list
 
 handler-back : (name back : List ℕ) → entry.Handler name ≡ entry.Back back → ⊥
 handler-back name back q = cc
@@ -78,7 +79,7 @@ whole s log l name own w o h p r =
 pub interrupted-done : HandlersDone (handled (makes_and_drops 7 8 9)) 0 interrupted
 interrupted-done =
     let s = handled (makes_and_drops 7 8 9) in
-    let phrase : HandlerPhrase s (codes "h") 1 finds_busy = record { index = 1; script = _; found = refl; called = refl; handles = refl; part = finds_busy; after = with_null no_names; own_is = refl; runs = alone-told s.types (makes_and_drops 7 8 9) no_names (with_null no_names) finds_busy (refl, tt) busy-runs; owns_nothing = null-owns_nothing } in
+    let phrase : HandlerPhrase s (codes "h") 1 finds_busy = record { index = 1; script = _; found = refl; called = refl; handles = refl; part = finds_busy; after = with_null no_names; own_is = refl; runs = alone-told (declared_in s) (makes_and_drops 7 8 9) no_names (with_null no_names) finds_busy (refl, tt) busy-runs; owns_nothing = null-owns_nothing } in
     let ran : RunsThere s 0 1 (codes "h") taken (at_level 1 finds_busy) = λ lists h. record {
       index = 1;
       script = _;
@@ -86,7 +87,7 @@ interrupted-done =
       called = refl;
       handles = refl;
       after = with_null no_names;
-      runs = level-told s.types 1 (makes_and_drops 7 8 9) no_names (with_null no_names) lists finds_busy (refl, tt) busy-runs;
+      runs = level-told (declared_in s) 1 (makes_and_drops 7 8 9) no_names (with_null no_names) lists finds_busy (refl, tt) busy-runs;
       owns_nothing = null-owns_nothing;
     } in
     done-stretch s 0 counted (taken ++ handler (codes "h") finds_busy) refl (whole s taken 1 (codes "h") finds_busy refl refl (done-stretch s 0 taken [] refl (done-none s 0)) phrase ran)
@@ -95,8 +96,8 @@ pub behind_script-done : HandlersDone (handled idle) 0 behind_script
 behind_script-done =
     let s = handled idle in
     let own : List Entry = entry.In Plain 3 ∷ entry.Out Plain 4 ∷ [] in
-    let phrase : HandlerPhrase s (codes "h") 2 own = record { index = 1; script = _; found = refl; called = refl; handles = refl; part = []; after = no_names; own_is = refl; runs = alone-told s.types idle no_names no_names [] (refl, tt) idle-runs; owns_nothing = λ x. tt } in
-    let in_section : (lists : State ℕ) → InSection true 1 2 (RunsBlock' s.types 1 true part.Nothing idle) no_names no_names lists (at_level 1 own) =
+    let phrase : HandlerPhrase s (codes "h") 2 own = record { index = 1; script = _; found = refl; called = refl; handles = refl; part = []; after = no_names; own_is = refl; runs = alone-told (declared_in s) idle no_names no_names [] (refl, tt) idle-runs; owns_nothing = λ x. tt } in
+    let in_section : (lists : State ℕ) → InSection true 1 2 (RunsBlock' (declared_in s) 1 true part.Nothing idle) no_names no_names lists (at_level 1 own) =
     λ lists. record {
       one = at_level 1 (entry.In Plain 3 ∷ []);
       two = at_level 1 (entry.Out Plain 4 ∷ []);
@@ -106,7 +107,7 @@ behind_script-done =
         one = [];
         two = at_level 1 (entry.Out Plain 4 ∷ []);
         part_is = refl;
-        is_first = level-told s.types 1 idle no_names no_names (after lists (at_level 1 (entry.In Plain 3 ∷ []))) [] (refl, tt) idle-runs;
+        is_first = level-told (declared_in s) 1 idle no_names no_names (after lists (at_level 1 (entry.In Plain 3 ∷ []))) [] (refl, tt) idle-runs;
         is_second = record { from = level-from 1 (entry.Out Plain 4 ∷ []); own_is = refl };
       };
     } in
@@ -128,7 +129,7 @@ record Ran (body : Block) (w : ℕ) (own : List Entry) : Type 0 where
   part : List Entry
   after : Names
   own_is : own ≡ enclosed w part
-  runs : RunsBlock types true body no_names part after
+  runs : RunsBlock (unmapped types) true body no_names part after
   owns_nothing : (x : List ℕ) → OwnsNothing (after x)
 
 abbrev h_script : Block → Script
@@ -149,12 +150,12 @@ only body (suc (suc i)) x e k = absurd (none-some e)
 ran-of : (body : Block) (name : List ℕ) (w : ℕ) (own : List Entry) → HandlerPhrase (handled body) name w own → Ran body w own
 ran-of body name w own h =
     let same = only body h.index h.script h.found h.handles in
-    record { part = h.part; after = h.after; own_is = h.own_is; runs = subst (λ (x : Script). RunsBlock types true x.body no_names h.part h.after) (sym same) (alone-owned types h.script.body no_names h.after h.part h.runs); owns_nothing = h.owns_nothing }
+    record { part = h.part; after = h.after; own_is = h.own_is; runs = subst (λ (x : Script). RunsBlock (unmapped types) true x.body no_names h.part h.after) (sym same) (alone-owned (unmapped types) h.script.body no_names h.after h.part h.runs); owns_nothing = h.owns_nothing }
 
 -- the body that does nothing leaves nothing
 idle-none : (w : ℕ) (own : List Entry) → Ran idle w own → own ≡ enclosed w []
 idle-none w own r =
-    let list : RunsList types [] no_names r.part r.after = subst (λ (run : Run). run no_names r.part r.after) (block-runs types (vector_of [] (lit≤ tt)) 11) r.runs in
+    let list : RunsList (unmapped types) [] no_names r.part r.after = subst (λ (run : Run). run no_names r.part r.after) (block-runs (unmapped types) (vector_of [] (lit≤ tt)) 11) r.runs in
     r.own_is ∙ ap (enclosed w) list.0
 
 cons-none : (e : Entry) (es : List Entry) → e ∷ es ≡ [] → ⊥
@@ -171,7 +172,7 @@ keeps_it-wrong done =
     let own : List Entry = asks ∷ took 3 in
     let d = done (record { level = 1; name = codes "h"; back = codes "h"; front = taken; part = at_level 1 own; rest = counted; log_is = refl; within = refl }) in
     let r : Ran keeps 1 own = ran-of keeps (codes "h") 1 own d.1 in
-    let list : RunsList types (makes_x 11 ∷ []) no_names r.part r.after = subst (λ (run : Run). run no_names r.part r.after) (block-runs types (vector_of (makes_x 11 ∷ []) (lit≤ tt)) 12) r.runs in
+    let list : RunsList (unmapped types) (makes_x 11 ∷ []) no_names r.part r.after = subst (λ (run : Run). run no_names r.part r.after) (block-runs (unmapped types) (vector_of (makes_x 11 ∷ []) (lit≤ tt)) 12) r.runs in
     let stays = new-taken Done r.part r.after [] [] list (append-nil r.part ∙ sym r.own_is) in
     subst (λ (names : Names). OwnsNothing (names x_name)) stays.runs.1 (r.owns_nothing x_name)
 

@@ -11,6 +11,8 @@ use Rattle.bm_law.specs.Spans.{own_entries}
 use Rattle.bm_law.specs.Ordinary.{ordinary}
 use Rattle.bm_law.proofs.Null.{pops-fit}
 use Rattle.bm_law_work.proofs.Pages.{short-named}
+use Rattle.bm_law_scenario.specs.Opened.{opened_classes}
+use Rattle.bm_law_scenario.specs.Declared.{declared_in}
 use Rattle.bm_law_scenario.specs.Held.{no_names}
 use Rattle.bm_law_scenario.specs.Grammar.{IsLog, lines_of}
 use Rattle.bm_law_scenario.specs.Lawful.{HeadingOf, LawfulLog, LawfulLogs}
@@ -22,6 +24,7 @@ use Rattle.bm_law_scenario.proofs.SameLogs.{scripts-told}
 use Rattle.bm_law_scenario.proofs.Slept.{asleep-told, awake-told, slept}
 use Rattle.bm_law_scenario.proofs.Told.{one-log}
 use Rattle.bm_law_scenario.proofs.Unplanned.{done-ordinary}
+use Rattle.bm_law_scenario.proofs.Unslotted.{bare-closing}
 
 -- ---- the sleepable one
 
@@ -34,7 +37,7 @@ asleep-is = record {
   closing = ordinary (entry.Ended ∷ entry.Close ∷ []);
   log_is = refl;
   is_front = then-of _ _ (opening 0) [] asleep_script (says _ _ _ refl) (scripts-told asleep tt refl (lines_of 0 asleep.runs) _ asleep_script (_, refl, (1, asleep_script, [], refl, record { part = slept 1; after = no_names; own_is = refl; runs = asleep-told 1 no_names; owns_nothing = λ x. tt }, refl)));
-  is_closing = then-of _ _ _ (entry.Ended ∷ entry.Close ∷ []) [] (stands _ _) (then-of _ _ _ [] [] (then-of _ _ _ [] [] refl refl) refl);
+  is_closing = bare-closing (declared_in asleep) 0 (opened_classes asleep.types) (ordinary asleep_script) _ _ refl (then-of _ _ _ (entry.Ended ∷ entry.Close ∷ []) [] (stands _ _) (then-of _ _ _ [] [] (then-of _ _ _ [] [] refl refl) refl));
 }
 
 asleep-words : SectionWords asleep_log
@@ -81,7 +84,7 @@ awake-is = record {
   closing = ordinary (entry.Ended ∷ entry.Close ∷ []);
   log_is = refl;
   is_front = then-of _ _ (opening 0) [] awake_script (says _ _ _ refl) (scripts-told awake tt refl (lines_of 0 awake.runs) _ awake_script (_, refl, (1, awake_script, [], refl, record { part = entry.Yield ∷ entry.Yield ∷ []; after = no_names; own_is = refl; runs = awake-told no_names; owns_nothing = λ x. tt }, refl)));
-  is_closing = then-of _ _ _ (entry.Ended ∷ entry.Close ∷ []) [] (stands _ _) (then-of _ _ _ [] [] (then-of _ _ _ [] [] refl refl) refl);
+  is_closing = bare-closing (declared_in awake) 0 (opened_classes awake.types) (ordinary awake_script) _ _ refl (then-of _ _ _ (entry.Ended ∷ entry.Close ∷ []) [] (stands _ _) (then-of _ _ _ [] [] (then-of _ _ _ [] [] refl refl) refl));
 }
 
 awake-words : SectionWords awake_log

@@ -10,6 +10,7 @@ use Rattle.bm_journal.specs.declared.entry.Entry.{Entry}
 use Rattle.bm_journal.specs.declared.entry.Entry.TheVariants as entry
 use Rattle.bm_law.specs.State.{State, seven_lists}
 use Rattle.bm_law.specs.Lists.{Log}
+use Rattle.bm_law_scenario.specs.Declared.{unmapped}
 use Rattle.bm_law_scenario.specs.Held.{Names, no_names, OwnsNothing}
 use Rattle.bm_law_scenario.specs.Calls.{RunsDrop, any_batch}
 use Rattle.bm_law_scenario.proofs.OwnRuns.{Run, Done, Then}
@@ -85,22 +86,22 @@ no_log-wrong h = none-one h.count
 -- ---- entries that don't name what is there
 
 pub null_with_units-wrong : LawfulLogs one_object null_with_units → ⊥
-null_with_units-wrong h = unlisted one_object null_with_units_log refl (owned-log one_object refl 0 refl null_with_units_log (h.logs 0 null_with_units_log refl))
+null_with_units-wrong h = unlisted one_object null_with_units_log refl (owned-log one_object refl refl 0 refl null_with_units_log (h.logs 0 null_with_units_log refl))
 
 pub below_the_top-wrong : LawfulLogs one_object below_the_top → ⊥
-below_the_top-wrong h = unlisted one_object below_the_top_log refl (owned-log one_object refl 0 refl below_the_top_log (h.logs 0 below_the_top_log refl))
+below_the_top-wrong h = unlisted one_object below_the_top_log refl (owned-log one_object refl refl 0 refl below_the_top_log (h.logs 0 below_the_top_log refl))
 
 pub other_order-wrong : LawfulLogs one_object other_order → ⊥
-other_order-wrong h = unlisted one_object other_order_log refl (owned-log one_object refl 0 refl other_order_log (h.logs 0 other_order_log refl))
+other_order-wrong h = unlisted one_object other_order_log refl (owned-log one_object refl refl 0 refl other_order_log (h.logs 0 other_order_log refl))
 
 pub one_left_out-wrong : LawfulLogs one_object one_left_out → ⊥
-one_left_out-wrong h = unlisted one_object one_left_out_log refl (owned-log one_object refl 0 refl one_left_out_log (h.logs 0 one_left_out_log refl))
+one_left_out-wrong h = unlisted one_object one_left_out_log refl (owned-log one_object refl refl 0 refl one_left_out_log (h.logs 0 one_left_out_log refl))
 
 -- ---- lists that aren't empty at the end
 
 pub not_swept-wrong : LawfulLogs one_object not_swept → ⊥
 not_swept-wrong h =
-    let l = owned-log one_object refl 0 refl not_swept_log (h.logs 0 not_swept_log refl) in
+    let l = owned-log one_object refl refl 0 refl not_swept_log (h.logs 0 not_swept_log refl) in
     not-empty (subst (λ (s : State ℕ). seven_lists (s.rows 0) ≡ []) (sym l.lists.lists) (l.emptied.lists 0))
 
 -- ---- entries that no run leaves
@@ -114,7 +115,7 @@ record Ran (log : Log) (more : List Entry) : Type 0 where
   part : List Entry
   after : Names
   sweeps : List Entry
-  runs : RunsList types (makes_x 7 ∷ drops_x_unless_null 8 ∷ []) no_names part after
+  runs : RunsList (unmapped types) (makes_x 7 ∷ drops_x_unless_null 8 ∷ []) no_names part after
   more_is : part ++ (ended ++ sweeps) ≡ more
 
 ran-of : (log : Log) (more : List Entry) → LawfulLog one_object 0 log → entries_of log ≡ entry.Fill 0 (Whole one_page) ∷ entry.Script (codes "main") ∷ entry.In Plain 1 ∷ more → Ran log more
@@ -124,7 +125,7 @@ ran-of log more h e =
       part = k.part;
       after = k.after;
       sweeps = k.sweeps;
-      runs = subst (λ (run : Run). run no_names k.part k.after) (block-runs types (vector_of (makes_x 7 ∷ drops_x_unless_null 8 ∷ []) (lit≤ tt)) 9) k.runs;
+      runs = subst (λ (run : Run). run no_names k.part k.after) (block-runs (unmapped types) (vector_of (makes_x 7 ∷ drops_x_unless_null 8 ∷ []) (lit≤ tt)) 9) k.runs;
       more_is = begun k.units _ _ (sym e ∙ k.own_is);
     }
 
@@ -132,28 +133,28 @@ ran-of log more h e =
 drops : (log : Log) (more : List Entry) → LawfulLog one_object 0 log → entries_of log ≡ asked one_page ++ took 3 ++ more → (after' : Names) × (sweeps : List Entry) × Stays (Then (RunsDrop types x_name any_batch) Done) holding after' (ended ++ sweeps) more
 drops log more h e =
     let s = ran-of log (asks ∷ took 3 ++ more) h e in
-    (s.after, s.sweeps, if-taken 8 s.after (ended ++ s.sweeps) more (new-taken (RunsList types (drops_x_unless_null 8 ∷ [])) s.part s.after (ended ++ s.sweeps) more s.runs s.more_is))
+    (s.after, s.sweeps, if-taken 8 s.after (ended ++ s.sweeps) more (new-taken (RunsList (unmapped types) (drops_x_unless_null 8 ∷ [])) s.part s.after (ended ++ s.sweeps) more s.runs s.more_is))
 
 out-drop : (w u n : ℕ) (v v' : List Entry) → entry.Out Plain w ∷ v ≡ entry.Drop u n ∷ v' → ⊥
 out-drop w u n v v' e = cc
 
 pub never_dropped-wrong : LawfulLogs one_object never_dropped → ⊥
 never_dropped-wrong h =
-    let d = drops never_dropped_log (ended ++ swept (2 ∷ 1 ∷ 0 ∷ [])) (owned-log one_object refl 0 refl never_dropped_log (h.logs 0 never_dropped_log refl)) refl in
+    let d = drops never_dropped_log (ended ++ swept (2 ∷ 1 ∷ 0 ∷ [])) (owned-log one_object refl refl 0 refl never_dropped_log (h.logs 0 never_dropped_log refl)) refl in
     let b = drop-begins Done holding d.0 (ended ++ d.1) (ended ++ swept (2 ∷ 1 ∷ 0 ∷ [])) d.2 in
     out-drop 2 b.0 b.1 _ _ b.3
 
 pub dropped_twice-wrong : LawfulLogs one_object dropped_twice → ⊥
 dropped_twice-wrong h =
     let later : List Entry = gave 3 5 ++ ended ++ swept (3 ∷ 3 ∷ 2 ∷ 1 ∷ 0 ∷ []) in
-    let d = drops dropped_twice_log (gave 3 4 ++ later) (owned-log one_object refl 0 refl dropped_twice_log (h.logs 0 dropped_twice_log refl)) refl in
+    let d = drops dropped_twice_log (gave 3 4 ++ later) (owned-log one_object refl refl 0 refl dropped_twice_log (h.logs 0 dropped_twice_log refl)) refl in
     let t = drop-taken Done holding d.0 (ended ++ d.1) later d.2 in
     out-drop 2 3 1 _ _ (ap (λ v. v ++ (ended ++ d.1)) (sym t.2.0) ∙ t.3)
 
 pub not_counted-wrong : LawfulLogs one_object not_counted → ⊥
 not_counted-wrong h =
     let later : List Entry = ended ++ swept (3 ∷ 2 ∷ 1 ∷ 0 ∷ []) in
-    let d = drops not_counted_log (entry.Drop 3 1 ∷ entry.Last ∷ entry.Free 3 0 ∷ entry.Enter 0 1 ∷ entry.Push 0 3 ∷ entry.Leave 0 0 ∷ later) (owned-log one_object refl 0 refl not_counted_log (h.logs 0 not_counted_log refl)) refl in
+    let d = drops not_counted_log (entry.Drop 3 1 ∷ entry.Last ∷ entry.Free 3 0 ∷ entry.Enter 0 1 ∷ entry.Push 0 3 ∷ entry.Leave 0 0 ∷ later) (owned-log one_object refl refl 0 refl not_counted_log (h.logs 0 not_counted_log refl)) refl in
     drop-counts Done holding d.0 (ended ++ d.1) later d.2
 
 two-three : ◌≡◌ {A = ℕ} 2 3 → ⊥
@@ -161,7 +162,7 @@ two-three e = cc
 
 pub other_dropped-wrong : LawfulLogs one_object other_dropped → ⊥
 other_dropped-wrong h =
-    let d = drops other_dropped_log (gave 2 4 ++ ended ++ swept (2 ∷ 2 ∷ 1 ∷ 0 ∷ [])) (owned-log one_object refl 0 refl other_dropped_log (h.logs 0 other_dropped_log refl)) refl in
+    let d = drops other_dropped_log (gave 2 4 ++ ended ++ swept (2 ∷ 2 ∷ 1 ∷ 0 ∷ [])) (owned-log one_object refl refl 0 refl other_dropped_log (h.logs 0 other_dropped_log refl)) refl in
     two-three (drop-holds Done d.0 (ended ++ d.1) _ 2 1 d.2).0
 
 eight-seven : ◌≡◌ {A = List ℕ} (8 ∷ []) (7 ∷ []) → ⊥
@@ -170,8 +171,8 @@ eight-seven e = cc
 pub other_value-wrong : LawfulLogs one_object other_value → ⊥
 other_value-wrong h =
     let later : List Entry = took 3 ++ gave 3 4 ++ ended ++ swept (3 ∷ 2 ∷ 1 ∷ 0 ∷ []) in
-    let s = ran-of other_value_log (entry.New (codes "item") (8 ∷ []) ∷ later) (owned-log one_object refl 0 refl other_value_log (h.logs 0 other_value_log refl)) refl in
-    eight-seven (new-asks (RunsList types (drops_x_unless_null 8 ∷ [])) no_names s.after s.part (ended ++ s.sweeps) later (codes "item") (8 ∷ []) s.runs s.more_is)
+    let s = ran-of other_value_log (entry.New (codes "item") (8 ∷ []) ∷ later) (owned-log one_object refl refl 0 refl other_value_log (h.logs 0 other_value_log refl)) refl in
+    eight-seven (new-asks (RunsList (unmapped types) (drops_x_unless_null 8 ∷ [])) no_names s.after s.part (ended ++ s.sweeps) later (codes "item") (8 ∷ []) s.runs s.more_is)
 
 one-none : ◌≡◌ {A = ℕ} 1 0 → ⊥
 one-none e = cc
@@ -179,8 +180,8 @@ one-none e = cc
 pub other_class-wrong : LawfulLogs one_object other_class → ⊥
 other_class-wrong h =
     let later : List Entry = entry.PopNone 1 ∷ entry.Leave 1 0 ∷ entry.Raise 1 ∷ entry.Empty ∷ ended ++ swept (3 ∷ 2 ∷ 1 ∷ 0 ∷ []) in
-    let s = ran-of other_class_log (asks ∷ entry.Enter 1 1 ∷ later) (owned-log one_object refl 0 refl other_class_log (h.logs 0 other_class_log refl)) refl in
-    one-none (new-enters (RunsList types (drops_x_unless_null 8 ∷ [])) no_names s.after s.part (ended ++ s.sweeps) later asks 1 s.runs s.more_is)
+    let s = ran-of other_class_log (asks ∷ entry.Enter 1 1 ∷ later) (owned-log one_object refl refl 0 refl other_class_log (h.logs 0 other_class_log refl)) refl in
+    one-none (new-enters (RunsList (unmapped types) (drops_x_unless_null 8 ∷ [])) no_names s.after s.part (ended ++ s.sweeps) later asks 1 s.runs s.more_is)
 
 no-close : (v w : List Entry) (us : Units) → entry.Out Plain 2 ∷ entry.Done (codes "main") ∷ entry.Ended ∷ entry.Close ∷ v ≡ entry.Out Plain 2 ∷ entry.Done (codes "main") ∷ entry.Ended ∷ entry.Sweep 0 us ∷ w → ⊥
 no-close v w us e = cc
@@ -188,7 +189,7 @@ no-close v w us e = cc
 pub not_closed-wrong : LawfulLogs one_object not_closed → ⊥
 not_closed-wrong h =
     let later : List Entry = entry.Out Plain 2 ∷ entry.Done (codes "main") ∷ entry.Ended ∷ swept (3 ∷ 2 ∷ 1 ∷ 0 ∷ []) in
-    let d = drops not_closed_log (gave 3 4 ++ later) (owned-log one_object refl 0 refl not_closed_log (h.logs 0 not_closed_log refl)) refl in
+    let d = drops not_closed_log (gave 3 4 ++ later) (owned-log one_object refl refl 0 refl not_closed_log (h.logs 0 not_closed_log refl)) refl in
     let t = drop-taken Done holding d.0 (ended ++ d.1) later d.2 in
     no-close _ _ _ (ap (λ v. v ++ (ended ++ d.1)) (sym t.2.0) ∙ t.3)
 
@@ -196,8 +197,8 @@ not_closed-wrong h =
 
 pub object_left-wrong : LawfulLogs object_left never_dropped → ⊥
 object_left-wrong h =
-    let l = owned-log object_left refl 0 refl never_dropped_log (h.logs 0 never_dropped_log refl) in
+    let l = owned-log object_left refl refl 0 refl never_dropped_log (h.logs 0 never_dropped_log refl) in
     let k = log-made 1 makes_alone never_dropped_log l in
-    let list = subst (λ (run : Run). run no_names k.part k.after) (block-runs types (vector_of (makes_x 7 ∷ []) (lit≤ tt)) 9) k.runs in
+    let list = subst (λ (run : Run). run no_names k.part k.after) (block-runs (unmapped types) (vector_of (makes_x 7 ∷ []) (lit≤ tt)) 9) k.runs in
     let s = new-taken Done k.part k.after (ended ++ k.sweeps) (ended ++ swept (2 ∷ 1 ∷ 0 ∷ [])) list (begun k.units _ _ k.own_is) in
     subst (λ (n : Names). OwnsNothing (n x_name)) s.runs.1 (k.owns_nothing x_name)

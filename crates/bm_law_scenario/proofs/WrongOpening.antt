@@ -27,7 +27,7 @@ no-unit v w units e q = cc
 
 pub not_opened-wrong : LawfulLogs one_object not_opened → ⊥
 not_opened-wrong h =
-    let l = owned-log one_object refl 0 refl not_opened_log (h.logs 0 not_opened_log refl) in
+    let l = owned-log one_object refl refl 0 refl not_opened_log (h.logs 0 not_opened_log refl) in
     let is : IsLog one_object 0 (entries_of not_opened_log) = subst (IsLog one_object 0) (own-is one_object 0 not_opened_log l) l.is_log in
     let o = opens 1 _ (entries_of not_opened_log) is in
     no-unit _ o.0 _ first-four o.1

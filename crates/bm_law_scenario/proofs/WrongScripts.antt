@@ -7,6 +7,7 @@ use Rattle.bm_journal.specs.declared.entry.Entry.TheVariants as entry
 use Rattle.bm_lang.specs.declared.scenario.Action.{Repeat}
 use Rattle.bm_lang.specs.declared.scenario.Script.{Script}
 use Rattle.bm_page.specs.Stock.{fetched}
+use Rattle.bm_law_scenario.specs.Declared.{unmapped}
 use Rattle.bm_law_scenario.specs.Fills.{fresh_stock, numbers_of, prefill}
 use Rattle.bm_law_scenario.specs.Held.{Names, no_names}
 use Rattle.bm_law_scenario.proofs.OwnRuns.{Run, Done, Then, RunsBlock}
@@ -63,7 +64,7 @@ other-name e = omega (arith, ap (λ (v : List ℕ). slice_index v 0) e)
 
 pub main_first-wrong : LawfulLogs three_calls main_first → ⊥
 main_first-wrong h =
-    let l = owned-log three_calls refl 0 refl main_first_log (h.logs 0 main_first_log refl) in
+    let l = owned-log three_calls refl refl 0 refl main_first_log (h.logs 0 main_first_log refl) in
     let m = made-of (entries_of main_first_log) (subst (IsLog three_calls 0) (own-is three_calls 0 main_first_log l) l.is_log) in
     other-name (apart [] m.units _ _ (m.own_is ∙ ap (λ v. entry.Fill 0 (Whole m.units) ∷ ((v ++ m.two) ++ m.rest)) m.first.own_is))
 
@@ -90,19 +91,19 @@ then-calls one two m n f g names part after h =
     omega (arith, ap calls h.part_is, calls-append h.one h.two)
 
 -- a block that makes and drops calls once at least
-block-calls : (first second end : ℕ) (names : Names) (part : List Entry) (after : Names) → RunsBlock types true (makes_and_drops first second end) names part after → 1 ≤ calls part
+block-calls : (first second end : ℕ) (names : Names) (part : List Entry) (after : Names) → RunsBlock (unmapped types) true (makes_and_drops first second end) names part after → 1 ≤ calls part
 unfolding calls asks-one
 block-calls first second end names part after h =
-    let list = subst (λ (run : Run). run names part after) (block-runs types (vector_of (makes_x first ∷ drops_x_unless_null second ∷ []) (lit≤ tt)) end) h in
+    let list = subst (λ (run : Run). run names part after) (block-runs (unmapped types) (vector_of (makes_x first ∷ drops_x_unless_null second ∷ []) (lit≤ tt)) end) h in
     omega (arith, ap calls list.part_is, calls-append list.one list.two, ap calls list.first_runs.part_is)
 
 anything : (run : Run) (names : Names) (part : List Entry) (after : Names) → run names part after → 0 ≤ calls part
 anything run names part after h = omega arith
 
-twice-calls : (line end : ℕ) (names : Names) (part : List Entry) (after : Names) → RunsBlock types true (makes_and_drops_twice line end) names part after → 2 ≤ calls part
+twice-calls : (line end : ℕ) (names : Names) (part : List Entry) (after : Names) → RunsBlock (unmapped types) true (makes_and_drops_twice line end) names part after → 2 ≤ calls part
 twice-calls line end names part after h =
-    let block : Run = RunsBlock types true (makes_and_drops line line line) in
-    let list = subst (λ (run : Run). run names part after) (block-runs types (vector_of (record { line = line; action = Repeat 2 (makes_and_drops line line line) } ∷ []) (lit≤ tt)) end) h in
+    let block : Run = RunsBlock (unmapped types) true (makes_and_drops line line line) in
+    let list = subst (λ (run : Run). run names part after) (block-runs (unmapped types) (vector_of (record { line = line; action = Repeat 2 (makes_and_drops line line line) } ∷ []) (lit≤ tt)) end) h in
     then-calls (Then block (Then block Done)) Done 2 0 (then-calls block (Then block Done) 1 1 (block-calls line line line) (then-calls block Done 1 0 (block-calls line line line) (anything Done))) (anything Done) names part after list
 
 script-calls : (s : Script) (w : ℕ) (own : List Entry) (k : IsScript three_calls s w own) → calls k.part ≤ calls own
@@ -112,7 +113,7 @@ script-calls s w own k = omega (arith, ap calls k.own_is, calls-append k.part (e
 pub repeated_once-wrong : LawfulLogs three_calls repeated_once → ⊥
 unfolding calls asks-one
 repeated_once-wrong h =
-    let l = owned-log three_calls refl 0 refl repeated_once_log (h.logs 0 repeated_once_log refl) in
+    let l = owned-log three_calls refl refl 0 refl repeated_once_log (h.logs 0 repeated_once_log refl) in
     let m = made-of (entries_of repeated_once_log) (subst (IsLog three_calls 0) (own-is three_calls 0 repeated_once_log l) l.is_log) in
     let twice = twice-calls 11 12 no_names m.first.part m.first.after m.first.runs in
     let main = block-calls 7 8 9 no_names m.second.part m.second.after m.second.runs in

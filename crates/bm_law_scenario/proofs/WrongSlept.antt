@@ -53,12 +53,12 @@ awake-of own h =
 
 asleep-log : (log : Log) (whole : IsTrue (are_whole (log ∷ []))) → LawfulLogs asleep (stepless log whole) → IsAsleep (entries_of log)
 asleep-log log whole h =
-    let l = owned-log asleep refl 0 refl log (h.logs 0 log refl) in
+    let l = owned-log asleep refl refl 0 refl log (h.logs 0 log refl) in
     asleep-of (entries_of log) (subst (IsLog asleep 0) (own-is asleep 0 log l) l.is_log)
 
 awake-log : (log : Log) (whole : IsTrue (are_whole (log ∷ []))) → LawfulLogs awake (stepless log whole) → IsAwake (entries_of log)
 awake-log log whole h =
-    let l = owned-log awake refl 0 refl log (h.logs 0 log refl) in
+    let l = owned-log awake refl refl 0 refl log (h.logs 0 log refl) in
     awake-of (entries_of log) (subst (IsLog awake 0) (own-is awake 0 log l) l.is_log)
 
 -- ---- the entries in which they differ

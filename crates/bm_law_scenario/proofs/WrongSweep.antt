@@ -9,6 +9,7 @@ use Rattle.bm_journal.specs.declared.entry.Entry.TheVariants as entry
 use Rattle.bm_law.specs.State.{State, seven_lists}
 use Rattle.bm_law.specs.Lists.{Leaves}
 use Rattle.bm_law.specs.Phrases.{raise_below, alloc_took, alloc_empty, alloc_busy}
+use Rattle.bm_law_scenario.specs.Declared.{unmapped}
 use Rattle.bm_law_scenario.specs.Held.{Names, Null, no_names, with_name}
 use Rattle.bm_law_scenario.specs.Calls.{Allocates, answered}
 use Rattle.bm_law_scenario.proofs.OwnRuns.{Run, Done, Then, RunsAction}
@@ -61,13 +62,13 @@ first-is e = cc
 behind : {a b : Entry} {v w : List Entry} → a ∷ v ≡ b ∷ w → v ≡ w
 behind e = cc
 
-block-taken : (part : List Entry) (after : Names) (tail more : List Entry) → RunsList types (makes_x 7 ∷ drops_x_unless_null 8 ∷ []) no_names part after → part ++ tail ≡ asks ∷ took_none ++ more → (part ≡ asks ∷ took_none) × (tail ≡ more)
+block-taken : (part : List Entry) (after : Names) (tail more : List Entry) → RunsList (unmapped types) (makes_x 7 ∷ drops_x_unless_null 8 ∷ []) no_names part after → part ++ tail ≡ asks ∷ took_none ++ more → (part ≡ asks ∷ took_none) × (tail ≡ more)
 block-taken part after tail more h e =
     let n = h.first_runs in
     let whole : entry.New n.declared.name (7 ∷ []) ∷ ((n.own ++ h.two) ++ tail) ≡ asks ∷ took_none ++ more = sym (ap (λ p. p ++ tail) (h.part_is ∙ ap (λ o. o ++ h.two) n.part_is)) ∙ e in
     let g = none-taken n.class n.own n.reply (h.two ++ tail) more n.allocates (sym (append_assoc n.own h.two tail) ∙ behind whole) in
     let held : h.middle ≡ with_name x_name Null no_names = n.after_is ∙ ap (λ r. with_name x_name (answered item_id r) no_names) g.0 in
-    let chosen : Then (RunsAction types true (drops_x_unless_null 8).action) Done (with_name x_name Null no_names) h.two after = subst (λ m. Then (RunsAction types true (drops_x_unless_null 8).action) Done m h.two after) held h.second_runs in
+    let chosen : Then (RunsAction (unmapped types) true (drops_x_unless_null 8).action) Done (with_name x_name Null no_names) h.two after = subst (λ m. Then (RunsAction (unmapped types) true (drops_x_unless_null 8).action) Done m h.two after) held h.second_runs in
     let none : h.two ≡ [] = chosen.part_is ∙ ap (λ v. v ++ chosen.two) chosen.first_runs.0 ∙ chosen.second_runs.0 in (
       h.part_is ∙ ap (λ v. h.one ++ v) none ∙ append-nil h.one ∙ n.part_is ∙ ap (λ o. entry.New n.declared.name (7 ∷ []) ∷ o) g.1 ∙ ap (λ c. c ∷ took_none) (first-is whole),
       ap (λ v. v ++ tail) (sym none) ∙ g.2,
@@ -90,9 +91,9 @@ not-empty e q = cc
 
 pub empty_swept-wrong : LawfulLogs no_object empty_swept → ⊥
 empty_swept-wrong h =
-    let k = log-made 0 (makes_and_drops 7 8 9) empty_swept_log (owned-log no_object refl 0 refl empty_swept_log (h.logs 0 empty_swept_log refl)) in
+    let k = log-made 0 (makes_and_drops 7 8 9) empty_swept_log (owned-log no_object refl refl 0 refl empty_swept_log (h.logs 0 empty_swept_log refl)) in
     let b = begun k.units _ _ k.own_is in
-    let list = subst (λ (run : Run). run no_names k.part k.after) (block-runs types (vector_of (makes_x 7 ∷ drops_x_unless_null 8 ∷ []) (lit≤ tt)) 9) k.runs in
+    let list = subst (λ (run : Run). run no_names k.part k.after) (block-runs (unmapped types) (vector_of (makes_x 7 ∷ drops_x_unless_null 8 ∷ []) (lit≤ tt)) 9) k.runs in
     let t = block-taken k.part k.after (ended ++ k.sweeps) (ended ++ swept []) list b.1 in
     let front : List ℕ → List Entry → List Entry = λ units part. entry.Fill 0 (Whole units) ∷ entry.Script (codes "main") ∷ entry.In Plain 1 ∷ part ++ entry.Out Plain 2 ∷ entry.Done (codes "main") ∷ [] in
     let leaves : Leaves 0 (ordinary (front [] (asks ∷ took_none))) k.before = subst (λ us. Leaves 0 (ordinary (front us (asks ∷ took_none))) k.before) b.0 (subst (λ p. Leaves 0 (ordinary (front k.units p)) k.before) t.0 k.before_is) in

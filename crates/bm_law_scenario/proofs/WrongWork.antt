@@ -16,12 +16,13 @@ use Rattle.bm_law.specs.Spans.{own_entries}
 use Rattle.bm_law.proofs.Alone.{level-own}
 use Rattle.bm_law_work.specs.Parts.{Part, Nothing, Stand, Say, Then}
 use Rattle.bm_law_work.specs.WorkPhrases.{IsOne, Receive, Balance, FirstStage, SecondStage, Work}
+use Rattle.bm_law_scenario.specs.Declared.{declared_in, unmapped}
 use Rattle.bm_law_scenario.specs.Held.{Names, no_names}
 use Rattle.bm_law_scenario.specs.Fills.{AreFills, fresh_stock, numbers_of, prefill}
 use Rattle.bm_law_scenario.specs.Calls.{Allocates, RunsNew}
 use Rattle.bm_law_scenario.specs.Works.{WorksBy, UntilDown, WorkEach, WorkBehind}
 use Rattle.bm_law_scenario.specs.Runs.{Run, Leaving, Done, Followed, Calls, RunsBlock}
-use Rattle.bm_law_scenario.specs.Closing.{EndsPeriods, AreSweeps, Closing}
+use Rattle.bm_law_scenario.specs.Closing.{EndsPeriods, AreSweeps}
 use Rattle.bm_law_scenario.specs.Grammar.{IsBody, IsScript, AreScripts, Front, behind_script}
 use Rattle.bm_law.specs.Ordinary.{ordinary}
 use Rattle.bm_law_scenario.specs.Lawful.{LawfulLogs, LawfulLog}
@@ -32,6 +33,7 @@ use Rattle.bm_law_scenario.proofs.Ordinary.{stood, said, parted, cut-of}
 use Rattle.bm_law_scenario.proofs.BlockParts.{RunsList, block-parts}
 use Rattle.bm_law_scenario.proofs.OpeningBlock.{first-block}
 use Rattle.bm_law_scenario.proofs.Told.{first-word, same-script}
+use Rattle.bm_law_scenario.proofs.Unslotted.{BareClosing, closing-bare}
 
 -- works until the flag of the one class is down
 abbrev until : Part
@@ -49,7 +51,7 @@ record IsWorked (body : Block) (es : List Entry) : Type 0 where
   rest : List Entry
   lists : State ℕ
   own_is : es ≡ begins ++ (main ++ (stops ++ (work ++ (entry.Ended ∷ entry.Close ∷ rest))))
-  runs : RunsBlock (block ∷ []) 0 true until body no_names names begun (ordinary main)
+  runs : RunsBlock (unmapped (block ∷ [])) 0 true until body no_names names begun (ordinary main)
   behind : WorkBehind (10 ∷ []) lists (ordinary work)
 
 -- what a script left in its section with word n
@@ -59,7 +61,7 @@ record IsRun (body : Block) (n : ℕ) (s : State ℕ) (es : List Entry) : Type 0
   work : List Entry
   lists : State ℕ
   own_is : es ≡ entry.Script (codes "main") ∷ entry.In Plain n ∷ main ++ ((entry.Out Plain (n + 1) ∷ entry.Done (codes "main") ∷ []) ++ work)
-  runs : RunsBlock (block ∷ []) 0 true until body no_names names (after s (ordinary (entry.Script (codes "main") ∷ entry.In Plain n ∷ []))) (ordinary main)
+  runs : RunsBlock (unmapped (block ∷ [])) 0 true until body no_names names (after s (ordinary (entry.Script (codes "main") ∷ entry.In Plain n ∷ []))) (ordinary main)
   behind : WorkBehind (10 ∷ []) lists (ordinary work)
 
 run-of : (body : Block) (n : ℕ) (s : State ℕ) (es : List Entry) → IsScript (with_work body) (script_of 6 (codes "main") body) n s (ordinary es) → IsRun body n s es
@@ -76,14 +78,14 @@ run-of body n s es h =
     let v = parted (Stand 0 last) (behind_script w) s2 u.right u.is_second in
     let first : t.left ≡ head = stood head s t.left t.is_first in
     let names : Names = u.is_first.0 in
-    let runs : RunsBlock (block ∷ []) 0 true until body no_names names s1 (ordinary u.left) = u.is_first.1 in
+    let runs : RunsBlock (unmapped (block ∷ [])) 0 true until body no_names names s1 (ordinary u.left) = u.is_first.1 in
     record {
       main = u.left;
       names = names;
       work = v.right;
       lists = after s2 (ordinary v.left);
       own_is = t.whole ∙ ap (λ z. z ++ t.right) first ∙ ap (λ z. head ++ z) (u.whole ∙ ap (λ z. u.left ++ z) (v.whole ∙ ap (λ z. z ++ v.right) (stood last s2 v.left v.is_first)));
-      runs = subst (λ z. RunsBlock (block ∷ []) 0 true until body no_names names (after s (ordinary z)) (ordinary u.left)) first runs;
+      runs = subst (λ z. RunsBlock (unmapped (block ∷ [])) 0 true until body no_names names (after s (ordinary z)) (ordinary u.left)) first runs;
       behind = v.is_second;
     }
 
@@ -113,8 +115,8 @@ worked-of body es h =
     x.whole ∙ ap (λ z. z ++ x.right) (t.whole ∙ ap (λ z. z ++ t.right) fill ∙ ap (λ z. (entry.Fill 10 (Whole (0 ∷ [])) ∷ []) ++ z) (q.whole ∙ ap (λ z. z ++ q.right) k0.own_is)) in
     let word : r.2 ≡ 1 = first-word r.2 (entry.Fill 10 (Whole (0 ∷ []))) (entry.Script (codes "main")) es ((inside ++ q.right) ++ x.right) refl refl begins h.words in
     let k : IsRun body 1 s1 q.left = subst (λ n. IsRun body n s1 q.left) word k0 in
-    let G : Log → Log → Type 0 = λ v w. Closing 0 (10 ∷ []) v (after start v) w in
-    let close : G (ordinary x.left) (ordinary x.right) = subst (λ w. G (ordinary x.left) w) x.two_is (subst (λ v. G v i.closing) x.one_is i.is_closing) in
+    let G : Log → Log → Type 0 = λ v w. BareClosing 0 (10 ∷ []) v (after start v) w in
+    let close : G (ordinary x.left) (ordinary x.right) = subst (λ w. G (ordinary x.left) w) x.two_is (subst (λ v. G v i.closing) x.one_is (closing-bare (declared_in s) 0 (10 ∷ []) i.front (after start i.front) i.closing refl i.is_closing)) in
     let last = after start (ordinary x.left) in
     let c = parted (Stand 0 (entry.Ended ∷ entry.Close ∷ [])) (Then (EndsPeriods (ordinary x.left)) (AreSweeps (10 ∷ []))) last x.right close in
     record {
@@ -126,7 +128,7 @@ worked-of body es h =
       own_is = x.whole ∙ ap (λ z. z ++ x.right) (t.whole ∙ ap (λ z. z ++ t.right) fill ∙ ap (λ z. (entry.Fill 10 (Whole (0 ∷ [])) ∷ []) ++ z) (q.whole ∙ ap (λ z. q.left ++ z) none ∙ ap (λ z. z ++ []) k.own_is))
           ∙ ap (λ z. ((entry.Fill 10 (Whole (0 ∷ [])) ∷ []) ++ ((entry.Script (codes "main") ∷ entry.In Plain 1 ∷ k.main ++ (stops ++ k.work)) ++ [])) ++ z) (c.whole ∙ ap (λ z. z ++ c.right) (stood _ last c.left c.is_first))
           ∙ joined (entry.Fill 10 (Whole (0 ∷ []))) k.main k.work [] (entry.Ended ∷ entry.Close ∷ c.right);
-      runs = subst (λ z. RunsBlock (block ∷ []) 0 true until body no_names k.names (after (after start (ordinary z)) (ordinary (entry.Script (codes "main") ∷ entry.In Plain 1 ∷ []))) (ordinary k.main)) fill k.runs;
+      runs = subst (λ z. RunsBlock (unmapped (block ∷ [])) 0 true until body no_names k.names (after (after start (ordinary z)) (ordinary (entry.Script (codes "main") ∷ entry.In Plain 1 ∷ []))) (ordinary k.main)) fill k.runs;
       behind = k.behind;
     }
 
@@ -142,10 +144,10 @@ work-begins s es h =
 -- ---- no object
 
 -- where nothing is made and no flag is up, the block leaves nothing
-leaves-nothing : (names : Names) (main : List Entry) → RunsBlock (block ∷ []) 0 true until (block_of (makes_never ∷ []) (lit≤ tt) 9) no_names names begun (ordinary main) → main ≡ []
+leaves-nothing : (names : Names) (main : List Entry) → RunsBlock (unmapped (block ∷ [])) 0 true until (block_of (makes_never ∷ []) (lit≤ tt) 9) no_names names begun (ordinary main) → main ≡ []
 leaves-nothing names main h =
-    let list : RunsList (block ∷ []) 0 until (makes_never ∷ []) no_names names begun (ordinary main) =
-    subst (λ (run : Run). run no_names names begun (ordinary main)) (block-parts (block ∷ []) 0 until (vector_of (makes_never ∷ []) (lit≤ tt)) 9) h in
+    let list : RunsList (unmapped (block ∷ [])) 0 until (makes_never ∷ []) no_names names begun (ordinary main) =
+    subst (λ (run : Run). run no_names names begun (ordinary main)) (block-parts (unmapped (block ∷ [])) 0 until (vector_of (makes_never ∷ []) (lit≤ tt)) 9) h in
     let t = parted (Followed Done (Leaving until) no_names list.0) (Done list.0 names) begun main list.1 in
     let u = parted (Done no_names t.is_first.0) (Leaving until t.is_first.0 list.0) begun t.left t.is_first.1 in
     let one : u.left ≡ [] = sym (level-own 0 u.left) ∙ ap (own_entries 0) u.is_first.1 in
@@ -244,12 +246,12 @@ record Called (s : State ℕ) (main tail later : List Entry) : Type 0 where
   until_down : until (after s (ordinary takes)) (ordinary works)
   more_is : works ++ rest ≡ later
 
-called-of : (names : Names) (s : State ℕ) (main tail later : List Entry) → RunsBlock (block ∷ []) 0 true until makes_and_drops_block no_names names s (ordinary main) → takes ++ later ≡ main ++ tail → Called s main tail later
+called-of : (names : Names) (s : State ℕ) (main tail later : List Entry) → RunsBlock (unmapped (block ∷ [])) 0 true until makes_and_drops_block no_names names s (ordinary main) → takes ++ later ≡ main ++ tail → Called s main tail later
 called-of names s main tail later h e =
-    let rest : Run = RunsList (block ∷ []) 0 until (drops_x_unless_null 8 ∷ []) in
+    let rest : Run = RunsList (unmapped (block ∷ [])) 0 until (drops_x_unless_null 8 ∷ []) in
     let new : Run = Calls 0 (RunsNew (block ∷ []) x_name item_id []) in
     let list : Followed (Followed new (Leaving until)) rest no_names names s (ordinary main) =
-    subst (λ (run : Run). run no_names names s (ordinary main)) (block-parts (block ∷ []) 0 until (vector_of (makes_block ∷ drops_x_unless_null 8 ∷ []) (lit≤ tt)) 9) h in
+    subst (λ (run : Run). run no_names names s (ordinary main)) (block-parts (unmapped (block ∷ [])) 0 until (vector_of (makes_block ∷ drops_x_unless_null 8 ∷ []) (lit≤ tt)) 9) h in
     let t = parted (Followed new (Leaving until) no_names list.0) (rest list.0 names) s main list.1 in
     let u = parted (new no_names t.is_first.0) (Leaving until t.is_first.0 list.0) s t.left t.is_first.1 in
     let n = said (λ own. RunsNew (block ∷ []) x_name item_id [] no_names own t.is_first.0) s u.left u.is_first in
@@ -262,7 +264,7 @@ called-of names s main tail later h e =
     let U : List Entry → Type 0 = λ z. until (after s (ordinary z)) (ordinary u.right) in
     record { works = u.right; rest = t.right ++ tail; until_down = subst U left u.is_second.1; more_is = g.1 }
 
-works-behind : (names : Names) (main tail more : List Entry) → RunsBlock (block ∷ []) 0 true until makes_and_drops_block no_names names begun (ordinary main) → takes ++ entry.Drop 0 1 ∷ more ≡ main ++ tail → ⊥
+works-behind : (names : Names) (main tail more : List Entry) → RunsBlock (unmapped (block ∷ [])) 0 true until makes_and_drops_block no_names names begun (ordinary main) → takes ++ entry.Drop 0 1 ∷ more ≡ main ++ tail → ⊥
 works-behind names main tail more h e =
     let c = called-of names begun main tail (entry.Drop 0 1 ∷ more) h e in
     works-first c.until_down.0 c.works c.rest more c.until_down.1 c.more_is

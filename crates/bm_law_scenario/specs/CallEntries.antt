@@ -16,6 +16,7 @@ IsOfCall (entry.Still k) = Unit {0}
 IsOfCall entry.Last = Unit {0}
 IsOfCall (entry.Acquire u life k) = Unit {0}
 IsOfCall (entry.Get u life place value) = Unit {0}
+IsOfCall (entry.Xchg name put was by) = Unit {0}
 IsOfCall (entry.Free u home) = Unit {0}
 IsOfCall (entry.Delay u home) = Unit {0}
 IsOfCall (entry.Enter c a) = Unit {0}

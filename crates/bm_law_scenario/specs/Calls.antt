@@ -4,10 +4,15 @@
 use Rattle.std.specs.Prelude.{◌≡◌, ◌<◌, ◌⊎◌, ℕ, Bool, true, false, is_some, List, [], ◌∷◌, Option, Some, None, slice_get}
 use Rattle.bm_journal.specs.declared.entry.Entry.{Entry}
 use Rattle.bm_journal.specs.declared.entry.Entry.TheVariants as entry
+use Rattle.bm_journal.specs.declared.ids.ObjId.{ObjId}
+use Rattle.bm_journal.specs.declared.ids.Tag.{Tag}
+use Rattle.bm_lang.specs.declared.scenario.MapDeclaration.{MapDeclaration}
+use Rattle.bm_lang.specs.declared.scenario.MapId.{MapId}
 use Rattle.bm_lang.specs.declared.scenario.TypeDeclaration.{TypeDeclaration}
 use Rattle.bm_lang.specs.declared.scenario.TypeId.{TypeId}
 use Rattle.bm_law.specs.Phrases.{alloc_took, alloc_empty, alloc_busy, DelayPhrase, FreePhrase}
 use Rattle.bm_law.specs.State.{State}
+use Rattle.bm_law_scenario.specs.Declared.{IsSlot}
 use Rattle.bm_law_scenario.specs.Held.{Held, Nothing, Null, Object, Names, with_name}
 use Rattle.bm_law_scenario.specs.Opened.{OfClass}
 
@@ -122,3 +127,28 @@ pub record RunsStill (types : List TypeDeclaration) (x : List ℕ) (names : Name
 -- `drop x`: the reference that x holds is given up, and it is the last, or it isn't
 abbrev pub RunsGivingUp : List TypeDeclaration → (x : List ℕ) → (known : ℕ → Bool → Type 0) → Names → List Entry → Names → Type 0
 RunsGivingUp types x known names part after = RunsStill types x names part after ⊎ RunsDrop types x known names part after
+
+-- What an exchange puts into a slot of this type: nothing where null is given, and else the reference that the name holds, which then holds
+-- nothing.
+abbrev pub Puts : Option (List ℕ) → TypeId → Names → Option ObjId → Names → Type 0
+Puts None type names put after = (put ≡ None) × (after ≡ names)
+Puts (Some x) type names put after =
+    (o : ObjId) × (put ≡ Some o) × RefersTo x type o.unit o.life names × (after ≡ with_name x Nothing names)
+
+-- what a name holds that takes what a slot of this type held
+abbrev pub taken : TypeId → Option ObjId → Held
+taken t None = Null
+taken t (Some o) = Object t o.unit o.life
+
+-- `xchg y s x` and `xchg y s null`: the call, which names the slot, what it puts there, what it found there and the exchange that had put that.
+-- Then y holds what was found, also where it is the name that gave. (bpf_kptr_xchg in kernel/bpf/helpers.c: one xchg of the slot's word.)
+pub record RunsExchange (maps : List MapDeclaration) (y : List ℕ) (slot : MapId) (given : Option (List ℕ)) (names : Names) (part : List Entry) (after : Names) : Type 0 where
+  pub declared : MapDeclaration
+  pub is_slot : IsSlot maps slot.0 declared
+  pub put : Option ObjId
+  pub was : Option ObjId
+  pub by : Option Tag
+  pub between : Names
+  pub puts : Puts given declared.type_id names put between
+  pub part_is : part ≡ entry.Xchg declared.name put was by ∷ []
+  pub after_is : after ≡ with_name y (taken declared.type_id was) between

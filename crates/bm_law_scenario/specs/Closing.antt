@@ -1,22 +1,61 @@
--- The closing of a processor, behind its scripts: what it leaves in the log. (free_mem_alloc and drain_mem_cache in
+-- The closing of a processor, behind its scripts: what it leaves in the log. (bpf_obj_free_fields in kernel/bpf/syscall.c gives up what the fields of a
+-- map's value hold when the map goes away. free_mem_alloc and drain_mem_cache in
 -- kernel/bpf/memalloc.c empty all lists of a cache after the last grace periods. That a tracing period stands behind each
 -- sweep, the order of the lists, and that periods are finished by those who began them are this project's own.)
 use Rattle.std.specs.Prelude.{◌≡◌, ◌≤◌, ℕ, zero, suc, ◌+◌, Option, Some, None, List, [], ◌∷◌, ◌++◌}
 use Rattle.bm_journal.specs.declared.ids.Domain.{Domain}
 use Rattle.bm_journal.specs.declared.ids.Domain.TheVariants.{Plain, Tracing}
 use Rattle.bm_journal.specs.declared.period.Period.{Period}
+use Rattle.bm_journal.specs.declared.ids.ObjId.{ObjId}
+use Rattle.bm_journal.specs.declared.ids.Tag.{Tag}
 use Rattle.bm_journal.specs.declared.entry.Entry.{Entry}
 use Rattle.bm_journal.specs.declared.entry.Entry.TheVariants as entry
+use Rattle.bm_lang.specs.declared.scenario.MapDeclaration.{MapDeclaration}
+use Rattle.bm_lang.specs.declared.scenario.MapKind.{MapKind}
+use Rattle.bm_lang.specs.declared.scenario.MapKind.TheVariants.{Slot}
+use Rattle.bm_lang.specs.declared.scenario.TypeDeclaration.{TypeDeclaration}
+use Rattle.bm_lang.specs.declared.scenario.TypeId.{TypeId}
 use Rattle.bm_law.specs.State.{seven_lists}
 use Rattle.bm_law.specs.Lists.{Log}
 use Rattle.bm_law.specs.SweepPhrases.{SweepPhrase}
 pub use Rattle.bm_law.specs.Begun.{begun_after}
 use Rattle.bm_law_work.specs.Parts.{Part, Nothing, Stand, Say, Then}
+use Rattle.bm_law_scenario.specs.Calls.{RunsGivingUp, batch_in}
+use Rattle.bm_law_scenario.specs.Declared.{Declared}
+use Rattle.bm_law_scenario.specs.Held.{Names, Object, no_names, with_name}
 
 -- processor 0 begins the closing
 abbrev pub close_of : ℕ → List Entry
 close_of zero = entry.Close ∷ []
 close_of (suc p) = []
+
+-- what a slot of this type held is given up, as a statement gives up what a name holds
+abbrev pub GivesBack : List TypeDeclaration → TypeId → Option ObjId → Part
+GivesBack types t None = Nothing
+GivesBack types t (Some o) = λ s part.
+    (x : List ℕ) × (after : Names)
+    × Say 0 (λ own. RunsGivingUp types x (batch_in s) (with_name x (Object t o.unit o.life) no_names) own after) s part
+
+-- a slot is exchanged with null, and what it held is given up
+abbrev pub EmptiesSlot : List TypeDeclaration → MapDeclaration → Part
+EmptiesSlot types slot s part =
+    (was : Option ObjId) × (by : Option Tag)
+    × Then (Stand 0 (entry.Xchg slot.name None was by ∷ [])) (GivesBack types slot.type_id was) s part
+
+-- a map is emptied; lists and trees, none of which runs so far, leave nothing
+abbrev pub EmptiesMap : List TypeDeclaration → MapKind → MapDeclaration → Part
+EmptiesMap types Slot m = EmptiesSlot types m
+EmptiesMap types _ m = Nothing
+
+-- one map after the other, in the order of their declarations
+abbrev pub EmptiesMaps : List TypeDeclaration → List MapDeclaration → Part
+EmptiesMaps types [] = Nothing
+EmptiesMaps types (m ∷ ms) = Then (EmptiesMap types m.kind m) (EmptiesMaps types ms)
+
+-- processor 0 empties the maps
+abbrev pub Empties : ℕ → Declared → Part
+Empties zero d = EmptiesMaps d.types d.maps
+Empties (suc p) d = Nothing
 
 -- the number with which the period of this domain that is in progress began, if one is, after a log
 abbrev pub in_progress : Domain → Option ℕ → Log → Option ℕ
@@ -55,5 +94,5 @@ AreSweeps [] s part = Nothing s part
 AreSweeps (c ∷ cs) s part = (inbox : List ℕ) × Then (SweepWhere c (seven_lists (s.rows c) ++ inbox)) (AreSweeps cs) s part
 
 -- the closing of processor p after this log
-abbrev pub Closing : ℕ → List ℕ → Log → Part
-Closing p classes log = Then (Stand 0 (entry.Ended ∷ close_of p)) (Then (EndsPeriods log) (AreSweeps classes))
+abbrev pub Closing : Declared → ℕ → List ℕ → Log → Part
+Closing d p classes log = Then (Stand 0 (entry.Ended ∷ close_of p)) (Then (Empties p d) (Then (EndsPeriods log) (AreSweeps classes)))

@@ -12,6 +12,7 @@ use Rattle.bm_lang.specs.declared.scenario.ScriptKind.TheVariants as kind
 use Rattle.bm_law.specs.State.{opening}
 use Rattle.bm_law.specs.Lists.{Log, after}
 use Rattle.bm_law_work.specs.Parts.{Part, Nothing, Stand, Say, Then, If}
+use Rattle.bm_law_scenario.specs.Declared.{declared_in}
 use Rattle.bm_law_scenario.specs.Held.{Names, no_names, OwnsNothing}
 use Rattle.bm_page.specs.Stock.{Stock}
 use Rattle.bm_law_scenario.specs.Fills.{AreFills, opening_stock}
@@ -43,7 +44,7 @@ starts_inside script = is_plain (section_of script.kind)
 
 -- A script's block runs from names that hold nothing to names that own nothing.
 abbrev pub IsBody : Parts → Script → Part
-IsBody s script l part = (names : Names) × RunsBlock s.types 0 (starts_inside script) (behind_statement s) script.body no_names names l part × ((x : List ℕ) → OwnsNothing (names x))
+IsBody s script l part = (names : Names) × RunsBlock (declared_in s) 0 (starts_inside script) (behind_statement s) script.body no_names names l part × ((x : List ℕ) → OwnsNothing (names x))
 
 -- A script in its section, whose word is w inside, and the deferred work after it.
 abbrev pub IsScript : Parts → Script → ℕ → Part
@@ -76,4 +77,4 @@ pub record IsLog (s : Parts) (p : ℕ) (log : Log) : Type 0 where
   pub closing : Log
   pub log_is : log ≡ front ++ closing
   pub is_front : Front s p (opening p) front
-  pub is_closing : Closing p (opened_classes s.types) front (after (opening p) front) closing
+  pub is_closing : Closing (declared_in s) p (opened_classes s.types) front (after (opening p) front) closing

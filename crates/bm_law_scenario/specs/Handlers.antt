@@ -11,6 +11,7 @@ use Rattle.bm_law.specs.Lists.{Leaves, Log}
 use Rattle.bm_law.specs.Spans.{own_entries}
 use Rattle.bm_law.specs.State.{State}
 use Rattle.bm_law_work.specs.Parts.{Nothing}
+use Rattle.bm_law_scenario.specs.Declared.{declared_in}
 use Rattle.bm_law_scenario.specs.Held.{Names, no_names, OwnsNothing}
 use Rattle.bm_law_scenario.specs.Runs.{Enclosed, Run, RunsAlone, RunsBlock}
 use Rattle.bm_law_scenario.specs.SectionWords.{is_outside, word_after}
@@ -32,7 +33,7 @@ pub record HandlerPhrase (s : Parts) (name : List ℕ) (w : ℕ) (own : List Ent
   pub part : List Entry
   pub after : Names
   pub own_is : own ≡ enclosed w part
-  pub runs : RunsAlone s.types script.body no_names part after
+  pub runs : RunsAlone (declared_in s) script.body no_names part after
   pub owns_nothing : (x : List ℕ) → OwnsNothing (after x)
 
 -- the entry neither begins a handler nor ends one
@@ -72,7 +73,7 @@ pub record HandlerRun (s : Parts) (l : ℕ) (name : List ℕ) (w : ℕ) (lists :
   pub called : script.name ≡ name
   pub handles : script.kind ≡ kind.Handler
   pub after : Names
-  pub runs : InSection (is_outside w) l w (RunsBlock s.types l true Nothing script.body) no_names after lists part
+  pub runs : InSection (is_outside w) l w (RunsBlock (declared_in s) l true Nothing script.body) no_names after lists part
   pub owns_nothing : (x : List ℕ) → OwnsNothing (after x)
 
 -- the same, from the lists that a log of processor p leaves which ends with the handler's begin

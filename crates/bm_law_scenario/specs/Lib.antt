@@ -3,6 +3,7 @@ pub mod Opened
 pub mod Calls
 pub mod Works
 pub mod Runs
+pub mod Declared
 pub mod Fills
 pub mod Parcels
 pub mod SectionWords
@@ -23,3 +24,4 @@ pub mod Short
 pub mod WrongShort
 pub mod WorkedHandlers
 pub mod WorkedSections
+pub mod WorkedSlots

@@ -6,14 +6,14 @@ use Rattle.bm_journal.specs.declared.entry.Entry.{Entry}
 use Rattle.bm_journal.specs.declared.entry.Entry.TheVariants as entry
 use Rattle.bm_lang.specs.declared.scenario.Action.{Action, New, Drop, Acquire, Get, Exchange, If', Repeat, Section, Lock, Unlock, Yield, PushFront, PushBack, PopFront, PopBack, Add, First, Remove, Held-Action-If-2, None', Some'}
 use Rattle.bm_lang.specs.declared.scenario.Block.{Block, Block', Row_of-Statement, end_of-Statement, more_of-Statement}
-use Rattle.bm_lang.specs.declared.scenario.TypeDeclaration.{TypeDeclaration}
 use Rattle.bm_law.specs.State.{State}
 use Rattle.bm_law.specs.Lists.{Log}
 use Rattle.bm_law.specs.Spans.{own_entries}
 use Rattle.bm_law_work.specs.Parts.{Part, Say, Stand, Then}
 use Rattle.bm_law_work.specs.Parts as part
+use Rattle.bm_law_scenario.specs.Declared.{Declared}
 use Rattle.bm_law_scenario.specs.Held.{Held, Nothing, Null, Object, Names}
-use Rattle.bm_law_scenario.specs.Calls.{RunsAcquire, RunsGet, RunsGivingUp, RunsNew, batch_in}
+use Rattle.bm_law_scenario.specs.Calls.{RunsAcquire, RunsExchange, RunsGet, RunsGivingUp, RunsNew, batch_in}
 
 -- from these names to those names, a part of a log
 abbrev pub Run : Type 1
@@ -58,44 +58,44 @@ Within false l block = λ names after s part. (w : ℕ) × Enclosed l block w na
 -- What statements leave, each at level l, in a plain section or in none. The others leave nothing that is lawful: they don't run so far. After each
 -- statement, also one that holds others, stands what `behind` says: deferred work, or nothing.
 abbrev mutual
-  pub RunsAction : List TypeDeclaration → ℕ → (inside : Bool) → Part → Action → Run
-  RunsAction types l i behind (New x t values) = Calls l (RunsNew types x t values)
-  RunsAction types l i behind (Drop x) = λ names after s. Calls l (RunsGivingUp types x (batch_in s)) names after s
-  RunsAction types l i behind (Acquire y x) = Calls l (RunsAcquire types y x)
-  RunsAction types l i behind (If' x body otherwise) = λ names. Chosen (names x) (RunsBlock types l i behind body) (RunsElse types l i behind otherwise) names
-  RunsAction types l i behind (Repeat n body) = Times (RunsBlock types l i behind body) n
-  RunsAction types l i behind (Section body) = Within i l (RunsBlock types l true behind body)
-  RunsAction types l i behind Yield = Leaving (Stand l (entry.Yield ∷ []))
-  RunsAction types l i behind (Get x field) = Calls l (RunsGet types x field)
-  RunsAction types l i behind (Exchange y slot x) = λ names after s part. ⊥
-  RunsAction types l i behind (Lock graph) = λ names after s part. ⊥
-  RunsAction types l i behind Unlock = λ names after s part. ⊥
-  RunsAction types l i behind (PushFront list x) = λ names after s part. ⊥
-  RunsAction types l i behind (PushBack list x) = λ names after s part. ⊥
-  RunsAction types l i behind (PopFront x list) = λ names after s part. ⊥
-  RunsAction types l i behind (PopBack x list) = λ names after s part. ⊥
-  RunsAction types l i behind (Add tree x) = λ names after s part. ⊥
-  RunsAction types l i behind (First x tree) = λ names after s part. ⊥
-  RunsAction types l i behind (Remove y tree x) = λ names after s part. ⊥
+  pub RunsAction : Declared → ℕ → (inside : Bool) → Part → Action → Run
+  RunsAction d l i behind (New x t values) = Calls l (RunsNew d.types x t values)
+  RunsAction d l i behind (Drop x) = λ names after s. Calls l (RunsGivingUp d.types x (batch_in s)) names after s
+  RunsAction d l i behind (Acquire y x) = Calls l (RunsAcquire d.types y x)
+  RunsAction d l i behind (If' x body otherwise) = λ names. Chosen (names x) (RunsBlock d l i behind body) (RunsElse d l i behind otherwise) names
+  RunsAction d l i behind (Repeat n body) = Times (RunsBlock d l i behind body) n
+  RunsAction d l i behind (Section body) = Within i l (RunsBlock d l true behind body)
+  RunsAction d l i behind Yield = Leaving (Stand l (entry.Yield ∷ []))
+  RunsAction d l i behind (Get x field) = Calls l (RunsGet d.types x field)
+  RunsAction d l i behind (Exchange y slot x) = Calls l (RunsExchange d.maps y slot x)
+  RunsAction d l i behind (Lock graph) = λ names after s part. ⊥
+  RunsAction d l i behind Unlock = λ names after s part. ⊥
+  RunsAction d l i behind (PushFront list x) = λ names after s part. ⊥
+  RunsAction d l i behind (PushBack list x) = λ names after s part. ⊥
+  RunsAction d l i behind (PopFront x list) = λ names after s part. ⊥
+  RunsAction d l i behind (PopBack x list) = λ names after s part. ⊥
+  RunsAction d l i behind (Add tree x) = λ names after s part. ⊥
+  RunsAction d l i behind (First x tree) = λ names after s part. ⊥
+  RunsAction d l i behind (Remove y tree x) = λ names after s part. ⊥
 
   -- an absent `else` is an empty block
-  pub RunsElse : List TypeDeclaration → ℕ → (inside : Bool) → Part → Held-Action-If-2 → Run
-  RunsElse types l i behind None' = Done
-  RunsElse types l i behind (Some' body) = RunsBlock types l i behind body
+  pub RunsElse : Declared → ℕ → (inside : Bool) → Part → Held-Action-If-2 → Run
+  RunsElse d l i behind None' = Done
+  RunsElse d l i behind (Some' body) = RunsBlock d l i behind body
 
-  pub RunsBlock : List TypeDeclaration → ℕ → (inside : Bool) → Part → Block → Run
-  RunsBlock types l i behind (Block' shape row end_line) = RunsRow types l i behind row
+  pub RunsBlock : Declared → ℕ → (inside : Bool) → Part → Block → Run
+  RunsBlock d l i behind (Block' shape row end_line) = RunsRow d l i behind row
 
   -- statements, one after the other
-  pub RunsRow : List TypeDeclaration → ℕ → (inside : Bool) → Part → {m : _} → Row_of-Statement m → Run
-  RunsRow types l i behind end_of-Statement = Done
-  RunsRow types l i behind (more_of-Statement line action rest) = Followed (Followed (RunsAction types l i behind action) (Leaving behind)) (RunsRow types l i behind rest)
+  pub RunsRow : Declared → ℕ → (inside : Bool) → Part → {m : _} → Row_of-Statement m → Run
+  RunsRow d l i behind end_of-Statement = Done
+  RunsRow d l i behind (more_of-Statement line action rest) = Followed (Followed (RunsAction d l i behind action) (Leaving behind)) (RunsRow d l i behind rest)
 
 -- A block in a plain section leaves these entries of its level, where nothing stands after a statement: they are those of some part of a
 -- log, of some level and begun with some lists, that is a run of the block.
-pub record RunsAlone (types : List TypeDeclaration) (body : Block) (names : Names) (own : List Entry) (after : Names) : Type 0 where
+pub record RunsAlone (d : Declared) (body : Block) (names : Names) (own : List Entry) (after : Names) : Type 0 where
   pub level : ℕ
   pub lists : State ℕ
   pub log : Log
-  pub runs : RunsBlock types level true part.Nothing body names after lists log
+  pub runs : RunsBlock d level true part.Nothing body names after lists log
   pub own_is : own_entries level log ≡ own

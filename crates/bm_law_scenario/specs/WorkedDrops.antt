@@ -18,6 +18,7 @@ use Rattle.bm_law.specs.State.{State, on_row, opening}
 use Rattle.bm_lang.specs.declared.scenario.Action.{Drop}
 use Rattle.bm_law.specs.Alone.{at_level}
 use Rattle.bm_law_work.specs.Parts as part
+use Rattle.bm_law_scenario.specs.Declared.{unmapped}
 use Rattle.bm_law_scenario.specs.Runs.{RunsAction}
 use Rattle.bm_law_scenario.specs.Held.{Names, Object, no_names, with_name}
 use Rattle.bm_law_scenario.specs.Held as held
@@ -125,4 +126,4 @@ counted_journal = journal_of 1 (counted_log ∷ []) refl (13 ∷ 1 ∷ 0 ∷ 0 �
 
 -- the drop at level 2, as a handler has it: these entries alone, from these lists
 abbrev pub DropsAbove : State ℕ → List Entry → Type 0
-DropsAbove s own = RunsAction counted_types 2 true part.Nothing (Drop x_name) holding_three none_held s (at_level 2 own)
+DropsAbove s own = RunsAction (unmapped counted_types) 2 true part.Nothing (Drop x_name) holding_three none_held s (at_level 2 own)

@@ -25,6 +25,7 @@ mod interrupted;
 mod openings;
 mod references;
 mod sections;
+mod slots;
 mod worked;
 mod worked_journal;
 
@@ -35,5 +36,6 @@ pub use interrupted::{worked_handlers, wrong_handlers, wrong_words};
 pub use openings::worked_openings;
 pub use references::{worked_reads, worked_references};
 pub use sections::{worked_sections, wrong_sections};
+pub use slots::worked_slots;
 pub use worked::{worked_classes, worked_graphs, worked_names};
 pub use worked_journal::{worked_journals, wrong_journals};

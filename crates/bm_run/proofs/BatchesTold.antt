@@ -9,7 +9,6 @@ use Rattle.bm_class.specs.Watermarks.{high_of_size, low_of_size}
 use Rattle.bm_journal.specs.declared.entry.Entry.{Entry}
 use Rattle.bm_journal.specs.declared.entry.Entry.TheVariants as entry
 use Rattle.bm_lang.specs.declared.scenario.Parts.{Parts}
-use Rattle.bm_lang.specs.declared.scenario.TypeDeclaration.{TypeDeclaration}
 use Rattle.bm_page.specs.declared.units.Seal.{Seal}
 use Rattle.bm_law.specs.Alone.{AllAt}
 use Rattle.bm_law.specs.Lists.{Log, after}
@@ -19,6 +18,7 @@ use Rattle.bm_law.specs.State.{State, opening}
 use Rattle.bm_law.proofs.Spans.{own-append}
 use Rattle.bm_law_work.proofs.Each.{AllOf, of-append, of-map}
 use Rattle.bm_due.specs.Standing.{HandlersStand}
+use Rattle.bm_law_scenario.specs.Declared.{Declared, declared_in}
 use Rattle.bm_law_scenario.specs.CallEntries.{IsOfHandler, IsOfStatement}
 use Rattle.bm_law_scenario.specs.Calls.{Allocates}
 use Rattle.bm_law_scenario.specs.Grammar.{Front}
@@ -200,8 +200,8 @@ delay-within c u home batch own (inr x) =
     let rest = entry.LookDelayed c x.2 ∷ entry.PutDelayed c u ∷ entry.Leave c x.3 ∷ raise_unless batch c in
     subst ArePutWithin (sym x.5) (overtaken-puts c u x.1 rest refl, (tt, within-append (overtaken_delayed c x.1) rest (overtaken-delayed-within c x.1) (tt, (tt, (tt, unless-within batch c)))))
 
-closed-within : (types : List TypeDeclaration) → Closed types ArePutWithin
-closed-within types = record {
+closed-within : (d : Declared) → Closed d ArePutWithin
+closed-within d = record {
   none = tt;
   join = within-append;
   new = λ x t values names part after r. subst ArePutWithin (sym r.part_is) (tt, alloc-within r.class r.own r.reply r.allocates);
@@ -209,6 +209,7 @@ closed-within types = record {
   still = λ x names part after r. subst ArePutWithin (sym r.part_is) (tt, (tt, tt));
   acquired = λ y x names part after r. subst ArePutWithin (sym r.part_is) (tt, tt);
   read = λ x field names part after r. subst ArePutWithin (sym r.part_is) (tt, tt);
+  exchanged = λ y slot given names part after r. subst ArePutWithin (sym r.part_is) (tt, tt);
   enters = λ w. (tt, tt);
   leaves = λ w. (tt, tt);
   yields = (tt, tt);
@@ -220,7 +221,7 @@ work-undelayed c _ h = tt
 
 written-within : (s : Parts) → Written s ArePutWithin
 written-within s = record {
-  closed = closed-within s.types;
+  closed = closed-within (declared_in s);
   fill = λ c us m. (tt, tt);
   begins = λ d name w. (tt, (tt, tt));
   ends = λ d name w. (tt, (tt, tt));
@@ -229,7 +230,7 @@ written-within s = record {
 
 -- .. and of handlers
 framed-within : (s : Parts) → Framed s ArePutWithin
-framed-within s = record { closed = closed-within s.types; begins = λ name. (tt, tt); ends = λ name. (tt, tt) }
+framed-within s = record { closed = closed-within (declared_in s); begins = λ name. (tt, tt); ends = λ name. (tt, tt) }
 
 late-undelayed : (e : Entry) → IsLate e → IsUndelayed e
 late-undelayed (entry.Delay u home) h = absurd h
@@ -356,7 +357,7 @@ work-unswept c _ h = tt
 
 unswept : (s : Parts) → Written s (AllOf IsUnswept)
 unswept s =
-    let k = of-calls s.types in
+    let k = of-calls (declared_in s) in
     record {
       closed = record {
         none = tt;
@@ -366,6 +367,7 @@ unswept s =
         still = λ x names part after r. of-map IsOfStatement IsUnswept statement-unswept part (k.still x names part after r);
         acquired = λ y x names part after r. of-map IsOfStatement IsUnswept statement-unswept part (k.acquired y x names part after r);
         read = λ x field names part after r. of-map IsOfStatement IsUnswept statement-unswept part (k.read x field names part after r);
+        exchanged = λ y slot given names part after r. of-map IsOfStatement IsUnswept statement-unswept part (k.exchanged y slot given names part after r);
         enters = λ w. (tt, tt);
         leaves = λ w. (tt, tt);
         yields = (tt, tt);

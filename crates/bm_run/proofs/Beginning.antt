@@ -8,9 +8,11 @@ use Rattle.bm_lang.specs.declared.scenario.TypeDeclaration.{TypeDeclaration}
 use Rattle.bm_law.specs.Begun.{for_domain}
 use Rattle.bm_law.specs.State.{State, seen}
 use Rattle.bm_law_work.specs.Parts.{Stand}
+use Rattle.bm_law_scenario.specs.Declared.{declared_in}
 use Rattle.bm_law_scenario.specs.Grammar.{is_plain, section_of, starts_inside}
 use Rattle.bm_law_scenario.specs.Held.{no_names}
 use Rattle.bm_law_scenario.specs.Runs.{RunsBlock}
+use Rattle.bm_law_scenario.proofs.Mapped.{block-more}
 use Rattle.bm_cache.specs.Shown.{shown}
 use Rattle.bm_cache.specs.Tokens.{Token, number_of}
 use Rattle.bm_grace.specs.Calls.{entered, left, moved}
@@ -91,9 +93,9 @@ has-begun p m m1 b w types out even found down known within same lists wrote sta
         apart = apart-of d m m1 known (even Tracing);
       };
       runs = λ l part x.
-          let block : RunsBlock s.types 0 (is_inside (around_in m1 b)) (Behind w) b.script.now.body no_names x.0 l part = start.runs 0 (around_in m1 b) w x.0 l part x.1 in
+          let block : RunsBlock (declared_in s) 0 (is_inside (around_in m1 b)) (Behind w) b.script.now.body no_names x.0 l part = block-more (declared_in s) 0 (Behind w) (is_inside (around_in m1 b)) b.script.now.body no_names x.0 l part (start.runs 0 (around_in m1 b) w x.0 l part x.1) in
           let whole : is_inside (around_in m1 b) ≡ starts_inside b.script.now = ap is_inside around ∙ outermost-inside (starts_inside b.script.now) in
-          (x.0, subst (λ i. RunsBlock s.types 0 i (Behind w) b.script.now.body no_names x.0 l part) whole block, x.2);
+          (x.0, subst (λ i. RunsBlock (declared_in s) 0 i (Behind w) b.script.now.body no_names x.0 l part) whole block, x.2);
       owns = λ base e. subst (λ (now : Lives). Holds s.types base now (held_by b)) (sym (alive ∙ e)) (start.holds base);
       cost = start.cost;
       light = start.light;

@@ -9,6 +9,7 @@ use Rattle.bm_law.specs.Lists.{Log, after}
 use Rattle.bm_law.specs.State.{Side, State, opening, seen, seven_lists}
 use Rattle.bm_law.proofs.Alone.{level-from, level-own}
 use Rattle.bm_law_work.specs.Parts.{Say, Stand, Then}
+use Rattle.bm_law_scenario.specs.Declared.{declared_in}
 use Rattle.bm_law_scenario.specs.Closing.{AreSweeps, Closing, EndsPeriods, close_of}
 use Rattle.bm_law_scenario.specs.Fills.{AreFills}
 use Rattle.bm_law_scenario.specs.Grammar.{Front, IsLog, stock_for}
@@ -16,6 +17,7 @@ use Rattle.bm_law_scenario.specs.Lawful.{LawfulLog}
 use Rattle.bm_law_scenario.specs.Opened.{opened_classes, uses_class}
 use Rattle.bm_law_scenario.specs.Parcels.{ParcelLaw, sends_alone}
 use Rattle.bm_law_scenario.specs.SectionWords.{SectionWords}
+use Rattle.bm_law_scenario.proofs.Unslotted.{bare-closing, no-maps}
 use Rattle.bm_cache.specs.Opening.{Fills}
 use Rattle.bm_cache.specs.Tokens.{Token, number_of}
 use Rattle.bm_run.specs.Between.{IsFinal}
@@ -42,9 +44,9 @@ unmoved : (p : ℕ) (t : State ℕ) → after t ((0, entry.Ended) ∷ at_level 0
 unmoved zero t = refl
 unmoved (suc p) t = refl
 
-pub final-closing : (s : Parts) (p : ℕ) (final finishes sweeps : Log) (h : IsFinal s p final finishes sweeps) → ToldSweeps →
-    Closing p (opened_classes s.types) (opening_log s p ++ h.scripts) (after (opening p) (opening_log s p ++ h.scripts)) ((0, entry.Ended) ∷ (at_level 0 (close_of p) ++ (finishes ++ sweeps)))
-final-closing s p final finishes sweeps h told =
+pub final-closing : (s : Parts) (p : ℕ) (final finishes sweeps : Log) (h : IsFinal s p final finishes sweeps) → ToldSweeps → s.maps ≡ [] →
+    Closing (declared_in s) p (opened_classes s.types) (opening_log s p ++ h.scripts) (after (opening p) (opening_log s p ++ h.scripts)) ((0, entry.Ended) ∷ (at_level 0 (close_of p) ++ (finishes ++ sweeps)))
+final-closing s p final finishes sweeps h told unmapped =
     let classes = opened_classes s.types in
     let front : Log = opening_log s p ++ h.scripts in
     let begin : List Entry = entry.Ended ∷ close_of p in
@@ -52,13 +54,13 @@ final-closing s p final finishes sweeps h told =
     let lists : h.lists ≡ t = sym h.front_leaves.lists in
     let ends : EndsPeriods front t finishes = subst (λ (x : State ℕ). EndsPeriods front x finishes) lists h.closes.finishes_are in
     let swept : AreSweeps classes (after t finishes) sweeps = subst (λ (x : State ℕ). AreSweeps classes (after x finishes) sweeps) lists (told classes h.closes.boxes (after h.lists finishes) sweeps h.closes.sweeps_are) in
-    record {
+    bare-closing (declared_in s) p classes front t ((0, entry.Ended) ∷ (at_level 0 (close_of p) ++ (finishes ++ sweeps))) (no-maps p (declared_in s) unmapped) (record {
       one = at_level 0 begin;
       two = finishes ++ sweeps;
       part_is = refl;
       is_first = record { from = level-from 0 begin; own_is = level-own 0 begin };
       is_second = subst (λ (x : State ℕ). Then (EndsPeriods front) (AreSweeps classes) x (finishes ++ sweeps)) (sym (unmoved p t)) (record { one = finishes; two = sweeps; part_is = refl; is_first = ends; is_second = swept });
-    }
+    })
 
 -- ---- the lists at the end
 
@@ -68,15 +70,15 @@ last-row s p final finishes sweeps h kept c never =
     let front = ap (λ (t : State ℕ). t.rows c) (sym h.front_leaves.lists) in
     ap seven_lists (row ∙ (front ∙ kept s p (opening_log s p ++ h.scripts) h.front_stands h.front_done (final-front s p final finishes sweeps h) c never))
 
-pub final-lawful : (s : Parts) (p : ℕ) (final finishes sweeps : Log) → RowsKept → NullKept → ToldSweeps → IsFinal s p final finishes sweeps → SectionWords final → (sends_alone s ≡ true → ParcelLaw p final) → LawfulLog s p final
-final-lawful s p final finishes sweeps kept null told h words parcels =
+pub final-lawful : (s : Parts) (p : ℕ) (final finishes sweeps : Log) → RowsKept → NullKept → ToldSweeps → s.maps ≡ [] → IsFinal s p final finishes sweeps → SectionWords final → (sends_alone s ≡ true → ParcelLaw p final) → LawfulLog s p final
+final-lawful s p final finishes sweeps kept null told unmapped h words parcels =
     let last : State Token = h.closes.last in
     let is_log : IsLog s p final = record {
       front = opening_log s p ++ h.scripts;
       closing = (0, entry.Ended) ∷ (at_level 0 (close_of p) ++ (finishes ++ sweeps));
       log_is = h.final_is;
       is_front = final-front s p final finishes sweeps h;
-      is_closing = final-closing s p final finishes sweeps h told;
+      is_closing = final-closing s p final finishes sweeps h told unmapped;
     } in
     record {
       handlers = h.stands;

@@ -10,6 +10,7 @@ use Rattle.bm_law.proofs.Folds.{after-append}
 use Rattle.bm_law_work.specs.Grown.{GrewBy, GrewPart}
 use Rattle.bm_law_work.specs.Parts.{Part, Stand, Then}
 use Rattle.bm_law_work.proofs.Grown.{grew-join}
+use Rattle.bm_law_scenario.specs.Declared.{declared_in}
 use Rattle.bm_law_scenario.specs.Grammar.{AreScripts, IsBody, IsScript, behind_script, behind_statement, section_of, starts_inside}
 use Rattle.bm_law_scenario.specs.Held.{no_names}
 use Rattle.bm_law_scenario.specs.Runs.{RunsBlock}
@@ -84,7 +85,7 @@ begun-is s w script before now b f h l one two i j =
     let statements : Behind w ≡ behind_statement s = ap Behind f ∙ behind-statements s in
     let scripts : BehindScript w ≡ behind_script s = ap BehindScript f ∙ behind-scripts s in
     let r = h.runs v j.one j.is_first in
-    let body : IsBody s script v j.one = (r.0, subst (λ (P : Part). RunsBlock s.types 0 (starts_inside script) P script.body no_names r.0 v j.one) statements r.1, r.2) in
+    let body : IsBody s script v j.one = (r.0, subst (λ (P : Part). RunsBlock (declared_in s) 0 (starts_inside script) P script.body no_names r.0 v j.one) statements r.1, r.2) in
     let F : Script → Type 0 = λ x. EndsScript w x (word_of knows_living (section_of x.kind) now) (after v j.one) j.two in
     let ends : EndsScript w script word (after v j.one) j.two = subst F h.same j.is_second in
     let stop : Part = Stand 0 (entry.Out (section_of script.kind) (word + 1) ∷ entry.Done script.name ∷ []) in

@@ -22,6 +22,7 @@ use Rattle.bm_law.specs.Phrases.{DelayPhrase, FreePhrase, given, overtaken, over
 use Rattle.bm_law.specs.Spans.{own_entries}
 use Rattle.bm_law_work.proofs.Each.{AllOf, of-append}
 use Rattle.bm_due.specs.Standing.{HandlersStand}
+use Rattle.bm_law_scenario.specs.Declared.{Declared, declared_in}
 use Rattle.bm_law_scenario.specs.Calls.{Allocates}
 use Rattle.bm_law_scenario.specs.Handlers.{AreHandlers, HandlerPhrase, HandlersDone, enclosed, more, none}
 use Rattle.bm_law_scenario.specs.Held.{Held, Names, Nothing, Null, Object}
@@ -148,7 +149,7 @@ delay-unyielding c u home batch own (inr x) =
     (tt, (tt, of-append IsInTurn (overtaken_delayed c x.1) (entry.LookDelayed c x.2 ∷ entry.PutDelayed c u ∷ entry.Leave c x.3 ∷ raise_unless batch c) (delayed-unyielding c x.1) (tt, (tt, (tt, unless-unyielding batch c)))))
 
 -- of statements without a `yield`
-module _ (types : List TypeDeclaration) where
+module _ (d : Declared) where
   chosen-unyielding : (v : Held) (first second : Names → List Entry → Names → Type 0) (names : Names) (part : List Entry) (last : Names) → (first names part last → AllUnyielding part) → (second names part last → AllUnyielding part) → Chosen v first second names part last → AllUnyielding part
   chosen-unyielding Nothing first second names part last f g r = absurd r
   chosen-unyielding Null first second names part last f g r = g r
@@ -168,20 +169,20 @@ module _ (types : List TypeDeclaration) where
       subst AllUnyielding (sym r.1.part_is) (of-append IsInTurn r.1.one r.1.two begin (subst AllUnyielding (sym t.part_is) (of-append IsInTurn t.one t.two (f r.1.middle t.one t.middle t.first_runs) end)))
 
   mutual
-    action-unyielding : (i : Bool) (a : Action) → NeverYields a → (names : Names) (part : List Entry) (last : Names) → RunsAction types i a names part last → AllUnyielding part
+    action-unyielding : (i : Bool) (a : Action) → NeverYields a → (names : Names) (part : List Entry) (last : Names) → RunsAction d i a names part last → AllUnyielding part
     action-unyielding i (New x t values) h names part last r = subst AllUnyielding (sym r.part_is) (tt, alloc-unyielding r.class r.own r.reply r.allocates)
     action-unyielding i (Drop x) h names part last (inl r) = subst AllUnyielding (sym r.part_is) (tt, (tt, tt))
     action-unyielding i (Drop x) h names part last (inr r) =
         subst AllUnyielding (sym r.part_is)
         (tt, (tt, either-free AllUnyielding r.declared.counted r.class r.unit r.home r.batch r.own (free-unyielding r.class r.unit r.home r.own) (delay-unyielding r.class r.unit r.home r.batch r.own) r.frees))
     action-unyielding i (If' x body otherwise) h names part last r =
-        chosen-unyielding (names x) (RunsBlock types i body) (RunsElse types i otherwise) names part last (block-unyielding i body h.0 names part last) (else-unyielding i otherwise h.1 names part last) r
-    action-unyielding i (Repeat n body) h names part last r = times-unyielding (RunsBlock types i body) n names part last (block-unyielding i body h) r
-    action-unyielding i (Section body) h names part last r = within-unyielding i (RunsBlock types true body) names part last (block-unyielding true body h) r
+        chosen-unyielding (names x) (RunsBlock d i body) (RunsElse d i otherwise) names part last (block-unyielding i body h.0 names part last) (else-unyielding i otherwise h.1 names part last) r
+    action-unyielding i (Repeat n body) h names part last r = times-unyielding (RunsBlock d i body) n names part last (block-unyielding i body h) r
+    action-unyielding i (Section body) h names part last r = within-unyielding i (RunsBlock d true body) names part last (block-unyielding true body h) r
     action-unyielding i Yield h names part last r = absurd h
     action-unyielding i (Acquire y x) h names part last r = subst AllUnyielding (sym r.part_is) (tt, tt)
     action-unyielding i (Get x field) h names part last r = subst AllUnyielding (sym r.part_is) (tt, tt)
-    action-unyielding i (Exchange y slot x) h names part last r = absurd r
+    action-unyielding i (Exchange y slot x) h names part last r = subst AllUnyielding (sym r.part_is) (tt, tt)
     action-unyielding i (Lock graph) h names part last r = absurd r
     action-unyielding i Unlock h names part last r = absurd r
     action-unyielding i (PushFront list x) h names part last r = absurd r
@@ -192,14 +193,14 @@ module _ (types : List TypeDeclaration) where
     action-unyielding i (First x tree) h names part last r = absurd r
     action-unyielding i (Remove y tree x) h names part last r = absurd r
 
-    else-unyielding : (i : Bool) (o : Held-Action-If-2) → ElseNeverYields o → (names : Names) (part : List Entry) (last : Names) → RunsElse types i o names part last → AllUnyielding part
+    else-unyielding : (i : Bool) (o : Held-Action-If-2) → ElseNeverYields o → (names : Names) (part : List Entry) (last : Names) → RunsElse d i o names part last → AllUnyielding part
     else-unyielding i None' h names part last r = subst AllUnyielding (sym r.0) tt
     else-unyielding i (Some' body) h names part last r = block-unyielding i body h names part last r
 
-    block-unyielding : (i : Bool) (b : Block) → BlockNeverYields b → (names : Names) (part : List Entry) (last : Names) → RunsBlock types i b names part last → AllUnyielding part
+    block-unyielding : (i : Bool) (b : Block) → BlockNeverYields b → (names : Names) (part : List Entry) (last : Names) → RunsBlock d i b names part last → AllUnyielding part
     block-unyielding i (Block' shape row end_line) h names part last r = row-unyielding i row h names part last r
 
-    row-unyielding : (i : Bool) {m : _} (row : Row_of-Statement m) → RowNeverYields row → (names : Names) (part : List Entry) (last : Names) → RunsRow types i row names part last → AllUnyielding part
+    row-unyielding : (i : Bool) {m : _} (row : Row_of-Statement m) → RowNeverYields row → (names : Names) (part : List Entry) (last : Names) → RunsRow d i row names part last → AllUnyielding part
     row-unyielding i end_of-Statement h names part last r = subst AllUnyielding (sym r.0) tt
     row-unyielding i (more_of-Statement line action rest) h names part last r =
         subst AllUnyielding (sym r.part_is) (of-append IsInTurn r.one r.two (action-unyielding i action h.0 names r.one r.middle r.first_runs) (row-unyielding i rest h.1 r.middle r.two last r.second_runs))
@@ -215,8 +216,8 @@ enclosed-unyielding w part h = elim (is_outside w) as (λ b. AllUnyielding (if b
 phrase-unyielding : (s : Parts) → AllAccepted s → (name : List ℕ) (w : ℕ) (own : List Entry) → HandlerPhrase s name w own → AllUnyielding own
 phrase-unyielding s accepted name w own h =
     let never = handler-accepted s h.script h.handles (accepted h.index h.script h.found) in
-    let runs = alone-owned s.types h.script.body held.no_names h.after h.part h.runs in
-    subst AllUnyielding (sym h.own_is) (enclosed-unyielding w h.part (block-unyielding s.types true h.script.body never held.no_names h.part h.after runs))
+    let runs = alone-owned (declared_in s) h.script.body held.no_names h.after h.part h.runs in
+    subst AllUnyielding (sym h.own_is) (enclosed-unyielding w h.part (block-unyielding (declared_in s) true h.script.body never held.no_names h.part h.after runs))
 
 handlers-unyielding : (s : Parts) → AllAccepted s → (es : List Entry) → AreHandlers s es → AllUnyielding es
 handlers-unyielding s accepted _ none = tt

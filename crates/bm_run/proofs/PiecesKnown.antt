@@ -19,6 +19,7 @@ use Rattle.bm_law.proofs.Spans.{own-append}
 use Rattle.bm_law_work.specs.Parts.{Say, Then}
 use Rattle.bm_law_work.proofs.Each.{AllOf, PartOf, of-append, of-map, part-nothing, part-say, part-then}
 use Rattle.bm_law_order.specs.Whole.{is_ended, is_fill, is_finish_or_sweep, is_sweep, is_yield, joined}
+use Rattle.bm_law_scenario.specs.Declared.{declared_in}
 use Rattle.bm_law_scenario.specs.CallEntries.{IsOfHandler, IsOfStatement}
 use Rattle.bm_law_scenario.specs.Closing.{EndsOne, SweepWhere, close_of}
 use Rattle.bm_law_scenario.specs.Fills.{AreFills}
@@ -152,7 +153,7 @@ work-unended c _ h = tt
 
 unended : (s : Parts) → Written s (AllOf IsUnended)
 unended s =
-    let k = of-calls s.types in
+    let k = of-calls (declared_in s) in
     record {
       closed = record {
         none = tt;
@@ -162,6 +163,7 @@ unended s =
         still = λ x names part after r. of-map IsOfStatement IsUnended statement-unended part (k.still x names part after r);
         acquired = λ y x names part after r. of-map IsOfStatement IsUnended statement-unended part (k.acquired y x names part after r);
         read = λ x field names part after r. of-map IsOfStatement IsUnended statement-unended part (k.read x field names part after r);
+        exchanged = λ y slot given names part after r. of-map IsOfStatement IsUnended statement-unended part (k.exchanged y slot given names part after r);
         enters = λ w. (tt, tt);
         leaves = λ w. (tt, tt);
         yields = (tt, tt);

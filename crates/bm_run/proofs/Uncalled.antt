@@ -10,6 +10,7 @@ use Rattle.bm_law.specs.State.{opening}
 use Rattle.bm_law.proofs.Spans.{own-append}
 use Rattle.bm_law_work.proofs.Each.{AllOf, of-append, of-map}
 use Rattle.bm_due.specs.Standing.{HandlersStand}
+use Rattle.bm_law_scenario.specs.Declared.{declared_in}
 use Rattle.bm_law_scenario.specs.CallEntries.{IsOfHandler, IsOfStatement}
 use Rattle.bm_law_scenario.specs.Closing.{close_of}
 use Rattle.bm_law_scenario.specs.Grammar.{Front}
@@ -84,7 +85,7 @@ late-uncalled _ h = tt
 
 written-uncalled : (s : Parts) → Written s (AllOf CallsNone)
 written-uncalled s =
-    let k = of-calls s.types in
+    let k = of-calls (declared_in s) in
     record {
       closed = record {
         none = tt;
@@ -94,6 +95,7 @@ written-uncalled s =
         still = λ x names part after r. of-map IsOfStatement CallsNone statement-uncalled part (k.still x names part after r);
         acquired = λ y x names part after r. of-map IsOfStatement CallsNone statement-uncalled part (k.acquired y x names part after r);
         read = λ x field names part after r. of-map IsOfStatement CallsNone statement-uncalled part (k.read x field names part after r);
+        exchanged = λ y slot given names part after r. of-map IsOfStatement CallsNone statement-uncalled part (k.exchanged y slot given names part after r);
         enters = λ w. (tt, tt);
         leaves = λ w. (tt, tt);
         yields = (tt, tt);

@@ -9,8 +9,9 @@ use Rattle.bm_lang.specs.declared.scenario.Parts.{Parts}
 use Rattle.bm_lang.specs.declared.scenario.Script.{Script}
 use Rattle.bm_law_work.specs.Parts.{If, Part, Nothing, Stand, Then}
 use Rattle.bm_law_work.proofs.Each.{AllOf, of-append, of-map}
+use Rattle.bm_law_scenario.specs.Declared.{declared_in}
 use Rattle.bm_law_scenario.specs.CallEntries.{IsOfStatement}
-use Rattle.bm_law_scenario.specs.Calls.{RunsAcquire, RunsGet, RunsDrop, RunsNew, RunsStill, any_batch}
+use Rattle.bm_law_scenario.specs.Calls.{RunsAcquire, RunsExchange, RunsGet, RunsDrop, RunsNew, RunsStill, any_batch}
 use Rattle.bm_law_scenario.specs.Grammar.{AreScripts, IsBody, IsScript, behind_script, behind_statement, section_of, starts_inside}
 use Rattle.bm_law_scenario.specs.Held.{Names, no_names}
 use Rattle.bm_law_scenario.specs.Opened.{opened_classes}
@@ -34,15 +35,16 @@ module _ (s : Parts) (off : s.deferred ≡ false) where
   laws : Laws (Has (AllOf IsUnsent))
   laws = has-laws (AllOf IsUnsent) (record { none = tt; join = of-append IsUnsent })
 
-  calls : Called s.types (Has (AllOf IsUnsent))
+  calls : Called (declared_in s) (Has (AllOf IsUnsent))
   calls =
-      let k = of-calls s.types in
+      let k = of-calls (declared_in s) in
       record {
         new = λ x t values names after. has-say (AllOf IsUnsent) (λ own. RunsNew s.types x t values names own after) (λ own h. of-map IsOfStatement IsUnsent statement-unsent own (k.new x t values names own after h));
         dropped = λ x names after. has-say (AllOf IsUnsent) (λ own. RunsDrop s.types x any_batch names own after) (λ own h. of-map IsOfStatement IsUnsent statement-unsent own (k.dropped x names own after h));
         still = λ x names after. has-say (AllOf IsUnsent) (λ own. RunsStill s.types x names own after) (λ own h. of-map IsOfStatement IsUnsent statement-unsent own (k.still x names own after h));
         acquired = λ y x names after. has-say (AllOf IsUnsent) (λ own. RunsAcquire s.types y x names own after) (λ own h. of-map IsOfStatement IsUnsent statement-unsent own (k.acquired y x names own after h));
         read = λ x field names after. has-say (AllOf IsUnsent) (λ own. RunsGet s.types x field names own after) (λ own h. of-map IsOfStatement IsUnsent statement-unsent own (k.read x field names own after h));
+        exchanged = λ y slot given names after. has-say (AllOf IsUnsent) (λ own. RunsExchange s.maps y slot given names own after) (λ own h. of-map IsOfStatement IsUnsent statement-unsent own (k.exchanged y slot given names own after h));
         enters = λ w. has-stand (AllOf IsUnsent) (entry.In Plain w ∷ []) (tt, tt);
         leaves = λ w. has-stand (AllOf IsUnsent) (entry.Out Plain w ∷ []) (tt, tt);
         yields = has-stand (AllOf IsUnsent) (entry.Yield ∷ []) (tt, tt);
@@ -50,8 +52,8 @@ module _ (s : Parts) (off : s.deferred ≡ false) where
 
   body : (x : Script) → Has (AllOf IsUnsent) (IsBody s x)
   body x =
-      laws.cases Names (λ names. RunsBlock s.types 0 (starts_inside x) (behind_statement s) x.body no_names names) (IsBody s x)
-      (λ names. law-block s.types (Has (AllOf IsUnsent)) laws calls (behind_statement s) (never (Has (AllOf IsUnsent)) laws s.deferred (UntilDown (opened_classes s.types)) off) (starts_inside x) x.body no_names names) (λ t part h. (h.0, h.1))
+      laws.cases Names (λ names. RunsBlock (declared_in s) 0 (starts_inside x) (behind_statement s) x.body no_names names) (IsBody s x)
+      (λ names. law-block (declared_in s) (Has (AllOf IsUnsent)) laws calls (behind_statement s) (never (Has (AllOf IsUnsent)) laws s.deferred (UntilDown (opened_classes s.types)) off) (starts_inside x) x.body no_names names) (λ t part h. (h.0, h.1))
 
   script : (x : Script) (w : ℕ) → Has (AllOf IsUnsent) (IsScript s x w)
   script x w =

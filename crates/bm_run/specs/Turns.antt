@@ -11,6 +11,7 @@ use Rattle.bm_law.specs.State.{State}
 use Rattle.bm_law.specs.Lists.{Log}
 use Rattle.bm_law_work.specs.Grown.{GrewBy}
 use Rattle.bm_law_work.specs.Parts.{Part, Stand, Then}
+use Rattle.bm_law_scenario.specs.Declared.{declared_in}
 use Rattle.bm_law_scenario.specs.Grammar.{AreScripts, lines_of, section_of, starts_inside}
 use Rattle.bm_law_scenario.specs.Held.{Names, OwnsNothing, no_names}
 use Rattle.bm_law_scenario.specs.Runs.{RunsBlock}
@@ -95,7 +96,7 @@ pub record HasBegun (s : Parts) (w : Option (List ℕ)) (script : Script) (befor
   pub same : b.script.now ≡ script
   pub wrote : Wrote (Stand 0 (entry.Script script.name ∷ entry.In (section_of script.kind) (word_of knows_living (section_of script.kind) now) ∷ [])) before now
   pub stands : IsInScript s w now b
-  pub runs : (l : State ℕ) (part : Log) → RunsBlocks s w (around_in now b) b l part → (last : Names) × RunsBlock s.types 0 (starts_inside script) (Behind w) script.body no_names last l part × ((x : List ℕ) → OwnsNothing (last x))
+  pub runs : (l : State ℕ) (part : Log) → RunsBlocks s w (around_in now b) b l part → (last : Names) × RunsBlock (declared_in s) 0 (starts_inside script) (Behind w) script.body no_names last l part × ((x : List ℕ) → OwnsNothing (last x))
   pub owns : (base : Lives) → (known_of knows_living before).objects.lives ≡ base → Holds s.types base (known_of knows_living now).objects.lives (held_by b)
   pub cost : stack_cost (blocks_of b) ≡ block_cost script.body
   pub light : weight (blocks_of b) ≤ 2 * block_cost script.body + 1

@@ -55,7 +55,7 @@ each-lawful c p lt =
     let there : p < s.processors = subst (λ k. p < k) h.so_far.many lt in
     let laid = subst (λ k. IsLaid k s.pages (whole turns logs)) (sym h.so_far.many) (laid-is s turns logs h) in
     let words = log-of-each (λ p log. SectionWords log) logs (c.journal_law.ensures.words s.pages logs (whole turns logs) few (order-is s turns logs h) laid) p lt in
-    final-lawful s p (get_or logs p []) (get_or h.finishes p []) (get_or h.sweeps p []) c.handled_law.ensures.rows c.handled_law.ensures.null c.sweeps_law.ensures (h.logs p there) words (parcels-are s turns logs h p there)
+    final-lawful s p (get_or logs p []) (get_or h.finishes p []) (get_or h.sweeps p []) c.handled_law.ensures.rows c.handled_law.ensures.null c.sweeps_law.ensures c.requires.yet.no_maps (h.logs p there) words (parcels-are s turns logs h p there)
 
 classes-are : (c : goal.After-result-1) → c.new-classes.result ≡ opened c.args.scenario.now.types
 classes-are c = c.new-classes.ensures ∙ (c.in_ok-with_marks.ensures ∙ ap (λ (cs : List ℕ). map (λ k. (k, marks_of_size (size_of_class k))) cs) c.requires.classes)
