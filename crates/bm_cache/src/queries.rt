@@ -68,6 +68,13 @@ impl<R> Caches<R> {
         }
     }
 
+    /// The number of the processor.
+    pub fn processor(&self) -> u8
+        ensures { result ≡ self.now.processor }
+    {
+        self.processor
+    }
+
     /// The number of the step that comes next, from 1. It stays at the greatest number of its type.
     pub fn next_step(&self) -> u64
         ensures { result ≡ self.now.step }

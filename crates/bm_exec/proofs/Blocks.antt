@@ -3,9 +3,8 @@ use Rattle.std.proofs.Common.{◌≡◌, ℕ, ◌+◌, Bool, Option, List, refl,
 use mathlib.Core.Path.{fun_ext}
 use mathlib.Core.Former.{Count}
 use Rattle.bm_lang.specs.declared.scenario.Block.{Block, Block', Row_of-Statement, end_of-Statement, more_of-Statement, items-the_row-Statement}
-use Rattle.bm_lang.specs.declared.scenario.TypeDeclaration.{TypeDeclaration}
 use Rattle.bm_lang.specs.Limits.{action_cost, block_cost, row_cost}
-use Rattle.bm_law_scenario.specs.Declared.{unmapped}
+use Rattle.bm_law_scenario.specs.Declared.{Declared}
 use Rattle.bm_law_scenario.specs.Held.{Names}
 use Rattle.bm_law_scenario.specs.Runs.{Followed, RunsBlock, RunsRow}
 use Rattle.bm_check.specs.Statements.{Setting}
@@ -15,12 +14,12 @@ use Rattle.bm_exec.specs.Lists.{block_list, Behind, RunsStatement, RunsList, Saf
 use Rattle.bm_exec.specs.Stack.{Closes}
 use Rattle.bm_exec.specs.Cost.{list_cost}
 
-row-runs : (types : List TypeDeclaration) (l : ℕ) (i : Bool) (w : Option (List ℕ)) (n : Count) (row : Row_of-Statement n) → RunsRow (unmapped types) l i (Behind w) row ≡ RunsList types l i w (items-the_row-Statement n row)
-row-runs types l i w _ end_of-Statement = refl
-row-runs types l i w _ (more_of-Statement line action rest) = ap (Followed (RunsStatement types l i w action)) (row-runs types l i w _ rest)
+row-runs : (d : Declared) (l : ℕ) (i : Bool) (w : Option (List ℕ)) (n : Count) (row : Row_of-Statement n) → RunsRow d l i (Behind w) row ≡ RunsList d l i w (items-the_row-Statement n row)
+row-runs d l i w _ end_of-Statement = refl
+row-runs d l i w _ (more_of-Statement line action rest) = ap (Followed (RunsStatement d l i w action)) (row-runs d l i w _ rest)
 
-pub block-runs : (types : List TypeDeclaration) (l : ℕ) (i : Bool) (w : Option (List ℕ)) (b : Block) → RunsBlock (unmapped types) l i (Behind w) b ≡ RunsList types l i w (block_list b)
-block-runs types l i w (Block' shape row end_line) = row-runs types l i w _ row
+pub block-runs : (d : Declared) (l : ℕ) (i : Bool) (w : Option (List ℕ)) (b : Block) → RunsBlock d l i (Behind w) b ≡ RunsList d l i w (block_list b)
+block-runs d l i w (Block' shape row end_line) = row-runs d l i w _ row
 
 row-safe : (e : Setting) (s : Store) (Q : Store → Type 0) (n : Count) (row : Row_of-Statement n) → SafeRow e s row Q ≡ SafeList e s (items-the_row-Statement n row) Q
 row-safe e s Q _ end_of-Statement = refl

@@ -8,6 +8,7 @@ mod Tables
 mod Results
 mod Objects
 mod Performing
+mod Exchanging
 mod Going
 pub mod Sounds
 pub mod Lives

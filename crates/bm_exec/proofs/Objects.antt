@@ -1,5 +1,5 @@
 -- Types with their classes, and the objects that names hold.
-use Rattle.std.proofs.Common.{◌≡◌, ◌⊎◌, ◌<◌, ◌≤◌, ◌+◌, ◌-◌, ℕ, arith, length, zero, suc, Bool, true, false, List, [], ◌∷◌, map, refl, sym, ap, ◌∙◌, Option, Some, None, slice_get, eqb, eq-eqb, inl, inr, subst, if◌then◌else◌}
+use Rattle.std.proofs.Common.{◌≡◌, ◌⊎◌, ◌<◌, ◌≤◌, ◌+◌, ◌-◌, ℕ, arith, length, zero, suc, Bool, true, false, List, [], ◌∷◌, map, refl, sym, ap, ◌∙◌, Option, Some, None, slice_get, eqb, eq-eqb, inl, inr, subst, if◌then◌else◌, ◌&&◌, nat_le}
 use mathlib.Core.Path.{fun_ext}
 use Rattle.std.specs.Str.{bytes_eq}
 use Rattle.bm_journal.specs.declared.ids.ObjId.{ObjId}
@@ -8,14 +8,15 @@ use Rattle.bm_lang.specs.declared.scenario.TypeId.{TypeId}
 use Rattle.bm_class.specs.Sizes.{class_of_size}
 use Rattle.bm_law_scenario.specs.Held.{Held, Nothing, Null, Object, Names, with_name, OwnsNothing}
 use Rattle.bm_law_scenario.specs.Opened.{OfClass, object_size}
-use Rattle.bm_law_scenario.specs.Calls.{answered}
+use Rattle.bm_law_scenario.specs.Calls.{Puts, answered, taken}
 use Rattle.bm_check.specs.Values as safe
-use Rattle.bm_exec.specs.Runnable.{Classes}
+use Rattle.bm_exec.specs.Runnable.{Classes, has_fields}
 use Rattle.bm_exec.specs.Stores.{store_of, value_of}
 use Rattle.bm_world.specs.Lives.{with_references}
-use Rattle.bm_exec.specs.Living.{Adds, Begins, Holds, IsHeld, IsReached, Lives, Living, Referring, count_in, new_life, recounted, refers, reply_of, with_life}
+use Rattle.bm_exec.specs.Living.{Adds, Begins, Holds, IsHeld, IsMade, IsReached, IsToPut, Lives, Living, Referring, TakenOut, TakesOut, count_in, less_of, let_go, new_life, one_less, recounted, refers, reply_of, with_life, without}
 use Rattle.bm_check.specs.Values.{is_owning}
 use Rattle.std.proofs.lemmas.Bool.Decides.{Decides-eqb}
+use Rattle.bm_exec.proofs.Meeting.{new-few, new-fits}
 use Rattle.bm_exec.proofs.Tables.{same_word, word_is_itself, is_or_not}
 
 -- the class of a type
@@ -27,6 +28,10 @@ class-of (x ∷ xs) (y ∷ ys) (suc t) d c e f g = class-of xs ys t d c (cc) f g
 
 pub class-at : (types : List TypeDeclaration) (classes : List ℕ) (t : ℕ) (d : TypeDeclaration) (c : ℕ) → Classes types classes → slice_get types t ≡ Some d → slice_get classes t ≡ Some c → OfClass types t c d
 class-at types classes t d c e f g = record { found = f; class = class-of types classes t d c e.each f g }
+
+-- what a statement that runs asks for may be made
+abbrev pub is-made : (types : List TypeDeclaration) (classes : List ℕ) (t : ℕ) (values : List ℕ) (d : TypeDeclaration) (c : ℕ) → Classes types classes → slice_get types t ≡ Some d → slice_get classes t ≡ Some c → (has_fields (slice_get types t) (length values) && nat_le (length values) 8) ≡ true → IsMade types c t values
+is-made types classes t values d c cs f g can = record { declared = d; of_class = class-at types classes t d c cs f g; fields = new-fits types t values d can f; few = new-few types t values d can f }
 
 -- a name's value, in the names as the law of accepted scripts has them
 value-if : (b : Bool) (v w : Held) → value_of (if b then v else w) ≡ (if b then value_of v else value_of w)
@@ -204,15 +209,17 @@ adds-less (suc k) seen (Some l) a h e more =
     (h.0, ap (with_references (seen - 1)) h.1 ∙ ap (λ n. Some (With n l)) left)
 
 -- .. and one more
-adds-more : (k seen : ℕ) (o a : Option Living) → Adds (suc k) o a → count_in a ≡ seen → Adds (suc (suc k)) o (with_references (seen + 1) a)
-adds-more k seen None a h e =
-    let count : count_in a ≡ h.0.count = ap count_in h.1 in
+adds-again : (k : ℕ) (o a : Option Living) (l : Living) → Adds k o a → a ≡ Some l → 0 < l.count → Adds (suc k) o (Some (With (l.count + 1) l))
+adds-again zero o a l h e some = subst (λ v. Adds 1 v (Some (With (l.count + 1) l))) (sym e ∙ h) (some, refl)
+adds-again (suc k) None a l h e some =
+    let same : l ≡ h.0 = some-is _ _ (sym e ∙ h.1) in
     let all = h.2 in
-    (With (seen + 1) h.0, ap (with_references (seen + 1)) h.1, omega (arith, e, count, all))
-adds-more k seen (Some l) a h e =
-    let count : count_in a ≡ l.count + suc k = ap count_in h.1 in
-    let now : seen + 1 ≡ l.count + suc (suc k) = omega (arith, e, count) in
-    (h.0, ap (with_references (seen + 1)) h.1 ∙ ap (λ n. Some (With n l)) now)
+    let count = ap (λ (v : Living). v.count) same in
+    (With (l.count + 1) l, refl, omega (arith, all, count))
+adds-again (suc k) (Some m) a l h e some =
+    let same : l ≡ With (m.count + suc k) m = some-is _ _ (sym e ∙ h.1) in
+    let now : m.count + suc k + 1 ≡ m.count + suc (suc k) = omega arith in
+    (h.0, ap (λ (v : Living). Some (With (v.count + 1) v)) same ∙ ap (λ n. Some (With n m)) now)
 
 -- whoever has a reference sees that there is one
 adds-some : (k : ℕ) (o a : Option Living) → Adds (suc k) o a → 0 < count_in a
@@ -229,6 +236,12 @@ reached-aside : (u : ℕ) (o a a' : Option Living) (x : List ℕ) (v : Held) (na
 reached-aside u o a a' x v names free bare e r = record { own = r.own; held = referring-aside u r.own x v names free bare r.held; adds = subst (Adds r.own o) (sym e) r.adds }
 
 -- ---- what names hold
+
+-- an object that is held
+abbrev HeldAs : List TypeDeclaration → Lives → Held → Type 0
+HeldAs types lives Nothing = Unit {0}
+HeldAs types lives Null = Unit {0}
+HeldAs types lives (Object t u n) = IsHeld types lives t u n
 
 -- what a name holds after it got something: that, or what it held
 held-now : (x : List ℕ) (v : Held) (names : Names) (y : List ℕ) (w : Held) → with_name x v names y ≡ w → ((x ≡ y) × (v ≡ w)) ⊎ ((bytes_eq x y ≡ false) × (names y ≡ w))
@@ -286,7 +299,7 @@ held-some types base lives names x t u n held h =
     adds-some s.0 (base u) (lives u) (subst (λ k. Adds k (base u) (lives u)) s.1 r.adds)
 
 -- the names after the last reference to an object was given up by the name that held it
-pub holds-less : (types : List TypeDeclaration) (base lives lives' : Lives) (names : Names) (x : List ℕ) (t : TypeId) (u n : ℕ) → names x ≡ Object t u n → count_in (lives u) ≡ 1 → lives' ≡ with_life u None lives → Holds types base lives names → Holds types base lives' (with_name x Nothing names)
+holds-less : (types : List TypeDeclaration) (base lives lives' : Lives) (names : Names) (x : List ℕ) (t : TypeId) (u n : ℕ) → names x ≡ Object t u n → count_in (lives u) ≡ 1 → lives' ≡ with_life u None lives → Holds types base lives names → Holds types base lives' (with_name x Nothing names)
 holds-less types base lives lives' names x t u n held one e h = record {
   living = λ y t' u' n' f. elim (held-now x Nothing names y _ f) [
     | inl a ↦ absurd (nothing-is-none t' u' n' a.1)
@@ -352,7 +365,7 @@ module _ (lives lives' : Lives) (u count : ℕ) (e : lives' ≡ recounted u coun
   ]
 
 -- the names after a reference was given up by a name that held it, and others are left
-pub holds-still : (types : List TypeDeclaration) (base lives lives' : Lives) (names : Names) (x : List ℕ) (t : TypeId) (u n seen : ℕ) → names x ≡ Object t u n → count_in (lives u) ≡ seen → 1 < seen → lives' ≡ recounted u (seen - 1) lives → Holds types base lives names → Holds types base lives' (with_name x Nothing names)
+holds-still : (types : List TypeDeclaration) (base lives lives' : Lives) (names : Names) (x : List ℕ) (t : TypeId) (u n seen : ℕ) → names x ≡ Object t u n → count_in (lives u) ≡ seen → 1 < seen → lives' ≡ recounted u (seen - 1) lives → Holds types base lives names → Holds types base lives' (with_name x Nothing names)
 holds-still types base lives lives' names x t u n seen held counts others e h = record {
   living = λ y t' u' n' f. elim (held-now x Nothing names y _ f) [
     | inl a ↦ absurd (nothing-is-none t' u' n' a.1)
@@ -375,45 +388,126 @@ holds-still types base lives lives' names x t u n seen held counts others e h = 
           adds = subst (Adds s.0 (base u')) (sym (recounted-at lives lives' u (seen - 1) e u' same)) (adds-less s.0 seen (base u') (lives u') (subst (λ k. Adds k (base u') (lives u')) s.1 r.adds) (ap (λ v. count_in (lives v)) (sym same) ∙ counts) others);
         }
 
--- the names after one more reference was asked for, which another name holds now
-pub holds-more : (types : List TypeDeclaration) (base lives lives' : Lives) (names : Names) (x y : List ℕ) (t : TypeId) (u n seen : ℕ) (d : TypeDeclaration) → slice_get types t.0 ≡ Some d → d.counted ≡ true → names x ≡ Object t u n → is_owning (value_of (names y)) ≡ false → count_in (lives u) ≡ seen → lives' ≡ recounted u (seen + 1) lives → Holds types base lives names → Holds types base lives' (with_name y (Object t u n) names)
-holds-more types base lives lives' names x y t u n seen d found counted held free counts e h = record {
+-- a reference was given up by the name that held it: the last of all that names hold
+let-go-one : (u : ℕ) (lives : Lives) (l : Living) → lives u ≡ Some l → l.count ≡ 1 → let_go u lives ≡ with_life u None lives
+let-go-one u lives l is one = ap (λ o. with_life u o lives) (ap one_less is ∙ ap (λ k. less_of k l) one)
+
+-- .. of several
+let-go-more : (u k : ℕ) (lives : Lives) (l : Living) → lives u ≡ Some l → l.count ≡ suc (suc k) → let_go u lives ≡ recounted u (suc k) lives
+let-go-more u k lives l is more = ap (λ o. with_life u o lives) (ap one_less is ∙ (ap (λ n. less_of n l) more ∙ sym (ap (with_references (suc k)) is)))
+
+-- .. either way
+pub let-go : (types : List TypeDeclaration) (base lives lives' : Lives) (names : Names) (x : List ℕ) (t : TypeId) (u n : ℕ) → names x ≡ Object t u n → lives' ≡ let_go u lives → Holds types base lives names → Holds types base lives' (with_name x Nothing names)
+let-go types base lives lives' names x t u n held e h = by-count mine.alive.count refl
+  where
+    mine : IsHeld types lives t u n
+    mine = h.living x t u n held
+
+    counted : count_in (lives u) ≡ mine.alive.count
+    counted = ap count_in mine.alive.is
+
+    less : (k : ℕ) → suc k ≡ suc (suc k) - 1
+    less k = omega arith
+
+    by-count : (k : ℕ) → mine.alive.count ≡ k → Holds types base lives' (with_name x Nothing names)
+    by-count zero q = let some = held-some types base lives names x t u n held h in let c = counted in absurd (omega (arith, some, c, q))
+    by-count (suc zero) q = holds-less types base lives lives' names x t u n held (counted ∙ q) (e ∙ let-go-one u lives _ mine.alive.is q) h
+    by-count (suc (suc k)) q = holds-still types base lives lives' names x t u n (suc (suc k)) held (counted ∙ q) (omega arith) (e ∙ (let-go-more u k lives _ mine.alive.is q ∙ ap (λ j. recounted u j lives) (less k))) h
+
+-- one more name holds an object to which there are references already
+holds-again : (types : List TypeDeclaration) (base lives lives' : Lives) (names : Names) (y : List ℕ) (t : TypeId) (u n : ℕ) (l : Living) → lives u ≡ Some l → 0 < l.count → lives' ≡ recounted u (l.count + 1) lives → IsHeld types lives' t u n → is_owning (value_of (names y)) ≡ false → Holds types base lives names → Holds types base lives' (with_name y (Object t u n) names)
+holds-again types base lives lives' names y t u n l is some e mine free h = record {
   living = λ z t' u' n' f. elim (held-now y (Object t u n) names z _ f) [
-    | inl a ↦ recount t' u' n' (h.living x t' u' n' (held ∙ a.1))
-    | inr b ↦ recount t' u' n' (h.living z t' u' n' b.1)
+    | inl a ↦ subst (HeldAs types lives') a.1 mine
+    | inr b ↦ held-recounted lives lives' u (l.count + 1) e types t' u' n' (λ k same s. once t' u' n' k same s) (h.living z t' u' n' b.1)
   ];
   reached = λ u'. elim (is_or_not (eqb u u')) [
     | inl isit ↦ reached-here u' ((Decides-eqb u u').0 isit)
-    | inr other ↦ reached-aside u' (base u') (lives u') (lives' u') y (Object t u n) names (owns-none u' (names y) free) other (recounted-other lives lives' u (seen + 1) e u' other) (h.reached u')
+    | inr other ↦ reached-aside u' (base u') (lives u') (lives' u') y (Object t u n) names (owns-none u' (names y) free) other (recounted-other lives lives' u (l.count + 1) e u' other) (h.reached u')
   ];
 }
   where
-    -- whoever holds the object holds one of a counted type
-    uncounted : (t' : TypeId) (u' n' : ℕ) (k : IsHeld types lives t' u' n') → u ≡ u' → k.declared.counted ≡ false → ⊥
-    uncounted t' u' n' k same s =
-        let mine = h.living x t u n held in
-        let one = some-is _ _ (sym mine.alive.is ∙ (ap lives same ∙ k.alive.is)) in
-        let types-same : t.0 ≡ t'.0 = sym mine.typed ∙ (ap (λ (l : Living). l.type) one ∙ k.typed) in
-        let declared : d ≡ k.declared = some-is d k.declared (sym found ∙ (ap (slice_get types) types-same ∙ k.of_class.found)) in
-        not-both counted (ap (λ (z : TypeDeclaration). z.counted) declared ∙ s)
-
-    recount : (t' : TypeId) (u' n' : ℕ) → IsHeld types lives t' u' n' → IsHeld types lives' t' u' n'
-    recount t' u' n' k = held-recounted lives lives' u (seen + 1) e types t' u' n' (λ j same s. absurd (uncounted t' u' n' j same s)) k
+    -- whoever holds the object holds one of the same type
+    once : (t' : TypeId) (u' n' : ℕ) (k : IsHeld types lives t' u' n') → u ≡ u' → k.declared.counted ≡ false → l.count + 1 ≡ 1
+    once t' u' n' k same s =
+        let there = some-is _ _ (sym is ∙ (ap lives same ∙ k.alive.is)) in
+        let now = some-is _ _ (sym (recounted-here lives lives' u (l.count + 1) e u l refl is) ∙ mine.alive.is) in
+        let types-same : t.0 ≡ t'.0 = sym mine.typed ∙ (sym (ap (λ (v : Living). v.type) now) ∙ (ap (λ (v : Living). v.type) there ∙ k.typed)) in
+        let declared : mine.declared ≡ k.declared = some-is mine.declared k.declared (sym mine.of_class.found ∙ (ap (slice_get types) types-same ∙ k.of_class.found)) in
+        ap (λ (v : Living). v.count) now ∙ mine.single (ap (λ (z : TypeDeclaration). z.counted) declared ∙ s)
 
     reached-here : (u' : ℕ) → u ≡ u' → IsReached u' (base u') (lives' u') (with_name y (Object t u n) names)
     reached-here u' same =
         let r = h.reached u' in
-        let s = referring-some u' r.own x names (refers-object u' u n t (names x) held same) r.held in
+        let here : lives u' ≡ Some l = ap lives (sym same) ∙ is in
         record {
-          own = suc (suc s.0);
-          held = referring-more u' (suc s.0) y (Object t u n) names (owns-none u' (names y) free) (eq-eqb u u' same) (subst (λ k. Referring u' k names) s.1 r.held);
-          adds = subst (Adds (suc (suc s.0)) (base u')) (sym (recounted-at lives lives' u (seen + 1) e u' same)) (adds-more s.0 seen (base u') (lives u') (subst (λ k. Adds k (base u') (lives u')) s.1 r.adds) (ap (λ v. count_in (lives v)) (sym same) ∙ counts));
+          own = suc r.own;
+          held = referring-more u' r.own y (Object t u n) names (owns-none u' (names y) free) (eq-eqb u u' same) r.held;
+          adds = subst (Adds (suc r.own) (base u')) (sym (recounted-here lives lives' u (l.count + 1) e u' l same here)) (adds-again r.own (base u') (lives u') l r.adds here some);
         }
 
+-- the names after one more reference was asked for, which another name holds now
+pub holds-more : (types : List TypeDeclaration) (base lives lives' : Lives) (names : Names) (x y : List ℕ) (t : TypeId) (u n : ℕ) (d : TypeDeclaration) → slice_get types t.0 ≡ Some d → d.counted ≡ true → names x ≡ Object t u n → is_owning (value_of (names y)) ≡ false → lives' ≡ recounted u (count_in (lives u) + 1) lives → Holds types base lives names → Holds types base lives' (with_name y (Object t u n) names)
+holds-more types base lives lives' names x y t u n d found counted held free e h =
+    let mine = h.living x t u n held in
+    let count : count_in (lives u) ≡ mine.alive.count = ap count_in mine.alive.is in
+    let now : lives' ≡ recounted u (mine.alive.count + 1) lives = e ∙ ap (λ k. recounted u (k + 1) lives) count in
+    holds-again types base lives lives' names y t u n _ mine.alive.is (subst (λ k. 0 < k) count (held-some types base lives names x t u n held h)) now
+    (held-recounted lives lives' u (mine.alive.count + 1) now types t u n (λ k same s. absurd (uncounted k s)) mine) free h
+  where
+    uncounted : (k : IsHeld types lives t u n) → k.declared.counted ≡ false → ⊥
+    uncounted k s =
+        let declared : d ≡ k.declared = some-is d k.declared (sym found ∙ k.of_class.found) in
+        not-both counted (ap (λ (z : TypeDeclaration). z.counted) declared ∙ s)
+
 -- what a reply leaves
-pub holds-reply : (types : List TypeDeclaration) (base lives lives' : Lives) (names : Names) (x : List ℕ) (t : TypeId) (c : ℕ) (values : List ℕ) (d : TypeDeclaration) (reply : Option ObjId) → OfClass types t.0 c d → length values ≡ length d.fields → length d.fields ≤ 8 → is_owning (value_of (names x)) ≡ false → Begins c t.0 values lives lives' reply → Holds types base lives names → Holds types base lives' (with_name x (answered t (reply_of reply)) names)
-holds-reply types base lives lives' names x t c values d None of fits most free e h = holds-null types base lives lives' names x Null (λ u. refl) (λ t u n f. null-is-none t u n f) free e h
-holds-reply types base lives lives' names x t c values d (Some o) of fits most free e h = holds-new types base lives lives' names x t o.unit o.life c e.home values d of fits most e.none free e.now h
+pub holds-reply : (types : List TypeDeclaration) (base lives lives' : Lives) (names : Names) (x : List ℕ) (t : TypeId) (c : ℕ) (values : List ℕ) (reply : Option ObjId) → IsMade types c t.0 values → is_owning (value_of (names x)) ≡ false → Begins c t.0 values lives lives' reply → Holds types base lives names → Holds types base lives' (with_name x (answered t (reply_of reply)) names)
+holds-reply types base lives lives' names x t c values None made free e h = holds-null types base lives lives' names x Null (λ u. refl) (λ t u n f. null-is-none t u n f) free e h
+holds-reply types base lives lives' names x t c values (Some o) made free e h = holds-new types base lives lives' names x t o.unit o.life c e.home values made.declared made.of_class made.fields made.few e.none free e.now h
+
+-- ---- exchanges
+
+-- what a name gave is held by it no more
+pub holds-put : (types : List TypeDeclaration) (base lives : Lives) (names between : Names) (given : Option (List ℕ)) (t : TypeId) (put : Option ObjId) → Puts given t names put between → Holds types base lives names → Holds types base (without put lives) between
+holds-put types base lives names between None t put p h = rw p.0 (rw p.1 h)
+holds-put types base lives names between (Some x) t put p h = rw p.1 (rw p.3 (let-go types base lives (let_go p.0.unit lives) names x t p.0.unit p.0.life p.2 refl h))
+
+-- .. and lives as what it was asked for as
+pub to-put : (types : List TypeDeclaration) (base lives : Lives) (names between : Names) (given : Option (List ℕ)) (t : TypeId) (put : Option ObjId) → Puts given t names put between → Holds types base lives names → IsToPut t.0 lives put
+to-put types base lives names between None t put p h = rw p.0 tt
+to-put types base lives names between (Some x) t put p h = (let k = h.living x t p.0.unit p.0.life p.2 in rw p.1 (k.class, k.alive, k.typed))
+
+-- an object that a slot held is what a name holds as one of the slot's type
+taken-held : (types : List TypeDeclaration) (lives lives' : Lives) (t : TypeId) (o : ObjId) → TakenOut types t.0 lives lives' o → IsHeld types lives' t o.unit o.life
+taken-held types lives lives' t o x = record {
+  class = x.object.class;
+  declared = x.made.declared;
+  of_class = x.made.of_class;
+  alive = record { home = x.object.home; type = x.object.type; count = x.object.count; values = x.object.values; is = rw x.now_is (with-same o.unit o.unit (Some x.object) lives refl ∙ ap (λ k. Some (record x.object { life = k })) x.life_is) };
+  typed = x.type_is;
+  single = x.single;
+  fields = x.made.fields;
+  few = x.made.few;
+}
+
+-- a name holds what a slot held
+holds-taken : (types : List TypeDeclaration) (base lives lives' : Lives) (names : Names) (y : List ℕ) (t : TypeId) (o : ObjId) → is_owning (value_of (names y)) ≡ false → TakenOut types t.0 lives lives' o → Holds types base lives names → Holds types base lives' (with_name y (Object t o.unit o.life) names)
+holds-taken types base lives lives' names y t o free x h = by-life (lives o.unit) refl
+  where
+    by-life : (a : Option Living) → lives o.unit ≡ a → Holds types base lives' (with_name y (Object t o.unit o.life) names)
+    by-life None is =
+        let one : x.object.count ≡ 1 = x.count_is ∙ ap (λ a. count_in a + 1) is in
+        let new : x.object ≡ new_life x.object.class t.0 o.life x.object.home x.object.values =
+        ap (λ k. record x.object { life = k }) x.life_is ∙ (ap (λ k. record x.object { life = o.life; type = k }) x.type_is ∙ ap (λ k. record x.object { life = o.life; type = t.0; count = k }) one) in
+        holds-new types base lives lives' names y t o.unit o.life x.object.class x.object.home x.object.values x.made.declared x.made.of_class x.made.fields x.made.few is free (x.now_is ∙ ap (λ k. with_life o.unit (Some k) lives) new) h
+    by-life (Some l) is =
+        holds-again types base lives lives' names y t o.unit o.life l is (x.some l is)
+        (x.now_is ∙ ap (λ a. with_life o.unit a lives) (ap Some (x.same l is) ∙ sym (ap (with_references (l.count + 1)) is))) (taken-held types lives lives' t o x) free h
+
+-- .. if it held anything
+pub holds-takes : (types : List TypeDeclaration) (base lives lives' : Lives) (names : Names) (y : List ℕ) (t : TypeId) (was : Option ObjId) → is_owning (value_of (names y)) ≡ false → TakesOut types t.0 lives lives' was → Holds types base lives names → Holds types base lives' (with_name y (taken t was) names)
+holds-takes types base lives lives' names y t None free e h = holds-null types base lives lives' names y Null (λ u. refl) (λ t u n f. null-is-none t u n f) free e h
+holds-takes types base lives lives' names y t (Some o) free x h = holds-taken types base lives lives' names y t o free x h
 
 -- where no name owns, there are the references of the others
 pub only-base : (types : List TypeDeclaration) (base lives : Lives) (names : Names) → Holds types base lives names → ((x : List ℕ) → OwnsNothing (names x)) → lives ≡ base

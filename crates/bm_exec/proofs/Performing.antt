@@ -1,5 +1,5 @@
 -- Statements that were performed.
-use Rattle.std.proofs.Common.{◌≡◌, ◌∙◌, ◌≤◌, ℕ, suc, ◌+◌, ◌*◌, Bool, true, false, ◌&&◌, ◌||◌, if◌then◌else◌, List, [], ◌∷◌, ◌++◌, length, ◌<◌, refl, sym, ap, subst, Option, Some, None, IfSome, is_some, slice_get, append_assoc, arith, inl, inr, max}
+use Rattle.std.proofs.Common.{◌≡◌, ◌∙◌, ◌≤◌, ℕ, suc, ◌+◌, ◌*◌, Bool, true, false, ◌&&◌, ◌||◌, if◌then◌else◌, List, [], ◌∷◌, ◌++◌, length, ◌<◌, refl, sym, ap, subst, Option, Some, None, IfSome, is_some, append_assoc, arith, inl, inr, max}
 use Rattle.bm_journal.specs.declared.entry.Entry.TheVariants as entry
 use Rattle.bm_journal.specs.declared.ids.ObjId.{ObjId}
 use Rattle.bm_lang.specs.declared.scenario.Action.{Acquire, Action, Drop, Get, New, If', Repeat, Section, Yield, Held-Action-If-2, None', Some'}
@@ -11,7 +11,7 @@ use Rattle.bm_law.specs.State.{State}
 use Rattle.bm_law.specs.Lists.{Log, Leaves, after}
 use Rattle.bm_law.specs.Spans.{Records}
 use Rattle.bm_journal.specs.declared.ids.Domain.TheVariants.{Plain}
-use Rattle.bm_law_scenario.specs.Declared.{unmapped}
+use Rattle.bm_law_scenario.specs.Declared.{Declared}
 use Rattle.bm_law_scenario.specs.Held.{Nothing, Null, Object, Names, with_name}
 use Rattle.bm_law_scenario.specs.Opened.{OfClass}
 use Rattle.bm_law.proofs.Folds.{after-append}
@@ -33,10 +33,9 @@ use Rattle.bm_exec.specs.Steps.{Pushed}
 use Rattle.bm_exec.proofs.Blocks.{block-runs, block-safe, block-cost}
 use Rattle.std.specs.Borrow.{Bor}
 use Rattle.bm_exec.specs.Meets.{Inherits, Test, body_meets, list_meets, stack_meets}
-use Rattle.bm_exec.specs.Runnable.{Classes}
-use Rattle.bm_exec.specs.Living.{Acquired, Created, Disposed, GivenUp, HasRead, Lives, count_in, reply_of}
+use Rattle.bm_exec.specs.Living.{Acquired, Created, HasRead, IsMade, LetGo, Lives, let_go, reply_of}
 use Rattle.bm_exec.specs.Running.{Performed}
-use Rattle.bm_exec.proofs.Objects.{class-at, holds-less, holds-more, holds-reply, holds-still, store-with}
+use Rattle.bm_exec.proofs.Objects.{holds-more, holds-reply, let-go, store-with}
 use Rattle.bm_lang.specs.declared.scenario.Statement.{Statement}
 use Rattle.bm_exec.proofs.Then.{undone-first, undone-last, front, map-first}
 
@@ -46,41 +45,23 @@ safe-reply e os names x t values None s = rw (store-with x Null names) (s.1.1 fa
 safe-reply e os names x t values (Some o) s = rw (store-with x (Object t o.unit o.life) names) (s.1.1 true)
 
 -- what a call leaves, then the work behind it, and then the rest
-called : (types : List TypeDeclaration) (l : ℕ) (z : Around) (w : Option (List ℕ)) (p : ℕ) (a : Action) (s s1 s' : State ℕ) (names names' : Names) (os : List Open) (log log1 log' : Option Log) → IfSome log (λ es. Leaves p es s) → IfSome log1 (λ es. Leaves p es s1) → IfSome log' (λ es. Leaves p es s') →
-    GrewBy (RunsAction (unmapped types) l (is_inside z) (Behind w) a names names') s log log1 → GrewBy (Behind w) s1 log1 log' → (last : Names) (final : Option Log) → GrewBy (RunsStack types l z w os names' last) s' log' final → GrewBy (Followed (RunsStatement types l (is_inside z) w a) (RunsStack types l z w os) names last) s log final
-called types l z w p a s s1 s' names names' os log log1 log' x x1 x' y b last final more =
-    let g : GrewBy (RunsStatement types l (is_inside z) w a names names') s log log' =
-    grew-join (RunsAction (unmapped types) l (is_inside z) (Behind w) a names names') (Behind w) (RunsStatement types l (is_inside z) w a names names') p s s1 log log1 log' (λ one two i j. (names', record { one = one; two = two; part_is = refl; is_first = i; is_second = (refl, j) })) x x1 y b in
-    grew-join (RunsStatement types l (is_inside z) w a names names') (RunsStack types l z w os names' last) (Followed (RunsStatement types l (is_inside z) w a) (RunsStack types l z w os) names last) p s s' log log' final
+pub called : (d : Declared) (l : ℕ) (z : Around) (w : Option (List ℕ)) (p : ℕ) (a : Action) (s s1 s' : State ℕ) (names names' : Names) (os : List Open) (log log1 log' : Option Log) → IfSome log (λ es. Leaves p es s) → IfSome log1 (λ es. Leaves p es s1) → IfSome log' (λ es. Leaves p es s') →
+    GrewBy (RunsAction d l (is_inside z) (Behind w) a names names') s log log1 → GrewBy (Behind w) s1 log1 log' → (last : Names) (final : Option Log) → GrewBy (RunsStack d l z w os names' last) s' log' final → GrewBy (Followed (RunsStatement d l (is_inside z) w a) (RunsStack d l z w os) names last) s log final
+called d l z w p a s s1 s' names names' os log log1 log' x x1 x' y b last final more =
+    let g : GrewBy (RunsStatement d l (is_inside z) w a names names') s log log' =
+    grew-join (RunsAction d l (is_inside z) (Behind w) a names names') (Behind w) (RunsStatement d l (is_inside z) w a names names') p s s1 log log1 log' (λ one two i j. (names', record { one = one; two = two; part_is = refl; is_first = i; is_second = (refl, j) })) x x1 y b in
+    grew-join (RunsStatement d l (is_inside z) w a names names') (RunsStack d l z w os names' last) (Followed (RunsStatement d l (is_inside z) w a) (RunsStack d l z w os) names last) p s s' log log' final
     (λ one two i j. (names', record { one = one; two = two; part_is = refl; is_first = i; is_second = j })) x x' g more
 
-pub new-performed : (types : List TypeDeclaration) (classes : List ℕ) (l : ℕ) (z : Around) (w : Option (List ℕ)) (p : ℕ) (s s1 s' : State ℕ) (x : List ℕ) (t : TypeId) (values : List ℕ) (names names' : Names) (lives lives' lives'' : Lives) (asked asked' : ℕ) (log log1 log' : Option Log) (reply : Option ObjId) (d : TypeDeclaration) (c : ℕ) →
-    IfSome log (λ es. Leaves p es s) → IfSome log1 (λ es. Leaves p es s1) → IfSome log' (λ es. Leaves p es s') → Classes types classes → slice_get types t.0 ≡ Some d → slice_get classes t.0 ≡ Some c → safe.is_owning (value_of (names x)) ≡ false → length values ≡ length d.fields → length d.fields ≤ 8 → Created l c t.0 d.name values log log1 lives lives' reply → names' ≡ with_name x (answered t (reply_of reply)) names → asked' ≤ asked + 2 →
-    lives'' ≡ lives' → GrewBy (Behind w) s1 log1 log' → Behind w s' [] → (os : List Open) → Performed types l z z w s s' (New x t values) names names' os os lives lives'' asked asked' log log'
-new-performed types classes l z w p s s1 s' x t values names names' lives lives' lives'' asked asked' log log1 log' reply d c leaves leaves1 leaves' cs f g free fits most made e n same work down os =
-    let of = class-at types classes t.0 d c cs f g in record {
-      grew = called types l z w p (New x t values) s s1 s' names names' os log log1 log' leaves leaves1 leaves'
-          (grew-say l (λ own. RunsNew types x t values names own names') (entry.New d.name values ∷ made.own) s log log1 made.records
-          (record { class = c; declared = d; of_class = of; own = made.own; reply = reply_of reply; part_is = refl; allocates = made.allocates; after_is = e })) work;
-      safe = λ s y. rw e (safe-reply s os names x t values reply y);
-      holds = λ base h. rw same (rw e (holds-reply types base lives lives' names x t c values d reply of fits most free made.begins h));
-      meets = λ p h a b. b;
-      sections = λ base h. h;
-      cost = omega (arith, n);
-      weight = omega arith;
-      down = down;
-    }
-
-pub drop-performed : (types : List TypeDeclaration) (classes : List ℕ) (l : ℕ) (z : Around) (w : Option (List ℕ)) (p : ℕ) (s s1 s' : State ℕ) (x : List ℕ) (t : TypeId) (o : ObjId) (names names' : Names) (lives lives' lives'' : Lives) (asked asked' : ℕ) (log log1 log' : Option Log) (c : ℕ) (d : TypeDeclaration) →
-    IfSome log (λ es. Leaves p es s) → IfSome log1 (λ es. Leaves p es s1) → IfSome log' (λ es. Leaves p es s') → Classes types classes → OfClass types t.0 c d → names x ≡ Object t o.unit o.life → count_in (lives o.unit) ≡ 1 → Disposed l d.counted c o s log log1 lives lives' → names' ≡ with_name x Nothing names → asked' ≤ asked + 2 →
-    lives'' ≡ lives' → GrewBy (Behind w) s1 log1 log' → Behind w s' [] → (os : List Open) → Performed types l z z w s s' (Drop x) names names' os os lives lives'' asked asked' log log'
-drop-performed types classes l z w p s s1 s' x t o names names' lives lives' lives'' asked asked' log log1 log' c d leaves leaves1 leaves' cs of held one gone e n same work down os = record {
-  grew = called types l z w p (Drop x) s s1 s' names names' os log log1 log' leaves leaves1 leaves'
-      (grew-map (Say l (λ own. RunsGivingUp types x (batch_in s) names own names')) (RunsAction (unmapped types) l (is_inside z) (Behind w) (Drop x) names names') s log log1 (λ part y. y)
-      (grew-say l (λ own. RunsGivingUp types x (batch_in s) names own names') (entry.Drop o.unit o.life ∷ entry.Last ∷ gone.own) s log log1 gone.records
-      (inr (record { type = t; unit = o.unit; life = o.life; held = held; class = c; declared = d; of_class = of; home = gone.home; batch = is_some (s.rows c).deferred.plain; batch_is = knows-batch s c; own = gone.own; part_is = refl; frees = gone.frees; after_is = e })))) work;
-  safe = λ s y. rw e (rw (store-with x Nothing names) y.1.3);
-  holds = λ base h. rw same (rw e (holds-less types base lives lives' names x t o.unit o.life held one gone.ends h));
+pub new-performed : (d : Declared) (l : ℕ) (z : Around) (w : Option (List ℕ)) (p : ℕ) (s s1 s' : State ℕ) (x : List ℕ) (t : TypeId) (values : List ℕ) (names names' : Names) (lives lives' lives'' : Lives) (asked asked' : ℕ) (log log1 log' : Option Log) (reply : Option ObjId) (c : ℕ) →
+    IfSome log (λ es. Leaves p es s) → IfSome log1 (λ es. Leaves p es s1) → IfSome log' (λ es. Leaves p es s') → (made : IsMade d.types c t.0 values) → safe.is_owning (value_of (names x)) ≡ false → Created l c t.0 made.declared.name values log log1 lives lives' reply → names' ≡ with_name x (answered t (reply_of reply)) names → asked' ≤ asked + 3 →
+    lives'' ≡ lives' → GrewBy (Behind w) s1 log1 log' → Behind w s' [] → (os : List Open) → Performed d l z z w s s' (New x t values) names names' os os lives lives'' asked asked' log log'
+new-performed d l z w p s s1 s' x t values names names' lives lives' lives'' asked asked' log log1 log' reply c leaves leaves1 leaves' made free got e n same work down os = record {
+  grew = called d l z w p (New x t values) s s1 s' names names' os log log1 log' leaves leaves1 leaves'
+      (grew-say l (λ own. RunsNew d.types x t values names own names') (entry.New made.declared.name values ∷ got.own) s log log1 got.records
+      (record { class = c; declared = made.declared; of_class = made.of_class; own = got.own; reply = reply_of reply; part_is = refl; allocates = got.allocates; after_is = e })) work;
+  safe = λ s of y. rw e (safe-reply s os names x t values reply y);
+  holds = λ base h. rw same (rw e (holds-reply d.types base lives lives' names x t c values reply made free got.begins h));
   meets = λ p h a b. b;
   sections = λ base h. h;
   cost = omega (arith, n);
@@ -88,17 +69,29 @@ drop-performed types classes l z w p s s1 s' x t o names names' lives lives' liv
   down = down;
 }
 
--- .. and where others are left
-pub still-performed : (types : List TypeDeclaration) (l : ℕ) (z : Around) (w : Option (List ℕ)) (p : ℕ) (s s1 s' : State ℕ) (x : List ℕ) (t : TypeId) (o : ObjId) (names names' : Names) (lives lives' lives'' : Lives) (asked asked' : ℕ) (log log1 log' : Option Log) →
-    IfSome log (λ es. Leaves p es s) → IfSome log1 (λ es. Leaves p es s1) → IfSome log' (λ es. Leaves p es s') → IsCounted types t.0 → names x ≡ Object t o.unit o.life → GivenUp l o log log1 lives lives' → names' ≡ with_name x Nothing names → asked' ≤ asked + 2 →
-    lives'' ≡ lives' → GrewBy (Behind w) s1 log1 log' → Behind w s' [] → (os : List Open) → Performed types l z z w s s' (Drop x) names names' os os lives lives'' asked asked' log log'
-still-performed types l z w p s s1 s' x t o names names' lives lives' lives'' asked asked' log log1 log' leaves leaves1 leaves' of held gone e n same work down os = record {
-  grew = called types l z w p (Drop x) s s1 s' names names' os log log1 log' leaves leaves1 leaves'
-      (grew-map (Say l (λ own. RunsGivingUp types x (batch_in s) names own names')) (RunsAction (unmapped types) l (is_inside z) (Behind w) (Drop x) names names') s log log1 (λ part y. y)
-      (grew-say l (λ own. RunsGivingUp types x (batch_in s) names own names') (entry.Drop o.unit o.life ∷ entry.Still gone.seen ∷ []) s log log1 gone.records
-      (inl (record { type = t; unit = o.unit; life = o.life; held = held; of_type = of; seen = gone.seen; others = gone.others; part_is = refl; after_is = e })))) work;
-  safe = λ s y. rw e (rw (store-with x Nothing names) y.1.3);
-  holds = λ base h. rw same (rw e (holds-still types base lives lives' names x t o.unit o.life gone.seen held gone.counted gone.others gone.less h));
+-- what a name's letting go leaves in the log, and of the references that names hold
+module _ (d : Declared) (l : ℕ) (i : Bool) (w : Option (List ℕ)) (s : State ℕ) (x : List ℕ) (t : TypeId) (o : ObjId) (names names' : Names) (lives lives' : Lives) (log log1 : Option Log) (c : ℕ) (declared : TypeDeclaration) (of : OfClass d.types t.0 c declared) (held : names x ≡ Object t o.unit o.life) (e : names' ≡ with_name x Nothing names) where
+  drop-runs : LetGo l declared.counted c o s log log1 lives lives' → GrewBy (RunsAction d l i (Behind w) (Drop x) names names') s log log1
+  drop-runs (inl gone) =
+      grew-map (Say l (λ own. RunsGivingUp d.types x (batch_in s) names own names')) (RunsAction d l i (Behind w) (Drop x) names names') s log log1 (λ part y. y)
+      (grew-say l (λ own. RunsGivingUp d.types x (batch_in s) names own names') (entry.Drop o.unit o.life ∷ entry.Last ∷ gone.own) s log log1 gone.records
+      (inr (record { type = t; unit = o.unit; life = o.life; held = held; class = c; declared = declared; of_class = of; home = gone.home; batch = is_some (s.rows c).deferred.plain; batch_is = knows-batch s c; own = gone.own; part_is = refl; frees = gone.frees; after_is = e })))
+  drop-runs (inr (counted, gone)) =
+      grew-map (Say l (λ own. RunsGivingUp d.types x (batch_in s) names own names')) (RunsAction d l i (Behind w) (Drop x) names names') s log log1 (λ part y. y)
+      (grew-say l (λ own. RunsGivingUp d.types x (batch_in s) names own names') (entry.Drop o.unit o.life ∷ entry.Still gone.seen ∷ []) s log log1 gone.records
+      (inl (record { type = t; unit = o.unit; life = o.life; held = held; of_type = record { declared = declared; found = of.found; counted = counted }; seen = gone.seen; others = gone.others; part_is = refl; after_is = e })))
+
+  drop-less : LetGo l declared.counted c o s log log1 lives lives' → lives' ≡ let_go o.unit lives
+  drop-less (inl gone) = gone.ends
+  drop-less (inr (counted, gone)) = gone.less
+
+pub drop-performed : (d : Declared) (l : ℕ) (z : Around) (w : Option (List ℕ)) (p : ℕ) (s s1 s' : State ℕ) (x : List ℕ) (t : TypeId) (o : ObjId) (names names' : Names) (lives lives' lives'' : Lives) (asked asked' : ℕ) (log log1 log' : Option Log) (c : ℕ) (declared : TypeDeclaration) →
+    IfSome log (λ es. Leaves p es s) → IfSome log1 (λ es. Leaves p es s1) → IfSome log' (λ es. Leaves p es s') → OfClass d.types t.0 c declared → names x ≡ Object t o.unit o.life → LetGo l declared.counted c o s log log1 lives lives' → names' ≡ with_name x Nothing names → asked' ≤ asked + 2 →
+    lives'' ≡ lives' → GrewBy (Behind w) s1 log1 log' → Behind w s' [] → (os : List Open) → Performed d l z z w s s' (Drop x) names names' os os lives lives'' asked asked' log log'
+drop-performed d l z w p s s1 s' x t o names names' lives lives' lives'' asked asked' log log1 log' c declared leaves leaves1 leaves' of held gone e n same work down os = record {
+  grew = called d l z w p (Drop x) s s1 s' names names' os log log1 log' leaves leaves1 leaves' (drop-runs d l (is_inside z) w s x t o names names' lives lives' log log1 c declared of held e gone) work;
+  safe = λ s from y. rw e (rw (store-with x Nothing names) y.1.3);
+  holds = λ base h. rw same (rw e (let-go d.types base lives lives' names x t o.unit o.life held (drop-less d l (is_inside z) w s x t o names names' lives lives' log log1 c declared of held e gone) h));
   meets = λ p h a b. b;
   sections = λ base h. h;
   cost = omega (arith, n);
@@ -106,17 +99,17 @@ still-performed types l z w p s s1 s' x t o names names' lives lives' lives'' as
   down = down;
 }
 
-pub acquire-performed : (types : List TypeDeclaration) (l : ℕ) (z : Around) (w : Option (List ℕ)) (p : ℕ) (s s' : State ℕ) (y x : List ℕ) (t : TypeId) (o : ObjId) (names names' : Names) (lives lives' : Lives) (asked asked' : ℕ) (log log' : Option Log) →
-    IfSome log (λ es. Leaves p es s) → IfSome log' (λ es. Leaves p es s') → IsCounted types t.0 → names x ≡ Object t o.unit o.life → safe.is_owning (value_of (names y)) ≡ false → Acquired l o log log' lives lives' → names' ≡ with_name y (Object t o.unit o.life) names → asked' ≤ asked + 1 →
-    s' ≡ s → Behind w s [] → (os : List Open) → Performed types l z z w s s' (Acquire y x) names names' os os lives lives' asked asked' log log'
-acquire-performed types l z w p s s' y x t o names names' lives lives' asked asked' log log' leaves leaves' of held free got e n same down os =
+pub acquire-performed : (d : Declared) (l : ℕ) (z : Around) (w : Option (List ℕ)) (p : ℕ) (s s' : State ℕ) (y x : List ℕ) (t : TypeId) (o : ObjId) (names names' : Names) (lives lives' : Lives) (asked asked' : ℕ) (log log' : Option Log) →
+    IfSome log (λ es. Leaves p es s) → IfSome log' (λ es. Leaves p es s') → IsCounted d.types t.0 → names x ≡ Object t o.unit o.life → safe.is_owning (value_of (names y)) ≡ false → Acquired l o log log' lives lives' → names' ≡ with_name y (Object t o.unit o.life) names → asked' ≤ asked + 2 →
+    s' ≡ s → Behind w s [] → (os : List Open) → Performed d l z z w s s' (Acquire y x) names names' os os lives lives' asked asked' log log'
+acquire-performed d l z w p s s' y x t o names names' lives lives' asked asked' log log' leaves leaves' of held free got e n same down os =
     let quiet : Behind w s' [] = rw same down in
     let none : GrewBy (Behind w) s' log' log' = grew-none (Behind w) s' log' quiet in record {
-      grew = called types l z w p (Acquire y x) s s' s' names names' os log log' log' leaves leaves' leaves'
-          (grew-say l (λ own. RunsAcquire types y x names own names') (entry.Acquire o.unit o.life got.seen ∷ []) s log log' got.records
+      grew = called d l z w p (Acquire y x) s s' s' names names' os log log' log' leaves leaves' leaves'
+          (grew-say l (λ own. RunsAcquire d.types y x names own names') (entry.Acquire o.unit o.life got.seen ∷ []) s log log' got.records
           (record { type = t; unit = o.unit; life = o.life; held = held; of_type = of; seen = got.seen; some = got.some; part_is = refl; after_is = e })) none;
-      safe = λ b k. rw e (rw (store-with y (Object t o.unit o.life) names) (of-gives b k));
-      holds = λ base h. rw e (holds-more types base lives lives' names x y t o.unit o.life got.seen of.declared of.found of.counted held free got.counted got.more h);
+      safe = λ b from k. rw e (rw (store-with y (Object t o.unit o.life) names) (of-gives b k));
+      holds = λ base h. rw e (holds-more d.types base lives lives' names x y t o.unit o.life of.declared of.found of.counted held free got.more h);
       meets = λ p h a b. b;
       sections = λ base h. h;
       cost = omega (arith, n);
@@ -127,16 +120,16 @@ acquire-performed types l z w p s s' y x t o names names' lives lives' asked ask
     of-gives : (b : Setting) → safe.SafeAction b (store_of names) (Acquire y x) (λ r. SafeStack b r os) → SafeStack b (safe.with_value (store_of names) y (value_of (Object t o.unit o.life))) os
     of-gives b k = (let same : k.0 ≡ t = (let q = sym k.1 ∙ ap value_of held in cc) in subst (λ v. SafeStack b (safe.with_value (store_of names) y (safe.Owning v)) os) same k.3.1)
 
-pub get-performed : (types : List TypeDeclaration) (l : ℕ) (z : Around) (w : Option (List ℕ)) (p : ℕ) (s s' : State ℕ) (x field : List ℕ) (t : TypeId) (o : ObjId) (place : ℕ) (names : Names) (lives lives' : Lives) (asked asked' : ℕ) (log log' : Option Log) →
-    IfSome log (λ es. Leaves p es s) → IfSome log' (λ es. Leaves p es s') → IsField types t.0 field place → names x ≡ Object t o.unit o.life → HasRead l o place log log' lives → asked' ≤ asked →
-    s' ≡ s → lives' ≡ lives → Behind w s [] → (os : List Open) → Performed types l z z w s s' (Get x field) names names os os lives lives' asked asked' log log'
-get-performed types l z w p s s' x field t o place names lives lives' asked asked' log log' leaves leaves' of held got n same alive down os =
+pub get-performed : (d : Declared) (l : ℕ) (z : Around) (w : Option (List ℕ)) (p : ℕ) (s s' : State ℕ) (x field : List ℕ) (t : TypeId) (o : ObjId) (place : ℕ) (names : Names) (lives lives' : Lives) (asked asked' : ℕ) (log log' : Option Log) →
+    IfSome log (λ es. Leaves p es s) → IfSome log' (λ es. Leaves p es s') → IsField d.types t.0 field place → names x ≡ Object t o.unit o.life → HasRead l o place log log' lives → asked' ≤ asked + 1 →
+    s' ≡ s → lives' ≡ lives → Behind w s [] → (os : List Open) → Performed d l z z w s s' (Get x field) names names os os lives lives' asked asked' log log'
+get-performed d l z w p s s' x field t o place names lives lives' asked asked' log log' leaves leaves' of held got n same alive down os =
     let quiet : Behind w s' [] = rw same down in
     let none : GrewBy (Behind w) s' log' log' = grew-none (Behind w) s' log' quiet in record {
-      grew = called types l z w p (Get x field) s s' s' names names os log log' log' leaves leaves' leaves'
-          (grew-say l (λ own. RunsGet types x field names own names) (entry.Get o.unit o.life place got.value ∷ []) s log log' got.records
+      grew = called d l z w p (Get x field) s s' s' names names os log log' log' leaves leaves' leaves'
+          (grew-say l (λ own. RunsGet d.types x field names own names) (entry.Get o.unit o.life place got.value ∷ []) s log log' got.records
           (record { type = t; unit = o.unit; life = o.life; held = held; place = place; of_type = of; value = got.value; part_is = refl; after_is = refl })) none;
-      safe = λ b k. k.3;
+      safe = λ b in_it k. k.3;
       holds = λ base h. rw alive h;
       meets = λ p h a b. b;
       sections = λ base h. h;
@@ -146,35 +139,35 @@ get-performed types l z w p s s' x field t o place names lives lives' asked aske
     }
 
 -- a block that runs once
-rest-once : (types : List TypeDeclaration) (l : ℕ) (i : Bool) (w : Option (List ℕ)) (o : Open) (body : Block) → o.rest.now ≡ block_list body → o.repeats ≡ 0 → (names last : Names) (s : State ℕ) (part : Log) → RunsRest types l i w o names last s part → RunsBlock (unmapped types) l i (Behind w) body names last s part
-rest-once types l i w o body r n names last s part x =
-    let y : Followed (RunsList types l i w (block_list body)) Done names last s part = rw n at (rw r at x) in
-    rw (block-runs types l i w body) (undone-last (RunsList types l i w (block_list body)) names last s part y)
+rest-once : (d : Declared) (l : ℕ) (i : Bool) (w : Option (List ℕ)) (o : Open) (body : Block) → o.rest.now ≡ block_list body → o.repeats ≡ 0 → (names last : Names) (s : State ℕ) (part : Log) → RunsRest d l i w o names last s part → RunsBlock d l i (Behind w) body names last s part
+rest-once d l i w o body r n names last s part x =
+    let y : Followed (RunsList d l i w (block_list body)) Done names last s part = rw n at (rw r at x) in
+    rw (block-runs d l i w body) (undone-last (RunsList d l i w (block_list body)) names last s part y)
 
-pub block-once : (types : List TypeDeclaration) (l : ℕ) (z : Around) (w : Option (List ℕ)) (o : Open) (body : Block) → o.rest.now ≡ block_list body → o.repeats ≡ 0 → o.leaves ≡ false → (names last : Names) (s : State ℕ) (part : Log) → RunsOpen types l z w o names last s part → RunsBlock (unmapped types) l (is_inside z) (Behind w) body names last s part
-block-once types l z w o body r n f names last s part x = rest-once types l (is_inside z) w o body r n names last s part (rw f at x)
+pub block-once : (d : Declared) (l : ℕ) (z : Around) (w : Option (List ℕ)) (o : Open) (body : Block) → o.rest.now ≡ block_list body → o.repeats ≡ 0 → o.leaves ≡ false → (names last : Names) (s : State ℕ) (part : Log) → RunsOpen d l z w o names last s part → RunsBlock d l (is_inside z) (Behind w) body names last s part
+block-once d l z w o body r n f names last s part x = rest-once d l (is_inside z) w o body r n names last s part (rw f at x)
 
-block-times : (types : List TypeDeclaration) (l : ℕ) (z : Around) (w : Option (List ℕ)) (o : Open) (k : ℕ) (body : Block) (b : Bor Block) → o.rest.now ≡ [] → o.repeats ≡ k → o.body ≡ Some b → b.now ≡ body → o.leaves ≡ false → (names last : Names) (s : State ℕ) (part : Log) → RunsOpen types l z w o names last s part → Times (RunsBlock (unmapped types) l (is_inside z) (Behind w) body) k names last s part
-block-times types l z w o k body b r n f g q names last s part x =
-    let B = RunsBlock (unmapped types) l (is_inside z) (Behind w) body in
+block-times : (d : Declared) (l : ℕ) (z : Around) (w : Option (List ℕ)) (o : Open) (k : ℕ) (body : Block) (b : Bor Block) → o.rest.now ≡ [] → o.repeats ≡ k → o.body ≡ Some b → b.now ≡ body → o.leaves ≡ false → (names last : Names) (s : State ℕ) (part : Log) → RunsOpen d l z w o names last s part → Times (RunsBlock d l (is_inside z) (Behind w) body) k names last s part
+block-times d l z w o k body b r n f g q names last s part x =
+    let B = RunsBlock d l (is_inside z) (Behind w) body in
     let y : Followed Done (Times B k) names last s part = rw g at (rw f at (rw n at (rw r at (rw q at x)))) in
     undone-first (Times B k) names last s part y
 
 -- around a block that leaves no section it is as in it
-stack-over : (types : List TypeDeclaration) (l : ℕ) (z : Around) (w : Option (List ℕ)) (o : Open) (os : List Open) (names last : Names) (s : State ℕ) (part : Log) → o.leaves ≡ false → RunsStack types l z w (o ∷ os) names last s part → Followed (RunsOpen types l z w o) (RunsAround types l z w os) names last s part
-stack-over types l z w o os names last s part f x =
+stack-over : (d : Declared) (l : ℕ) (z : Around) (w : Option (List ℕ)) (o : Open) (os : List Open) (names last : Names) (s : State ℕ) (part : Log) → o.leaves ≡ false → RunsStack d l z w (o ∷ os) names last s part → Followed (RunsOpen d l z w o) (RunsAround d l z w os) names last s part
+stack-over d l z w o os names last s part f x =
     let same : outer o z ≡ z = ap (λ b. if b then with_begun None z else z) f in
-    subst (λ (y : Around). Followed (RunsOpen types l z w o) (RunsAround types l y w os) names last s part) same x
+    subst (λ (y : Around). Followed (RunsOpen d l z w o) (RunsAround d l y w os) names last s part) same x
 
 -- a block that a statement opened, and what is around it: the block of that statement, at least
-opened : (types : List TypeDeclaration) (l : ℕ) (z : Around) (w : Option (List ℕ)) (a : Action) (o : Open) (before : List Open) (names last : Names) (s : State ℕ) (part : Log) → 0 < length before → o.leaves ≡ false → ((m : Names) (p : Log) → RunsOpen types l z w o names m s p → RunsAction (unmapped types) l (is_inside z) (Behind w) a names m s p) →
-    RunsStack types l z w (o ∷ before) names last s part → Followed (RunsStatement types l (is_inside z) w a) (RunsStack types l z w before) names last s part
-opened types l z w a o [] names last s part some g f x = absurd (omega (arith, some))
-opened types l z w a o (p ∷ ps) names last s part some g f x =
+opened : (d : Declared) (l : ℕ) (z : Around) (w : Option (List ℕ)) (a : Action) (o : Open) (before : List Open) (names last : Names) (s : State ℕ) (part : Log) → 0 < length before → o.leaves ≡ false → ((m : Names) (p : Log) → RunsOpen d l z w o names m s p → RunsAction d l (is_inside z) (Behind w) a names m s p) →
+    RunsStack d l z w (o ∷ before) names last s part → Followed (RunsStatement d l (is_inside z) w a) (RunsStack d l z w before) names last s part
+opened d l z w a o [] names last s part some g f x = absurd (omega (arith, some))
+opened d l z w a o (p ∷ ps) names last s part some g f x =
     let B = Leaving (Behind w) in
-    map-first (Followed (RunsOpen types l z w o) B) (RunsStatement types l (is_inside z) w a) (RunsStack types l z w (p ∷ ps)) names last s part
-    (λ m q y. map-first (RunsOpen types l z w o) (RunsAction (unmapped types) l (is_inside z) (Behind w) a) B names m s q f y)
-    (front (RunsOpen types l z w o) B (RunsStack types l z w (p ∷ ps)) names last s part (stack-over types l z w o (p ∷ ps) names last s part g x))
+    map-first (Followed (RunsOpen d l z w o) B) (RunsStatement d l (is_inside z) w a) (RunsStack d l z w (p ∷ ps)) names last s part
+    (λ m q y. map-first (RunsOpen d l z w o) (RunsAction d l (is_inside z) (Behind w) a) B names m s q f y)
+    (front (RunsOpen d l z w o) B (RunsStack d l z w (p ∷ ps)) names last s part (stack-over d l z w o (p ∷ ps) names last s part g x))
 
 pub once-safe : (e : Setting) (o : Open) (os : List Open) (names : Names) (body : Block) → o.rest.now ≡ block_list body → o.repeats ≡ 0 → safe.SafeBlock e (store_of names) body (λ r. SafeStack e r os) → SafeStack e (store_of names) (o ∷ os)
 once-safe e o os names body r n x = rw r (rw n (rw (block-safe e names body (λ s. SafeStack e s os)) at x))
@@ -206,65 +199,65 @@ sections-inner base z o os f h =
     let same : outer o z ≡ z = ap (λ b. if b then with_begun None z else z) f in
     (λ e. absurd (cc), subst (λ (y : Around). Sectioned base y os) (sym same) h)
 
-push-performed : (types : List TypeDeclaration) (l : ℕ) (z : Around) (w : Option (List ℕ)) (s : State ℕ) (a : Action) (names : Names) (before now : List Open) (rest : List Statement) (n : ℕ) (body : Block) (lives : Lives) (asked : ℕ) (log : Option Log) → 0 < length before → Behind w s [] → (o : Pushed before now rest n false body) →
-    ((m : Names) (p : Log) → RunsOpen types l z w o.top names m s p → RunsAction (unmapped types) l (is_inside z) (Behind w) a names m s p) →
+push-performed : (d : Declared) (l : ℕ) (z : Around) (w : Option (List ℕ)) (s : State ℕ) (a : Action) (names : Names) (before now : List Open) (rest : List Statement) (n : ℕ) (body : Block) (lives : Lives) (asked : ℕ) (log : Option Log) → 0 < length before → Behind w s [] → (o : Pushed before now rest n false body) →
+    ((m : Names) (p : Log) → RunsOpen d l z w o.top names m s p → RunsAction d l (is_inside z) (Behind w) a names m s p) →
     ((e : Setting) → safe.SafeAction e (store_of names) a (λ r. SafeStack e r before) → SafeStack e (store_of names) (o.top ∷ before)) →
     ((p : Test) → Inherits p → p (length before) a ≡ true → (list_meets (p (suc (length before))) o.top.rest.now ≡ true) × (list_meets (p (suc (length before))) (block_list body) ≡ true)) →
     suc (open_cost o.top) ≤ action_cost a →
-    Performed types l z z w s s a names names before now lives lives asked asked log log
-push-performed types l z w s a names before now rest n body lives asked log some down o runs safe meets cost = record {
-  grew = λ last final q. grew-map (RunsStack types l z w (o.top ∷ before) names last) (Followed (RunsStatement types l (is_inside z) w a) (RunsStack types l z w before) names last) s log final (λ part y. opened types l z w a o.top before names last s part some o.leaves_is runs y) (rw o.now_is at q);
-  safe = λ e y. rw o.now_is (safe e y);
+    Performed d l z z w s s a names names before now lives lives asked asked log log
+push-performed d l z w s a names before now rest n body lives asked log some down o runs safe meets cost = record {
+  grew = λ last final q. grew-map (RunsStack d l z w (o.top ∷ before) names last) (Followed (RunsStatement d l (is_inside z) w a) (RunsStack d l z w before) names last) s log final (λ part y. opened d l z w a o.top before names last s part some o.leaves_is runs y) (rw o.now_is at q);
+  safe = λ e of y. rw o.now_is (safe e y);
   holds = λ base h. h;
   meets = λ p h x y.
-      let d = suc (length before) in
+      let depth = suc (length before) in
       let c = meets p h x in
-      let blocks : body_meets (p d) o.top.body ≡ true = rw o.body_is (rw o.block_is c.1) in
-      rw o.now_is (both (list_meets (p d) o.top.rest.now) (body_meets (p d) o.top.body && stack_meets p before) c.0 (both (body_meets (p d) o.top.body) (stack_meets p before) blocks y));
+      let blocks : body_meets (p depth) o.top.body ≡ true = rw o.body_is (rw o.block_is c.1) in
+      rw o.now_is (both (list_meets (p depth) o.top.rest.now) (body_meets (p depth) o.top.body && stack_meets p before) c.0 (both (body_meets (p depth) o.top.body) (stack_meets p before) blocks y));
   sections = λ base h. rw o.now_is (sections-inner base z o.top before o.leaves_is h);
   cost = rw o.now_is (omega (arith, cost));
   weight = rw o.now_is (omega (arith, cost));
   down = down;
 }
 
-pub once-cost : (types : List TypeDeclaration) (o : Open) (body : Block) → o.rest.now ≡ block_list body → o.repeats ≡ 0 → open_cost o ≡ block_cost body
-once-cost types o body r n = rw r (rw n (omega (arith, block-cost body)))
+pub once-cost : (d : Declared) (o : Open) (body : Block) → o.rest.now ≡ block_list body → o.repeats ≡ 0 → open_cost o ≡ block_cost body
+once-cost d o body r n = rw r (rw n (omega (arith, block-cost body)))
 
 times-cost : (o : Open) (k : ℕ) (body : Block) (b : Bor Block) → o.rest.now ≡ [] → o.repeats ≡ k → o.body ≡ Some b → b.now ≡ body → open_cost o ≡ k * (1 + block_cost body)
 times-cost o k body b r n f g = rw r (rw n (rw f (rw g (omega arith))))
 
-pub repeat-performed : (types : List TypeDeclaration) (l : ℕ) (z : Around) (w : Option (List ℕ)) (s : State ℕ) (k : ℕ) (body : Block) (names : Names) (before now : List Open) (lives : Lives) (asked : ℕ) (log : Option Log) → 0 < length before → Behind w s [] → Pushed before now [] k false body → Performed types l z z w s s (Repeat k body) names names before now lives lives asked asked log log
-repeat-performed types l z w s k body names before now lives asked log some down o =
-    push-performed types l z w s (Repeat k body) names before now [] k body lives asked log some down o
-    (λ m p y. block-times types l z w o.top k body o.block o.rest_is o.repeats_is o.body_is o.block_is o.leaves_is names m s p y)
+pub repeat-performed : (d : Declared) (l : ℕ) (z : Around) (w : Option (List ℕ)) (s : State ℕ) (k : ℕ) (body : Block) (names : Names) (before now : List Open) (lives : Lives) (asked : ℕ) (log : Option Log) → 0 < length before → Behind w s [] → Pushed before now [] k false body → Performed d l z z w s s (Repeat k body) names names before now lives lives asked asked log log
+repeat-performed d l z w s k body names before now lives asked log some down o =
+    push-performed d l z w s (Repeat k body) names before now [] k body lives asked log some down o
+    (λ m p y. block-times d l z w o.top k body o.block o.rest_is o.repeats_is o.body_is o.block_is o.leaves_is names m s p y)
     (λ e y. times-safe e o.top before names k body o.block o.rest_is o.repeats_is o.body_is o.block_is y)
     (λ p h y. (rw o.rest_is refl, h.again (length before) k body y))
     (let c = times-cost o.top k body o.block o.rest_is o.repeats_is o.body_is o.block_is in omega (arith, c))
 
-pub first-performed : (types : List TypeDeclaration) (l : ℕ) (z : Around) (w : Option (List ℕ)) (s : State ℕ) (x : List ℕ) (t : TypeId) (u n : ℕ) (body : Block) (otherwise : Held-Action-If-2) (names : Names) (before now : List Open) (lives : Lives) (asked : ℕ) (log : Option Log) → 0 < length before → Behind w s [] → names x ≡ Object t u n → Pushed before now (block_list body) 0 false body → Performed types l z z w s s (If' x body otherwise) names names before now lives lives asked asked log log
-first-performed types l z w s x t u n body otherwise names before now lives asked log some down held o =
-    push-performed types l z w s (If' x body otherwise) names before now (block_list body) 0 body lives asked log some down o
-    (λ m p y. rw held (block-once types l z w o.top body o.rest_is o.repeats_is o.leaves_is names m s p y))
+pub first-performed : (d : Declared) (l : ℕ) (z : Around) (w : Option (List ℕ)) (s : State ℕ) (x : List ℕ) (t : TypeId) (u n : ℕ) (body : Block) (otherwise : Held-Action-If-2) (names : Names) (before now : List Open) (lives : Lives) (asked : ℕ) (log : Option Log) → 0 < length before → Behind w s [] → names x ≡ Object t u n → Pushed before now (block_list body) 0 false body → Performed d l z z w s s (If' x body otherwise) names names before now lives lives asked asked log log
+first-performed d l z w s x t u n body otherwise names before now lives asked log some down held o =
+    push-performed d l z w s (If' x body otherwise) names before now (block_list body) 0 body lives asked log some down o
+    (λ m p y. rw held (block-once d l z w o.top body o.rest_is o.repeats_is o.leaves_is names m s p y))
     (λ e y. once-safe e o.top before names body o.rest_is o.repeats_is (y.1 t (inl (ap value_of held))))
     (λ p h y. let c = h.first (length before) x body otherwise y in (rw o.rest_is c, c))
-    (let c = once-cost types o.top body o.rest_is o.repeats_is in omega (arith, c, max-left (block_cost body) (else_cost otherwise)))
+    (let c = once-cost d o.top body o.rest_is o.repeats_is in omega (arith, c, max-left (block_cost body) (else_cost otherwise)))
 
-pub other-performed : (types : List TypeDeclaration) (l : ℕ) (z : Around) (w : Option (List ℕ)) (s : State ℕ) (x : List ℕ) (body other : Block) (otherwise : Held-Action-If-2) (names : Names) (before now : List Open) (lives : Lives) (asked : ℕ) (log : Option Log) → 0 < length before → Behind w s [] → names x ≡ Null → otherwise ≡ Some' other → Pushed before now (block_list other) 0 false other → Performed types l z z w s s (If' x body otherwise) names names before now lives lives asked asked log log
-other-performed types l z w s x body other otherwise names before now lives asked log some down held q o =
-    push-performed types l z w s (If' x body otherwise) names before now (block_list other) 0 other lives asked log some down o
-    (λ m p y. rw held (rw q (block-once types l z w o.top other o.rest_is o.repeats_is o.leaves_is names m s p y)))
+pub other-performed : (d : Declared) (l : ℕ) (z : Around) (w : Option (List ℕ)) (s : State ℕ) (x : List ℕ) (body other : Block) (otherwise : Held-Action-If-2) (names : Names) (before now : List Open) (lives : Lives) (asked : ℕ) (log : Option Log) → 0 < length before → Behind w s [] → names x ≡ Null → otherwise ≡ Some' other → Pushed before now (block_list other) 0 false other → Performed d l z z w s s (If' x body otherwise) names names before now lives lives asked asked log log
+other-performed d l z w s x body other otherwise names before now lives asked log some down held q o =
+    push-performed d l z w s (If' x body otherwise) names before now (block_list other) 0 other lives asked log some down o
+    (λ m p y. rw held (rw q (block-once d l z w o.top other o.rest_is o.repeats_is o.leaves_is names m s p y)))
     (λ e y. once-safe e o.top before names other o.rest_is o.repeats_is (rw q at (y.0 (ap value_of held))))
     (λ p h y. let c = h.other (length before) x body other (rw q at y) in (rw o.rest_is c, c))
-    (let c = once-cost types o.top other o.rest_is o.repeats_is in let d : else_cost otherwise ≡ block_cost other = ap else_cost q in omega (arith, c, d, max-right (block_cost body) (else_cost otherwise)))
+    (let c = once-cost d o.top other o.rest_is o.repeats_is in let same : else_cost otherwise ≡ block_cost other = ap else_cost q in omega (arith, c, same, max-right (block_cost body) (else_cost otherwise)))
 
-skip-runs : (types : List TypeDeclaration) (l : ℕ) (z : Around) (w : Option (List ℕ)) (s : State ℕ) (x : List ℕ) (body : Block) (otherwise : Held-Action-If-2) (names : Names) → names x ≡ Null → otherwise ≡ None' → RunsAction (unmapped types) l (is_inside z) (Behind w) (If' x body otherwise) names names s []
-skip-runs types l z w s x body otherwise names held q = rw held (rw q (refl, refl))
+skip-runs : (d : Declared) (l : ℕ) (z : Around) (w : Option (List ℕ)) (s : State ℕ) (x : List ℕ) (body : Block) (otherwise : Held-Action-If-2) (names : Names) → names x ≡ Null → otherwise ≡ None' → RunsAction d l (is_inside z) (Behind w) (If' x body otherwise) names names s []
+skip-runs d l z w s x body otherwise names held q = rw held (rw q (refl, refl))
 
-pub skip-performed : (types : List TypeDeclaration) (l : ℕ) (z : Around) (w : Option (List ℕ)) (s : State ℕ) (x : List ℕ) (body : Block) (otherwise : Held-Action-If-2) (names : Names) (before : List Open) (lives : Lives) (asked : ℕ) (log : Option Log) → Behind w s [] → names x ≡ Null → otherwise ≡ None' → Performed types l z z w s s (If' x body otherwise) names names before before lives lives asked asked log log
-skip-performed types l z w s x body otherwise names before lives asked log down held q = record {
-  grew = λ last final more. grew-map (RunsStack types l z w before names last) (Followed (RunsStatement types l (is_inside z) w (If' x body otherwise)) (RunsStack types l z w before) names last) s log final
-      (λ part y. (names, record { one = []; two = part; part_is = refl; is_first = (names, record { one = []; two = []; part_is = refl; is_first = skip-runs types l z w s x body otherwise names held q; is_second = (refl, down) }); is_second = y })) more;
-  safe = λ e y. rw q at (y.0 (ap value_of held));
+pub skip-performed : (d : Declared) (l : ℕ) (z : Around) (w : Option (List ℕ)) (s : State ℕ) (x : List ℕ) (body : Block) (otherwise : Held-Action-If-2) (names : Names) (before : List Open) (lives : Lives) (asked : ℕ) (log : Option Log) → Behind w s [] → names x ≡ Null → otherwise ≡ None' → Performed d l z z w s s (If' x body otherwise) names names before before lives lives asked asked log log
+skip-performed d l z w s x body otherwise names before lives asked log down held q = record {
+  grew = λ last final more. grew-map (RunsStack d l z w before names last) (Followed (RunsStatement d l (is_inside z) w (If' x body otherwise)) (RunsStack d l z w before) names last) s log final
+      (λ part y. (names, record { one = []; two = part; part_is = refl; is_first = (names, record { one = []; two = []; part_is = refl; is_first = skip-runs d l z w s x body otherwise names held q; is_second = (refl, down) }); is_second = y })) more;
+  safe = λ e of y. rw q at (y.0 (ap value_of held));
   holds = λ base h. h;
   meets = λ p h x y. y;
   sections = λ base h. h;
@@ -276,13 +269,13 @@ skip-performed types l z w s x body otherwise names before lives asked log down 
 -- ---- sections
 
 -- a section inside another one
-pub inner-performed : (types : List TypeDeclaration) (l : ℕ) (z : Around) (w : Option (List ℕ)) (s : State ℕ) (body : Block) (names : Names) (before now : List Open) (lives : Lives) (asked : ℕ) (log : Option Log) → is_inside z ≡ true → 0 < length before → Behind w s [] → Pushed before now (block_list body) 0 false body → Performed types l z z w s s (Section body) names names before now lives lives asked asked log log
-inner-performed types l z w s body names before now lives asked log inside some down o =
-    push-performed types l z w s (Section body) names before now (block_list body) 0 body lives asked log some down o
-    (λ m p y. rw inside (subst (λ i. RunsBlock (unmapped types) l i (Behind w) body names m s p) inside (block-once types l z w o.top body o.rest_is o.repeats_is o.leaves_is names m s p y)))
+pub inner-performed : (d : Declared) (l : ℕ) (z : Around) (w : Option (List ℕ)) (s : State ℕ) (body : Block) (names : Names) (before now : List Open) (lives : Lives) (asked : ℕ) (log : Option Log) → is_inside z ≡ true → 0 < length before → Behind w s [] → Pushed before now (block_list body) 0 false body → Performed d l z z w s s (Section body) names names before now lives lives asked asked log log
+inner-performed d l z w s body names before now lives asked log inside some down o =
+    push-performed d l z w s (Section body) names before now (block_list body) 0 body lives asked log some down o
+    (λ m p y. rw inside (subst (λ i. RunsBlock d l i (Behind w) body names m s p) inside (block-once d l z w o.top body o.rest_is o.repeats_is o.leaves_is names m s p y)))
     (λ e y. once-safe e o.top before names body o.rest_is o.repeats_is y)
     (λ p h y. let c = h.within (length before) body y in (rw o.rest_is c, c))
-    (let c = once-cost types o.top body o.rest_is o.repeats_is in omega (arith, c))
+    (let c = once-cost d o.top body o.rest_is o.repeats_is in omega (arith, c))
 
 begun-inside : (z : Around) (v : ℕ) → is_inside (with_begun (Some v) z) ≡ true
 begun-inside z v = either z.whole
@@ -303,26 +296,26 @@ back : (z : Around) (v : ℕ) → is_inside z ≡ false → with_begun None (wit
 back z v e = ap (λ o. with_begun o z) (sym (none-begun z e))
 
 -- what is left to run in a section that begins, and around it
-section-runs : (types : List TypeDeclaration) (l : ℕ) (z : Around) (w : Option (List ℕ)) (v : ℕ) (o p : Open) (os : List Open) (body : Block) → is_inside z ≡ false → o.rest.now ≡ block_list body → o.repeats ≡ 0 → o.leaves ≡ true → (names last : Names) (s : State ℕ) (one two : Log) → Stand l (entry.In Plain v ∷ []) s one → RunsStack types l (with_begun (Some v) z) w (o ∷ p ∷ os) names last (after s one) two → Followed (RunsStatement types l (is_inside z) w (Section body)) (RunsStack types l z w (p ∷ os)) names last s (one ++ two)
-section-runs types l z w v o p os body out r n f names last s one two h x =
+section-runs : (d : Declared) (l : ℕ) (z : Around) (w : Option (List ℕ)) (v : ℕ) (o p : Open) (os : List Open) (body : Block) → is_inside z ≡ false → o.rest.now ≡ block_list body → o.repeats ≡ 0 → o.leaves ≡ true → (names last : Names) (s : State ℕ) (one two : Log) → Stand l (entry.In Plain v ∷ []) s one → RunsStack d l (with_begun (Some v) z) w (o ∷ p ∷ os) names last (after s one) two → Followed (RunsStatement d l (is_inside z) w (Section body)) (RunsStack d l z w (p ∷ os)) names last s (one ++ two)
+section-runs d l z w v o p os body out r n f names last s one two h x =
     let y : Around = with_begun (Some v) z in
     let i = is_inside y in
     let B = Leaving (Behind w) in
-    let S = RunsStack types l z w (p ∷ os) in
+    let S = RunsStack d l z w (p ∷ os) in
     let same : outer o y ≡ z = ap (λ b. if b then with_begun None y else y) f ∙ back z v out in
-    let t : Followed (RunsOpen types l y w o) (Followed B S) names last (after s one) two = subst (λ (c : Around). Followed (RunsOpen types l y w o) (RunsAround types l c w (p ∷ os)) names last (after s one) two) same x in
-    let u = front (RunsOpen types l y w o) B S names last (after s one) two t in
+    let t : Followed (RunsOpen d l y w o) (Followed B S) names last (after s one) two = subst (λ (c : Around). Followed (RunsOpen d l y w o) (RunsAround d l c w (p ∷ os)) names last (after s one) two) same x in
+    let u = front (RunsOpen d l y w o) B S names last (after s one) two t in
     let k = u.1 in
     let g = k.is_first in
-    let c : Followed (RunsRest types l i w o) (LeavesSection l y) names g.0 (after s one) g.1.one = subst (λ b. ClosedBy b l y (RunsRest types l i w o) names g.0 (after s one) g.1.one) f g.1.is_first in
-    let inner : RunsBlock (unmapped types) l true (Behind w) body names c.0 (after s one) c.1.one = subst (λ b. RunsBlock (unmapped types) l b (Behind w) body names c.0 (after s one) c.1.one) (begun-inside z v) (rest-once types l i w o body r n names c.0 (after s one) c.1.one c.1.is_first) in
+    let c : Followed (RunsRest d l i w o) (LeavesSection l y) names g.0 (after s one) g.1.one = subst (λ b. ClosedBy b l y (RunsRest d l i w o) names g.0 (after s one) g.1.one) f g.1.is_first in
+    let inner : RunsBlock d l true (Behind w) body names c.0 (after s one) c.1.one = subst (λ b. RunsBlock d l b (Behind w) body names c.0 (after s one) c.1.one) (begun-inside z v) (rest-once d l i w o body r n names c.0 (after s one) c.1.one c.1.is_first) in
     let ends = c.1.is_second in
     let word : ends.0 ≡ v = (let q = ends.1 in cc) in
     let stands : Stand l (entry.Out Plain (v + 1) ∷ []) (after (after s one) c.1.one) c.1.two = subst (λ k. Stand l (entry.Out Plain (k + 1) ∷ []) (after (after s one) c.1.one) c.1.two) word ends.2.1 in
-    let inner' : RunsBlock (unmapped types) l true (Behind w) body names g.0 (after s one) c.1.one = subst (λ m. RunsBlock (unmapped types) l true (Behind w) body names m (after s one) c.1.one) (sym ends.2.0) inner in
-    let whole : Within false l (RunsBlock (unmapped types) l true (Behind w) body) names g.0 s (one ++ g.1.one) =
+    let inner' : RunsBlock d l true (Behind w) body names g.0 (after s one) c.1.one = subst (λ m. RunsBlock d l true (Behind w) body names m (after s one) c.1.one) (sym ends.2.0) inner in
+    let whole : Within false l (RunsBlock d l true (Behind w) body) names g.0 s (one ++ g.1.one) =
     (v, record { one = one; two = g.1.one; part_is = refl; is_first = h; is_second = record { one = c.1.one; two = c.1.two; part_is = c.1.part_is; is_first = inner'; is_second = stands } }) in
-    let act : RunsAction (unmapped types) l (is_inside z) (Behind w) (Section body) names g.0 s (one ++ g.1.one) = subst (λ b. Within b l (RunsBlock (unmapped types) l true (Behind w) body) names g.0 s (one ++ g.1.one)) (sym out) whole in
+    let act : RunsAction d l (is_inside z) (Behind w) (Section body) names g.0 s (one ++ g.1.one) = subst (λ b. Within b l (RunsBlock d l true (Behind w) body) names g.0 s (one ++ g.1.one)) (sym out) whole in
     let A : State ℕ → Type 0 = λ q. Behind w q g.1.two in
     let G : State ℕ → Type 0 = λ q. S u.0 last q k.two in (
       u.0,
@@ -336,25 +329,25 @@ section-runs types l z w v o p os body out r n f names last s one two h x =
     )
 
 -- a section begins
-pub section-performed : (types : List TypeDeclaration) (l : ℕ) (z z' : Around) (w : Option (List ℕ)) (p : ℕ) (s s' : State ℕ) (body : Block) (names : Names) (before now : List Open) (lives lives' : Lives) (asked asked' : ℕ) (log log' : Option Log) →
-    IfSome log (λ es. Leaves p es s) → IfSome log' (λ es. Leaves p es s') → is_inside z ≡ false → Entered l z z' log log' → s' ≡ s → lives' ≡ lives → asked' ≤ asked + 2 → 0 < length before → Behind w s [] → Pushed before now (block_list body) 0 true body → Performed types l z z' w s s' (Section body) names names before now lives lives' asked asked' log log'
-section-performed types l z z' w p s s' body names [] now lives lives' asked asked' log log' x x' out e same alive n some down o = absurd (omega (arith, some))
-section-performed types l z z' w p s s' body names (q ∷ qs) now lives lives' asked asked' log log' x x' out e same alive n some down o = record {
+pub section-performed : (d : Declared) (l : ℕ) (z z' : Around) (w : Option (List ℕ)) (p : ℕ) (s s' : State ℕ) (body : Block) (names : Names) (before now : List Open) (lives lives' : Lives) (asked asked' : ℕ) (log log' : Option Log) →
+    IfSome log (λ es. Leaves p es s) → IfSome log' (λ es. Leaves p es s') → is_inside z ≡ false → Entered l z z' log log' → s' ≡ s → lives' ≡ lives → asked' ≤ asked + 2 → 0 < length before → Behind w s [] → Pushed before now (block_list body) 0 true body → Performed d l z z' w s s' (Section body) names names before now lives lives' asked asked' log log'
+section-performed d l z z' w p s s' body names [] now lives lives' asked asked' log log' x x' out e same alive n some down o = absurd (omega (arith, some))
+section-performed d l z z' w p s s' body names (q ∷ qs) now lives lives' asked asked' log log' x x' out e same alive n some down o = record {
   grew = λ last final g.
-      let F : Around → Type 0 = λ y. GrewBy (RunsStack types l y w (o.top ∷ q ∷ qs) names last) s' log' final in
-      grew-join (Stand l (entry.In Plain e.word ∷ [])) (RunsStack types l (with_begun (Some e.word) z) w (o.top ∷ q ∷ qs) names last) (Followed (RunsStatement types l (is_inside z) w (Section body)) (RunsStack types l z w (q ∷ qs)) names last) p s s' log log' final
-      (λ one two i j. section-runs types l z w e.word o.top q qs body out o.rest_is o.repeats_is o.leaves_is names last s one two i j) x x' (grew-stand l (entry.In Plain e.word ∷ []) s log log' e.records) (subst F e.now_is (rw o.now_is at g));
-  safe = λ b y. rw o.now_is (once-safe b o.top (q ∷ qs) names body o.rest_is o.repeats_is y);
+      let F : Around → Type 0 = λ y. GrewBy (RunsStack d l y w (o.top ∷ q ∷ qs) names last) s' log' final in
+      grew-join (Stand l (entry.In Plain e.word ∷ [])) (RunsStack d l (with_begun (Some e.word) z) w (o.top ∷ q ∷ qs) names last) (Followed (RunsStatement d l (is_inside z) w (Section body)) (RunsStack d l z w (q ∷ qs)) names last) p s s' log log' final
+      (λ one two i j. section-runs d l z w e.word o.top q qs body out o.rest_is o.repeats_is o.leaves_is names last s one two i j) x x' (grew-stand l (entry.In Plain e.word ∷ []) s log log' e.records) (subst F e.now_is (rw o.now_is at g));
+  safe = λ b of y. rw o.now_is (once-safe b o.top (q ∷ qs) names body o.rest_is o.repeats_is y);
   holds = λ base h. rw alive h;
   meets = λ t h a b.
-      let d = suc (length (q ∷ qs)) in
+      let depth = suc (length (q ∷ qs)) in
       let c = h.within (length (q ∷ qs)) body a in
-      let blocks : body_meets (t d) o.top.body ≡ true = rw o.body_is (rw o.block_is c) in
-      let first : list_meets (t d) o.top.rest.now ≡ true = rw o.rest_is c in
-      rw o.now_is (both (list_meets (t d) o.top.rest.now) (body_meets (t d) o.top.body && stack_meets t (q ∷ qs)) first (both (body_meets (t d) o.top.body) (stack_meets t (q ∷ qs)) blocks b));
+      let blocks : body_meets (t depth) o.top.body ≡ true = rw o.body_is (rw o.block_is c) in
+      let first : list_meets (t depth) o.top.rest.now ≡ true = rw o.rest_is c in
+      rw o.now_is (both (list_meets (t depth) o.top.rest.now) (body_meets (t depth) o.top.body && stack_meets t (q ∷ qs)) first (both (body_meets (t depth) o.top.body) (stack_meets t (q ∷ qs)) blocks b));
   sections = λ base h. rw o.now_is (rw e.now_is (begun-sections base z e.word o.top (q ∷ qs) out o.leaves_is h));
-  cost = (let c = once-cost types o.top body o.rest_is o.repeats_is in rw o.now_is (omega (arith, c, n)));
-  weight = (let c = once-cost types o.top body o.rest_is o.repeats_is in rw o.now_is (omega (arith, c)));
+  cost = (let c = once-cost d o.top body o.rest_is o.repeats_is in rw o.now_is (omega (arith, c, n)));
+  weight = (let c = once-cost d o.top body o.rest_is o.repeats_is in rw o.now_is (omega (arith, c)));
   down = rw same down;
 }
   where
@@ -366,14 +359,14 @@ section-performed types l z z' w p s s' body names (q ∷ qs) now lives lives' a
 
 -- ---- a yield
 
-pub yield-performed : (types : List TypeDeclaration) (l : ℕ) (z : Around) (w : Option (List ℕ)) (p : ℕ) (s s' : State ℕ) (names : Names) (os : List Open) (lives lives' : Lives) (asked asked' : ℕ) (log log' : Option Log) →
-    IfSome log (λ es. Leaves p es s) → IfSome log' (λ es. Leaves p es s') → Records l (entry.Yield ∷ []) log log' → s' ≡ s → lives' ≡ lives → asked' ≤ asked → Behind w s [] → Performed types l z z w s s' Yield names names os os lives lives' asked asked' log log'
-yield-performed types l z w p s s' names os lives lives' asked asked' log log' x x' r same alive n down =
+pub yield-performed : (d : Declared) (l : ℕ) (z : Around) (w : Option (List ℕ)) (p : ℕ) (s s' : State ℕ) (names : Names) (os : List Open) (lives lives' : Lives) (asked asked' : ℕ) (log log' : Option Log) →
+    IfSome log (λ es. Leaves p es s) → IfSome log' (λ es. Leaves p es s') → Records l (entry.Yield ∷ []) log log' → s' ≡ s → lives' ≡ lives → asked' ≤ asked → Behind w s [] → Performed d l z z w s s' Yield names names os os lives lives' asked asked' log log'
+yield-performed d l z w p s s' names os lives lives' asked asked' log log' x x' r same alive n down =
     let quiet : Behind w s' [] = rw same down in
     let none : GrewBy (Behind w) s' log' log' = grew-none (Behind w) s' log' quiet in record {
-      grew = called types l z w p Yield s s' s' names names os log log' log' x x' x'
+      grew = called d l z w p Yield s s' s' names names os log log' log' x x' x'
           (grew-map (Stand l (entry.Yield ∷ [])) (Leaving (Stand l (entry.Yield ∷ [])) names names) s log log' (λ part y. (refl, y)) (grew-stand l (entry.Yield ∷ []) s log log' r)) none;
-      safe = λ e y. y.2;
+      safe = λ e of y. y.2;
       holds = λ base h. rw alive h;
       meets = λ t h a b. b;
       sections = λ base h. h;

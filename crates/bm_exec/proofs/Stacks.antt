@@ -4,9 +4,8 @@ use Rattle.std.proofs.lemmas.List.{reverse-append}
 use Rattle.std.proofs.Math.Nat.{suc-mul}
 use Rattle.std.specs.Option.{option_to_list}
 use Rattle.bm_lang.specs.declared.scenario.Statement.{Statement}
-use Rattle.bm_lang.specs.declared.scenario.TypeDeclaration.{TypeDeclaration}
 use Rattle.bm_lang.specs.Limits.{action_cost, block_cost}
-use Rattle.bm_law_scenario.specs.Declared.{unmapped}
+use Rattle.bm_law_scenario.specs.Declared.{Declared}
 use Rattle.bm_law_scenario.specs.Held.{Names}
 use Rattle.bm_law.specs.State.{State}
 use Rattle.bm_law.specs.Lists.{Log, after}
@@ -27,7 +26,7 @@ use Rattle.bm_exec.proofs.Blocks.{block-runs, block-safe, block-cost}
 use Rattle.bm_exec.proofs.Then.{done-first, front, map-first}
 
 pub passed-none : (os : List Open) → Passed os os
-passed-none os = record { runs = λ types l z w names last s part b x. x; safe = λ e names x. x; meets = λ p x. x; sections = λ base z x. x; cost = omega arith; weight = omega arith }
+passed-none os = record { runs = λ d l z w names last s part b x. x; safe = λ e names x. x; meets = λ p x. x; sections = λ base z x. x; cost = omega arith; weight = omega arith }
 
 and-left : (a b : Bool) → (a && b) ≡ true → a ≡ true
 and-left true b e = refl
@@ -55,16 +54,16 @@ times-none : (n : ℕ) (names : Names) (s : State ℕ) → Times Done n names na
 times-none zero names s = (refl, refl)
 times-none (suc n) names s = done-first (Times Done n) names names s [] (times-none n names s)
 
-over-rest : (types : List TypeDeclaration) (l : ℕ) (i : Bool) (w : Option (List ℕ)) (o : Open) → o.rest.now ≡ [] → IsOver o → (names : Names) (s : State ℕ) → RunsRest types l i w o names names s []
-over-rest types l i w o e (inl n) names s = rw e (rw n (done-first Done names names s [] (refl, refl)))
-over-rest types l i w o e (inr h) names s = rw e (rw h (done-first (Times Done o.repeats) names names s [] (times-none o.repeats names s)))
+over-rest : (d : Declared) (l : ℕ) (i : Bool) (w : Option (List ℕ)) (o : Open) → o.rest.now ≡ [] → IsOver o → (names : Names) (s : State ℕ) → RunsRest d l i w o names names s []
+over-rest d l i w o e (inl n) names s = rw e (rw n (done-first Done names names s [] (refl, refl)))
+over-rest d l i w o e (inr h) names s = rw e (rw h (done-first (Times Done o.repeats) names names s [] (times-none o.repeats names s)))
 
-over-open : (types : List TypeDeclaration) (l : ℕ) (z : Around) (w : Option (List ℕ)) (o : Open) → o.rest.now ≡ [] → IsOver o → o.leaves ≡ false → (names : Names) (s : State ℕ) → RunsOpen types l z w o names names s []
-over-open types l z w o e v f names s = rw f (over-rest types l (is_inside z) w o e v names s)
+over-open : (d : Declared) (l : ℕ) (z : Around) (w : Option (List ℕ)) (o : Open) → o.rest.now ≡ [] → IsOver o → o.leaves ≡ false → (names : Names) (s : State ℕ) → RunsOpen d l z w o names names s []
+over-open d l z w o e v f names s = rw f (over-rest d l (is_inside z) w o e v names s)
 
-around : (types : List TypeDeclaration) (l : ℕ) (z : Around) (w : Option (List ℕ)) (os : List Open) (names last : Names) (s : State ℕ) (part : Log) → Behind w s [] → RunsStack types l z w os names last s part → RunsAround types l z w os names last s part
-around types l z w [] names last s part b x = x
-around types l z w (o ∷ os) names last s part b x = (names, record { one = []; two = part; part_is = refl; is_first = (refl, b); is_second = x })
+around : (d : Declared) (l : ℕ) (z : Around) (w : Option (List ℕ)) (os : List Open) (names last : Names) (s : State ℕ) (part : Log) → Behind w s [] → RunsStack d l z w os names last s part → RunsAround d l z w os names last s part
+around d l z w [] names last s part b x = x
+around d l z w (o ∷ os) names last s part b x = (names, record { one = []; two = part; part_is = refl; is_first = (refl, b); is_second = x })
 
 -- around a block that leaves no section it is as in it
 outer-same : (o : Open) (z : Around) → o.leaves ≡ false → outer o z ≡ z
@@ -73,18 +72,18 @@ outer-same o z e = ap (λ b. if b then with_begun None z else z) e
 outer-left : (o : Open) (z : Around) → o.leaves ≡ true → outer o z ≡ with_begun None z
 outer-left o z e = ap (λ b. if b then with_begun None z else z) e
 
-ended-runs : (types : List TypeDeclaration) (l : ℕ) (z : Around) (w : Option (List ℕ)) (o : Open) (os : List Open) → o.rest.now ≡ [] → IsOver o → o.leaves ≡ false → (names last : Names) (s : State ℕ) (part : Log) → Behind w s [] → RunsStack types l z w os names last s part → RunsStack types l z w (o ∷ os) names last s part
-ended-runs types l z w o os e v f names last s part b x =
-    let A : Around → Type 0 = λ y. RunsAround types l y w os names last s part in
-    (names, record { one = []; two = part; part_is = refl; is_first = over-open types l z w o e v f names s; is_second = subst A (sym (outer-same o z f)) (around types l z w os names last s part b x) })
+ended-runs : (d : Declared) (l : ℕ) (z : Around) (w : Option (List ℕ)) (o : Open) (os : List Open) → o.rest.now ≡ [] → IsOver o → o.leaves ≡ false → (names last : Names) (s : State ℕ) (part : Log) → Behind w s [] → RunsStack d l z w os names last s part → RunsStack d l z w (o ∷ os) names last s part
+ended-runs d l z w o os e v f names last s part b x =
+    let A : Around → Type 0 = λ y. RunsAround d l y w os names last s part in
+    (names, record { one = []; two = part; part_is = refl; is_first = over-open d l z w o e v f names s; is_second = subst A (sym (outer-same o z f)) (around d l z w os names last s part b x) })
 
 -- its section ends next
-closing-runs : (types : List TypeDeclaration) (l : ℕ) (z : Around) (w : Option (List ℕ)) (o : Open) (os : List Open) → o.rest.now ≡ [] → IsOver o → o.leaves ≡ true → (names last : Names) (s : State ℕ) (one two : Log) → Behind w (after s one) [] → Leaves l z names names s one → RunsStack types l (with_begun None z) w os names last (after s one) two → RunsStack types l z w (o ∷ os) names last s (one ++ two)
-closing-runs types l z w o os e v f names last s one two b h x =
-    let R : Run = RunsRest types l (is_inside z) w o in
-    let A : Around → Type 0 = λ y. RunsAround types l y w os names last (after s one) two in
-    let closed : Followed R (Leaves l z) names names s one = (names, record { one = []; two = one; part_is = refl; is_first = over-rest types l (is_inside z) w o e v names s; is_second = h }) in
-    (names, record { one = one; two = two; part_is = refl; is_first = rw f closed; is_second = subst A (sym (outer-left o z f)) (around types l (with_begun None z) w os names last (after s one) two b x) })
+closing-runs : (d : Declared) (l : ℕ) (z : Around) (w : Option (List ℕ)) (o : Open) (os : List Open) → o.rest.now ≡ [] → IsOver o → o.leaves ≡ true → (names last : Names) (s : State ℕ) (one two : Log) → Behind w (after s one) [] → Leaves l z names names s one → RunsStack d l (with_begun None z) w os names last (after s one) two → RunsStack d l z w (o ∷ os) names last s (one ++ two)
+closing-runs d l z w o os e v f names last s one two b h x =
+    let R : Run = RunsRest d l (is_inside z) w o in
+    let A : Around → Type 0 = λ y. RunsAround d l y w os names last (after s one) two in
+    let closed : Followed R (Leaves l z) names names s one = (names, record { one = []; two = one; part_is = refl; is_first = over-rest d l (is_inside z) w o e v names s; is_second = h }) in
+    (names, record { one = one; two = two; part_is = refl; is_first = rw f closed; is_second = subst A (sym (outer-left o z f)) (around d l (with_begun None z) w os names last (after s one) two b x) })
 
 safe-none : (e : Setting) (n : ℕ) (s : safe.Store) (Q : safe.Store → Type 0) → safe.Times n (λ r. SafeBody e None r) s Q → Q s
 safe-none e zero s Q x = x
@@ -95,26 +94,26 @@ over-safe e o os r (inl n) names x = (rw n at (rw r at x)).1
 over-safe e o os r (inr h) names x = safe-none e o.repeats (store_of names) (λ t. SafeStack e t os) (rw h at (rw r at x)).1
 
 -- one whose statements have ended and that runs again
-again-rest : (types : List TypeDeclaration) (l : ℕ) (i : Bool) (w : Option (List ℕ)) (o p : Open) (n : ℕ) (body : Bor Block) → o.rest.now ≡ [] → o.repeats ≡ suc n → o.body ≡ Some body → p.rest.now ≡ block_list body.now → p.repeats ≡ n → p.body ≡ Some body → (names last : Names) (s : State ℕ) (part : Log) → RunsRest types l i w p names last s part → RunsRest types l i w o names last s part
-again-rest types l i w o p n body e m h r k b names last s part x =
-    let B = RunsBlock (unmapped types) l i (Behind w) body.now in
-    let y : Followed (RunsList types l i w (block_list body.now)) (Times B n) names last s part = rw b at (rw k at (rw r at x)) in
-    let z : Followed B (Times B n) names last s part = rw (sym (block-runs types l i w body.now)) at y in
-    let F : Option (Bor Block) → Type 0 = λ q. Followed (RunsList types l i w o.rest.now) (Times (RunsBody types l i w q) o.repeats) names last s part in
+again-rest : (d : Declared) (l : ℕ) (i : Bool) (w : Option (List ℕ)) (o p : Open) (n : ℕ) (body : Bor Block) → o.rest.now ≡ [] → o.repeats ≡ suc n → o.body ≡ Some body → p.rest.now ≡ block_list body.now → p.repeats ≡ n → p.body ≡ Some body → (names last : Names) (s : State ℕ) (part : Log) → RunsRest d l i w p names last s part → RunsRest d l i w o names last s part
+again-rest d l i w o p n body e m h r k b names last s part x =
+    let B = RunsBlock d l i (Behind w) body.now in
+    let y : Followed (RunsList d l i w (block_list body.now)) (Times B n) names last s part = rw b at (rw k at (rw r at x)) in
+    let z : Followed B (Times B n) names last s part = rw (sym (block-runs d l i w body.now)) at y in
+    let F : Option (Bor Block) → Type 0 = λ q. Followed (RunsList d l i w o.rest.now) (Times (RunsBody d l i w q) o.repeats) names last s part in
     subst F (sym h) (rw e (rw m (done-first (Followed B (Times B n)) names last s part z)))
 
-again-open : (types : List TypeDeclaration) (l : ℕ) (z : Around) (w : Option (List ℕ)) (o p : Open) (n : ℕ) (body : Bor Block) → o.rest.now ≡ [] → o.repeats ≡ suc n → o.body ≡ Some body → p.rest.now ≡ block_list body.now → p.repeats ≡ n → p.body ≡ Some body → p.leaves ≡ o.leaves → (names last : Names) (s : State ℕ) (part : Log) → RunsOpen types l z w p names last s part → RunsOpen types l z w o names last s part
-again-open types l z w o p n body e m h r k b f names last s part x =
+again-open : (d : Declared) (l : ℕ) (z : Around) (w : Option (List ℕ)) (o p : Open) (n : ℕ) (body : Bor Block) → o.rest.now ≡ [] → o.repeats ≡ suc n → o.body ≡ Some body → p.rest.now ≡ block_list body.now → p.repeats ≡ n → p.body ≡ Some body → p.leaves ≡ o.leaves → (names last : Names) (s : State ℕ) (part : Log) → RunsOpen d l z w p names last s part → RunsOpen d l z w o names last s part
+again-open d l z w o p n body e m h r k b f names last s part x =
     let i = is_inside z in
-    closed-map o.leaves l z (RunsRest types l i w p) (RunsRest types l i w o) names last s part (λ q y c. again-rest types l i w o p n body e m h r k b names q s y c) (subst (λ c. ClosedBy c l z (RunsRest types l i w p) names last s part) f x)
+    closed-map o.leaves l z (RunsRest d l i w p) (RunsRest d l i w o) names last s part (λ q y c. again-rest d l i w o p n body e m h r k b names q s y c) (subst (λ c. ClosedBy c l z (RunsRest d l i w p) names last s part) f x)
 
 outer-as : (o p : Open) (z : Around) → p.leaves ≡ o.leaves → outer p z ≡ outer o z
 outer-as o p z e = ap (λ b. if b then with_begun None z else z) e
 
-again-runs : (types : List TypeDeclaration) (l : ℕ) (z : Around) (w : Option (List ℕ)) (o p : Open) (os : List Open) (n : ℕ) (body : Bor Block) → o.rest.now ≡ [] → o.repeats ≡ suc n → o.body ≡ Some body → p.rest.now ≡ block_list body.now → p.repeats ≡ n → p.body ≡ Some body → p.leaves ≡ o.leaves → (names last : Names) (s : State ℕ) (part : Log) → RunsStack types l z w (p ∷ os) names last s part → RunsStack types l z w (o ∷ os) names last s part
-again-runs types l z w o p os n body e m h r k b f names last s part x =
-    let y = subst (λ (c : Around). Followed (RunsOpen types l z w p) (RunsAround types l c w os) names last s part) (outer-as o p z f) x in
-    map-first (RunsOpen types l z w p) (RunsOpen types l z w o) (RunsAround types l (outer o z) w os) names last s part (λ q c v. again-open types l z w o p n body e m h r k b f names q s c v) y
+again-runs : (d : Declared) (l : ℕ) (z : Around) (w : Option (List ℕ)) (o p : Open) (os : List Open) (n : ℕ) (body : Bor Block) → o.rest.now ≡ [] → o.repeats ≡ suc n → o.body ≡ Some body → p.rest.now ≡ block_list body.now → p.repeats ≡ n → p.body ≡ Some body → p.leaves ≡ o.leaves → (names last : Names) (s : State ℕ) (part : Log) → RunsStack d l z w (p ∷ os) names last s part → RunsStack d l z w (o ∷ os) names last s part
+again-runs d l z w o p os n body e m h r k b f names last s part x =
+    let y = subst (λ (c : Around). Followed (RunsOpen d l z w p) (RunsAround d l c w os) names last s part) (outer-as o p z f) x in
+    map-first (RunsOpen d l z w p) (RunsOpen d l z w o) (RunsAround d l (outer o z) w os) names last s part (λ q c v. again-open d l z w o p n body e m h r k b f names q s c v) y
 
 again-safe : (e : Setting) (o p : Open) (os : List Open) (n : ℕ) (body : Bor Block) → o.rest.now ≡ [] → o.repeats ≡ suc n → o.body ≡ Some body → p.rest.now ≡ block_list body.now → p.repeats ≡ n → p.body ≡ Some body → (names : Names) → SafeStack e (store_of names) (o ∷ os) → SafeStack e (store_of names) (p ∷ os)
 again-safe e o p os n body r m h q k b names x =
@@ -137,7 +136,7 @@ top-of items popped found o e f = on-top items popped o (rw f at e)
 
 pub passed-then : (a b c : List Open) → Passed a b → Passed b c → Passed a c
 passed-then a b c x y = record {
-  runs = λ types l z w names last s part b v. x.runs types l z w names last s part b (y.runs types l z w names last s part b v);
+  runs = λ d l z w names last s part b v. x.runs d l z w names last s part b (y.runs d l z w names last s part b v);
   safe = λ e names z. y.safe e names (x.safe e names z);
   meets = λ p z. y.meets p (x.meets p z);
   sections = λ base z v. y.sections base z (x.sections base z v);
@@ -176,7 +175,7 @@ sections-as base z o p os f x = (λ h. x.0 (sym f ∙ h), subst (λ (y : Around)
 -- a block that ended is closed
 pub ended-passed : (o : Open) (os : List Open) → length o.rest.now < 1 → IsOver o → o.leaves ≡ false → Passed (o ∷ os) os
 ended-passed o os lt v f = let e = no-length o.rest.now lt in record {
-  runs = λ types l z w names last s part b x. ended-runs types l z w o os e v f names last s part b x;
+  runs = λ d l z w names last s part b x. ended-runs d l z w o os e v f names last s part b x;
   safe = λ s names x. over-safe s o os e v names x;
   meets = λ p x. meets-rest p o os x;
   sections = λ base z x. sections-over base z o os f x;
@@ -187,7 +186,7 @@ ended-passed o os lt v f = let e = no-length o.rest.now lt in record {
 -- .. or its section ends next
 pub closing : (before : List Open) (o : Open) (os : List Open) → Passed before (o ∷ os) → length o.rest.now < 1 → IsOver o → o.leaves ≡ true → Closing before os
 closing before o os x lt v f = let e = no-length o.rest.now lt in record {
-  runs = λ types l z w names last s one two b c h y. x.runs types l z w names last s (one ++ two) b (closing-runs types l z w o os e v f names last s one two c h y);
+  runs = λ d l z w names last s one two b c h y. x.runs d l z w names last s (one ++ two) b (closing-runs d l z w o os e v f names last s one two c h y);
   safe = λ s names y. over-safe s o os e v names (x.safe s names y);
   meets = λ p y. meets-rest p o os (x.meets p y);
   sections = λ base z y. sections-closing base z o os f (x.sections base z y);
@@ -200,7 +199,7 @@ again-passed : (o p : Open) (os : List Open) (n : ℕ) (body : Bor Block) → le
 again-passed o p os n body lt m h r k b f =
     let e = no-length o.rest.now lt in
     let c = again-cost o p n body e m h r k b in record {
-      runs = λ types l z w names last s part q x. again-runs types l z w o p os n body e m h r k b f names last s part x;
+      runs = λ d l z w names last s part q x. again-runs d l z w o p os n body e m h r k b f names last s part x;
       safe = λ s names x. again-safe s o p os n body e m h r k b names x;
       meets = λ q x.
           let d = suc (length os) in
@@ -224,21 +223,21 @@ pub begins-weight : (o p : Open) (os : List Open) → length o.rest.now < 1 → 
 begins-weight o p os lt b = weight-again o p os b.less b.block lt b.repeats b.body b.rest_is b.repeats_is b.body_is
 
 -- a statement is taken
-taken-open : (types : List TypeDeclaration) (l : ℕ) (z : Around) (w : Option (List ℕ)) (o p : Open) (s : Statement) (ss : List Statement) → o.rest.now ≡ s ∷ ss → p.rest.now ≡ ss → p.repeats ≡ o.repeats → p.body ≡ o.body → p.leaves ≡ o.leaves → (names last : Names) (t : State ℕ) (part : Log) → Followed (RunsStatement types l (is_inside z) w s.action) (RunsOpen types l z w p) names last t part → RunsOpen types l z w o names last t part
-taken-open types l z w o p s ss e r k b f names last t part x =
+taken-open : (d : Declared) (l : ℕ) (z : Around) (w : Option (List ℕ)) (o p : Open) (s : Statement) (ss : List Statement) → o.rest.now ≡ s ∷ ss → p.rest.now ≡ ss → p.repeats ≡ o.repeats → p.body ≡ o.body → p.leaves ≡ o.leaves → (names last : Names) (t : State ℕ) (part : Log) → Followed (RunsStatement d l (is_inside z) w s.action) (RunsOpen d l z w p) names last t part → RunsOpen d l z w o names last t part
+taken-open d l z w o p s ss e r k b f names last t part x =
     let i = is_inside z in
-    let A = RunsStatement types l i w s.action in
-    let L = RunsList types l i w ss in
-    let T = Times (RunsBody types l i w o.body) o.repeats in
+    let A = RunsStatement d l i w s.action in
+    let L = RunsList d l i w ss in
+    let T = Times (RunsBody d l i w o.body) o.repeats in
     let y : Followed A (ClosedBy o.leaves l z (Followed L T)) names last t part = rw b at (rw k at (rw r at (rw f at x))) in
-    closed-map o.leaves l z (Followed A (Followed L T)) (RunsRest types l i w o) names last t part (λ q c v. rw e (front A L T names q t c v)) (closed-front o.leaves l z A (Followed L T) names last t part y)
+    closed-map o.leaves l z (Followed A (Followed L T)) (RunsRest d l i w o) names last t part (λ q c v. rw e (front A L T names q t c v)) (closed-front o.leaves l z A (Followed L T) names last t part y)
 
-taken-runs : (types : List TypeDeclaration) (l : ℕ) (z : Around) (w : Option (List ℕ)) (o p : Open) (os : List Open) (s : Statement) (ss : List Statement) → o.rest.now ≡ s ∷ ss → p.rest.now ≡ ss → p.repeats ≡ o.repeats → p.body ≡ o.body → p.leaves ≡ o.leaves → (names last : Names) (t : State ℕ) (part : Log) → Followed (RunsStatement types l (is_inside z) w s.action) (RunsStack types l z w (p ∷ os)) names last t part → RunsStack types l z w (o ∷ os) names last t part
-taken-runs types l z w o p os s ss e r k b f names last t part x =
-    let A = RunsStatement types l (is_inside z) w s.action in
-    let y = subst (λ (c : Around). Followed A (Followed (RunsOpen types l z w p) (RunsAround types l c w os)) names last t part) (outer-as o p z f) x in
-    map-first (Followed A (RunsOpen types l z w p)) (RunsOpen types l z w o) (RunsAround types l (outer o z) w os) names last t part (λ q c v. taken-open types l z w o p s ss e r k b f names q t c v)
-    (front A (RunsOpen types l z w p) (RunsAround types l (outer o z) w os) names last t part y)
+taken-runs : (d : Declared) (l : ℕ) (z : Around) (w : Option (List ℕ)) (o p : Open) (os : List Open) (s : Statement) (ss : List Statement) → o.rest.now ≡ s ∷ ss → p.rest.now ≡ ss → p.repeats ≡ o.repeats → p.body ≡ o.body → p.leaves ≡ o.leaves → (names last : Names) (t : State ℕ) (part : Log) → Followed (RunsStatement d l (is_inside z) w s.action) (RunsStack d l z w (p ∷ os)) names last t part → RunsStack d l z w (o ∷ os) names last t part
+taken-runs d l z w o p os s ss e r k b f names last t part x =
+    let A = RunsStatement d l (is_inside z) w s.action in
+    let y = subst (λ (c : Around). Followed A (Followed (RunsOpen d l z w p) (RunsAround d l c w os)) names last t part) (outer-as o p z f) x in
+    map-first (Followed A (RunsOpen d l z w p)) (RunsOpen d l z w o) (RunsAround d l (outer o z) w os) names last t part (λ q c v. taken-open d l z w o p s ss e r k b f names q t c v)
+    (front A (RunsOpen d l z w p) (RunsAround d l (outer o z) w os) names last t part y)
 
 taken-safe : (e : Setting) (o p : Open) (os : List Open) (s : Statement) (ss : List Statement) → o.rest.now ≡ s ∷ ss → p.rest.now ≡ ss → p.repeats ≡ o.repeats → p.body ≡ o.body → (names : Names) → SafeStack e (store_of names) (o ∷ os) → safe.SafeAction e (store_of names) s.action (λ r. SafeStack e r (p ∷ os))
 taken-safe e o p os s ss q r k b names x = rw r (rw k (rw b (rw q at x)))
@@ -246,7 +245,7 @@ taken-safe e o p os s ss q r k b names x = rw r (rw k (rw b (rw q at x)))
 pub taken : (before : List Open) (o p : Open) (os : List Open) (s : Statement) (ss : List Statement) → Passed before (o ∷ os) → o.rest.now ≡ s ∷ ss → p.rest.now ≡ ss → p.repeats ≡ o.repeats → p.body ≡ o.body → p.leaves ≡ o.leaves → Taken before (p ∷ os) s
 taken before o p os s ss x e r k b f =
     let cost : open_cost o ≡ action_cost s.action + open_cost p = rw e (rw r (rw k (rw b (omega arith)))) in record {
-      runs = λ types l z w names last t part q y. x.runs types l z w names last t part q (taken-runs types l z w o p os s ss e r k b f names last t part y);
+      runs = λ d l z w names last t part q y. x.runs d l z w names last t part q (taken-runs d l z w o p os s ss e r k b f names last t part y);
       safe = λ q names y. taken-safe q o p os s ss e r k b names (x.safe q names y);
       meets_action = λ q y.
           let d = suc (length os) in
@@ -266,7 +265,7 @@ taken before o p os s ss x e r k b f =
 -- nothing is left
 pub ended : (before : List Open) → Passed before [] → Ended before
 ended before x = record {
-  runs = λ types l z w names s b. x.runs types l z w names names s [] b (refl, refl);
+  runs = λ d l z w names s b. x.runs d l z w names names s [] b (refl, refl);
   safe = λ e names y. x.safe e names y;
   sections = λ base z y. x.sections base z y;
 }

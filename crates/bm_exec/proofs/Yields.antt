@@ -5,6 +5,7 @@ use Rattle.bm_class.specs.Watermarks.{high_of_size, low_of_size}
 use Rattle.bm_journal.specs.declared.entry.Entry.{Entry}
 use Rattle.bm_journal.specs.declared.entry.Entry.TheVariants as entry
 use Rattle.bm_journal.specs.declared.ids.ObjId.{ObjId}
+use Rattle.bm_lang.specs.declared.scenario.TypeDeclaration.{TypeDeclaration}
 use Rattle.bm_law.specs.Lists.{Log}
 use Rattle.bm_law.specs.Phrases.{DelayPhrase, FreePhrase, given, overtaken, overtaken_delayed, raise_below, raise_unless}
 use Rattle.bm_law.specs.Spans.{Records}
@@ -13,7 +14,7 @@ use Rattle.bm_law.proofs.Spans.{Records-join, Records-none}
 use Rattle.bm_law_scenario.specs.Calls.{Allocates}
 use Rattle.bm_law_scenario.proofs.Freed.{either-free}
 use Rattle.bm_exec.specs.Around.{Around, Entered, HasLeft}
-use Rattle.bm_exec.specs.Living.{Acquired, Created, Disposed, GivenUp, HasRead, Lives, reply_of}
+use Rattle.bm_exec.specs.Living.{Acquired, Created, Disposed, Exchanged, GivenUp, HasRead, LetGo, Lives, reply_of}
 use Rattle.bm_exec.specs.Yields.{AllInTurn, Unyielding, YieldsLast}
 
 -- ---- one after the other
@@ -79,21 +80,28 @@ delay-none c u home batch own (inr x) =
 pub created-unyielding : (l c t : ℕ) (name values : List ℕ) (a b : Option Log) (lives lives' : Lives) (reply : Option ObjId) → Created l c t name values a b lives lives' reply → Unyielding l a b
 created-unyielding l c t name values a b lives lives' reply made = record { own = entry.New name values ∷ made.own; none = (tt, alloc-none c made.own (reply_of reply) made.allocates); records = made.records }
 
-pub disposed-unyielding : (l : ℕ) (counted : Bool) (c : ℕ) (o : ObjId) (s : State ℕ) (a b : Option Log) (lives lives' : Lives) → Disposed l counted c o s a b lives lives' → Unyielding l a b
+disposed-unyielding : (l : ℕ) (counted : Bool) (c : ℕ) (o : ObjId) (s : State ℕ) (a b : Option Log) (lives lives' : Lives) → Disposed l counted c o s a b lives lives' → Unyielding l a b
 disposed-unyielding l counted c o s a b lives lives' gone = record {
   own = entry.Drop o.unit o.life ∷ entry.Last ∷ gone.own;
   none = (tt, (tt, either-free AllInTurn counted c o.unit gone.home _ gone.own (free-none c o.unit gone.home gone.own) (delay-none c o.unit gone.home _ gone.own) gone.frees));
   records = gone.records;
 }
 
-pub given-up-unyielding : (l : ℕ) (o : ObjId) (a b : Option Log) (lives lives' : Lives) → GivenUp l o a b lives lives' → Unyielding l a b
+given-up-unyielding : (l : ℕ) (o : ObjId) (a b : Option Log) (lives lives' : Lives) → GivenUp l o a b lives lives' → Unyielding l a b
 given-up-unyielding l o a b lives lives' gone = record { own = _; none = (tt, (tt, tt)); records = gone.records }
+
+pub let-go-unyielding : (l : ℕ) (counted : Bool) (c : ℕ) (o : ObjId) (s : State ℕ) (a b : Option Log) (lives lives' : Lives) → LetGo l counted c o s a b lives lives' → Unyielding l a b
+let-go-unyielding l counted c o s a b lives lives' (inl gone) = disposed-unyielding l counted c o s a b lives lives' gone
+let-go-unyielding l counted c o s a b lives lives' (inr gone) = given-up-unyielding l o a b lives lives' gone.1
 
 pub acquired-unyielding : (l : ℕ) (o : ObjId) (a b : Option Log) (lives lives' : Lives) → Acquired l o a b lives lives' → Unyielding l a b
 acquired-unyielding l o a b lives lives' got = record { own = _; none = (tt, tt); records = got.records }
 
 pub read-unyielding : (l : ℕ) (o : ObjId) (place : ℕ) (a b : Option Log) (lives : Lives) → HasRead l o place a b lives → Unyielding l a b
 read-unyielding l o place a b lives got = record { own = _; none = (tt, tt); records = got.records }
+
+pub exchanged-unyielding : (l : ℕ) (types : List TypeDeclaration) (t : ℕ) (name : List ℕ) (put : Option ObjId) (a b : Option Log) (lives lives' : Lives) (was : Option ObjId) → Exchanged l types t name put a b lives lives' was → Unyielding l a b
+exchanged-unyielding l types t name put a b lives lives' was got = record { own = _; none = (tt, tt); records = got.records }
 
 pub entered-unyielding : (l : ℕ) (z z' : Around) (a b : Option Log) → Entered l z z' a b → Unyielding l a b
 entered-unyielding l z z' a b h = record { own = _; none = (tt, tt); records = h.records }

@@ -15,3 +15,5 @@ pub mod WorkedTurns
 pub mod Depth
 pub mod Meets
 pub mod Fields
+pub mod Named
+pub mod Given

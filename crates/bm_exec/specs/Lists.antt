@@ -4,11 +4,10 @@ use Rattle.std.specs.Borrow.{Bor}
 use Rattle.bm_lang.specs.declared.scenario.Action.{Action}
 use Rattle.bm_lang.specs.declared.scenario.Block.{Block, Block', items-the_row-Statement}
 use Rattle.bm_lang.specs.declared.scenario.Statement.{Statement}
-use Rattle.bm_lang.specs.declared.scenario.TypeDeclaration.{TypeDeclaration}
 use Rattle.bm_check.specs.Statements.{Setting}
 use Rattle.bm_check.specs.Values.{Store, SafeAction}
 use Rattle.bm_law_work.specs.Parts.{Part, Nothing}
-use Rattle.bm_law_scenario.specs.Declared.{unmapped}
+use Rattle.bm_law_scenario.specs.Declared.{Declared}
 use Rattle.bm_law_scenario.specs.Works.{UntilDown}
 use Rattle.bm_law_scenario.specs.Runs.{Run, Leaving, Done, Followed, RunsAction}
 
@@ -27,12 +26,12 @@ Behind None = Nothing
 Behind (Some classes) = UntilDown classes
 
 -- a statement, in a plain section or in none, and what stands after it
-abbrev pub RunsStatement : List TypeDeclaration → ℕ → (inside : Bool) → Option (List ℕ) → Action → Run
-RunsStatement types l i w a = Followed (RunsAction (unmapped types) l i (Behind w) a) (Leaving (Behind w))
+abbrev pub RunsStatement : Declared → ℕ → (inside : Bool) → Option (List ℕ) → Action → Run
+RunsStatement d l i w a = Followed (RunsAction d l i (Behind w) a) (Leaving (Behind w))
 
-abbrev pub RunsList : List TypeDeclaration → ℕ → (inside : Bool) → Option (List ℕ) → List Statement → Run
-RunsList types l i w [] = Done
-RunsList types l i w (s ∷ ss) = Followed (RunsStatement types l i w s.action) (RunsList types l i w ss)
+abbrev pub RunsList : Declared → ℕ → (inside : Bool) → Option (List ℕ) → List Statement → Run
+RunsList d l i w [] = Done
+RunsList d l i w (s ∷ ss) = Followed (RunsStatement d l i w s.action) (RunsList d l i w ss)
 
 abbrev pub SafeList : Setting → Store → List Statement → (Store → Type 0) → Type 0
 SafeList e s [] Q = Q s

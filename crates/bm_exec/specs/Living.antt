@@ -1,12 +1,13 @@
--- The objects that live, by their units.
-use Rattle.std.specs.Prelude.{◌≡◌, ◌<◌, ◌≤◌, ◌+◌, slice_get, ◌-◌, ℕ, zero, suc, Bool, true, false, eqb, List, [], ◌∷◌, length, Option, Some, None, is_some}
+-- The objects to which names hold references, by their units. The references that slots hold aren't counted here.
+use Rattle.std.specs.Prelude.{◌≡◌, ◌⊎◌, ◌<◌, ◌≤◌, ◌+◌, slice_get, ℕ, zero, suc, Bool, true, false, eqb, List, [], ◌∷◌, length, Option, Some, None, is_some}
 use Rattle.bm_journal.specs.declared.entry.Entry.{Entry}
 use Rattle.bm_journal.specs.declared.entry.Entry.TheVariants as entry
 use Rattle.bm_journal.specs.declared.ids.ObjId.{ObjId}
+use Rattle.bm_journal.specs.declared.ids.Tag.{Tag}
 use Rattle.bm_lang.specs.declared.scenario.TypeDeclaration.{TypeDeclaration}
 use Rattle.bm_lang.specs.declared.scenario.TypeId.{TypeId}
 pub use Rattle.bm_grace.specs.Known.{Living, Lives}
-pub use Rattle.bm_world.specs.Lives.{count_in, recounted, values_in, with_life}
+pub use Rattle.bm_world.specs.Lives.{count_in, recounted, type_in, values_in, with_life}
 use Rattle.bm_law.specs.Lists.{Log}
 use Rattle.bm_law.specs.Spans.{Records}
 use Rattle.bm_law.specs.State.{State}
@@ -54,13 +55,12 @@ pub record Created (l c t : ℕ) (name values : List ℕ) (log log' : Option Log
   pub allocates : Allocates c own (reply_of reply)
   pub begins : Begins c t values lives lives' reply
 
--- A call for one more reference to an object: its entry, which names how many there were, and that there is one more.
+-- A call for one more reference to an object: its entry, which names how many there were, those of slots too, and that names hold one more.
 pub record Acquired (l : ℕ) (o : ObjId) (log log' : Option Log) (lives lives' : Lives) : Type 0 where
   pub seen : ℕ
   pub some : 0 < seen
   pub records : Records l (entry.Acquire o.unit o.life seen ∷ []) log log'
-  pub counted : count_in (lives o.unit) ≡ seen
-  pub more : lives' ≡ recounted o.unit (seen + 1) lives
+  pub more : lives' ≡ recounted o.unit (count_in (lives o.unit) + 1) lives
 
 -- A field of an object is read, by its place: its entry, which names the value that the object has there.
 pub record HasRead (l : ℕ) (o : ObjId) (place : ℕ) (log log' : Option Log) (lives : Lives) : Type 0 where
@@ -68,13 +68,27 @@ pub record HasRead (l : ℕ) (o : ObjId) (place : ℕ) (log log' : Option Log) (
   pub records : Records l (entry.Get o.unit o.life place value ∷ []) log log'
   pub found : slice_get (values_in (lives o.unit)) place ≡ Some value
 
--- A reference to an object is given up, and others are left: its entries, which name how many there were, and that there is one less.
+-- one reference less; none is left where there was one
+abbrev pub less_of : (count : ℕ) → Living → Option Living
+less_of zero l = None
+less_of (suc zero) l = None
+less_of (suc (suc k)) l = Some (record l { count = suc k })
+
+abbrev pub one_less : Option Living → Option Living
+one_less None = None
+one_less (Some l) = less_of l.count l
+
+-- a name lets go of a reference to unit u
+abbrev pub let_go : (u : ℕ) → Lives → Lives
+let_go u lives = with_life u (one_less (lives u)) lives
+
+-- A reference to an object is given up, and others are left, be it in slots: its entries, which name how many there were, and that names hold one
+-- less.
 pub record GivenUp (l : ℕ) (o : ObjId) (log log' : Option Log) (lives lives' : Lives) : Type 0 where
   pub seen : ℕ
   pub others : 1 < seen
   pub records : Records l (entry.Drop o.unit o.life ∷ entry.Still seen ∷ []) log log'
-  pub counted : count_in (lives o.unit) ≡ seen
-  pub less : lives' ≡ recounted o.unit (seen - 1) lives
+  pub less : lives' ≡ let_go o.unit lives
 
 -- The last reference to an object of a counted type, or of another one, is given up, with these lists before: its entries, of which the
 -- free goes to the object's home, and that the object lives no more.
@@ -84,7 +98,61 @@ pub record Disposed (l : ℕ) (counted : Bool) (c : ℕ) (o : ObjId) (s : State 
   pub records : Records l (entry.Drop o.unit o.life ∷ entry.Last ∷ own) log log'
   pub frees : Frees counted c o.unit home (is_some (s.rows c).deferred.plain) own
   pub to_home : home_of (lives o.unit) ≡ Some home
-  pub ends : lives' ≡ with_life o.unit None lives
+  pub only : count_in (lives o.unit) ≡ 1
+  pub ends : lives' ≡ let_go o.unit lives
+
+-- a reference is given up: it is the last, or others are left, as only objects of a counted type have them
+abbrev pub LetGo : (l : ℕ) (counted : Bool) (c : ℕ) (o : ObjId) (s : State ℕ) (log log' : Option Log) (lives lives' : Lives) → Type 0
+LetGo l counted c o s log log' lives lives' =
+    Disposed l counted c o s log log' lives lives'
+    ⊎ ((counted ≡ true) × GivenUp l o log log' lives lives')
+
+-- type t is declared, and its objects carry a count of references or not
+pub record HasType (types : List TypeDeclaration) (t : ℕ) (counted : Bool) : Type 0 where
+  pub declared : TypeDeclaration
+  pub found : slice_get types t ≡ Some declared
+  pub counted_is : declared.counted ≡ counted
+
+-- an object of class c and type t may be made with these values
+pub record IsMade (types : List TypeDeclaration) (c t : ℕ) (values : List ℕ) : Type 0 where
+  pub declared : TypeDeclaration
+  pub of_class : OfClass types t c declared
+  pub fields : length values ≡ length declared.fields
+  pub few : length declared.fields ≤ 8
+
+-- lives without a reference that is put into a slot
+abbrev pub without : Option ObjId → Lives → Lives
+without None lives = lives
+without (Some o) lives = let_go o.unit lives
+
+-- A reference that a slot of type t held is taken: it is to an object of that type, of which names hold one reference more now. Where some hold one
+-- already, they hold it to this object.
+pub record TakenOut (types : List TypeDeclaration) (t : ℕ) (between lives' : Lives) (o : ObjId) : Type 0 where
+  pub object : Living
+  pub life_is : object.life ≡ o.life
+  pub type_is : object.type ≡ t
+  pub made : IsMade types object.class t object.values
+  pub count_is : object.count ≡ count_in (between o.unit) + 1
+  pub some : (l : Living) → between o.unit ≡ Some l → 0 < l.count
+  pub same : (l : Living) → between o.unit ≡ Some l → object ≡ record l { count = l.count + 1 }
+  pub single : made.declared.counted ≡ false → object.count ≡ 1
+  pub now_is : lives' ≡ with_life o.unit (Some object) between
+
+-- what a slot held is taken, if it held anything
+abbrev pub TakesOut : (types : List TypeDeclaration) (t : ℕ) (between lives' : Lives) → Option ObjId → Type 0
+TakesOut types t between lives' None = lives' ≡ between
+TakesOut types t between lives' (Some o) = TakenOut types t between lives' o
+
+-- what is put is held by a name, as an object of type t
+abbrev pub IsToPut : (t : ℕ) → Lives → Option ObjId → Type 0
+IsToPut t lives None = Unit {0}
+IsToPut t lives (Some o) = (c : ℕ) × (a : LivesAs lives c o.unit o.life) × (a.type ≡ t)
+
+-- An exchange of what a slot of type t holds: its entry, which names the slot, what it puts there, what it found and the exchange that had put that.
+pub record Exchanged (l : ℕ) (types : List TypeDeclaration) (t : ℕ) (name : List ℕ) (put : Option ObjId) (log log' : Option Log) (lives lives' : Lives) (was : Option ObjId) : Type 0 where
+  pub by : Option Tag
+  pub records : Records l (entry.Xchg name put was by ∷ []) log log'
+  pub takes : TakesOut types t (without put lives) lives' was
 
 -- whether what is held is a reference to an object of unit u
 abbrev pub refers : (u : ℕ) → Held → Bool
@@ -121,8 +189,8 @@ pub record IsReached (u : ℕ) (others all : Option Living) (names : Names) : Ty
   pub held : Referring u own names
   pub adds : Adds own others all
 
--- The names of a script, beside which others have references to the objects of `base`: each name that holds an object holds one that lives,
--- and to each object there are the references of the others and those that the names hold.
+-- The names of a script, beside which other names have references to the objects of `base`: each name that holds an object holds one that lives,
+-- and to each object names hold the references of the others and those of the script. What slots hold isn't counted.
 pub record Holds (types : List TypeDeclaration) (base lives : Lives) (names : Names) : Type 0 where
   pub living : (x : List ℕ) (t : TypeId) (u n : ℕ) → names x ≡ Object t u n → IsHeld types lives t u n
   pub reached : (u : ℕ) → IsReached u (base u) (lives u) names

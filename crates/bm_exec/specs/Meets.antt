@@ -4,7 +4,7 @@ use Rattle.std.specs.Borrow.{Bor}
 use Rattle.bm_lang.specs.declared.scenario.Action.{Action, If', Repeat, Section, Held-Action-If-2, Some'}
 use Rattle.bm_lang.specs.declared.scenario.Block.{Block}
 use Rattle.bm_lang.specs.declared.scenario.Statement.{Statement}
-use Rattle.bm_lang.specs.declared.scenario.TypeDeclaration.{TypeDeclaration}
+use Rattle.bm_law_scenario.specs.Declared.{Declared}
 use Rattle.bm_exec.specs.Bindings.{binds_by}
 use Rattle.bm_exec.specs.Depth.{action_fits}
 use Rattle.bm_exec.specs.Lists.{block_list}
@@ -37,5 +37,5 @@ pub record Inherits (p : Test) : Type 0 where
 
 -- A statement with so many blocks around it can run on a frame: it is one of those that run so far, it opens no more blocks than there
 -- is room for, and the names that it binds are in a table.
-abbrev pub may_run : List TypeDeclaration → (List ℕ → Bool) → Test
-may_run types known d a = can_run_action types a && (action_fits (16 - d) a && binds_by known a)
+abbrev pub may_run : Declared → (List ℕ → Bool) → Test
+may_run d known depth a = can_run_action d a && (action_fits (16 - depth) a && binds_by known a)

@@ -4,21 +4,20 @@ use Rattle.std.specs.Borrow.{Bor}
 use Rattle.bm_journal.specs.declared.ids.Domain.TheVariants.{Plain}
 use Rattle.bm_journal.specs.declared.entry.Entry.TheVariants as entry
 use Rattle.bm_lang.specs.declared.scenario.Block.{Block}
-use Rattle.bm_lang.specs.declared.scenario.TypeDeclaration.{TypeDeclaration}
 use Rattle.bm_check.specs.declared.name_state.HeldLock.TheVariants.{Nothing as NoLock}
 use Rattle.bm_check.specs.Statements.{Setting}
 use Rattle.bm_check.specs.Values as safe
 use Rattle.bm_law_work.specs.Parts.{Stand}
-use Rattle.bm_law_scenario.specs.Declared.{unmapped}
+use Rattle.bm_law_scenario.specs.Declared.{Declared}
 use Rattle.bm_law_scenario.specs.Runs.{Run, Leaving, Done, Followed, Times, RunsBlock}
 use Rattle.bm_exec.specs.Around.{Around, is_inside, with_begun}
 use Rattle.bm_exec.specs.declared.frame.Open.{Open}
 use Rattle.bm_exec.specs.Lists.{Behind, RunsList, SafeList}
 
 -- a block that may run again, if there is one
-abbrev pub RunsBody : List TypeDeclaration → ℕ → (inside : Bool) → Option (List ℕ) → Option (Bor Block) → Run
-RunsBody types l i w None = Done
-RunsBody types l i w (Some body) = RunsBlock (unmapped types) l i (Behind w) body.now
+abbrev pub RunsBody : Declared → ℕ → (inside : Bool) → Option (List ℕ) → Option (Bor Block) → Run
+RunsBody d l i w None = Done
+RunsBody d l i w (Some body) = RunsBlock d l i (Behind w) body.now
 
 -- the end of the section that a statement began
 abbrev pub Leaves : ℕ → Around → Run
@@ -34,22 +33,22 @@ abbrev pub outer : Open → Around → Around
 outer o z = if o.leaves then with_begun None z else z
 
 -- the rest of a block's statements, and then the whole block some more times
-abbrev pub RunsRest : List TypeDeclaration → ℕ → (inside : Bool) → Option (List ℕ) → Open → Run
-RunsRest types l i w o = Followed (RunsList types l i w o.rest.now) (Times (RunsBody types l i w o.body) o.repeats)
+abbrev pub RunsRest : Declared → ℕ → (inside : Bool) → Option (List ℕ) → Open → Run
+RunsRest d l i w o = Followed (RunsList d l i w o.rest.now) (Times (RunsBody d l i w o.body) o.repeats)
 
 -- the same, and the end of its section
-abbrev pub RunsOpen : List TypeDeclaration → ℕ → Around → Option (List ℕ) → Open → Run
-RunsOpen types l z w o = ClosedBy o.leaves l z (RunsRest types l (is_inside z) w o)
+abbrev pub RunsOpen : Declared → ℕ → Around → Option (List ℕ) → Open → Run
+RunsOpen d l z w o = ClosedBy o.leaves l z (RunsRest d l (is_inside z) w o)
 
 -- open blocks around one that has ended, the innermost first: that one was a statement's of the first of them
-abbrev pub RunsAround : List TypeDeclaration → ℕ → Around → Option (List ℕ) → List Open → Run
-RunsAround types l z w [] = Done
-RunsAround types l z w (o ∷ os) = Followed (Leaving (Behind w)) (Followed (RunsOpen types l z w o) (RunsAround types l (outer o z) w os))
+abbrev pub RunsAround : Declared → ℕ → Around → Option (List ℕ) → List Open → Run
+RunsAround d l z w [] = Done
+RunsAround d l z w (o ∷ os) = Followed (Leaving (Behind w)) (Followed (RunsOpen d l z w o) (RunsAround d l (outer o z) w os))
 
 -- open blocks, the innermost first
-abbrev pub RunsStack : List TypeDeclaration → ℕ → Around → Option (List ℕ) → List Open → Run
-RunsStack types l z w [] = Done
-RunsStack types l z w (o ∷ os) = Followed (RunsOpen types l z w o) (RunsAround types l (outer o z) w os)
+abbrev pub RunsStack : Declared → ℕ → Around → Option (List ℕ) → List Open → Run
+RunsStack d l z w [] = Done
+RunsStack d l z w (o ∷ os) = Followed (RunsOpen d l z w o) (RunsAround d l (outer o z) w os)
 
 -- A block that leaves a section is in one that was begun; and around all open blocks it is as at the script's beginning.
 abbrev pub Sectioned : (base z : Around) → List Open → Type 0

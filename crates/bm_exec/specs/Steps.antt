@@ -3,10 +3,10 @@ use Rattle.std.specs.Prelude.{◌≡◌, ◌<◌, ◌≤◌, ℕ, suc, ◌+◌, 
 use Rattle.std.specs.Borrow.{Bor}
 use Rattle.bm_lang.specs.declared.scenario.Block.{Block}
 use Rattle.bm_lang.specs.declared.scenario.Statement.{Statement}
-use Rattle.bm_lang.specs.declared.scenario.TypeDeclaration.{TypeDeclaration}
 use Rattle.bm_lang.specs.Limits.{action_cost}
 use Rattle.bm_law.specs.State.{State}
 use Rattle.bm_law.specs.Lists.{Log, after as lists_after}
+use Rattle.bm_law_scenario.specs.Declared.{Declared}
 use Rattle.bm_law_scenario.specs.Held.{Names}
 use Rattle.bm_law_scenario.specs.Runs.{Followed}
 use Rattle.bm_check.specs.Statements.{Setting}
@@ -39,7 +39,7 @@ pub record BeginsAgain (o p : Open) : Type 0 where
 -- Blocks ended or began again: what is run from now on is what was to be run. Where a block ends nothing stands after its
 -- statement, for the last one in it left that so.
 pub record Passed (before now : List Open) : Type 0 where
-  pub runs : (types : List TypeDeclaration) (l : ℕ) (z : Around) (w : Option (List ℕ)) (names after : Names) (s : State ℕ) (part : Log) → Behind w s [] → RunsStack types l z w now names after s part → RunsStack types l z w before names after s part
+  pub runs : (d : Declared) (l : ℕ) (z : Around) (w : Option (List ℕ)) (names after : Names) (s : State ℕ) (part : Log) → Behind w s [] → RunsStack d l z w now names after s part → RunsStack d l z w before names after s part
   pub safe : (e : Setting) (names : Names) → SafeStack e (store_of names) before → SafeStack e (store_of names) now
   pub meets : (p : Test) → stack_meets p before ≡ true → stack_meets p now ≡ true
   pub sections : (base z : Around) → Sectioned base z before → Sectioned base z now
@@ -48,7 +48,7 @@ pub record Passed (before now : List Open) : Type 0 where
 
 -- A statement was taken: it runs first, and the rest runs after it. Its own block is still open.
 pub record Taken (before now : List Open) (s : Statement) : Type 0 where
-  pub runs : (types : List TypeDeclaration) (l : ℕ) (z : Around) (w : Option (List ℕ)) (names after : Names) (t : State ℕ) (part : Log) → Behind w t [] → Followed (RunsStatement types l (is_inside z) w s.action) (RunsStack types l z w now) names after t part → RunsStack types l z w before names after t part
+  pub runs : (d : Declared) (l : ℕ) (z : Around) (w : Option (List ℕ)) (names after : Names) (t : State ℕ) (part : Log) → Behind w t [] → Followed (RunsStatement d l (is_inside z) w s.action) (RunsStack d l z w now) names after t part → RunsStack d l z w before names after t part
   pub safe : (e : Setting) (names : Names) → SafeStack e (store_of names) before → SafeAction e (store_of names) s.action (λ r. SafeStack e r now)
   pub meets_action : (p : Test) → stack_meets p before ≡ true → p (length now) s.action ≡ true
   pub meets : (p : Test) → stack_meets p before ≡ true → stack_meets p now ≡ true
@@ -59,7 +59,7 @@ pub record Taken (before now : List Open) (s : Statement) : Type 0 where
 
 -- A block has ended that has a section of its own: this section ends next, and then the rest runs.
 pub record Closing (before now : List Open) : Type 0 where
-  pub runs : (types : List TypeDeclaration) (l : ℕ) (z : Around) (w : Option (List ℕ)) (names after : Names) (s : State ℕ) (one two : Log) → Behind w s [] → Behind w (lists_after s one) [] → Leaves l z names names s one → RunsStack types l (with_begun None z) w now names after (lists_after s one) two → RunsStack types l z w before names after s (one ++ two)
+  pub runs : (d : Declared) (l : ℕ) (z : Around) (w : Option (List ℕ)) (names after : Names) (s : State ℕ) (one two : Log) → Behind w s [] → Behind w (lists_after s one) [] → Leaves l z names names s one → RunsStack d l (with_begun None z) w now names after (lists_after s one) two → RunsStack d l z w before names after s (one ++ two)
   pub safe : (e : Setting) (names : Names) → SafeStack e (store_of names) before → SafeStack e (store_of names) now
   pub meets : (p : Test) → stack_meets p before ≡ true → stack_meets p now ≡ true
   pub sections : (base z : Around) → Sectioned base z before → ((w : ℕ) × (z.begun ≡ Some w)) × Sectioned base (with_begun None z) now
@@ -68,7 +68,7 @@ pub record Closing (before now : List Open) : Type 0 where
 
 -- All ended: nothing is left to run.
 pub record Ended (before : List Open) : Type 0 where
-  pub runs : (types : List TypeDeclaration) (l : ℕ) (z : Around) (w : Option (List ℕ)) (names : Names) (s : State ℕ) → Behind w s [] → RunsStack types l z w before names names s []
+  pub runs : (d : Declared) (l : ℕ) (z : Around) (w : Option (List ℕ)) (names : Names) (s : State ℕ) → Behind w s [] → RunsStack d l z w before names names s []
   pub safe : (e : Setting) (names : Names) → SafeStack e (store_of names) before → OwnsNothing (store_of names)
   pub sections : (base z : Around) → Sectioned base z before → z ≡ base
 

@@ -4,6 +4,7 @@ ghost use Rattle.std.specs.Prelude.{◌≡◌, IfOk, reverse, true};
 ghost use Rattle.bm_check.specs.Scripts.{Accepted};
 ghost use Rattle.bm_exec.specs.Depth.{block_fits};
 ghost use Rattle.bm_exec.specs.Going.{IsAtStart};
+ghost use Rattle.bm_exec.specs.Named.{declared_of};
 ghost use Rattle.bm_exec.specs.Runnable.{can_run_block};
 
 use crate::frame::Frame;
@@ -29,11 +30,12 @@ impl<'s> Activation<'s> {
         scenario: &Parts,
         script: &'s Script,
     ) -> Result<Activation<'s>, NoMemory>
-        requires can { can_run_block types.now.declared.now script.now.body ≡ true }
+        requires can { can_run_block (declared_of types.now) script.now.body ≡ true }
         requires fits { block_fits 16 script.now.body ≡ true }
         requires accepted { Accepted scenario.now script.now }
         requires types { scenario.now.types ≡ types.now.declared.now }
-        ensures start { IfOk result (λ begun. IsAtStart types.now.declared.now script.now.body
+        requires maps { scenario.now.maps ≡ types.now.maps.now }
+        ensures start { IfOk result (λ begun. IsAtStart (declared_of types.now) script.now.body
             begun.names (reverse begun.frame.blocks.items)) }
     {
         accepted_scripts_are_safe();

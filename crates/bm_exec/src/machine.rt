@@ -1,19 +1,22 @@
 //! Machines: what statements run on.
 
 ghost use Rattle.std.specs.Prelude.{◌≡◌, ◌+◌, ◌<◌, ◌≤◌, ◌^◌, ◌∷◌, [], ℕ, IfSome, IsOk, List, None, OnOk, Option, Some, false, is_some, slice_get, true};
+ghost use Rattle.bm_lang.specs.declared.scenario.MapDeclaration.{MapDeclaration};
 ghost use Rattle.bm_journal.specs.declared.entry.Entry.TheVariants as entry;
 ghost use Rattle.bm_law.specs.State.{State};
 ghost use Rattle.bm_law.specs.Lists.{Log, Leaves};
 ghost use Rattle.bm_law.specs.Spans.{Records};
+ghost use Rattle.bm_law_scenario.specs.Calls.{IsCounted};
+ghost use Rattle.bm_law_scenario.specs.Declared.{Declared, IsSlot};
 ghost use Rattle.bm_law_work.specs.Grown.{GrewBy};
 ghost use Rattle.bm_exec.specs.Around.{Around, Entered, HasLeft, is_inside};
 ghost use Rattle.bm_exec.specs.Lists.{Behind};
-ghost use Rattle.bm_exec.specs.Living.{Acquired, Created, Disposed, GivenUp, HasRead, Lives, LivesAs, count_in, values_in};
+ghost use Rattle.bm_exec.specs.Living.{Acquired, Created, Exchanged, HasRead, HasType, IsMade, IsToPut, LetGo, Lives, LivesAs, type_in, values_in};
 ghost use Rattle.bm_exec.specs.Yields.{Unyielding};
 
 use bm_class::Class;
 use bm_journal::{ObjId, Values};
-use bm_lang::TypeId;
+use bm_lang::{MapId, TypeId};
 use bm_word::{Name, NoMemory};
 
 /// A processor at one level, as the statements of a script use it: it makes objects and gives them up. Machines are this
@@ -31,14 +34,17 @@ pub trait Machine {
     /// The level that the script runs at.
     ghost level: { Self → ℕ };
 
-    /// The objects that live.
+    /// The types and the maps that its statements may name.
+    ghost declared: { Self → Declared };
+
+    /// The objects to which names hold references, with how many of these: those that slots hold aren't counted in it.
     ghost lives: { Self → Lives };
 
     /// The plain section around the code.
     ghost around: { Self → Around };
 
-    /// How many times it was asked for an object, for the work after a statement, or for the begin or the end of a section. It may count
-    /// beforehand what handlers that are planned may still ask for, so a call may lower it.
+    /// How many times it was asked: for an object, a reference, a field, an exchange, the work after a statement, or the begin or the end
+    /// of a section. It may count beforehand what handlers that are planned may still ask for, so a call may lower it.
     ghost asked: { Self → ℕ };
 
     /// The classes for which deferred work runs behind each statement, until no flag is up; none where none runs.
@@ -57,11 +63,12 @@ pub trait Machine {
     /// allocation answers null. It takes no memory but the recorder's.
     fn create(&mut self, class: Class, type_id: TypeId, name: Name, values: Values) -> Option<ObjId>
         requires sound { sound self.old }
-        requires room { asked self.old + 1 < 2 ^ 22 }
+        requires room { asked self.old + 2 < 2 ^ 22 }
+        requires made { IsMade (declared self.old).types class type_id.0 values }
         ensures created { Created (level self.old) class type_id.0 name values (log self.old) (log self.new) (lives self.old) (lives self.new) result }
         ensures sound { sound self.new }
         ensures level { level self.new ≡ level self.old }
-        ensures asked { asked self.new ≤ asked self.old + 1 }
+        ensures asked { asked self.new ≤ asked self.old + 2 }
         ensures processor { processor self.new ≡ processor self.old }
         ensures behind { behind self.new ≡ behind self.old }
         ensures through { through self.new ≡ through self.old }
@@ -72,13 +79,14 @@ pub trait Machine {
     /// kernel/bpf/helpers.c.
     fn acquire(&mut self, object: ObjId)
         requires sound { sound self.old }
-        requires room { asked self.old + 1 < 2 ^ 22 }
+        requires room { asked self.old + 2 < 2 ^ 22 }
         requires living { (c : ℕ) × LivesAs (lives self.old) c object.unit object.life }
+        requires counted { IsCounted (declared self.old).types (type_in (lives self.old object.unit)) }
         ensures acquired { Acquired (level self.old) object (log self.old) (log self.new) (lives self.old) (lives self.new) }
         ensures lists { lists self.new ≡ lists self.old }
         ensures sound { sound self.new }
         ensures level { level self.new ≡ level self.old }
-        ensures asked { asked self.new ≤ asked self.old + 1 }
+        ensures asked { asked self.new ≤ asked self.old + 2 }
         ensures processor { processor self.new ≡ processor self.old }
         ensures behind { behind self.new ≡ behind self.old }
         ensures through { through self.new ≡ through self.old }
@@ -88,6 +96,7 @@ pub trait Machine {
     /// Reads a field of an object that lives, by its place. It takes no memory but the recorder's.
     fn read(&mut self, object: ObjId, place: u8)
         requires sound { sound self.old }
+        requires room { asked self.old + 1 < 2 ^ 22 }
         requires living { (c : ℕ) × LivesAs (lives self.old) c object.unit object.life }
         requires there { is_some (slice_get (values_in (lives self.old object.unit)) place) ≡ true }
         ensures read { HasRead (level self.old) object place (log self.old) (log self.new) (lives self.old) }
@@ -95,23 +104,46 @@ pub trait Machine {
         ensures lives { lives self.new ≡ lives self.old }
         ensures sound { sound self.new }
         ensures level { level self.new ≡ level self.old }
-        ensures asked { asked self.new ≤ asked self.old }
+        ensures asked { asked self.new ≤ asked self.old + 1 }
         ensures processor { processor self.new ≡ processor self.old }
         ensures behind { behind self.new ≡ behind self.old }
         ensures through { through self.new ≡ through self.old }
         ensures around { around self.new ≡ around self.old }
         ensures keeps { keeps self.old self.new };
 
-    /// Gives up a reference to an object that lives. If others are left, the object stays. If it is the last one, the object's unit is freed,
-    /// with delay where objects of its type are counted, else plainly. From `__bpf_obj_drop_impl` of kernel/bpf/helpers.c.
+    /// Gives up a reference to an object that lives. If others are left, be it in slots, the object stays. If it is the last one, the object's unit is
+    /// freed, with delay where objects of its type are counted, else plainly. From `__bpf_obj_drop_impl` of kernel/bpf/helpers.c.
     fn dispose(&mut self, object: ObjId, counted: bool)
         requires sound { sound self.old }
+        requires room { asked self.old + 1 < 2 ^ 22 }
         requires living { (c : ℕ) × LivesAs (lives self.old) c object.unit object.life }
-        ensures disposed { (c : ℕ) → LivesAs (lives self.old) c object.unit object.life → count_in (lives self.old object.unit) ≡ 1 → Disposed (level self.old) counted c object (lists self.old) (log self.old) (log self.new) (lives self.old) (lives self.new) }
-        ensures others { 1 < count_in (lives self.old object.unit) → GivenUp (level self.old) object (log self.old) (log self.new) (lives self.old) (lives self.new) }
+        requires typed { HasType (declared self.old).types (type_in (lives self.old object.unit)) counted }
+        ensures disposed { (c : ℕ) → LivesAs (lives self.old) c object.unit object.life
+            → LetGo (level self.old) counted c object (lists self.old) (log self.old) (log self.new)
+            (lives self.old) (lives self.new) }
         ensures sound { sound self.new }
         ensures level { level self.new ≡ level self.old }
-        ensures asked { asked self.new ≤ asked self.old }
+        ensures asked { asked self.new ≤ asked self.old + 1 }
+        ensures processor { processor self.new ≡ processor self.old }
+        ensures behind { behind self.new ≡ behind self.old }
+        ensures through { through self.new ≡ through self.old }
+        ensures around { around self.new ≡ around self.old }
+        ensures keeps { keeps self.old self.new };
+
+    /// Exchanges what a slot holds, by its number, with a reference or null: answers what was there. It takes no memory but the
+    /// recorder's. From `bpf_kptr_xchg` of kernel/bpf/helpers.c.
+    fn exchange(&mut self, slot: MapId, name: Name, put: Option<ObjId>) -> Option<ObjId>
+        requires sound { sound self.old }
+        requires room { asked self.old + 1 < 2 ^ 22 }
+        requires slot { (m : MapDeclaration) × IsSlot (declared self.old).maps slot.0 m
+            × (m.name ≡ name) × IsToPut m.type_id.0 (lives self.old) put }
+        ensures exchanged { (m : MapDeclaration) → IsSlot (declared self.old).maps slot.0 m
+            → Exchanged (level self.old) (declared self.old).types m.type_id.0 name put
+            (log self.old) (log self.new) (lives self.old) (lives self.new) result }
+        ensures lists { lists self.new ≡ lists self.old }
+        ensures sound { sound self.new }
+        ensures level { level self.new ≡ level self.old }
+        ensures asked { asked self.new ≤ asked self.old + 1 }
         ensures processor { processor self.new ≡ processor self.old }
         ensures behind { behind self.new ≡ behind self.old }
         ensures through { through self.new ≡ through self.old }
@@ -199,4 +231,7 @@ pub trait Machine {
 
     /// What each of two calls keeps, both keep.
     ghost keeps_join: { (a b c : Self) → keeps a b → keeps b c → keeps a c };
+
+    /// What its statements may name stays.
+    ghost keeps_declared: { (a b : Self) → keeps a b → declared b ≡ declared a };
 }

@@ -2,13 +2,14 @@
 
 ghost use Rattle.std.specs.Prelude.{◌≡◌, ◌+◌, ◌*◌, ◌<◌, ◌≤◌, ◌^◌, [], OnOk, IsOk, IfSome, true, false, Some, None, List, position, reverse, length};
 ghost use Rattle.bm_lang.specs.declared.scenario.Action.TheVariants as action;
-ghost use Rattle.bm_lang.specs.declared.scenario.TypeDeclaration.{TypeDeclaration};
+ghost use Rattle.bm_lang.specs.declared.scenario.MapDeclaration.{MapDeclaration};
 ghost use Rattle.bm_lang.specs.Limits.{block_cost};
 ghost use Rattle.bm_check.specs.Scripts.{Accepted};
 ghost use Rattle.bm_check.specs.Statements.{Setting};
 ghost use Rattle.bm_check.specs.Values.{Owning, SafeAction, is_owning};
 ghost use Rattle.bm_lang.specs.declared.scenario.TypeId.{TypeId as TypeIdValue};
-ghost use Rattle.bm_law_scenario.specs.Calls.{IsCounted};
+ghost use Rattle.bm_law_scenario.specs.Calls.{IsCounted, Puts};
+ghost use Rattle.bm_law_scenario.specs.Declared.{Declared, IsSlot};
 ghost use Rattle.bm_exec.specs.Fields.{HasField};
 ghost use Rattle.std.specs.Str.{bytes_eq};
 ghost use Rattle.bm_exec.specs.Seen.{names_of, has_name};
@@ -22,9 +23,11 @@ ghost use Rattle.bm_exec.specs.Bindings.{binds_among};
 ghost use Rattle.bm_exec.specs.Depth.{block_fits};
 ghost use Rattle.bm_exec.specs.Meets.{may_run};
 ghost use Rattle.bm_exec.specs.Runnable.{Classes, can_run_action, can_run_block};
+ghost use Rattle.bm_exec.specs.Given.{Gives, names_without};
 ghost use Rattle.bm_exec.specs.Going.{CanGoOn};
 ghost use Rattle.bm_exec.specs.Lists.{Behind};
 ghost use Rattle.bm_exec.specs.Living.{Holds, Lives};
+ghost use Rattle.bm_exec.specs.Named.{declared_of};
 ghost use Rattle.bm_exec.specs.declared.frame.Open.{Open};
 ghost use Rattle.bm_exec.specs.Running.{Performed, Ran, RanScript, Went};
 ghost use Rattle.bm_exec.specs.Steps.{weight};
@@ -38,16 +41,19 @@ use crate::machine::Machine;
 use crate::names::NameTable;
 use bm_check::accepted_scripts_are_safe;
 use bm_class::Class;
-use bm_journal::Values;
-use bm_lang::{Action, Block, Items, Parts, Script, Statement, TypeDeclaration, TypeId};
+use bm_journal::{ObjId, Values};
+use bm_lang::{
+    Action, Block, Items, MapDeclaration, MapId, Parts, Script, Statement, TypeDeclaration, TypeId,
+};
 use bm_word::{Name, NoMemory};
 use std::alloc::Global;
 
-/// A scenario's types, and the class of each.
+/// What a scenario's statements may name: its types, with the class of each, and its maps.
 #[derive(Clone, Copy)]
 pub struct Types<'s> {
     pub declared: &'s [TypeDeclaration],
     pub classes: &'s [Class],
+    pub maps: &'s [MapDeclaration],
 }
 
 /// Why a script stopped.
@@ -71,19 +77,20 @@ fn perform_new<'s, M: Machine>(
     values: &'s Items<u32>,
 ) -> Result<(), NoMemory>
     requires sound { M.sound machine.old }
+    requires declared { M.declared machine.old ≡ declared_of types.now }
     requires classes { Classes types.now.declared.now types.now.classes.now }
-    requires room { M.asked machine.old + 2 < 2 ^ 22 }
+    requires room { M.asked machine.old + 3 < 2 ^ 22 }
     requires holds { (base : Lives) × Holds types.now.declared.now base (M.lives machine.old) (names_of names.old) }
-    requires can { can_run_action types.now.declared.now (action.New name.now type_id values.now) ≡ true }
+    requires can { can_run_action (declared_of types.now) (action.New name.now type_id values.now) ≡ true }
     requires free { is_owning (value_of (names_of names.old name.now)) ≡ false }
     requires there { has_name names.old name.now ≡ true }
-    ensures performed { OnOk result ((os : List Open) → Performed types.now.declared.now (M.level machine.old) (M.around machine.old) (M.around machine.old) (M.behind machine.old) (M.lists machine.old) (M.lists machine.new) (action.New name.now type_id values.now) (names_of names.old) (names_of names.new) os os (M.lives machine.old) (M.lives machine.new) (M.asked machine.old) (M.asked machine.new) (M.log machine.old) (M.log machine.new)) }
+    ensures performed { OnOk result ((os : List Open) → Performed (declared_of types.now) (M.level machine.old) (M.around machine.old) (M.around machine.old) (M.behind machine.old) (M.lists machine.old) (M.lists machine.new) (action.New name.now type_id values.now) (names_of names.old) (names_of names.new) os os (M.lives machine.old) (M.lives machine.new) (M.asked machine.old) (M.asked machine.new) (M.log machine.old) (M.log machine.new)) }
     ensures sound { OnOk result (M.sound machine.new) }
     ensures level { OnOk result (M.level machine.new ≡ M.level machine.old) }
     ensures processor { OnOk result (M.processor machine.new ≡ M.processor machine.old) }
     ensures behind { OnOk result (M.behind machine.new ≡ M.behind machine.old) }
     ensures through { M.through machine.new ≡ M.through machine.old }
-    ensures asked { OnOk result (M.asked machine.new ≤ M.asked machine.old + 2) }
+    ensures asked { OnOk result (M.asked machine.new ≤ M.asked machine.old + 3) }
     ensures around { OnOk result (M.around machine.new ≡ M.around machine.old) }
     ensures keeps { OnOk result (M.keeps machine.old machine.new) }
     ensures yields { OnOk result (Unyielding (M.level machine.old) (M.log machine.old) (M.log machine.new)) }
@@ -115,20 +122,21 @@ fn perform_acquire<'s, M: Machine>(
     of: &'s Name,
 )
     requires sound { M.sound machine.old }
-    requires room { M.asked machine.old + 1 < 2 ^ 22 }
+    requires declared { M.declared machine.old ≡ declared_of types.now }
+    requires room { M.asked machine.old + 2 < 2 ^ 22 }
     requires holds { (base : Lives) × Holds types.now.declared.now base (M.lives machine.old) (names_of names.old) }
     requires owned { is_owning (value_of (names_of names.old of.now)) ≡ true }
     requires counted { (t : TypeIdValue) → value_of (names_of names.old of.now) ≡ Owning t → IsCounted types.now.declared.now t.0 }
     requires free { is_owning (value_of (names_of names.old name.now)) ≡ false }
     requires there { has_name names.old name.now ≡ true }
     requires down { Behind (M.behind machine.old) (M.lists machine.old) [] }
-    ensures performed { (os : List Open) → Performed types.now.declared.now (M.level machine.old) (M.around machine.old) (M.around machine.new) (M.behind machine.old) (M.lists machine.old) (M.lists machine.new) (action.Acquire name.now of.now) (names_of names.old) (names_of names.new) os os (M.lives machine.old) (M.lives machine.new) (M.asked machine.old) (M.asked machine.new) (M.log machine.old) (M.log machine.new) }
+    ensures performed { (os : List Open) → Performed (declared_of types.now) (M.level machine.old) (M.around machine.old) (M.around machine.new) (M.behind machine.old) (M.lists machine.old) (M.lists machine.new) (action.Acquire name.now of.now) (names_of names.old) (names_of names.new) os os (M.lives machine.old) (M.lives machine.new) (M.asked machine.old) (M.asked machine.new) (M.log machine.old) (M.log machine.new) }
     ensures sound { M.sound machine.new }
     ensures level { M.level machine.new ≡ M.level machine.old }
     ensures processor { M.processor machine.new ≡ M.processor machine.old }
     ensures behind { M.behind machine.new ≡ M.behind machine.old }
     ensures through { M.through machine.new ≡ M.through machine.old }
-    ensures asked { M.asked machine.new ≤ M.asked machine.old + 1 }
+    ensures asked { M.asked machine.new ≤ M.asked machine.old + 2 }
     ensures around { M.around machine.new ≡ M.around machine.old }
     ensures keeps { M.keeps machine.old machine.new }
     ensures yields { Unyielding (M.level machine.old) (M.log machine.old) (M.log machine.new) }
@@ -162,17 +170,19 @@ fn perform_get<'s, M: Machine>(
     field: &'s Name,
 )
     requires sound { M.sound machine.old }
+    requires declared { M.declared machine.old ≡ declared_of types.now }
+    requires room { M.asked machine.old + 1 < 2 ^ 22 }
     requires holds { (base : Lives) × Holds types.now.declared.now base (M.lives machine.old) (names_of names.now) }
     requires owned { is_owning (value_of (names_of names.now name.now)) ≡ true }
     requires field { (t : TypeIdValue) → value_of (names_of names.now name.now) ≡ Owning t → HasField types.now.declared.now t.0 field.now }
     requires down { Behind (M.behind machine.old) (M.lists machine.old) [] }
-    ensures performed { (os : List Open) → Performed types.now.declared.now (M.level machine.old) (M.around machine.old) (M.around machine.new) (M.behind machine.old) (M.lists machine.old) (M.lists machine.new) (action.Get name.now field.now) (names_of names.now) (names_of names.now) os os (M.lives machine.old) (M.lives machine.new) (M.asked machine.old) (M.asked machine.new) (M.log machine.old) (M.log machine.new) }
+    ensures performed { (os : List Open) → Performed (declared_of types.now) (M.level machine.old) (M.around machine.old) (M.around machine.new) (M.behind machine.old) (M.lists machine.old) (M.lists machine.new) (action.Get name.now field.now) (names_of names.now) (names_of names.now) os os (M.lives machine.old) (M.lives machine.new) (M.asked machine.old) (M.asked machine.new) (M.log machine.old) (M.log machine.new) }
     ensures sound { M.sound machine.new }
     ensures level { M.level machine.new ≡ M.level machine.old }
     ensures processor { M.processor machine.new ≡ M.processor machine.old }
     ensures behind { M.behind machine.new ≡ M.behind machine.old }
     ensures through { M.through machine.new ≡ M.through machine.old }
-    ensures asked { M.asked machine.new ≤ M.asked machine.old }
+    ensures asked { M.asked machine.new ≤ M.asked machine.old + 1 }
     ensures around { M.around machine.new ≡ M.around machine.old }
     ensures keeps { M.keeps machine.old machine.new }
     ensures yields { Unyielding (M.level machine.old) (M.log machine.old) (M.log machine.new) }
@@ -197,11 +207,12 @@ fn perform_drop<'s, M: Machine>(
     name: &'s Name,
 ) -> Result<(), NoMemory>
     requires sound { M.sound machine.old }
+    requires declared { M.declared machine.old ≡ declared_of types.now }
     requires classes { Classes types.now.declared.now types.now.classes.now }
     requires room { M.asked machine.old + 2 < 2 ^ 22 }
     requires holds { (base : Lives) × Holds types.now.declared.now base (M.lives machine.old) (names_of names.old) }
     requires owned { is_owning (value_of (names_of names.old name.now)) ≡ true }
-    ensures performed { OnOk result ((os : List Open) → Performed types.now.declared.now (M.level machine.old) (M.around machine.old) (M.around machine.old) (M.behind machine.old) (M.lists machine.old) (M.lists machine.new) (action.Drop name.now) (names_of names.old) (names_of names.new) os os (M.lives machine.old) (M.lives machine.new) (M.asked machine.old) (M.asked machine.new) (M.log machine.old) (M.log machine.new)) }
+    ensures performed { OnOk result ((os : List Open) → Performed (declared_of types.now) (M.level machine.old) (M.around machine.old) (M.around machine.old) (M.behind machine.old) (M.lists machine.old) (M.lists machine.new) (action.Drop name.now) (names_of names.old) (names_of names.new) os os (M.lives machine.old) (M.lives machine.new) (M.asked machine.old) (M.asked machine.new) (M.log machine.old) (M.log machine.new)) }
     ensures sound { OnOk result (M.sound machine.new) }
     ensures level { OnOk result (M.level machine.new ≡ M.level machine.old) }
     ensures processor { OnOk result (M.processor machine.new ≡ M.processor machine.old) }
@@ -227,6 +238,74 @@ fn perform_drop<'s, M: Machine>(
     machine.settle()
 }
 
+// Takes what the name that is given holds out of a table: the name holds nothing then. None where no name is given.
+fn take_given(names: &mut NameTable, given: &Option<Name>) -> Option<ObjId>
+    requires gives { (t : TypeIdValue) × Gives t given.now (names_of names.old) }
+    ensures puts { (t : TypeIdValue) → Gives t given.now (names_of names.old)
+        → Puts given.now t (names_of names.old) result (names_of names.new) }
+    ensures known { names.new.names.keys ≡ names.old.names.keys }
+{
+    let Some(given) = given else {
+        return None;
+    };
+    let Holding::Object(_, object) = names.holding(given.as_bytes()) else {
+        unreachable!();
+    };
+    let Ok(()) = names.put(given.as_bytes(), Holding::Nothing) else {
+        unreachable!();
+    };
+    Some(object)
+}
+
+// `xchg y s x` and `xchg y s null`: puts what x holds, or null, into the slot s. Then y holds what was there, and x nothing, unless it is
+// y.
+fn perform_exchange<'s, M: Machine>(
+    names: &mut NameTable,
+    machine: &mut M,
+    types: &Types<'s>,
+    name: &'s Name,
+    slot: MapId,
+    given: &'s Option<Name>,
+)
+    requires sound { M.sound machine.old }
+    requires declared { M.declared machine.old ≡ declared_of types.now }
+    requires room { M.asked machine.old + 1 < 2 ^ 22 }
+    requires holds { (base : Lives)
+        × Holds types.now.declared.now base (M.lives machine.old) (names_of names.old) }
+    requires can { can_run_action (declared_of types.now)
+        (action.Exchange name.now slot given.now) ≡ true }
+    requires gives { (m : MapDeclaration) → IsSlot types.now.maps.now slot.0 m
+        → Gives m.type_id given.now (names_of names.old) }
+    requires free { is_owning (value_of (names_without given.now (names_of names.old) name.now))
+        ≡ false }
+    requires there { has_name names.old name.now ≡ true }
+    requires down { Behind (M.behind machine.old) (M.lists machine.old) [] }
+    ensures performed { (os : List Open) → Performed (declared_of types.now) (M.level machine.old)
+        (M.around machine.old) (M.around machine.new) (M.behind machine.old)
+        (M.lists machine.old) (M.lists machine.new) (action.Exchange name.now slot given.now)
+        (names_of names.old) (names_of names.new) os os (M.lives machine.old) (M.lives machine.new)
+        (M.asked machine.old) (M.asked machine.new) (M.log machine.old) (M.log machine.new) }
+    ensures sound { M.sound machine.new }
+    ensures level { M.level machine.new ≡ M.level machine.old }
+    ensures processor { M.processor machine.new ≡ M.processor machine.old }
+    ensures behind { M.behind machine.new ≡ M.behind machine.old }
+    ensures through { M.through machine.new ≡ M.through machine.old }
+    ensures asked { M.asked machine.new ≤ M.asked machine.old + 1 }
+    ensures around { M.around machine.new ≡ M.around machine.old }
+    ensures keeps { M.keeps machine.old machine.new }
+    ensures yields { Unyielding (M.level machine.old) (M.log machine.old) (M.log machine.new) }
+    ensures known { names.new.names.keys ≡ names.old.names.keys }
+{
+    let Some(declared) = types.maps.get(slot.0) else {
+        unreachable!();
+    };
+    let put = take_given(names, given);
+    let was = machine.exchange(slot, declared.name.duplicate(), put);
+    let Ok(()) = names.put(name.as_bytes(), holding_of(declared.type_id, was)) else {
+        unreachable!();
+    };
+}
+
 // `section`: its block is opened, in a plain section that begins where the code is in none.
 fn perform_section<'s, M: Machine>(frame: &mut Frame<'s>, machine: &mut M, body: &'s Block)
     requires sound { M.sound machine.old }
@@ -234,7 +313,7 @@ fn perform_section<'s, M: Machine>(frame: &mut Frame<'s>, machine: &mut M, body:
     requires fits { array_vec_len frame.old.blocks < 16 }
     requires down { Behind (M.behind machine.old) (M.lists machine.old) [] }
     requires open { 0 < length (reverse frame.old.blocks.items) }
-    ensures performed { (types : List TypeDeclaration) (names : Names) → Performed types (M.level machine.old) (M.around machine.old) (M.around machine.new) (M.behind machine.old) (M.lists machine.old) (M.lists machine.new) (action.Section body.now) names names (reverse frame.old.blocks.items) (reverse frame.new.blocks.items) (M.lives machine.old) (M.lives machine.new) (M.asked machine.old) (M.asked machine.new) (M.log machine.old) (M.log machine.new) }
+    ensures performed { (d : Declared) (names : Names) → Performed d (M.level machine.old) (M.around machine.old) (M.around machine.new) (M.behind machine.old) (M.lists machine.old) (M.lists machine.new) (action.Section body.now) names names (reverse frame.old.blocks.items) (reverse frame.new.blocks.items) (M.lives machine.old) (M.lives machine.new) (M.asked machine.old) (M.asked machine.new) (M.log machine.old) (M.log machine.new) }
     ensures sound { M.sound machine.new }
     ensures level { M.level machine.new ≡ M.level machine.old }
     ensures processor { M.processor machine.new ≡ M.processor machine.old }
@@ -269,20 +348,21 @@ fn perform<'s, M: Machine>(
     statement: &'s Statement,
 ) -> Result<(), NoMemory>
     requires sound { M.sound machine.old }
+    requires declared { M.declared machine.old ≡ declared_of types.now }
     requires classes { Classes types.now.declared.now types.now.classes.now }
-    requires room { M.asked machine.old + 2 < 2 ^ 22 }
+    requires room { M.asked machine.old + 3 < 2 ^ 22 }
     requires holds { (base : Lives) × Holds types.now.declared.now base (M.lives machine.old) (names_of names.old) }
-    requires may { may_run types.now.declared.now (has_name names.old) (length (reverse frame.old.blocks.items)) statement.now.action ≡ true }
+    requires may { may_run (declared_of types.now) (has_name names.old) (length (reverse frame.old.blocks.items)) statement.now.action ≡ true }
     requires down { Behind (M.behind machine.old) (M.lists machine.old) [] }
     requires open { 0 < length (reverse frame.old.blocks.items) }
-    requires needed { (e : Setting) × (e.types ≡ types.now.declared.now) × SafeAction e (store_of (names_of names.old)) statement.now.action (λ r. SafeStack e r (reverse frame.old.blocks.items)) }
-    ensures performed { OnOk result (Performed types.now.declared.now (M.level machine.old) (M.around machine.old) (M.around machine.new) (M.behind machine.old) (M.lists machine.old) (M.lists machine.new) statement.now.action (names_of names.old) (names_of names.new) (reverse frame.old.blocks.items) (reverse frame.new.blocks.items) (M.lives machine.old) (M.lives machine.new) (M.asked machine.old) (M.asked machine.new) (M.log machine.old) (M.log machine.new)) }
+    requires needed { (e : Setting) × (e.types ≡ types.now.declared.now) × (e.maps ≡ types.now.maps.now) × SafeAction e (store_of (names_of names.old)) statement.now.action (λ r. SafeStack e r (reverse frame.old.blocks.items)) }
+    ensures performed { OnOk result (Performed (declared_of types.now) (M.level machine.old) (M.around machine.old) (M.around machine.new) (M.behind machine.old) (M.lists machine.old) (M.lists machine.new) statement.now.action (names_of names.old) (names_of names.new) (reverse frame.old.blocks.items) (reverse frame.new.blocks.items) (M.lives machine.old) (M.lives machine.new) (M.asked machine.old) (M.asked machine.new) (M.log machine.old) (M.log machine.new)) }
     ensures sound { OnOk result (M.sound machine.new) }
     ensures level { OnOk result (M.level machine.new ≡ M.level machine.old) }
     ensures processor { OnOk result (M.processor machine.new ≡ M.processor machine.old) }
     ensures behind { OnOk result (M.behind machine.new ≡ M.behind machine.old) }
     ensures through { M.through machine.new ≡ M.through machine.old }
-    ensures asked { OnOk result (M.asked machine.new ≤ M.asked machine.old + 2) }
+    ensures asked { OnOk result (M.asked machine.new ≤ M.asked machine.old + 3) }
     ensures keeps { OnOk result (M.keeps machine.old machine.new) }
     ensures yields { OnOk result (YieldsBy (is_yield statement.now.action) (M.level machine.old) (M.log machine.old) (M.log machine.new)) }
     ensures known { names.new.names.keys ≡ names.old.names.keys }
@@ -301,6 +381,10 @@ fn perform<'s, M: Machine>(
         }
         Action::Get { name, field } => {
             perform_get(names, machine, types, name, field);
+            Ok(())
+        }
+        Action::Exchange { name, slot, given } => {
+            perform_exchange(names, machine, types, name, *slot, given);
             Ok(())
         }
         Action::If {
@@ -340,8 +424,8 @@ fn perform<'s, M: Machine>(
 /// Runs a script from where its frame stands up to and with its next `yield`, or without one to its end: one statement after the
 /// other, each with the deferred work behind it. No work is left to run before it, nor after it. A script that the checker accepts is
 /// never stuck, whatever the machine replies. Where it yields, the frame stands behind the `yield`, and what was needed of it, its names
-/// and the machine still holds. At its end it owns nothing: those objects live then that lived before the script began. The names
-/// that it binds are in the table already. So out of memory in the deferred work is the only other way to stop, and where no work runs
+/// and the machine still holds. At its end its names own nothing: names hold references then to those objects to which they held them
+/// before the script began, and as many. The names that it binds are in the table already. So out of memory in the deferred work is the only other way to stop, and where no work runs
 /// there is none; the machine is of no further use then.
 pub fn resume<'s, M: Machine>(
     frame: &mut Frame<'s>,
@@ -350,19 +434,20 @@ pub fn resume<'s, M: Machine>(
     types: &Types<'s>,
 ) -> Stopped
     requires sound { M.sound machine.old }
+    requires declared { M.declared machine.old ≡ declared_of types.now }
     requires classes { Classes types.now.declared.now types.now.classes.now }
-    requires room { M.asked machine.old + 2 * stack_cost (reverse frame.old.blocks.items) < 2 ^ 22 }
-    requires can { CanGoOn types.now.declared.now (M.around machine.old) (M.behind machine.old)
+    requires room { M.asked machine.old + 3 * stack_cost (reverse frame.old.blocks.items) < 2 ^ 22 }
+    requires can { CanGoOn (declared_of types.now) (M.around machine.old) (M.behind machine.old)
         (M.lists machine.old) (M.lives machine.old) names.old (reverse frame.old.blocks.items) }
     ensures turn { IsTurn result (M.level machine.old) (M.log machine.old) (M.log machine.new) }
-    ensures ended { result ≡ stopped.Ended → Ran types.now.declared.now (M.level machine.old) (M.around machine.old) (M.behind machine.old) (M.lists machine.old) (names_of names.old) (names_of names.new) (reverse frame.old.blocks.items) (M.log machine.old) (M.log machine.new) }
-    ensures yielded { result ≡ stopped.Yielded → Went types.now.declared.now (M.level machine.old) (M.around machine.old) (M.around machine.new) (M.behind machine.old) (M.lists machine.old) (M.lists machine.new) (names_of names.old) (names_of names.new) (reverse frame.old.blocks.items) (reverse frame.new.blocks.items) (M.lives machine.old) (M.lives machine.new) (M.asked machine.old) (M.asked machine.new) (M.log machine.old) (M.log machine.new) }
+    ensures ended { result ≡ stopped.Ended → Ran (declared_of types.now) (M.level machine.old) (M.around machine.old) (M.behind machine.old) (M.lists machine.old) (names_of names.old) (names_of names.new) (reverse frame.old.blocks.items) (M.log machine.old) (M.log machine.new) }
+    ensures yielded { result ≡ stopped.Yielded → Went (declared_of types.now) (M.level machine.old) (M.around machine.old) (M.around machine.new) (M.behind machine.old) (M.lists machine.old) (M.lists machine.new) (names_of names.old) (names_of names.new) (reverse frame.old.blocks.items) (reverse frame.new.blocks.items) (M.lives machine.old) (M.lives machine.new) (M.asked machine.old) (M.asked machine.new) (M.log machine.old) (M.log machine.new) }
     ensures can { result ≡ stopped.Yielded
-        → CanGoOn types.now.declared.now (M.around machine.new) (M.behind machine.new)
+        → CanGoOn (declared_of types.now) (M.around machine.new) (M.behind machine.new)
         (M.lists machine.new) (M.lives machine.new) names.new (reverse frame.new.blocks.items) }
     ensures less { result ≡ stopped.Yielded → weight (reverse frame.new.blocks.items) < weight (reverse frame.old.blocks.items) }
     ensures lives { result ≡ stopped.Ended → (base : Lives) → Holds types.now.declared.now base (M.lives machine.old) (names_of names.old) → M.lives machine.new ≡ base }
-    ensures asked { result ≡ stopped.Ended → M.asked machine.new ≤ M.asked machine.old + 2 * stack_cost (reverse frame.old.blocks.items) }
+    ensures asked { result ≡ stopped.Ended → M.asked machine.new ≤ M.asked machine.old + 3 * stack_cost (reverse frame.old.blocks.items) }
     ensures down { IfWent result (Behind (M.behind machine.old) (M.lists machine.new) []) }
     ensures sound { IfWent result (M.sound machine.new) }
     ensures level { IfWent result (M.level machine.new ≡ M.level machine.old) }
@@ -398,13 +483,14 @@ fn run_on<'s, M: Machine>(
     types: &Types<'s>,
 ) -> Result<(), NoMemory>
     requires sound { M.sound machine.old }
+    requires declared { M.declared machine.old ≡ declared_of types.now }
     requires classes { Classes types.now.declared.now types.now.classes.now }
-    requires room { M.asked machine.old + 2 * stack_cost (reverse frame.old.blocks.items) < 2 ^ 22 }
-    requires can { CanGoOn types.now.declared.now (M.around machine.old) (M.behind machine.old)
+    requires room { M.asked machine.old + 3 * stack_cost (reverse frame.old.blocks.items) < 2 ^ 22 }
+    requires can { CanGoOn (declared_of types.now) (M.around machine.old) (M.behind machine.old)
         (M.lists machine.old) (M.lives machine.old) names.old (reverse frame.old.blocks.items) }
-    ensures ended { OnOk result (Ran types.now.declared.now (M.level machine.old) (M.around machine.old) (M.behind machine.old) (M.lists machine.old) (names_of names.old) (names_of names.new) (reverse frame.old.blocks.items) (M.log machine.old) (M.log machine.new)) }
+    ensures ended { OnOk result (Ran (declared_of types.now) (M.level machine.old) (M.around machine.old) (M.behind machine.old) (M.lists machine.old) (names_of names.old) (names_of names.new) (reverse frame.old.blocks.items) (M.log machine.old) (M.log machine.new)) }
     ensures lives { OnOk result ((base : Lives) → Holds types.now.declared.now base (M.lives machine.old) (names_of names.old) → M.lives machine.new ≡ base) }
-    ensures asked { OnOk result (M.asked machine.new ≤ M.asked machine.old + 2 * stack_cost (reverse frame.old.blocks.items)) }
+    ensures asked { OnOk result (M.asked machine.new ≤ M.asked machine.old + 3 * stack_cost (reverse frame.old.blocks.items)) }
     ensures down { OnOk result (Behind (M.behind machine.old) (M.lists machine.new) []) }
     ensures sound { OnOk result (M.sound machine.new) }
     ensures level { OnOk result (M.level machine.new ≡ M.level machine.old) }
@@ -428,7 +514,7 @@ fn run_on<'s, M: Machine>(
 /// Runs a handler's script that the checker accepted, whole, on a machine behind whose statements no deferred work runs. The
 /// names that it binds are in the table already, so it takes no memory but the recorder's and refuses nothing. Whatever the
 /// machine replies it is never stuck; what it leaves in the log is a run of its block from names that hold nothing, and at its
-/// end its names own nothing, and those objects live that lived before it.
+/// end its names own nothing, and names hold those references that they held before it.
 pub fn run_handler<'s, M: Machine>(
     machine: &mut M,
     names: &mut NameTable,
@@ -437,17 +523,19 @@ pub fn run_handler<'s, M: Machine>(
     script: &'s Script,
 )
     requires sound { M.sound machine.old }
+    requires declared { M.declared machine.old ≡ declared_of types.now }
     requires bare { M.behind machine.old ≡ None }
     requires classes { Classes types.now.declared.now types.now.classes.now }
-    requires room { M.asked machine.old + 2 * block_cost script.now.body < 2 ^ 22 }
-    requires can { can_run_block types.now.declared.now script.now.body ≡ true }
+    requires room { M.asked machine.old + 3 * block_cost script.now.body < 2 ^ 22 }
+    requires can { can_run_block (declared_of types.now) script.now.body ≡ true }
     requires fits { block_fits 16 script.now.body ≡ true }
     requires accepted { Accepted scenario.now script.now }
     requires types { scenario.now.types ≡ types.now.declared.now }
+    requires maps { scenario.now.maps ≡ types.now.maps.now }
     requires bound { binds_among (has_name names.old) script.now.body ≡ true }
-    ensures ran { RanScript types.now.declared.now (M.level machine.old) (is_inside (M.around machine.old)) None (M.lists machine.old) script.now (M.log machine.old) (M.log machine.new) }
+    ensures ran { RanScript (declared_of types.now) (M.level machine.old) (is_inside (M.around machine.old)) None (M.lists machine.old) script.now (M.log machine.old) (M.log machine.new) }
     ensures lives { M.lives machine.new ≡ M.lives machine.old }
-    ensures asked { M.asked machine.new ≤ M.asked machine.old + 2 * block_cost script.now.body }
+    ensures asked { M.asked machine.new ≤ M.asked machine.old + 3 * block_cost script.now.body }
     ensures names { names.new.names.keys ≡ names.old.names.keys }
     ensures sound { M.sound machine.new }
     ensures level { M.level machine.new ≡ M.level machine.old }

@@ -55,13 +55,13 @@ length-without front rest x =
 pub taken-fewer : (due : Due) (a b : List AtLine) → Takes due a b → length b + 1 ≡ length a
 taken-fewer due a b t = (let e = ap (λ (xs : List AtLine). length xs) t.was in let f = ap (λ (xs : List AtLine). length xs) t.now_is in let n = length-without t.front t.rest t.line in omega (arith, e, f, n))
 
-pub taken-cost : (s : Parts) (due : Due) (a b : List AtLine) → Takes due a b → left_cost s b + 2 * script_cost (slice_get s.scripts due.script.0) ≡ left_cost s a
+pub taken-cost : (s : Parts) (due : Due) (a b : List AtLine) → Takes due a b → left_cost s b + 3 * script_cost (slice_get s.scripts due.script.0) ≡ left_cost s a
 taken-cost s due a b t =
-    let f : AtLine → ℕ = λ line. 2 * script_cost (slice_get s.scripts line.script.0) in
+    let f : AtLine → ℕ = λ line. 3 * script_cost (slice_get s.scripts line.script.0) in
     let e = ap (λ (xs : List AtLine). sum_by f xs) t.was in
     let g = ap (λ (xs : List AtLine). sum_by f xs) t.now_is in
     let n = sum-without f t.front t.rest t.line in
-    let d = ap (λ (y : Due). 2 * script_cost (slice_get s.scripts y.script.0)) t.told in
+    let d = ap (λ (y : Due). 3 * script_cost (slice_get s.scripts y.script.0)) t.told in
     omega (arith, e, g, n, d)
 
 taken-all : (P : AtLine → Type 0) (due : Due) (a b : List AtLine) → Takes due a b → All P a → All P b
@@ -108,6 +108,8 @@ module _ {W : Type 0} (knows : Knows W) where
         asks = omega (arith, c, asks);
         words = omega (arith, n, words);
         inside = r.inside;
+        calls = r.calls;
+        stocked = r.stocked;
       }
 
   -- The handler that a store of planned ones answered begins with the entry that stands next, by what code knows that is here.
@@ -127,6 +129,7 @@ module _ {W : Type 0} (knows : Knows W) where
         record {
           begins = both (log_of m) (λ es u e name i. subst (At es name) (within-is (known_of knows m).grace.processor p.scenario.now m.handlers.planned h.planned m.running.items due) (f x es name u refl a.at.level e i)) a.at.at n;
           tells = a.tells;
+          counts = a.counts;
           level = a.at.level;
           deep = a.at.deep;
           above = omega (arith, above);

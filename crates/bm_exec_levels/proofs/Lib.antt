@@ -14,6 +14,7 @@ pub mod Words
 pub mod Phrases
 pub mod PhraseSections
 pub mod Begun
+pub mod Stocked
 pub mod Grounds
 pub mod Moved
 pub mod Scripts

@@ -13,7 +13,9 @@ use Rattle.bm_law.specs.Spans.{Records}
 use Rattle.bm_law.proofs.Spans.{Records-one, Records-join}
 use Rattle.bm_law_scenario.specs.Calls.{Allocates, Frees}
 use Rattle.bm_cache.specs.Tokens.{seal_numbers}
-use Rattle.bm_exec.specs.Living.{Acquired, Created, Disposed, GivenUp, HasRead, count_in, home_of, new_life, recounted, values_in, with_life}
+use Rattle.bm_journal.specs.declared.ids.Tag.{Tag}
+use Rattle.bm_lang.specs.declared.scenario.TypeDeclaration.{TypeDeclaration}
+use Rattle.bm_exec.specs.Living.{Acquired, Created, Disposed, Exchanged, GivenUp, HasRead, TakesOut, count_in, home_of, let_go, new_life, recounted, values_in, with_life, without}
 use Rattle.bm_exec_levels.specs.Freeing.{FreeRest, free_entry}
 
 -- ---- what the call left
@@ -50,8 +52,8 @@ batch_of s c = is_some (s.rows c).deferred.plain
 
 pub given-up : (delayed : Bool) (l fell c : ℕ) (o : ObjId) (u : UnitState) (s t : State ℕ) (rest : List Entry) (log0 log1 log2 log3 : Option Log) (lives lives' : Lives) →
     u.number ≡ o.unit → u.class ≡ c → t ≡ s → home_of (lives o.unit) ≡ Some u.home → Appends log0 l (entry.Drop o.unit o.life) log1 → Appends log1 l entry.Last log2 → Records l (free_entry delayed u.number u.home ∷ rest) log2 log3 → FreeRest delayed fell u.class u.number (batch_of t u.class) rest →
-    lives' ≡ with_life o.unit None lives → Disposed l delayed c o s log0 log3 lives lives'
-given-up delayed l fell c o u s t rest log0 log1 log2 log3 lives lives' number class same home n m r f ends = record {
+    count_in (lives o.unit) ≡ 1 → lives' ≡ let_go o.unit lives → Disposed l delayed c o s log0 log3 lives lives'
+given-up delayed l fell c o u s t rest log0 log1 log2 log3 lives lives' number class same home n m r f only ends = record {
   home = u.home;
   own = free_entry delayed u.number u.home ∷ rest;
   records = Records-join l (entry.Drop o.unit o.life ∷ []) (entry.Last ∷ free_entry delayed u.number u.home ∷ rest) log0 log1 log3 (Records-one l (entry.Drop o.unit o.life) log0 log1 n)
@@ -60,28 +62,31 @@ given-up delayed l fell c o u s t rest log0 log1 log2 log3 lives lives' number c
       let own = free_entry delayed u.number u.home ∷ rest in
       subst (λ k. Frees delayed k o.unit u.home (batch_of s k) own) class (subst (λ k. Frees delayed u.class k u.home (batch_of s u.class) own) number (subst (λ z. Frees delayed u.class u.number u.home (batch_of z u.class) own) same (rest-phrase delayed fell u.class u.number u.home (batch_of t u.class) rest f)));
   to_home = home;
+  only = only;
   ends = ends;
 }
 
 -- one more reference, and one less
-pub one-more : (l : ℕ) (o : ObjId) (seen : ℕ) (log log' : Option Log) (lives lives' : Lives) → 0 < seen → Appends log l (entry.Acquire o.unit o.life seen) log' → seen ≡ count_in (lives o.unit) → lives' ≡ recounted o.unit (count_in (lives o.unit) + 1) lives → Acquired l o log log' lives lives'
-one-more l o seen log log' lives lives' some a counts e = record {
+pub one-more : (l : ℕ) (o : ObjId) (seen : ℕ) (log log' : Option Log) (lives lives' : Lives) → 0 < seen → Appends log l (entry.Acquire o.unit o.life seen) log' → lives' ≡ recounted o.unit (count_in (lives o.unit) + 1) lives → Acquired l o log log' lives lives'
+one-more l o seen log log' lives lives' some a e = record {
   seen = seen;
   some = some;
   records = Records-one l (entry.Acquire o.unit o.life seen) log log' a;
-  counted = sym counts;
-  more = e ∙ ap (λ k. recounted o.unit (k + 1) lives) (sym counts);
+  more = e;
 }
 
-pub one-less : (l : ℕ) (o : ObjId) (seen : ℕ) (log mid log' : Option Log) (lives lives' : Lives) → 1 < count_in (lives o.unit) → Appends log l (entry.Drop o.unit o.life) mid → Appends mid l (entry.Still seen) log' → seen ≡ count_in (lives o.unit) → lives' ≡ recounted o.unit (count_in (lives o.unit) - 1) lives → GivenUp l o log log' lives lives'
-one-less l o seen log mid log' lives lives' others a b counts e = record {
+pub one-less : (l : ℕ) (o : ObjId) (seen : ℕ) (log mid log' : Option Log) (lives lives' : Lives) → 1 < seen → Appends log l (entry.Drop o.unit o.life) mid → Appends mid l (entry.Still seen) log' → lives' ≡ let_go o.unit lives → GivenUp l o log log' lives lives'
+one-less l o seen log mid log' lives lives' others a b e = record {
   seen = seen;
-  others = subst (λ k. 1 < k) (sym counts) others;
+  others = others;
   records = Records-join l (entry.Drop o.unit o.life ∷ []) (entry.Still seen ∷ []) log mid log' (Records-one l (entry.Drop o.unit o.life) log mid a) (Records-one l (entry.Still seen) mid log' b);
-  counted = sym counts;
-  less = e ∙ ap (λ k. recounted o.unit (k - 1) lives) (sym counts);
+  less = e;
 }
 
 -- a read
 pub one-read : (l : ℕ) (o : ObjId) (place value : ℕ) (log log' : Option Log) (lives : Lives) → Appends log l (entry.Get o.unit o.life place value) log' → slice_get (values_in (lives o.unit)) place ≡ Some value → HasRead l o place log log' lives
 one-read l o place value log log' lives a found = record { value = value; records = Records-one l (entry.Get o.unit o.life place value) log log' a; found = found }
+
+-- an exchange
+pub one-exchanged : (l : ℕ) (types : List TypeDeclaration) (t : ℕ) (name : List ℕ) (put was : Option ObjId) (by : Option Tag) (log log' : Option Log) (lives lives' : Lives) → Appends log l (entry.Xchg name put was by) log' → TakesOut types t (without put lives) lives' was → Exchanged l types t name put log log' lives lives' was
+one-exchanged l types t name put was from log log' lives lives' a takes = record { by = from; records = Records-one l (entry.Xchg name put was from) log log' a; takes = takes }

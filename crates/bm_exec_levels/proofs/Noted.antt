@@ -1,5 +1,5 @@
 -- What a call of the code of a level does to its processor.
-use Rattle.std.proofs.Common.{◌≡◌, ◌≢◌, ◌+◌, ℕ, zero, suc, false, [], ◌∷◌, Option, refl, sym, ap, subst, arith}
+use Rattle.std.proofs.Common.{◌≡◌, ◌≢◌, ◌≤◌, ◌+◌, ℕ, zero, suc, false, [], ◌∷◌, Option, refl, sym, ap, subst, arith}
 use Rattle.std.specs.Prelude.{◌%◌}
 use Rattle.bm_journal.specs.declared.ids.Domain.{Domain}
 use Rattle.bm_journal.specs.declared.ids.Domain.TheVariants.{Plain, Tracing}
@@ -161,3 +161,47 @@ module _ {W : Type 0} (knows : Knows W) where
       let tests : tests_of knows (with_side m w) ≡ tests_of knows m = tests-before (knows.rights m.side) (knows.rights w) s in
       let C : Tests → Type 0 = λ t. Came (λ (r : Recorded). r.told) l (tests_of knows m) t m.caches m.caches in
       subst C (sym tests) (came-still l m)
+
+  -- another number of calls is no matter
+  pub between-calls : (i j l n : ℕ) (p : Program) (a b : Processor W) → Between knows i j l p a b → Between knows i j l p a (record b { calls = n })
+  between-calls i j l n p a b x = record {
+    fine = x.fine;
+    came = x.came;
+    stays = record {
+      settled = x.stays.settled;
+      running = x.stays.running;
+      tables = x.stays.tables;
+      inside = x.stays.inside;
+      asks_most = x.stays.asks_most;
+      words_most = x.stays.words_most;
+      parity = x.stays.parity;
+      inner = x.stays.inner;
+      tracing = x.stays.tracing;
+      processors = x.stays.processors;
+      processor = x.stays.processor;
+    };
+    goes = x.goes;
+    fewer = x.fewer;
+  }
+
+  -- it asked for no more than so much
+  pub between-most : (i k j l : ℕ) (p : Program) (a b : Processor W) → i ≤ k → Between knows i j l p a b → Between knows k j l p a b
+  between-most i k j l p a b most x = record {
+    fine = x.fine;
+    came = x.came;
+    stays = record {
+      settled = x.stays.settled;
+      running = x.stays.running;
+      tables = x.stays.tables;
+      inside = x.stays.inside;
+      asks_most = (let h = x.stays.asks_most in omega (arith, h, most));
+      words_most = x.stays.words_most;
+      parity = x.stays.parity;
+      inner = x.stays.inner;
+      tracing = x.stays.tracing;
+      processors = x.stays.processors;
+      processor = x.stays.processor;
+    };
+    goes = x.goes;
+    fewer = x.fewer;
+  }

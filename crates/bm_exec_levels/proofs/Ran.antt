@@ -27,8 +27,8 @@ use Rattle.bm_exec_levels.proofs.Turn.{turned}
 use Rattle.bm_grace.specs.declared.grace.Knows.{Ghosts as Knows}
 
 -- what it may ask for
-pub cost-is : (p : Program) (due : Due) (x : Script) → slice_get p.scenario.now.scripts due.script.0 ≡ Some x → due_cost p due ≡ 2 * script_cost (Some x)
-cost-is p due x f = ap (λ (o : Option Script). 2 * script_cost o) f
+pub cost-is : (p : Program) (due : Due) (x : Script) → slice_get p.scenario.now.scripts due.script.0 ≡ Some x → due_cost p due ≡ 3 * script_cost (Some x)
+cost-is p due x f = ap (λ (o : Option Script). 3 * script_cost o) f
 
 -- It left its phrase after its begin, and ran there: the lists that a log leaves are the only ones that it leaves.
 pub has-phrase : (p j l : ℕ) (s : Parts) (name : List ℕ) (k : Known) (w : ℕ) (lists : State ℕ) (before mid now : Option Log) → l ≡ j → w ≡ (side Plain k).word → IfSome before (Tells s k) → Appends before l (entry.Handler name) mid → IfSome mid (λ es. Leaves p es lists) → GrewBy (HandlerRun s j name w) lists mid now → IfSome now (HasPhrase p l s name)

@@ -1,6 +1,6 @@
 -- A handler that is due begins, and goes back.
 use Rattle.std.specs.Prelude.{All, IfSome, MatchOption, drop, option_to_list, slice_get, vec_capacity}
-use Rattle.std.proofs.Common.{◌≡◌, ◌≤◌, ℕ, zero, suc, ◌+◌, List, [], ◌∷◌, ◌++◌, reverse, length, Option, Some, None, sym, ap, ◌∙◌, subst, arith}
+use Rattle.std.proofs.Common.{◌≡◌, ◌≤◌, ℕ, zero, suc, ◌+◌, List, [], ◌∷◌, ◌++◌, reverse, length, Option, Some, None, refl, sym, ap, ◌∙◌, subst, arith}
 use Rattle.std.proofs.lemmas.List.{reverse-reverse}
 use Rattle.bm_journal.specs.declared.entry.Entry.TheVariants as entry
 use Rattle.bm_journal.specs.Recording.{Appends}
@@ -16,6 +16,7 @@ use Rattle.bm_plan.specs.Position.{AboutTo, Position, StandsAt, level_in, names_
 use Rattle.bm_plan.proofs.Positions.{returns-here}
 use Rattle.bm_exec_levels.specs.AtProcessor.{HasPhrase, IsAt, IsDue, log_of}
 use Rattle.bm_exec_levels.specs.Growing.{tells-inner}
+use Rattle.bm_exec_levels.specs.Calling.{counts-plain}
 use Rattle.bm_exec_levels.specs.Here.{position_of}
 use Rattle.bm_exec_levels.specs.Logged.{Tells}
 use Rattle.bm_exec_levels.specs.Ready.{BindsAll, IsReady, known_of}
@@ -43,6 +44,8 @@ module _ {W : Type 0} (knows : Knows W) where
     asks = h.asks;
     words = h.words;
     inside = h.inside;
+    calls = h.calls;
+    stocked = h.stocked;
   }
 
   -- the name of a script
@@ -75,6 +78,7 @@ module _ {W : Type 0} (knows : Knows W) where
           deep = omega (arith, long, more, above, deep);
         };
         tells = told-more T T (log_of m) (log_of b) due.level (entry.Handler x.name) (λ es h. tells-inner s known es due.level (entry.Handler x.name) tt h) a d.tells;
+        counts = counts-plain m.calls due.level (entry.Handler x.name) (log_of m) (log_of b) refl a d.counts;
         ready = ready-turned p m b same (omega (arith, long, more, all, n)) (omega (arith, v, room)) (omega (arith, w, room')) f d.ready;
       }
 
@@ -117,6 +121,7 @@ module _ {W : Type 0} (knows : Knows W) where
           deep = omega (arith, long', deep);
         };
         tells = told-more P T (log_of m) (log_of b) due.level (entry.Back x.name) (λ es h. tells-back s known es due.level x.name h.0 h.1) a said;
+        counts = counts-plain m.calls due.level (entry.Back x.name) (log_of m) (log_of b) refl a g.counts;
         ready = ready-turned p m b same (omega (arith, long, long', more, all, n)) (omega (arith, v, room)) (omega (arith, w, room')) h g.ready;
       }
 

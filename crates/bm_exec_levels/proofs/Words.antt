@@ -1,5 +1,5 @@
 -- A processor whose section of a domain begins or ends.
-use Rattle.std.proofs.Common.{◌≡◌, ◌≤◌, ◌<◌, ◌+◌, ◌∙◌, ℕ, Bool, List, [], ◌∷◌, ◌++◌, refl, sym, ap, subst, arith}
+use Rattle.std.proofs.Common.{◌≡◌, ◌≤◌, ◌<◌, ◌+◌, ◌∙◌, ℕ, Bool, false, List, [], ◌∷◌, ◌++◌, refl, sym, ap, subst, arith}
 use Rattle.std.specs.Prelude.{◌*◌, ◌%◌, ◌^◌, if◌then◌else◌, length}
 use Rattle.bm_journal.specs.declared.ids.Domain.{Domain}
 use Rattle.bm_journal.specs.declared.ids.Domain.TheVariants.{Plain, Tracing}
@@ -10,6 +10,10 @@ use Rattle.bm_lang.specs.declared.scenario.Parts.{Parts}
 use Rattle.bm_grace.specs.Calls.{moved}
 use Rattle.bm_grace.specs.Known.{Known, Objects, side}
 use Rattle.bm_law_scenario.specs.Handlers.{HandlersDone}
+use Rattle.bm_law_scenario.specs.Declared.{declared_in}
+use Rattle.bm_law_order.specs.Calls.{is_call}
+use Rattle.bm_exec_levels.specs.Calling.{counts-plain}
+use Rattle.bm_exec_levels.specs.Slotted.{AreStocked}
 use Rattle.bm_grace.specs.declared.step.StepKind.{StepKind}
 use Rattle.bm_law.specs.Begun.{for_domain}
 use Rattle.bm_law.specs.Lists.{Log}
@@ -38,6 +42,7 @@ use Rattle.bm_grace.specs.declared.grace.Knows.{Ghosts as Knows}
 pub record NamesWord (d : Domain) (w : ℕ) (e : Entry) : Type 0 where
   pub kind : kind_of e ≡ standing.Stays
   pub no_back : (name : List ℕ) → e ≡ entry.Back name → ⊥
+  pub no_call : is_call e ≡ false
   pub next : word_next d w e ≡ w + 1
   pub next_other : (o : Domain) (v : ℕ) → (o ≡ d → ⊥) → word_next o v e ≡ v
 
@@ -55,6 +60,7 @@ pub names-in : (d : Domain) (w : ℕ) → NamesWord d w (entry.In d (w + 1))
 names-in d w = record {
   kind = refl;
   no_back = λ name e. cc;
+  no_call = refl;
   next = for-same d (w + 1) w;
   next_other = λ o v ne. for-other o d (w + 1) v ne;
 }
@@ -63,6 +69,7 @@ pub names-out : (d : Domain) (w : ℕ) → NamesWord d w (entry.Out d (w + 1))
 names-out d w = record {
   kind = refl;
   no_back = λ name e. cc;
+  no_call = refl;
   next = for-same d (w + 1) w;
   next_other = λ o v ne. for-other o d (w + 1) v ne;
 }
@@ -118,6 +125,7 @@ module _ {W : Type 0} (knows : Knows W) where
       subst F (sym same) (record {
         at = subst R (sym proc) (stands-say l n.grace.processor p.scenario.now m.handlers.planned m.running.items (log_of m) (log_of k) e names.kind a s.at);
         tells = told-more (Tells p.scenario.now n) (Tells p.scenario.now (known_of knows k)) (log_of m) (log_of k) l e (λ es t. tells-moved kind knows.tells d p.scenario.now n (known_of knows k) es l e q names t) a s.tells;
+        counts = counts-plain m.calls l e (log_of m) (log_of k) names.no_call a s.counts;
         ready = record {
           fits = s.ready.fits;
           here = pr ∙ (s.ready.here ∙ sym proc);
@@ -130,6 +138,8 @@ module _ {W : Type 0} (knows : Knows W) where
           asks = (let h = s.ready.asks in let o = ap (λ (x : Objects). x.asked) objects in omega (arith, h, o));
           words = omega (arith, room, word);
           inside = inside-moved kind knows.tells d n (known_of knows k) m.inside b k.inside q parity is s.ready.inside;
+          calls = (let h = s.ready.calls in let o = ap (λ (x : Objects). x.asked) objects in omega (arith, h, o));
+          stocked = subst (AreStocked (declared_in p.scenario.now)) (sym objects) s.ready.stocked;
         };
       })
 

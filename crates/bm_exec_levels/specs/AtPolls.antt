@@ -10,6 +10,7 @@ use Rattle.bm_law.specs.Spans.{AllFrom}
 use Rattle.bm_law.specs.State.{State, opening}
 use Rattle.bm_law.proofs.Folds.{after-append}
 use Rattle.bm_law_order.specs.Act.{Act}
+use Rattle.bm_law_order.specs.Calls.{calls_in, tag_after}
 use Rattle.bm_law_order.specs.Act as act
 use Rattle.bm_law_order.specs.Chunk.{Chunk, is_judged}
 use Rattle.bm_law_order.specs.Chunk as chunk
@@ -85,7 +86,7 @@ module _ {W : Type 0} (knows : Knows W) where
     pub log_is : log ≡ before ++ added
 
   -- A chunk of level l is judged so by the log before it, since a time: a pass stands after a poll that was idle, a period that
-  -- begins was due, a life is made with the values that the level asks for, a batch of the first stage goes away directly after its pass, and units go back of which nobody tells what they wait
+  -- begins was due, a life is made with the values that the level asks for, an exchange has the tag of the next call of the log, a batch of the first stage goes away directly after its pass, and units go back of which nobody tells what they wait
   -- for where the closing has begun, and are never sent.
   abbrev pub polled : (closing : Bool) (since : Log) (start : W) → ℕ → Log → Chunk → Type 0
   polled closing since start l log (chunk.Passing c d x n) = WasIdle since start l c d x log
@@ -93,6 +94,7 @@ module _ {W : Type 0} (knows : Knows W) where
   polled closing since start l log (chunk.WholePeriod n ws p) = IsDue (home start) p.domain n log
   polled closing since start l log (chunk.Releasing c to us stamp seen) = GoesFrom (home start) l c stamp seen log
   polled closing since start l log (chunk.Making u life type values seal) = AsksFor l values log
+  polled closing since start l log (chunk.Exchanging name put was by tag) = tag ≡ tag_after (home start) (calls_in log)
   polled closing since start l log (chunk.Returning c us) = closing ≡ true
   polled closing since start l log (chunk.Sending c to us) = ⊥
   polled closing since start l log _ = Unit {0}
@@ -104,6 +106,7 @@ module _ {W : Type 0} (knows : Knows W) where
   unpolled closing since start l log (chunk.WholePeriod n ws p) e = absurd (cc)
   unpolled closing since start l log (chunk.Releasing c to us stamp seen) e = absurd (cc)
   unpolled closing since start l log (chunk.Making u life type values seal) e = absurd (cc)
+  unpolled closing since start l log (chunk.Exchanging name put was by tag) e = absurd (cc)
   unpolled closing since start l log (chunk.Returning c us) e = absurd (cc)
   unpolled closing since start l log (chunk.Sending c to us) e = absurd (cc)
   unpolled closing since start l log _ e = tt
@@ -115,6 +118,7 @@ module _ {W : Type 0} (knows : Knows W) where
   later since start l log (chunk.WholePeriod n ws p) j = j
   later since start l log (chunk.Releasing c to us stamp seen) j = j
   later since start l log (chunk.Making u life type values seal) j = j
+  later since start l log (chunk.Exchanging name put was by tag) j = j
   later since start l log (chunk.Returning c us) j = refl
   later since start l log (chunk.Sending c to us) j = j
   later since start l log _ j = tt

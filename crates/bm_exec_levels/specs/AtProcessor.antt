@@ -8,6 +8,7 @@ use Rattle.bm_lang.specs.declared.scenario.Script.{Script}
 use Rattle.bm_lang.specs.declared.scenario.ScriptKind.TheVariants as kind
 use Rattle.bm_lang.specs.Limits.{script_cost}
 use Rattle.bm_law.specs.Lists.{Log}
+use Rattle.bm_law_order.specs.Calls.{calls_in}
 use Rattle.bm_law.specs.Spans.{own_entries}
 use Rattle.bm_law.specs.State.{State, seen}
 use Rattle.bm_cache.specs.Shown.{shown}
@@ -23,6 +24,8 @@ use Rattle.bm_work.specs.Goes.{GoesOn}
 use Rattle.bm_plan.specs.Position.{Position, StandsAt, level_in, names_in}
 use Rattle.bm_exec_levels.specs.Here.{Running, position_of}
 use Rattle.bm_exec_levels.specs.Logged.{Tells}
+use Rattle.bm_grace.specs.Known.{Lives}
+use Rattle.bm_exec_levels.specs.Slotted.{in_hands}
 use Rattle.bm_exec_levels.specs.Ready.{IsReady, asked_of, known_of, left_of, word_of}
 use Rattle.bm_exec_levels.specs.declared.processor.Processor.{Processor}
 use Rattle.bm_exec_levels.specs.declared.program.Program.{Program}
@@ -36,9 +39,9 @@ log_of m = m.caches.recorder.told
 abbrev pub lists_of : {W : Type 0} → Processor W → State ℕ
 lists_of m = seen number_of (shown m.caches)
 
--- what the script of a handler may ask for: two objects and works for each statement that it runs at most
+-- what the script of a handler may ask for: three objects, calls and works for each statement that it runs at most
 abbrev pub due_cost : Program → Due → ℕ
-due_cost p due = 2 * script_cost (slice_get p.scenario.now.scripts due.script.0)
+due_cost p due = 3 * script_cost (slice_get p.scenario.now.scripts due.script.0)
 
 -- After the begin of the innermost handler, which is of level l, the log of processor p has its phrase, which ran there.
 pub record HasPhrase (p l : ℕ) (s : Parts) (name : List ℕ) (log : Log) : Type 0 where
@@ -53,16 +56,18 @@ module _ {W : Type 0} (knows : Knows W) where
   abbrev pub tests_of : Processor W → Tests
   tests_of m = tests_by (knows.rights m.side)
 
-  -- Code of level l runs on it, and is there in its log; and planned handlers can run.
+  -- Code of level l runs on it, and is there in its log, whose calls are counted; and planned handlers can run.
   pub record IsAt (P : Position → Log → Type 0) (l : ℕ) (p : Program) (m : Processor W) : Type 0 where
     pub at : Running P l (known_of knows m).grace.processor p.scenario.now m.handlers.planned m.running.items (log_of m)
     pub tells : IfSome (log_of m) (Tells p.scenario.now (known_of knows m))
+    pub counts : IfSome (log_of m) (λ es. calls_in es ≡ m.calls)
     pub ready : IsReady knows p m
 
   -- A handler is due before a step of code of level l, and begins with the entry that stands next.
   pub record IsDue (l : ℕ) (p : Program) (due : Due) (m : Processor W) : Type 0 where
     pub begins : IfSome (log_of m) (λ es. (name : List ℕ) → slice_get (names_in p.scenario.now.scripts) due.script.0 ≡ Some name → StandsAt (position_of (known_of knows m).grace.processor p.scenario.now m.handlers.planned (m.running.items ++ due ∷ [])) (es ++ (due.level, entry.Handler name) ∷ []))
     pub tells : IfSome (log_of m) (Tells p.scenario.now (known_of knows m))
+    pub counts : IfSome (log_of m) (λ es. calls_in es ≡ m.calls)
     pub level : level_in (reverse m.running.items) ≡ l
     pub deep : length m.running.items ≤ l
     pub above : l + 1 ≤ due.level
@@ -97,9 +102,12 @@ module _ {W : Type 0} (knows : Knows W) where
     pub processors : (known_of knows b).grace.processors ≡ (known_of knows a).grace.processors
     pub processor : (known_of knows b).grace.processor ≡ (known_of knows a).grace.processor
 
-  -- the same units live, the same lives of them
+  -- names hold the same references to the same objects; what slots hold may be another
+  abbrev pub lives_of : Processor W → Lives
+  lives_of m = in_hands (known_of knows m).objects
+
   abbrev pub SameLives : Processor W → Processor W → Type 0
-  SameLives a b = (known_of knows b).objects.lives ≡ (known_of knows a).objects.lives
+  SameLives a b = lives_of b ≡ lives_of a
 
   -- its caches are as calls of level l need them
   abbrev pub FineAt : ℕ → Processor W → Type 0

@@ -11,6 +11,9 @@ use Rattle.bm_law_order.specs.Quiet.{is_quiet}
 use Rattle.bm_law.specs.Phrases.{given}
 use Rattle.bm_page.specs.declared.units.Seal.{Seal}
 use Rattle.bm_law_order.specs.Act.{Act}
+use Rattle.bm_law_order.specs.Calls.{calls_in, tag_after}
+use Rattle.bm_journal.specs.declared.ids.ObjId.{ObjId}
+use Rattle.bm_journal.specs.declared.ids.Tag.{Tag}
 use Rattle.bm_law_order.specs.Act as act
 use Rattle.bm_cache.specs.Steps.{is_free}
 use Rattle.bm_cache.specs.Tests.{Reusable, SuitsFree, Waits}
@@ -24,7 +27,7 @@ use Rattle.bm_law.specs.Spans.{Records, own_entries}
 use Rattle.bm_law.proofs.Spans.{own-append}
 use Rattle.bm_law_order.proofs.Ties.{law-closed, law-done, law-quiet, law-said, law-stepped, tie-judged, tie-level}
 use Rattle.bm_exec_levels.specs.Asked.{AsksFor, asked_after, asked_over}
-use Rattle.bm_exec_levels.specs.AtPolls.{DoesHere, here-join, here-same, polled, unpolled}
+use Rattle.bm_exec_levels.specs.AtPolls.{DoesHere, here-join, here-same, home, polled, unpolled}
 use Rattle.bm_exec_levels.specs.AtProcessor.{log_of, tests_of}
 use Rattle.bm_exec_levels.specs.Freeing.{free_entry}
 use Rattle.bm_exec_levels.specs.Hosting.{with_caches, with_side}
@@ -220,19 +223,32 @@ module _ {W : Type 0} (knows : Knows W) where
           let did = law-done (polled knows false since start) (unpolled knows false since start) (DoesHere knows) (here-same knows) (here-join knows) since start l [] (act.Makes u life type values seal ∷ []) (given u life (seal_told seal) ∷ []) (Some log) m.side k.side d now in
           by-level since start l 0 (Some log) k.side (as-judged false since start l (act.Makes u life type values seal ∷ []) (given u life (seal_told seal) ∷ []) (Some log) k.side (chunk.Making u life type values seal) refl refl (λ prior q. asked-before l values xs (given u life (seal_told seal)) r.log prior log r.added (subst (λ (o : Option Log). IfSome o (AsksFor l values)) r.told asks) quiet r.now_is r.owned (some-log log (prior ++ (l, given u life (seal_told seal)) ∷ []) q)) did)
 
+  -- a slot's content was exchanged: its call is the next one of the log
+  pub tied-exchanged : (since : Log) (start : W) (l : ℕ) (name : List ℕ) (put was : Option ObjId) (from : Option Tag) (tag : Tag) (m k : Processor W) → Appends (log_of m) l (entry.Xchg name put was from) (log_of k) → IfSome (log_of m) (λ es. calls_in es ≡ m.calls) → tag ≡ tag_after (home knows k.side) m.calls →
+      OwesAt since start l (act.Exchanges name put was from tag ∷ []) (entry.Xchg name put was from ∷ []) k → TiedAt since start k
+  tied-exchanged since start l name put was from tag m k a counts is o = go (log_of k) a o
+    where
+      go : (now : Option Log) → Appends (log_of m) l (entry.Xchg name put was from) now → TiedBy (polled knows false since start) (DoesHere knows) since start l (act.Exchanges name put was from tag ∷ []) (entry.Xchg name put was from ∷ []) now k.side → TiedBy (polled knows false since start) (DoesHere knows) since start 0 [] [] now k.side
+      go None a t = tt
+      go (Some log) a t = by-level since start l 0 (Some log) k.side (as-judged false since start l (act.Exchanges name put was from tag ∷ []) (entry.Xchg name put was from ∷ []) (Some log) k.side (chunk.Exchanging name put was from tag) refl refl judge t)
+        where
+          judge : (before : Log) → Some log ≡ Some (before ++ (l, entry.Xchg name put was from) ∷ []) → tag ≡ tag_after (home knows start) (calls_in before)
+          judge before q =
+              let same : a.log ≡ before = append_cancel_right a.log before ((l, entry.Xchg name put was from) ∷ []) (sym a.more ∙ some-log log (before ++ (l, entry.Xchg name put was from) ∷ []) q) in
+              let counted : calls_in a.log ≡ m.calls = (let F : Option Log → Type 0 = λ o. IfSome o (λ es. calls_in es ≡ m.calls) in subst F a.told counts) in
+              is ∙ (ap (λ p. tag_after p m.calls) t.done_is.1 ∙ ap (tag_after (home knows start)) (sym counted ∙ ap calls_in same))
+
   -- a reference was given up, behind its drop and the reply that others are left
-  pub tied-given-up : (since : Log) (start : W) (l u life seen : ℕ) (m k : Processor W) (mid : Option Log) → Appends (log_of m) l (entry.Drop u life) mid → DoesHere knows (act.GivesUp u life seen ∷ []) m.side k.side → Appends mid l (entry.Still seen) (log_of k) → TiedAt since start m → TiedAt since start k
-  tied-given-up since start l u life seen m k mid a d b t =
-      let one = law-said (polled knows false since start) (unpolled knows false since start) (DoesHere knows) (here-same knows) (here-join knows) since start l [] [] (entry.Drop u life) (log_of m) mid m.side a (tied-open since start l m t) in
-      let two = law-done (polled knows false since start) (unpolled knows false since start) (DoesHere knows) (here-same knows) (here-join knows) since start l [] (act.GivesUp u life seen ∷ []) (entry.Drop u life ∷ []) mid m.side k.side d one in
-      let three = law-said (polled knows false since start) (unpolled knows false since start) (DoesHere knows) (here-same knows) (here-join knows) since start l (act.GivesUp u life seen ∷ []) (entry.Drop u life ∷ []) (entry.Still seen) mid (log_of k) k.side b two in
+  pub tied-given-up : (since : Log) (start : W) (l u life seen : ℕ) (m k : Processor W) → OwesAt since start l [] (entry.Drop u life ∷ []) m → DoesHere knows (act.GivesUp u life seen ∷ []) m.side k.side → Appends (log_of m) l (entry.Still seen) (log_of k) → TiedAt since start k
+  tied-given-up since start l u life seen m k one d b =
+      let two = law-done (polled knows false since start) (unpolled knows false since start) (DoesHere knows) (here-same knows) (here-join knows) since start l [] (act.GivesUp u life seen ∷ []) (entry.Drop u life ∷ []) (log_of m) m.side k.side d one in
+      let three = law-said (polled knows false since start) (unpolled knows false since start) (DoesHere knows) (here-same knows) (here-join knows) since start l (act.GivesUp u life seen ∷ []) (entry.Drop u life ∷ []) (entry.Still seen) (log_of m) (log_of k) k.side b two in
       tied-closed since start l (act.GivesUp u life seen ∷ []) (entry.Drop u life ∷ entry.Still seen ∷ []) k (record { chunk = chunk.GivingUp u life seen; free = refl; acts_are = refl; entries_are = refl }) three
 
   -- the life of a unit ended, behind its drop and the reply
-  pub tied-freeing : (since : Log) (start : W) (delayed : Bool) (l u life home : ℕ) (m k : Processor W) (mid : Option Log) → Appends (log_of m) l (entry.Drop u life) mid → Appends mid l entry.Last (log_of k) → DoesHere knows (act.Ends u life home delayed ∷ []) m.side k.side → Awaits delayed u k → TiedAt since start m → FreesAt since start l u home k
-  tied-freeing since start delayed l u life home m k mid a b d awaits t =
-      let one = law-said (polled knows false since start) (unpolled knows false since start) (DoesHere knows) (here-same knows) (here-join knows) since start l [] [] (entry.Drop u life) (log_of m) mid m.side a (tied-open since start l m t) in
-      let two = law-said (polled knows false since start) (unpolled knows false since start) (DoesHere knows) (here-same knows) (here-join knows) since start l [] (entry.Drop u life ∷ []) entry.Last mid (log_of k) m.side b one in
+  pub tied-freeing : (since : Log) (start : W) (delayed : Bool) (l u life home : ℕ) (m k : Processor W) → OwesAt since start l [] (entry.Drop u life ∷ []) m → Appends (log_of m) l entry.Last (log_of k) → DoesHere knows (act.Ends u life home delayed ∷ []) m.side k.side → Awaits delayed u k → FreesAt since start l u home k
+  tied-freeing since start delayed l u life home m k one b d awaits =
+      let two = law-said (polled knows false since start) (unpolled knows false since start) (DoesHere knows) (here-same knows) (here-join knows) since start l [] (entry.Drop u life ∷ []) entry.Last (log_of m) (log_of k) m.side b one in
       (delayed, life, law-done (polled knows false since start) (unpolled knows false since start) (DoesHere knows) (here-same knows) (here-join knows) since start l [] (act.Ends u life home delayed ∷ []) (entry.Drop u life ∷ entry.Last ∷ []) (log_of k) m.side k.side d two, awaits)
 
   -- ---- as a desk's laws need it

@@ -1,5 +1,5 @@
 -- What the machine of a level keeps while its caches or its side change.
-use Rattle.std.specs.Prelude.{◌≡◌, ◌<◌, ◌%◌, ◌^◌, ℕ, ◌+◌, ◌*◌, true, length, Option, Some, None, IfSome}
+use Rattle.std.specs.Prelude.{◌≡◌, ◌<◌, ◌%◌, ◌^◌, ℕ, ◌+◌, ◌*◌, true, false, length, Option, Some, None, IfSome}
 use Rattle.std.proofs.Common.{refl, sym, ap, ◌∙◌, subst, arith}
 use Rattle.bm_journal.specs.declared.ids.Domain.{Domain}
 use Rattle.bm_journal.specs.declared.ids.Domain.TheVariants.{Plain, Tracing}
@@ -9,6 +9,10 @@ use Rattle.bm_due.specs.Standing as standing
 use Rattle.bm_due.specs.Standing.{kind_of}
 use Rattle.bm_grace.specs.Known.{Known, Objects}
 use Rattle.bm_law_scenario.specs.Handlers.{HandlersDone}
+use Rattle.bm_law_scenario.specs.Declared.{declared_in}
+use Rattle.bm_law_order.specs.Calls.{calls_in, is_call}
+use Rattle.bm_exec_levels.specs.Calling.{counts-plain, no-call-free, no-call-given, no-call-reply, no-call-step}
+use Rattle.bm_exec_levels.specs.Slotted.{AreStocked}
 use Rattle.bm_lang.specs.declared.scenario.Parts.{Parts}
 use Rattle.bm_law.specs.Lists.{Log}
 use Rattle.bm_law.specs.Phrases.{given}
@@ -65,6 +69,8 @@ module _ {W : Type 0} (knows : Knows W) where
     asks = r.asks;
     words = r.words;
     inside = r.inside;
+    calls = r.calls;
+    stocked = r.stocked;
   }
 
   pub at-same : (P : Position → Log → Type 0) (l : ℕ) (p : Program) (m : Processor W) (c : Caches Recorded) → c.processor ≡ m.caches.processor → c.recorder.told ≡ log_of m → IsAt knows P l p m → IsAt knows P l p (with_caches m c)
@@ -73,6 +79,7 @@ module _ {W : Type 0} (knows : Knows W) where
       record {
         at = running-same P l _ _ _ _ _ _ e s.at;
         tells = subst F (sym e) s.tells;
+        counts = (let G : Option Log → Type 0 = λ o. IfSome o (λ es. calls_in es ≡ m.calls) in subst G (sym e) s.counts);
         ready = ready-caches p m c same s.ready;
       }
 
@@ -84,27 +91,29 @@ module _ {W : Type 0} (knows : Knows W) where
       record {
         at = stands-step l _ _ _ _ _ _ e i a s.at;
         tells = told-more T T (log_of m) c.recorder.told l e (λ es h. tells-inner p.scenario.now k es l e (inner-step e i) h) a s.tells;
+        counts = counts-plain m.calls l e (log_of m) c.recorder.told (no-call-step e i) a s.counts;
         ready = ready-caches p m c same s.ready;
       }
 
-  -- an entry that is no step
-  pub at-say : (l : ℕ) (p : Program) (m : Processor W) (c : Caches Recorded) (e : Entry) → kind_of e ≡ standing.Stays → IsInner e → c.processor ≡ m.caches.processor → Appends (log_of m) l e c.recorder.told → IsAt knows StandsAt l p m → IsAt knows StandsAt l p (with_caches m c)
-  at-say l p m c e k i same a s =
+  -- an entry that is no step and no call
+  pub at-say : (l : ℕ) (p : Program) (m : Processor W) (c : Caches Recorded) (e : Entry) → kind_of e ≡ standing.Stays → IsInner e → is_call e ≡ false → c.processor ≡ m.caches.processor → Appends (log_of m) l e c.recorder.told → IsAt knows StandsAt l p m → IsAt knows StandsAt l p (with_caches m c)
+  at-say l p m c e k i none same a s =
       let n : Known = known_of knows m in
       record {
         at = stands-say l _ _ _ _ _ _ e k a s.at;
         tells = told-more (Tells p.scenario.now n) (Tells p.scenario.now n) (log_of m) c.recorder.told l e (λ es h. tells-inner p.scenario.now n es l e i h) a s.tells;
+        counts = counts-plain m.calls l e (log_of m) c.recorder.told none a s.counts;
         ready = ready-caches p m c same s.ready;
       }
 
   pub at-said : (l : ℕ) (p : Program) (m : Processor W) (c : Caches Recorded) (e : Entry) → is_reply e ≡ true → c.processor ≡ m.caches.processor → Appends (log_of m) l e c.recorder.told → IsAt knows StandsAt l p m → IsAt knows StandsAt l p (with_caches m c)
-  at-said l p m c e i = at-say l p m c e (a-reply e i) (inner-reply e i)
+  at-said l p m c e i = at-say l p m c e (a-reply e i) (inner-reply e i) (no-call-reply e i)
 
   pub at-gave : (l : ℕ) (p : Program) (m : Processor W) (c : Caches Recorded) (u life : ℕ) (seal : Option (ℕ × ℕ)) → c.processor ≡ m.caches.processor → Appends (log_of m) l (given u life seal) c.recorder.told → IsAt knows StandsAt l p m → IsAt knows StandsAt l p (with_caches m c)
-  at-gave l p m c u life seal = at-say l p m c (given u life seal) (a-given u life seal) (inner-given u life seal)
+  at-gave l p m c u life seal = at-say l p m c (given u life seal) (a-given u life seal) (inner-given u life seal) (no-call-given u life seal)
 
   pub at-freed : (l : ℕ) (p : Program) (m : Processor W) (c : Caches Recorded) (e : Entry) (u home : ℕ) → is_free u home e ≡ true → c.processor ≡ m.caches.processor → Appends (log_of m) l e c.recorder.told → IsAt knows StandsAt l p m → IsAt knows StandsAt l p (with_caches m c)
-  at-freed l p m c e u home i = at-say l p m c e (a-free u home e i) (inner-free u home e i)
+  at-freed l p m c e u home i = at-say l p m c e (a-free u home e i) (inner-free u home e i) (no-call-free u home e i)
 
   pub stays-caches : (p : Program) (m : Processor W) (c : Caches Recorded) → Stays knows 0 0 p m (with_caches m c)
   stays-caches p m c = record {
@@ -149,6 +158,8 @@ module _ {W : Type 0} (knows : Knows W) where
         asks = (let F : ℕ → Type 0 = λ k. k < 2 ^ 22 in subst F (sym q) r.asks);
         words = (let F : ℕ → Type 0 = λ k. k + 2 * length (left_of m) < 2 ^ 28 in subst F (sym n) r.words);
         inside = ap (λ k. k % 2) n ∙ r.inside;
+        calls = (let o = ap (λ (x : Objects). x.asked) a.objects in let c = r.calls in omega (arith, o, c));
+        stocked = subst (AreStocked (declared_in p.scenario.now)) (sym a.objects) r.stocked;
       }
 
   pub at-sided : (P : Position → Log → Type 0) (l : ℕ) (p : Program) (m : Processor W) (w : W) → Alike (known_of knows m) (knows.known w) → IsAt knows P l p m → IsAt knows P l p (with_side m w)
@@ -157,6 +168,7 @@ module _ {W : Type 0} (knows : Knows W) where
       record {
         at = subst F (sym a.processor) s.at;
         tells = tells-sided p.scenario.now (known_of knows m) (knows.known w) (log_of m) a s.tells;
+        counts = s.counts;
         ready = ready-sided p m w a s.ready;
       }
 

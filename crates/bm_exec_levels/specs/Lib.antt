@@ -15,3 +15,5 @@ pub mod Sound
 pub mod Ordinary
 pub mod Stated
 pub mod Asked
+pub mod Slotted
+pub mod Calling

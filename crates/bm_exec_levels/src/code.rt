@@ -1,20 +1,22 @@
 //! The machine on which handlers run.
 
-use crate::calls::{acquire, give_up, make, read_field};
+use crate::calls::{acquire, exchange, give_up, make, read_field};
 use crate::host::At;
 use crate::ranks::Rank;
 use bm_class::Class;
 use bm_exec::Machine;
 use bm_journal::{Entry, ObjId, Values};
-use bm_lang::TypeId;
+use bm_lang::{MapId, TypeId};
 use bm_word::{Name, NoMemory};
 use bm_world::{Lives, Since};
 
 impl<'a, 's, W: Lives, B: Since<W>, L: Rank> Machine for At<'a, 's, W, B, L> {
     ghost use Rattle.std.specs.Prelude.{◌≡◌, None, refl, true};
-    ghost use Rattle.std.proofs.Common.{◌∙◌};
+    ghost use Rattle.std.proofs.Common.{◌∙◌, ap};
     ghost use Rattle.bm_plan.specs.Position.{StandsAt};
-    ghost use Rattle.bm_exec_levels.specs.AtProcessor.{FineAt, IsAt, lists_of, log_of};
+    ghost use Rattle.bm_law_scenario.specs.Declared.{declared_in};
+    ghost use Rattle.bm_exec_levels.specs.declared.program.Program.{Program as ProgramValue};
+    ghost use Rattle.bm_exec_levels.specs.AtProcessor.{FineAt, IsAt, lists_of, lives_of, log_of};
     ghost use Rattle.bm_exec_levels.specs.AtTie.{TiedAt};
     ghost use Rattle.bm_exec_levels.specs.Ready.{asked_of, known_of};
     ghost use Rattle.bm_exec_levels.specs.RunsOn.{RunsOn, runs-joined, runs-same};
@@ -27,7 +29,9 @@ impl<'a, 's, W: Lives, B: Since<W>, L: Rank> Machine for At<'a, 's, W, B, L> {
 
     ghost level = { λ m. L.number };
 
-    ghost lives = { λ m. (known_of W.Knows m.own.now).objects.lives };
+    ghost declared = { λ m. declared_in m.program.now.scenario.now };
+
+    ghost lives = { λ m. lives_of W.Knows m.own.now };
 
     // A handler runs in a plain section from its begin to its end.
     ghost around = { λ m. record { whole = true; begun = None } };
@@ -64,6 +68,10 @@ impl<'a, 's, W: Lives, B: Since<W>, L: Rank> Machine for At<'a, 's, W, B, L> {
         give_up::<W, B, L>(self.own, self.program, object, counted);
     }
 
+    fn exchange(&mut self, slot: MapId, name: Name, put: Option<ObjId>) -> Option<ObjId> {
+        exchange::<W, B, L>(self.own, self.program, slot, name, put)
+    }
+
     fn is_inside(&self) -> bool {
         true
     }
@@ -85,6 +93,8 @@ impl<'a, 's, W: Lives, B: Since<W>, L: Rank> Machine for At<'a, 's, W, B, L> {
     ghost told = { λ m s. s.1.placed.told };
 
     ghost keeps_same = { λ m. (runs-same W.Knows L.number m.program.now m.own.now, refl) };
+
+    ghost keeps_declared = { λ a b k. ap (λ (p : ProgramValue). declared_in p.scenario.now) k.1 };
 
     ghost keeps_join = { λ a b c x y. (runs-joined W.Knows L.number a.program.now b.program.now a.own.now b.own.now c.own.now x.1 x.0 y.0, y.1 ∙ x.1) };
 }

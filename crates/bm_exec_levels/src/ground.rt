@@ -11,7 +11,7 @@ ghost use Rattle.bm_exec_levels.specs.Ready.{asked_of};
 ghost use Rattle.bm_exec_levels.specs.Sound.{Sound};
 
 use crate::behind::{until_down, work_behind};
-use crate::calls::{acquire, give_up, make, read_field};
+use crate::calls::{acquire, exchange, give_up, make, read_field};
 use crate::host::At;
 use crate::processor::Processor;
 use crate::program::Program;
@@ -20,7 +20,7 @@ use crate::sections::{enter_section, leave_section};
 use bm_class::Class;
 use bm_exec::Machine;
 use bm_journal::{Domain, Entry, Level, ObjId, Values};
-use bm_lang::TypeId;
+use bm_lang::{MapId, TypeId};
 use bm_word::{Name, NoMemory};
 use bm_world::{Lives, Since};
 use std::marker::PhantomData;
@@ -117,9 +117,11 @@ pub fn settle_script<'s, W: Lives, B: Since<W>>(
 
 impl<'a, 's, W: Lives, B: Since<W>> Machine for Ground<'a, 's, W, B> {
     ghost use Rattle.std.specs.Prelude.{◌≡◌, ◌≤◌, ◌+◌, IfSome, length, refl, true};
-    ghost use Rattle.std.proofs.Common.{◌∙◌};
+    ghost use Rattle.std.proofs.Common.{◌∙◌, ap};
+    ghost use Rattle.bm_exec_levels.specs.declared.program.Program.{Program as ProgramValue};
     ghost use Rattle.bm_exec.specs.Lists.{behind_of};
-    ghost use Rattle.bm_exec_levels.specs.AtProcessor.{lists_of, log_of};
+    ghost use Rattle.bm_law_scenario.specs.Declared.{declared_in};
+    ghost use Rattle.bm_exec_levels.specs.AtProcessor.{lists_of, lives_of, log_of};
     ghost use Rattle.bm_exec_levels.specs.AtTie.{TiedAt};
     ghost use Rattle.bm_exec_levels.specs.Ordinary.{Scripted, around_of, words_of};
     ghost use Rattle.bm_exec_levels.specs.Stated.{scripted-joined, scripted-same};
@@ -134,7 +136,9 @@ impl<'a, 's, W: Lives, B: Since<W>> Machine for Ground<'a, 's, W, B> {
 
     ghost level = { λ _. 0 };
 
-    ghost lives = { λ m. (known_of W.Knows m.own.now).objects.lives };
+    ghost declared = { λ m. declared_in m.program.now.scenario.now };
+
+    ghost lives = { λ m. lives_of W.Knows m.own.now };
 
     ghost around = { λ m. around_of W.Knows m.within m.own.now };
 
@@ -170,6 +174,10 @@ impl<'a, 's, W: Lives, B: Since<W>> Machine for Ground<'a, 's, W, B> {
         give_up::<W, B, Ordinary>(self.own, self.program, object, counted);
     }
 
+    fn exchange(&mut self, slot: MapId, name: Name, put: Option<ObjId>) -> Option<ObjId> {
+        exchange::<W, B, Ordinary>(self.own, self.program, slot, name, put)
+    }
+
     fn is_inside(&self) -> bool {
         self.within || self.own.inside
     }
@@ -200,6 +208,8 @@ impl<'a, 's, W: Lives, B: Since<W>> Machine for Ground<'a, 's, W, B> {
     ghost told = { λ m s. s.0.fine.placed.told };
 
     ghost keeps_same = { λ m. (scripted-same W.Knows m.within m.own.now, refl, refl) };
+
+    ghost keeps_declared = { λ a b k. ap (λ (p : ProgramValue). declared_in p.scenario.now) k.1 };
 
     ghost keeps_join = { λ a b c x y. (scripted-joined W.Knows a.within b.within a.own.now b.own.now c.own.now x.2 x.0 y.0, y.1 ∙ x.1, y.2 ∙ x.2) };
 }

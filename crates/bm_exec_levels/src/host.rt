@@ -106,7 +106,7 @@ impl<'a, 's, W: Lives, B: Since<W>, L: Rank> Desk<Keep> for At<'a, 's, W, B, L> 
     ghost use Rattle.bm_exec_levels.specs.AtRests.{RestedBy, RestsBy, goes-in, law-kept, law-passed, law-released, law-rested_done, rests-begun, rests-looked, rests-missed, rests-read, rests-tied, rests-whole, waits-in};
     ghost use Rattle.bm_law_order.specs.Act as act;
     ghost use Rattle.std.specs.Prelude.{◌∷◌};
-    ghost use Rattle.bm_grace.specs.Known.{Objects};
+    ghost use Rattle.bm_exec_levels.specs.Slotted.{in_hands};
     ghost use Rattle.bm_exec_levels.specs.Hosting.{at-said, at-sided, at-stepped, stays-joined, stays-sided, with_caches, with_side};
 
     type W = W;
@@ -142,7 +142,7 @@ impl<'a, 's, W: Lives, B: Since<W>, L: Rank> Desk<Keep> for At<'a, 's, W, B, L> 
 
     ghost pending_apart = { λ h w. refl };
 
-    ghost stays_apart = { λ h w a. (stays-sided W.Knows h.program.now h.own.now w a, ap (λ (o : Objects). o.lives) a.objects, refl) };
+    ghost stays_apart = { λ h w a. (stays-sided W.Knows h.program.now h.own.now w a, ap in_hands a.objects, refl) };
 
     ghost tests_are = { λ h. refl };
 

@@ -7,6 +7,7 @@ ghost use Rattle.bm_exec.specs.Running.{RanScript};
 ghost use Rattle.bm_lang.specs.Limits.{script_cost};
 ghost use Rattle.bm_lang.specs.declared.scenario.ScriptKind.TheVariants as kind;
 ghost use Rattle.bm_law_scenario.specs.Handlers.{HandlerRun};
+ghost use Rattle.bm_exec.specs.Named.{declared_of};
 ghost use Rattle.bm_exec_levels.specs.AtProcessor.{Between, FineAt, IsAt, SameLives, lists_of, log_of};
 ghost use Rattle.bm_exec_levels.specs.AtTie.{TiedAt};
 ghost use Rattle.bm_exec_levels.specs.Ready.{BindsAll, asked_of, left_of, word_of};
@@ -34,12 +35,12 @@ fn run_code<'s, W: Lives, B: Since<W>, L: Rank>(
     requires tied { TiedAt W.Knows B.since B.start own.old }
     requires fine { FineAt W.Knows L.number own.old }
     requires found { (i : ℕ) × (slice_get program.now.scenario.now.scripts i ≡ Some script.now) }
-    requires asks { asked_of W.Knows program.now.scenario.now own.old + 2 * script_cost (Some script.now) < 2 ^ 22 }
+    requires asks { asked_of W.Knows program.now.scenario.now own.old + 3 * script_cost (Some script.now) < 2 ^ 22 }
     requires bound { BindsAll program.now.scenario.now.scripts table.old }
-    ensures ran { RanScript program.now.types.declared.now L.number true None (lists_of own.old) script.now (log_of own.old) (log_of own.new) }
+    ensures ran { RanScript (declared_of program.now.types) L.number true None (lists_of own.old) script.now (log_of own.old) (log_of own.new) }
     ensures at { IsAt W.Knows StandsAt L.number program.now own.new }
     ensures tied { TiedAt W.Knows B.since B.start own.new }
-    ensures between { Between W.Knows (2 * script_cost (Some script.now)) 0 L.number program.now own.old own.new }
+    ensures between { Between W.Knows (3 * script_cost (Some script.now)) 0 L.number program.now own.old own.new }
     ensures lives { SameLives W.Knows own.old own.new }
     ensures bound { BindsAll program.now.scenario.now.scripts table.new }
 {
@@ -71,14 +72,14 @@ pub(crate) fn run_inside<'s, W: Lives, B: Since<W>, L: Rank>(
     requires fine { FineAt W.Knows L.number own.old }
     requires found { (i : ℕ) × (slice_get program.now.scenario.now.scripts i ≡ Some script.now) }
     requires handles { script.now.kind ≡ kind.Handler }
-    requires asks { asked_of W.Knows program.now.scenario.now own.old + 2 * script_cost (Some script.now) < 2 ^ 22 }
+    requires asks { asked_of W.Knows program.now.scenario.now own.old + 3 * script_cost (Some script.now) < 2 ^ 22 }
     requires words { word_of W.Knows Plain own.old + 2 * length (left_of own.old) + 2 < 2 ^ 28 }
     requires bound { BindsAll program.now.scenario.now.scripts table.old }
     ensures runs { GrewBy (HandlerRun program.now.scenario.now L.number script.now.name (word_of W.Knows Plain own.old))
         (lists_of own.old) (log_of own.old) (log_of own.new) }
     ensures at { IsAt W.Knows StandsAt L.number program.now own.new }
     ensures tied { TiedAt W.Knows B.since B.start own.new }
-    ensures between { Between W.Knows (2 * script_cost (Some script.now)) 2 L.number program.now own.old own.new }
+    ensures between { Between W.Knows (3 * script_cost (Some script.now)) 2 L.number program.now own.old own.new }
     ensures lives { SameLives W.Knows own.old own.new }
     ensures bound { BindsAll program.now.scenario.now.scripts table.new }
 {

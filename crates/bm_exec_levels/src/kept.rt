@@ -20,6 +20,8 @@ pub struct Kept {
     pub caches: Caches<Keep>,
     /// How many times it was asked for the work behind a statement or a script.
     pub settled: u32,
+    /// How many calls of scripts its log has so far, of all levels together.
+    pub calls: u32,
     /// Whether it is in a plain section.
     pub inside: bool,
     /// The handlers that haven't run.
@@ -80,7 +82,7 @@ impl Kept {
         processor: u8,
         caches: Caches<Keep>,
     ) -> Result<Kept, Caches<Keep>>
-        ensures fresh { IfOk result (λ kept. kept ≡ record kept { alloc = alloc; caches = caches; settled = 0; inside = false }) }
+        ensures fresh { IfOk result (λ kept. kept ≡ record kept { alloc = alloc; caches = caches; settled = 0; calls = 0; inside = false }) }
         ensures planned { IfOk result (λ kept. kept.handlers.planned ≡ record { left = planned_for processor scenario.now; ended = false }) }
         ensures scripts { IfOk result (λ kept. kept.handlers.scripts ≡ length scenario.now.scripts) }
         ensures running { IfOk result (λ kept. kept.running.items ≡ []) }
@@ -101,6 +103,7 @@ impl Kept {
                     alloc,
                     caches,
                     settled: 0,
+                    calls: 0,
                     inside: false,
                     handlers,
                     running,
@@ -117,6 +120,7 @@ impl Kept {
             alloc: _,
             caches,
             settled: _,
+            calls: _,
             inside: _,
             handlers: _,
             running: _,

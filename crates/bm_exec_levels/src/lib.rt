@@ -7,6 +7,7 @@
 //!   desk, and what statements run on. Before each step its point asks which handler is due, and runs it whole.
 //! - `Ground` is ordinary code with `Deferred` work after its statements: `until_down` after each statement, `settle_script` and
 //!   `work_behind` after a script. `enter_section` and `leave_section` are the sections of scripts.
+//! - `exchange` and `give_up` are calls of a level for what a slot holds: the closing of a run empties the slots by them.
 //! - `Program` is what is run, `Since` the time since which a processor is tied to its log.
 //!
 //! `bm_run` opens a processor, runs scripts on it, and closes it.
@@ -35,6 +36,7 @@ mod sections;
 
 pub use behind::{until_down, work_behind};
 pub use bm_world::Since;
+pub use calls::{exchange, give_up};
 pub use ground::{Deferred, Ground, settle_script};
 pub use host::At;
 pub use kept::Kept;

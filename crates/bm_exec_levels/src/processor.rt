@@ -18,6 +18,8 @@ pub struct Processor<W> {
     pub side: W,
     /// How many times it was asked for the work behind a statement or a script.
     pub settled: u32,
+    /// How many calls of scripts its log has so far, of all levels together.
+    pub calls: u32,
     /// Whether it is in a plain section.
     pub inside: bool,
     /// The handlers that haven't run.
@@ -36,6 +38,7 @@ impl<W> Processor<W> {
           caches = kept.caches;
           side = side;
           settled = kept.settled;
+          calls = kept.calls;
           inside = kept.inside;
           handlers = kept.handlers;
           running = kept.running;
@@ -46,6 +49,7 @@ impl<W> Processor<W> {
             alloc,
             caches,
             settled,
+            calls,
             inside,
             handlers,
             running,
@@ -56,6 +60,7 @@ impl<W> Processor<W> {
             caches,
             side,
             settled,
+            calls,
             inside,
             handlers,
             running,
@@ -69,6 +74,7 @@ impl<W> Processor<W> {
           alloc = self.alloc;
           caches = self.caches;
           settled = self.settled;
+          calls = self.calls;
           inside = self.inside;
           handlers = self.handlers;
           running = self.running;
@@ -81,6 +87,7 @@ impl<W> Processor<W> {
             caches,
             side,
             settled,
+            calls,
             inside,
             handlers,
             running,
@@ -91,6 +98,7 @@ impl<W> Processor<W> {
                 alloc,
                 caches,
                 settled,
+                calls,
                 inside,
                 handlers,
                 running,

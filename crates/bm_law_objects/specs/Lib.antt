@@ -4,4 +4,5 @@ pub mod SlotChain
 pub mod ReferenceLaw
 pub mod ReadsLaw
 pub mod Worked
+pub mod WorkedActs
 pub mod Wrong

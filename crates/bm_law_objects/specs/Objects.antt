@@ -2,17 +2,19 @@
 -- unit until its last reference is given up; a slot holds an object or none, and calls exchange what it holds. (In the kernel an object
 -- is made by bpf_obj_new_impl of kernel/bpf/helpers.c, and a slot, a map value's field for a pointer to an object, is exchanged by
 -- bpf_kptr_xchg there, which is one xchg. Numbers of calls are this project's own.)
-use Rattle.std.specs.Prelude.{◌≡◌, ℕ, ◌+◌, Bool, true, false, ◌&&◌, eqb, if◌then◌else◌, Option, Some, None, List}
+use Rattle.std.specs.Prelude.{◌≡◌, ℕ, ◌&&◌, eqb, if◌then◌else◌, Option, Some, None, List}
 use Rattle.std.specs.List.{slice_get}
 use Rattle.std.specs.Str.{bytes_eq}
 use Rattle.bm_journal.specs.declared.ids.ObjId.{ObjId}
 use Rattle.bm_journal.specs.declared.ids.Tag.{Tag}
 use Rattle.bm_journal.specs.declared.entry.Entry.{Entry}
 use Rattle.bm_journal.specs.declared.entry.Entry.TheVariants as entry
-pub use Rattle.bm_law_order.specs.Lives.{IsAlive}
+pub use Rattle.bm_law_order.specs.Calls.{calls_after, is_call, tag_after}
+pub use Rattle.bm_law_order.specs.Lives.{IfAlive, IsAlive}
 use Rattle.bm_law_order.specs.Lives.{Lives, first_lives, lives_after}
 use Rattle.bm_law_order.specs.Orders.{AllFit, Order}
 use Rattle.bm_law_order.specs.Polls.{for_processor}
+pub use Rattle.bm_law_order.specs.Slots.{Slot, empty_slot}
 
 -- What a call asks for: an object of this type, with these values of its fields.
 pub record Asked : Type 0 where
@@ -24,11 +26,6 @@ pub record Made : Type 0 where
   pub life : ℕ
   pub asked : Asked
 
--- What a slot holds, and the exchange that put it there: none at the outset.
-pub record Slot : Type 0 where
-  pub held : Option ObjId
-  pub by : Option Tag
-
 -- By processor and level the object that it asks for, where there is no reply yet; by unit what it was made of; by name the slots; and by
 -- processor how many calls its log has so far, of all levels together.
 pub record Objects : Type 0 where
@@ -37,40 +34,8 @@ pub record Objects : Type 0 where
   pub slots : List ℕ → Slot
   pub calls : ℕ → ℕ
 
-abbrev pub empty_slot : Slot
-empty_slot = record { held = None; by = None }
-
 abbrev pub first_objects : Objects
 first_objects = record { asking = λ p l. None; made = λ u. None; slots = λ name. empty_slot; calls = λ p. 0 }
-
--- ---- calls
-
--- a script calls, for an object, a reference, a value, a slot, or a list or tree; a refused call is one too
-abbrev pub is_call : Entry → Bool
-is_call (entry.New name values) = true
-is_call (entry.Drop u life) = true
-is_call (entry.Acquire u life k) = true
-is_call (entry.Get u life place value) = true
-is_call (entry.Xchg name put was by) = true
-is_call (entry.PushFront name u life pos) = true
-is_call (entry.PushBack name u life pos) = true
-is_call (entry.Add name u life pos) = true
-is_call (entry.PushFrontAlready name u life owner pos) = true
-is_call (entry.PushBackAlready name u life owner pos) = true
-is_call (entry.AddAlready name u life owner pos) = true
-is_call (entry.PopFront name item pos) = true
-is_call (entry.PopBack name item pos) = true
-is_call (entry.First name item pos) = true
-is_call (entry.Remove name u life pos) = true
-is_call _ = false
-
--- how many calls a log has after an entry
-abbrev pub calls_after : ℕ → ℕ × Entry → ℕ
-calls_after n e = if is_call e.1 then n + 1 else n
-
--- the call of processor p that has n calls of its log before it: serials begin with 1
-abbrev pub tag_after : (p n : ℕ) → Tag
-tag_after p n = record { processor = p; serial = n + 1 }
 
 -- ---- what an entry of level l of processor p makes of them
 
@@ -121,10 +86,6 @@ pub record Owned : Type 0 where
 
 abbrev pub owned_after : (p l : ℕ) → Entry → Owned → Owned
 owned_after p l e s = record { lives = lives_after p l e s.lives; objects = objects_after p l e s.objects }
-
-abbrev pub IfAlive : Option ObjId → Lives → Type 0
-IfAlive None lives = Unit {0}
-IfAlive (Some x) lives = IsAlive x.unit x.life lives
 
 -- an object was asked for, and there is no reply yet
 pub record IsAsked (asking : Option Asked) : Type 0 where

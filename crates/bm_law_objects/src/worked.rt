@@ -3,12 +3,14 @@
 ghost use Rattle.bm_journal.specs.declared.entry.Entry.TheVariants as entry;
 ghost use Rattle.bm_law_order.specs.Lives.{LivesFit, first_lives, lives_after};
 ghost use Rattle.bm_law_order.specs.Orders.{AllFit};
+ghost use Rattle.bm_law_order.specs.Slots.{empty_slot};
 ghost use Rattle.bm_law_laid.specs.OrderOf.{IsOrderOf};
 ghost use Rattle.bm_law_objects.specs.Objects.{IsOwned};
 ghost use Rattle.bm_law_objects.specs.SlotChain.{SlotChain};
 ghost use Rattle.bm_law_objects.specs.ReferenceLaw.{ReferenceLaw};
 ghost use Rattle.bm_law_objects.specs.ReadsLaw.{ReadsLaw};
 ghost use Rattle.bm_law_objects.specs.Worked.{asked_within, five_exchanges, logs_of, one_slot, right_order, two_slots};
+ghost use Rattle.bm_law_objects.specs.WorkedActs.{LeadNowhere, Leave, emptied, four_exchanges, other_named, other_slot, other_taken};
 ghost use Rattle.bm_law_objects.specs.Wrong.{given_after, given_elsewhere, lost_exchange, other_count, other_field, other_object, put_old_life, put_too_late, read_too_late, still_twice, two_first, unknown_tag};
 
 /// Orders whose entries find the objects, slots and lives that they name: of two processors, on one of which a handler stands,
@@ -31,6 +33,19 @@ pub fn worked_laws()
     ensures counts { ReferenceLaw (logs_of right_order) }
     ensures reads { ReadsLaw (logs_of right_order) }
     ensures within { ReadsLaw (logs_of (asked_within 1)) }
+{}
+
+/// As acts, the four exchanges of the first of them lead from empty slots to an empty one that the last exchange left, and leave a
+/// slot that they don't name as it was.
+pub fn worked_acts()
+    ensures named { Leave four_exchanges one_slot emptied }
+    ensures other { Leave four_exchanges other_slot empty_slot }
+{}
+
+/// Acts that lead nowhere: one that takes what isn't in the slot, and one that names a call which didn't put it.
+pub fn wrong_acts()
+    ensures object { LeadNowhere other_taken }
+    ensures call { LeadNowhere other_named }
 {}
 
 /// Orders that don't: two first exchanges; two that take what one put; one that names a tag which no log has; one that takes

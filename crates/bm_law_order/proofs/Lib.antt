@@ -8,3 +8,4 @@ pub mod TiesLead
 pub mod WaitsJoin
 pub mod Waited
 pub mod MadeJoin
+pub mod SlotsJoin

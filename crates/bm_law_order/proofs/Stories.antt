@@ -438,6 +438,10 @@ comes p l (chunk.Finding u life place value) s f h = record {
   leads = record { fit = (record { words = tt; numbers = tt; looks = tt; lives = tt; pages = tt; boxes = tt }, tt); now_is = refl };
   steady = h;
 }
+comes p l (chunk.Exchanging name put was from tag) s f h = record {
+  leads = record { fit = (record { words = tt; numbers = tt; looks = tt; lives = tt; pages = tt; boxes = tt }, tt); now_is = refl };
+  steady = h;
+}
 comes p l (chunk.GivingUp u life seen) s f h = record {
   leads = given-up-leads p l u life seen s h f.0.0 f.0.1;
   steady = steady-like s (acts_over p (acts_of (chunk.GivingUp u life seen)) s) refl refl refl h.full h;

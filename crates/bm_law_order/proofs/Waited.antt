@@ -114,6 +114,7 @@ chunk-goes p l (chunk.Releasing c to us x n) m now h r = record { fit = (tt, tt)
 chunk-goes p l (chunk.Making u life type values seal) m now h r = sealed-fits p l u life type values seal m now h.1.0.0 h.1.0.1.0 (h.1.1 ∙ h.1.0.1.1)
 chunk-goes p l (chunk.Acquiring u life seen) m now h r = one-goes p l (entry.Acquire u life seen) m now (record { fits = tt; stays = refl }) (h.1.1 ∙ h.1.0)
 chunk-goes p l (chunk.Finding u life place value) m now h r = one-goes p l (entry.Get u life place value) m now (record { fits = tt; stays = refl }) (h.1.1 ∙ h.1.0)
+chunk-goes p l (chunk.Exchanging name put was from tag) m now h r = one-goes p l (entry.Xchg name put was from) m now (record { fits = tt; stays = refl }) (h.1.1 ∙ h.1.0)
 chunk-goes p l (chunk.GivingUp u life seen) m now h r = record { fit = (tt, (tt, tt)); now_is = sym (h.1.1 ∙ h.1.0) }
 chunk-goes p l (chunk.Ending u life home delayed) m now h r = ending-goes p l u life home delayed m now (h.1.1 ∙ h.1.0)
 chunk-goes p l (chunk.Entering d w) m now h r = one-goes p l (entry.In d w) m now (record { fits = tt; stays = refl }) (h.1.1 ∙ h.1.0)

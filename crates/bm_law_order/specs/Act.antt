@@ -1,5 +1,7 @@
 -- What a processor did to what all share, as the world tells it: one act a call. (This project's own.)
 use Rattle.std.specs.Prelude.{ℕ, Bool, List, Option, map}
+use Rattle.bm_journal.specs.declared.ids.ObjId.{ObjId}
+use Rattle.bm_journal.specs.declared.ids.Tag.{Tag}
 use Rattle.bm_journal.specs.declared.ids.Domain.{Domain}
 use Rattle.bm_journal.specs.declared.period.Period.{Period}
 use Rattle.bm_page.specs.UnitState.{UnitState}
@@ -24,6 +26,7 @@ sealed us = map (λ u. let s : Sealed = record { unit = u.number; seal = u.seal 
 -- the stock (`GivesBack`), and units that have waited for a plain period go as one parcel with its stamp and number (`Releases`): so tells
 -- who knows what the units wait for. Where nobody does, they are sent or returned. A life is made as an object of a type, by its number among those declared, with
 -- the values of its fields, of which a read finds one, by its place; and a reference to it is acquired, or given up where others are left: each names how many there were.
+-- What a slot holds is exchanged by a call, which a tag names: with what is put there, what was there, and the call that had put that.
 pub data Act : Type 0 where
   Enters : Domain → (word : ℕ) → Act
   Leaves : Domain → (word : ℕ) → Act
@@ -43,5 +46,6 @@ pub data Act : Type 0 where
   Makes : (unit life type : ℕ) → (values : List ℕ) → Option Seal → Act
   Acquires : (unit life seen : ℕ) → Act
   Finds : (unit life place value : ℕ) → Act
+  Exchanges : (name : List ℕ) (put was : Option ObjId) (by : Option Tag) (tag : Tag) → Act
   GivesUp : (unit life seen : ℕ) → Act
   Ends : (unit life home : ℕ) (delayed : Bool) → Act

@@ -7,7 +7,7 @@ use Rattle.bm_law_order.specs.ByDomain.{of, with_of}
 use Rattle.bm_law_order.specs.Words.{IsNextWord, with_word}
 use Rattle.bm_law_order.specs.Numbers.{IsBegin, IsEnd, begun, ended, next}
 use Rattle.bm_law_order.specs.Looks.{Looked, Passes, first_or, nothing_looked}
-use Rattle.bm_law_order.specs.Lives.{Has, IsAlive, IsGiven, Lives, counted, given_life, with_life}
+use Rattle.bm_law_order.specs.Lives.{Has, IfAlive, IsAlive, IsGiven, Lives, counted, given_life, with_life}
 use Rattle.bm_law_order.specs.Pages.{AllOut, all_back, fetches, less_fetched}
 use Rattle.bm_law_order.specs.Parcels.{IsParcel, on_box}
 use Rattle.bm_law_order.specs.Shared.{Shared, found}
@@ -80,6 +80,7 @@ ActFits p (act.GivesBack us) s = AllOut (reverse us) s.pool
 ActFits p (act.Makes u life type values seal) s = IsGiven u life s.lives
 ActFits p (act.Acquires u life seen) s = Has u life seen s.lives
 ActFits p (act.Finds u life place value) s = IsAlive u life s.lives
+ActFits p (act.Exchanges name put was by tag) s = IfAlive put s.lives
 ActFits p (act.GivesUp u life seen) s = Has u life seen s.lives × (1 < seen)
 ActFits p (act.Ends u life home delayed) s = IsOnly u life home s
 

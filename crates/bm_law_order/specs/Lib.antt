@@ -18,3 +18,5 @@ pub mod Bare
 pub mod Polls
 pub mod Seals
 pub mod Made
+pub mod Calls
+pub mod Slots

@@ -1,6 +1,7 @@
 -- The lives of units and the references to them, as entries name them. (In the kernel an object is given by bpf_obj_new_impl and
 -- given up by bpf_obj_drop_impl of kernel/bpf/helpers.c, and counted by bpf_refcount_acquire_impl. Lives are this project's own.)
 use Rattle.std.specs.Prelude.{◌≡◌, ◌<◌, ℕ, ◌+◌, ◌-◌, ◌&&◌, eqb, if◌then◌else◌, Option, Some, None}
+use Rattle.bm_journal.specs.declared.ids.ObjId.{ObjId}
 use Rattle.bm_journal.specs.declared.entry.Entry.{Entry}
 use Rattle.bm_journal.specs.declared.entry.Entry.TheVariants as entry
 
@@ -88,6 +89,11 @@ pub record IsAlive (u life : ℕ) (lives : Lives) : Type 0 where
   pub held : Life
   pub holds : lives.holds u ≡ Some held
   pub now_is : life ≡ lives.begun u
+
+-- .. if there is one
+abbrev pub IfAlive : Option ObjId → Lives → Type 0
+IfAlive None lives = Unit {0}
+IfAlive (Some x) lives = IsAlive x.unit x.life lives
 
 -- a life that the unit has is given up, and nothing else is being given up here
 pub record IsDrop (p l u life : ℕ) (lives : Lives) : Type 0 where

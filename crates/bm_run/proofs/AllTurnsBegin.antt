@@ -30,6 +30,7 @@ use Rattle.bm_exec_levels.specs.declared.kept.Kept.{Kept}
 use Rattle.bm_exec_levels.specs.declared.processor.Processor.{Processor}
 use Rattle.bm_exec_levels.specs.declared.program.Program.{Program}
 use Rattle.bm_world.specs.LivingState.{LivingState, known_living}
+use Rattle.bm_exec_levels.specs.Slotted.{in_hands}
 use Rattle.bm_run.specs.AllTurns.{AllTold, AreSeats, IsSeatOf}
 use Rattle.bm_run.specs.Asked.{in_its_turn}
 use Rattle.bm_run.specs.Between.{AddUp, Between, all_openings, ended_of, owns}
@@ -43,6 +44,7 @@ use Rattle.bm_run.specs.SoFar.{at_turn}
 use Rattle.bm_run.specs.Turns.{IsOutside, lines_left, owned_by, stands_in, still_begun}
 use Rattle.bm_run.specs.declared.seats.Seat.{Seat}
 use Rattle.bm_run.specs.declared.turns.Begun.{Begun}
+use Rattle.bm_run.proofs.OpeningLemmas.{no-hands}
 use Rattle.bm_run.proofs.Sums.{sum-none}
 use Rattle.bm_run.specs.declared.turns.Remaining.{Remaining}
 use Rattle.bm_run.proofs.Bounds.{Within, cost-kept, few-planned, within}
@@ -172,9 +174,9 @@ waits-begin g kept world most opens =
 
 -- what each may ask for
 abbrev share : ℕ
-share = 50000
+share = 65000
 
-room-of : (s : Parts) (p : ℕ) → Within s p → left_cost s (planned_for p s) + 2 * lines_cost p s.scripts s.runs ≤ 40000
+room-of : (s : Parts) (p : ℕ) → Within s p → left_cost s (planned_for p s) + 3 * lines_cost p s.scripts s.runs ≤ 60000
 room-of s p w =
     let k = cost-kept s p s.ats in
     let n = w.statements in
@@ -238,7 +240,7 @@ module _ (g : Program) (p : ℕ) (own : Kept) (world : LivingState) (seat : Seat
       let room = room-of s p w in
       omega (arith, none, cost, many, few, plain, tracing, outer, lines, room)
 
-  pub seat-begins : (log : Log) → log ≡ opening_log s p → IsSeated g p log (known_living world).objects.lives share world seat
+  pub seat-begins : (log : Log) → log ≡ opening_log s p → IsSeated g p log (in_hands (known_living world).objects) share world seat
   seat-begins log same = record {
     kept = own;
     kept_is = is.kept;
@@ -246,7 +248,7 @@ module _ (g : Program) (p : ℕ) (own : Kept) (world : LivingState) (seat : Seat
     processor = is.processor;
     sound = o.sound;
     runs = subst (λ (b : Bool). runs_or_stopped b s p log m r) (sym is.going) running;
-    owns = subst (λ (b : Option Begun). owned_by s (known_living world).objects.lives (known_living world).objects.lives b) (sym is.begun) refl;
+    owns = subst (λ (b : Option Begun). owned_by s (in_hands (known_living world).objects) (in_hands (known_living world).objects) b) (sym is.begun) refl;
     asks = asks-few;
   }
 
@@ -287,7 +289,7 @@ between-begin g turns kept seats world fine limits opens tell are =
       order = [];
       taken = replicate n [];
       logs = logs;
-      bases = λ p. (known_living world).objects.lives;
+      bases = λ p. (in_hands (known_living world).objects);
       shares = replicate n share;
       turned = subst (λ (ended : List Bool). TurnsSoFar n turns turns (replicate n []) ended []) going (turns-begin n turns);
       pieces = subst (λ (ended : List Bool). AreTaken n (replicate n []) ended) going (taken-begin n);
@@ -297,9 +299,9 @@ between-begin g turns kept seats world fine limits opens tell are =
       seated = λ p seat f.
           let lt : p < n = (let x = slice_get_within seats p seat f in omega (arith, x, all)) in
           let at = seat-at s.runs 0 p p kept seats seat are f (omega arith) in
-          subst (λ k. IsSeated g p (get_or logs p []) (known_living world).objects.lives k world seat) (sym (get_or-replicate n p share 0 lt))
+          subst (λ k. IsSeated g p (get_or logs p []) (in_hands (known_living world).objects) k world seat) (sym (get_or-replicate n p share 0 lt))
           (seat-begins g p at.0 world seat fine (within s p lt limits) (opens.each p at.0 at.1) (tell p at.0 at.1) at.2 (get_or logs p []) (opened.1.opened p lt));
-      add_up = none-add-up n (known_living world).objects.lives o.none;
+      add_up = none-add-up n (in_hands (known_living world).objects) (λ u. no-hands (known_living world).objects u (o.none u));
       shares_many = length-replicate n share;
       few = (let a = o.asked in let sum = sum-shares n in omega (arith, a, sum, most));
     }

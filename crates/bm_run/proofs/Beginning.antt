@@ -4,15 +4,13 @@ use Rattle.bm_journal.specs.declared.ids.Domain.{Domain}
 use Rattle.bm_journal.specs.declared.ids.Domain.TheVariants.{Plain, Tracing}
 use Rattle.bm_journal.specs.declared.entry.Entry.TheVariants as entry
 use Rattle.bm_lang.specs.declared.scenario.Script.{Script}
-use Rattle.bm_lang.specs.declared.scenario.TypeDeclaration.{TypeDeclaration}
 use Rattle.bm_law.specs.Begun.{for_domain}
 use Rattle.bm_law.specs.State.{State, seen}
 use Rattle.bm_law_work.specs.Parts.{Stand}
-use Rattle.bm_law_scenario.specs.Declared.{declared_in}
+use Rattle.bm_law_scenario.specs.Declared.{Declared, declared_in}
 use Rattle.bm_law_scenario.specs.Grammar.{is_plain, section_of, starts_inside}
 use Rattle.bm_law_scenario.specs.Held.{no_names}
 use Rattle.bm_law_scenario.specs.Runs.{RunsBlock}
-use Rattle.bm_law_scenario.proofs.Mapped.{block-more}
 use Rattle.bm_cache.specs.Shown.{shown}
 use Rattle.bm_cache.specs.Tokens.{Token, number_of}
 use Rattle.bm_grace.specs.Calls.{entered, left, moved}
@@ -25,6 +23,7 @@ use Rattle.bm_exec.specs.Around.{Around, is_inside}
 use Rattle.bm_exec.specs.Going.{IsAtStart}
 use Rattle.bm_exec.specs.Lists.{Behind}
 use Rattle.bm_exec.specs.Living.{Holds}
+use Rattle.bm_exec.specs.Named.{declared_of}
 use Rattle.bm_exec.specs.Stack.{Sectioned}
 use Rattle.bm_exec_levels.specs.AtProcessor.{SameLives, lists_of}
 use Rattle.bm_exec_levels.specs.Ordinary.{Statements, around_of}
@@ -33,6 +32,7 @@ use Rattle.bm_exec_levels.specs.Sound.{Sound}
 use Rattle.bm_exec_levels.specs.declared.processor.Processor.{Processor}
 use Rattle.bm_exec_levels.specs.declared.program.Program.{Program}
 use Rattle.bm_exec_levels.proofs.Words.{moved-here}
+use Rattle.bm_exec_levels.specs.Slotted.{in_hands}
 use Rattle.bm_run.specs.Lines.{BehindScript, Wrote}
 use Rattle.bm_run.specs.Turns.{HasBegun, HasEnded, around_in, blocks_of, domain_of, held_by, outermost}
 use Rattle.bm_run.specs.declared.turns.Begun.{Begun}
@@ -53,12 +53,12 @@ apart-of : (d : Domain) (m k : Processor LivingState) → known_of knows_living 
 apart-of Plain m k q z e = ap (λ (x : Known). (side Tracing x).word % 2) q ∙ z
 apart-of Tracing m k q z e = absurd (cc)
 
-objects-of : (kind : StepKind) (d : Domain) (k : Known) → (moved kind false d k).objects.lives ≡ k.objects.lives
+objects-of : (kind : StepKind) (d : Domain) (k : Known) → (moved kind false d k).objects ≡ k.objects
 objects-of kind Plain k = refl
 objects-of kind Tracing k = refl
 
 pub has-begun : (p : Program) (m m1 : Processor LivingState) (b : Begun) (w : Option (List ℕ)) →
-    p.types.declared.now ≡ p.scenario.now.types →
+    declared_of p.types ≡ declared_in p.scenario.now →
     m.inside ≡ false →
     ((d : Domain) → word_of knows_living d m % 2 ≡ 0) →
     (i : ℕ) × (slice_get p.scenario.now.scripts i ≡ Some b.script.now) →
@@ -68,17 +68,17 @@ pub has-begun : (p : Program) (m m1 : Processor LivingState) (b : Begun) (w : Op
     m1 ≡ record m { caches = m1.caches; side = m1.side; inside = m1.inside } →
     shown m1.caches ≡ shown m.caches →
     Wrote (Stand 0 (entry.Script b.script.now.name ∷ entry.In (domain_of b) (word_of knows_living (domain_of b) m + 1) ∷ [])) m m1 →
-    IsAtStart p.types.declared.now b.script.now.body b.activation.names (blocks_of b) →
+    IsAtStart (declared_of p.types) b.script.now.body b.activation.names (blocks_of b) →
     HasBegun p.scenario.now w b.script.now m m1 b
 has-begun p m m1 b w types out even found down known within same lists wrote start0 =
     let s = p.scenario.now in
     let d : Domain = domain_of b in
-    let start : IsAtStart s.types b.script.now.body b.activation.names (blocks_of b) = subst (λ (ts : List TypeDeclaration). IsAtStart ts b.script.now.body b.activation.names (blocks_of b)) types start0 in
+    let start : IsAtStart (declared_in s) b.script.now.body b.activation.names (blocks_of b) = subst (λ (d : Declared). IsAtStart d b.script.now.body b.activation.names (blocks_of b)) types start0 in
     let inside : m1.inside ≡ starts_inside b.script.now = starts-is d m.inside m1.inside out within in
     let word : word_of knows_living d m1 ≡ word_of knows_living d m + 1 = ap (λ (x : Known). (side d x).word) known ∙ moved-here Enter false d _ in
     let around : around_in m1 b ≡ outermost b = around-outermost (starts_inside b.script.now) m1 inside in
     let quiet : Behind w (lists_of m1) [] = subst (λ (x : State Token). Behind w (seen number_of x) []) (sym lists) down in
-    let alive : (known_of knows_living m1).objects.lives ≡ (known_of knows_living m).objects.lives = ap (λ (x : Known). x.objects.lives) known ∙ objects-of Enter d (known_of knows_living m) in
+    let alive : in_hands (known_of knows_living m1).objects ≡ in_hands (known_of knows_living m).objects = ap (λ (x : Known). in_hands x.objects) known ∙ ap in_hands (objects-of Enter d (known_of knows_living m)) in
     let asks = asks-entered d s m m1 known same within in
     let tracing = tracing-moved Enter d m m1 known in
     record {
@@ -86,14 +86,14 @@ has-begun p m m1 b w types out even found down known within same lists wrote sta
       wrote = subst (λ k. Wrote (Stand 0 (entry.Script b.script.now.name ∷ entry.In d k ∷ [])) m m1) (sym word) wrote;
       stands = record {
         found = found;
-        can = start.can (around_in m1 b) w (lists_of m1) (known_of knows_living m1).objects.lives quiet;
+        can = start.can (around_in m1 b) w (lists_of m1) (in_hands (known_of knows_living m1).objects) quiet;
         sections = subst (λ z. Sectioned (outermost b) z (blocks_of b)) (sym around) (start.sections (outermost b));
         within = λ h. inside ∙ h;
         inside = odd-begun d (word_of knows_living d m) (word_of knows_living d m1) (even d) word;
         apart = apart-of d m m1 known (even Tracing);
       };
       runs = λ l part x.
-          let block : RunsBlock (declared_in s) 0 (is_inside (around_in m1 b)) (Behind w) b.script.now.body no_names x.0 l part = block-more (declared_in s) 0 (Behind w) (is_inside (around_in m1 b)) b.script.now.body no_names x.0 l part (start.runs 0 (around_in m1 b) w x.0 l part x.1) in
+          let block : RunsBlock (declared_in s) 0 (is_inside (around_in m1 b)) (Behind w) b.script.now.body no_names x.0 l part = start.runs 0 (around_in m1 b) w x.0 l part x.1 in
           let whole : is_inside (around_in m1 b) ≡ starts_inside b.script.now = ap is_inside around ∙ outermost-inside (starts_inside b.script.now) in
           (x.0, subst (λ i. RunsBlock (declared_in s) 0 i (Behind w) b.script.now.body no_names x.0 l part) whole block, x.2);
       owns = λ base e. subst (λ (now : Lives). Holds s.types base now (held_by b)) (sym (alive ∙ e)) (start.holds base);
@@ -148,7 +148,7 @@ pub has-ended : (p : Program) (m m1 m2 : Processor LivingState) (script : Script
 has-ended p m m1 m2 script w sa sb odd outer apart known within same stop behind down lives asked st =
     let s = p.scenario.now in
     let d : Domain = section_of script.kind in
-    let alive : (known_of knows_living m1).objects.lives ≡ (known_of knows_living m).objects.lives = ap (λ (x : Known). x.objects.lives) known ∙ objects-of Leave d (known_of knows_living m) in
+    let alive : in_hands (known_of knows_living m1).objects ≡ in_hands (known_of knows_living m).objects = ap (λ (x : Known). in_hands x.objects) known ∙ ap in_hands (objects-of Leave d (known_of knows_living m)) in
     let asks = asks-left d s m m1 known same within outer in
     let worked = asks-worked s m1 m2 asked st in
     let tracing = tracing-moved Leave d m m1 known in

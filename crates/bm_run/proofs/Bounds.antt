@@ -85,15 +85,15 @@ few-planned s p w = let k = length-kept (λ (line : AtLine). line.processor == p
 same-line : (p q c : ℕ) → (q == p) ≡ true → cost_on p q c ≡ c
 same-line p q c e = let same : q ≡ p = grind (arith, nat_tests, e) in rw (eq-eqb p q (sym same)) refl
 
-cost-more : (s : Parts) (x : AtLine) (kept : List AtLine) (b : Bool) (cost rest : ℕ) → (b ≡ true → cost ≡ script_cost (slice_get s.scripts x.script.0)) → left_cost s kept ≤ 2 * rest → left_cost s (if b then x ∷ kept else kept) ≤ 2 * (cost + rest)
+cost-more : (s : Parts) (x : AtLine) (kept : List AtLine) (b : Bool) (cost rest : ℕ) → (b ≡ true → cost ≡ script_cost (slice_get s.scripts x.script.0)) → left_cost s kept ≤ 3 * rest → left_cost s (if b then x ∷ kept else kept) ≤ 3 * (cost + rest)
 cost-more s x kept true cost rest e h =
-    let c = sum_by-cons (λ (line : AtLine). 2 * script_cost (slice_get s.scripts line.script.0)) x kept in
+    let c = sum_by-cons (λ (line : AtLine). 3 * script_cost (slice_get s.scripts line.script.0)) x kept in
     let k = e refl in
     omega (arith, c, k, h)
 cost-more s x kept false cost rest e h = omega (arith, h)
 
--- what the handlers of processor p may ask for is at most twice what their lines cost
-pub cost-kept : (s : Parts) (p : ℕ) (xs : List AtLine) → left_cost s (filter (λ (line : AtLine). line.processor == p) xs) ≤ 2 * sum_by (λ (a : AtLine). cost_on p a.processor (script_cost (slice_get s.scripts a.script.0))) xs
+-- what the handlers of processor p may ask for is at most three times what their lines cost
+pub cost-kept : (s : Parts) (p : ℕ) (xs : List AtLine) → left_cost s (filter (λ (line : AtLine). line.processor == p) xs) ≤ 3 * sum_by (λ (a : AtLine). cost_on p a.processor (script_cost (slice_get s.scripts a.script.0))) xs
 cost-kept s p [] = omega arith
 cost-kept s p (x ∷ xs) =
     let on : AtLine → ℕ = λ a. cost_on p a.processor (script_cost (slice_get s.scripts a.script.0)) in
@@ -102,7 +102,7 @@ cost-kept s p (x ∷ xs) =
     let h = cost-more s x kept (x.processor == p) (on x) (sum_by on xs) (same-line p x.processor (script_cost (slice_get s.scripts x.script.0))) (cost-kept s p xs) in
     rw c h
 
-pub asks-few : (s : Parts) (p : ℕ) → Within s p → left_cost s (planned_for p s) ≤ 40000
+pub asks-few : (s : Parts) (p : ℕ) → Within s p → left_cost s (planned_for p s) ≤ 60000
 asks-few s p w =
     let k = cost-kept s p s.ats in
     let a = w.statements in

@@ -123,10 +123,10 @@ handler-quiet (entry.Receive c us) h = absurd h
 handler-quiet (entry.Sweep c us) h = absurd h
 handler-quiet _ h = tt
 
--- The log of a processor whose front runs its scripts, and behind whose end late entries stand, sends no class that no type uses.
-pub log-sends : (s : Parts) (p c : ℕ) (front late : Log) → among c (opened_classes s.types) ≡ false → HandlersStand s p front → HandlersDone s p front → Front s p (opening p) front → AllAt 0 late → AllOf IsLate (own_entries 0 late) → NoneSends c ((front ++ (0, entry.Ended) ∷ []) ++ late)
-log-sends s p c front late none stand done is at h =
+-- The log of a processor whose front runs its scripts, behind whose end what is given up and late entries stand, sends no class that no type uses.
+pub log-sends : (s : Parts) (p c : ℕ) (front given late : Log) → among c (opened_classes s.types) ≡ false → HandlersStand s p front → HandlersDone s p front → Front s p (opening p) front → NoneSends c given → AllAt 0 late → AllOf IsLate (own_entries 0 late) → NoneSends c (((front ++ (0, entry.Ended) ∷ []) ++ given) ++ late)
+log-sends s p c front given late none stand done is gives at h =
     let cs : List ℕ = opened_classes s.types in
     let own : AllSendOf cs (own_entries 0 front) = front-has s (AllSendOf cs) (front-sends s) p (opening p) front is in
     let sends : AllSends cs front = sends-above cs front (above-map IsOfHandler IsQuiet handler-quiet front (handlers-above s p front stand done)) own in
-    sends-append c (front ++ (0, entry.Ended) ∷ []) late (sends-append c front ((0, entry.Ended) ∷ []) (front-sends-none cs c front none sends) (tt, tt)) (late-log-sends c late at h)
+    sends-append c ((front ++ (0, entry.Ended) ∷ []) ++ given) late (sends-append c (front ++ (0, entry.Ended) ∷ []) given (sends-append c front ((0, entry.Ended) ∷ []) (front-sends-none cs c front none sends) (tt, tt)) gives) (late-log-sends c late at h)

@@ -1,12 +1,20 @@
 -- A step of one processor's closing, by what its desk leaves.
 use Rattle.std.specs.Prelude.{◌%◌, ◌<◌, false, if◌then◌else◌}
 use Rattle.std.specs.Option.{option_map}
-use Rattle.std.proofs.Common.{◌≡◌, ◌+◌, ℕ, List, [], ◌∷◌, ◌++◌, Option, None, Some, refl, sym, ◌∙◌, ap, subst, append-nil, arith, inl, inr, true}
+use Rattle.std.proofs.Common.{◌≡◌, ◌≤◌, ◌+◌, ◌*◌, append_assoc, length, ℕ, List, [], ◌∷◌, ◌++◌, Option, None, Some, refl, sym, ◌∙◌, ap, subst, append-nil, arith, inl, inr, true}
 use Rattle.std.proofs.lemmas.Bool.Decides.{eqb_tells}
 use Rattle.std.proofs.lemmas.List.{append_cancel_left}
 use Rattle.bm_journal.specs.declared.ids.Domain.{Domain}
 use Rattle.bm_journal.specs.declared.ids.Domain.TheVariants.{Plain, Tracing}
-use Rattle.bm_law.specs.Alone.{AllAt, Alone, GrewAt}
+use Rattle.bm_law.specs.Alone.{AllAt, Alone, GrewAt, at_level}
+use Rattle.bm_law.proofs.Alone.{level-from, level-own}
+use Rattle.bm_law_scenario.specs.Closing.{EmptiesMaps}
+use Rattle.bm_cache.specs.Tokens.{Token}
+use Rattle.bm_exec_levels.specs.Ready.{asked_of}
+use Rattle.bm_exec_levels.specs.Slotted.{in_hands}
+use Rattle.bm_exec_levels.specs.Sound.{Sound}
+use Rattle.bm_exec_levels.specs.declared.program.Program.{Program}
+use Rattle.bm_run.proofs.SeatAfter.{kept_of}
 use Rattle.bm_law.specs.Inboxes.{Inboxes}
 use Rattle.bm_law.specs.Lists.{Log}
 use Rattle.bm_law.specs.Stands.{times}
@@ -28,12 +36,10 @@ use Rattle.bm_closing.specs.Closes.{ClosesBy}
 use Rattle.bm_closing.specs.SweepsEach.{all_emptied}
 use Rattle.bm_exec_levels.specs.AtPolls.{DoesHere, here-same, polled}
 use Rattle.bm_exec_levels.specs.declared.kept.Kept.{Kept}
-use Rattle.bm_exec_levels.specs.AtProcessor.{FineAt, log_of}
+use Rattle.bm_exec_levels.specs.AtProcessor.{SameLives, Stays, lists_of, log_of}
 use Rattle.bm_exec_levels.specs.AtTie.{TiedAt}
 use Rattle.bm_exec_levels.specs.declared.processor.Processor.{Processor}
-use Rattle.bm_journal.specs.Recording.{Kept as Recorded}
 use Rattle.bm_journal.specs.declared.entry.Entry.TheVariants as entry
-use Rattle.bm_cache.specs.declared.caches.Caches.{Caches}
 use Rattle.bm_run.specs.Asked.{in_its_turn}
 use Rattle.bm_run.specs.Closers.{BeginsClosing, AllDone, AllDriven, AllOutside, FineHere, NoneBegun, Stepped}
 use Rattle.bm_run.specs.ClosingTie.{Ends, IsHere}
@@ -144,25 +150,51 @@ fresh-tied since start told e =
     let none : TiedBy (polled knows_living false since start) (DoesHere knows_living) since start 0 [] [] (Some since) start = record { story = []; judged = tt; log_is = sym (append-nil since); done_is = here-same knows_living start } in
     subst (λ (o : Option Log). TiedBy (polled knows_living false since start) (DoesHere knows_living) since start 0 [] [] o start) (sym e) none
 
--- A processor that had its turn to note it.
-pub begun-by-note : (kept : Kept) (start : LivingState) (old m : Processor LivingState) (later : Kept) (now : LivingState) (log l : Log) → old ≡ in_its_turn kept start → later.caches ≡ m.caches → now ≡ m.side → later.caches.recorder.told ≡ Some l → kept.caches.recorder.told ≡ Some log →
-    Appends (log_of old) 0 entry.Close (log_of m) → shown m.caches ≡ shown old.caches → m.caches.processor ≡ old.caches.processor → m.side ≡ old.side → FineAt knows_living 0 m → ((since : Log) (w : LivingState) → TiedAt knows_living since w old → TiedAt knows_living since w m) → BeginsClosing kept start log later now
-begun-by-note kept start old m later now log l opened caches side_is told first said lists processor same fine tied =
+-- .. on a processor that had its turn
+pub fresh-tied-at : (since : Log) (start : LivingState) (kept : Kept) (side_is : LivingState) (m : Processor LivingState) → m ≡ in_its_turn kept side_is → start ≡ side_is → kept.caches.recorder.told ≡ Some since → TiedAt knows_living since start m
+fresh-tied-at since start kept side_is m opened begins told =
+    let T : LivingState → Processor LivingState → Type 0 = λ w x. TiedAt knows_living since w x in
+    subst (λ (x : Processor LivingState). T start x) (sym opened) (subst (λ (w : LivingState). T w (in_its_turn kept side_is)) (sym begins) (fresh-tied since side_is kept.caches.recorder.told told))
+
+-- what a log that is told now gained
+grown-told : (P : Part) (t : State ℕ) (before now : Option Log) (l : Log) → GrewBy P t before now → now ≡ Some l → GrewPart P t before l
+grown-told P t before None l g y = absurd (cc)
+grown-told P t before (Some z) l g y = subst (GrewPart P t before) (same-log y) g
+
+-- A processor that had its turn to note it, and to empty the maps.
+pub begun-by : (g : Program) (kept : Kept) (start : LivingState) (old m k : Processor LivingState) (later : Kept) (now : LivingState) (log l : Log) → old ≡ in_its_turn kept start → later ≡ kept_of k → now ≡ k.side → later.caches.recorder.told ≡ Some l → kept.caches.recorder.told ≡ Some log →
+    Appends (log_of old) 0 entry.Close (log_of m) → shown m.caches ≡ shown old.caches → m ≡ record old { caches = m.caches } →
+    GrewBy (EmptiesMaps g.scenario.now.types g.scenario.now.maps) (lists_of m) (log_of m) (log_of k) → SameLives knows_living m k → Stays knows_living (2 * length g.scenario.now.maps) 0 g m k → Sound knows_living g k → TiedAt knows_living log start k →
+    BeginsClosing g kept start log later now
+begun-by g kept start old m k later now log l opened closes side_is told first said lists same grew lives stays sound tied =
     let old_told : log_of old ≡ Some log = ap (λ (z : Processor LivingState). log_of z) opened ∙ first in
-    let m_told : log_of m ≡ Some l = ap (λ (k : Caches Recorded). k.recorder.told) (sym caches) ∙ told in
-    let is : l ≡ log ++ (0, entry.Close) ∷ [] = noted-told entry.Close (log_of old) (log_of m) log l said old_told m_told in
-    let start_is : m.side ≡ start = same ∙ ap (λ (z : Processor LivingState). z.side) opened in
-    let before : TiedBy (polled knows_living false log start) (DoesHere knows_living) log start 0 [] [] (log_of old) old.side =
-    subst (λ (z : Processor LivingState). TiedBy (polled knows_living false log start) (DoesHere knows_living) log start 0 [] [] (log_of z) z.side) (sym opened) (fresh-tied log start kept.caches.recorder.told first) in
-    let after : TiedBy (polled knows_living false log start) (DoesHere knows_living) log start 0 [] [] (log_of m) m.side = tied log start before in
-    let now_is : now ≡ start = side_is ∙ start_is in
+    let note : Log = at_level 0 (entry.Close ∷ []) in
+    let k_told : log_of k ≡ Some l = sym (ap (λ (x : Kept). x.caches.recorder.told) closes) ∙ told in
+    let more = grown-told (EmptiesMaps g.scenario.now.types g.scenario.now.maps) (lists_of m) (log_of m) (log_of k) l grew k_told in
+    let noted : more.log ≡ log ++ note = noted-told entry.Close (log_of old) (log_of m) log more.log said old_told more.told in
+    let is : l ≡ log ++ (note ++ more.added) = more.now_is ∙ (ap (λ (z : Log). z ++ more.added) noted ∙ append_assoc log note more.added) in
+    let back : k ≡ in_its_turn later now = sym (ap (λ (x : Kept). in_its_turn x now) closes ∙ ap (λ (w : LivingState). in_its_turn (kept_of k) w) side_is) in
+    let shown_is : shown m.caches ≡ shown kept.caches = lists ∙ ap (λ (z : Processor LivingState). shown z.caches) opened in
+    let here : Tied (polled knows_living false log start) (DoesHere knows_living) log start 0 [] [] l k.side =
+    subst (λ (o : Option Log). TiedBy (polled knows_living false log start) (DoesHere knows_living) log start 0 [] [] o k.side) k_told tied in
     let T : Log → LivingState → Type 0 = λ z w. Tied (polled knows_living false log start) (DoesHere knows_living) log start 0 [] [] z w in
-    let here : T l m.side = subst (λ (o : Option Log). TiedBy (polled knows_living false log start) (DoesHere knows_living) log start 0 [] [] o m.side) m_told after in
+    let was : m.side ≡ start = ap (λ (z : Processor LivingState). z.side) same ∙ ap (λ (z : Processor LivingState). z.side) opened in
+    let asked : asked_of knows_living g.scenario.now m ≡ asked_of knows_living g.scenario.now (in_its_turn kept start) = ap (asked_of knows_living g.scenario.now) same ∙ ap (asked_of knows_living g.scenario.now) opened in
+    let most = stays.asks_most in
+    let F : Processor LivingState → Type 0 = λ x. asked_of knows_living g.scenario.now x ≤ asked_of knows_living g.scenario.now (in_its_turn kept start) + 2 * length g.scenario.now.maps in
     record {
+      added = note ++ more.added;
       told = told ∙ ap Some is;
-      lists = ap (λ (k : Caches Recorded). shown k) caches ∙ (lists ∙ ap (λ (z : Processor LivingState). shown z.caches) opened);
-      processor = ap (λ (k : Caches Recorded). k.processor) caches ∙ (processor ∙ ap (λ (z : Processor LivingState). z.caches.processor) opened);
-      same = now_is;
-      fine = subst (λ (k : Caches Recorded). FineHere k now) (sym caches) (subst (λ (w : LivingState). FineHere m.caches w) (sym side_is) fine);
-      tied = subst (λ (w : LivingState). T (log ++ (0, entry.Close) ∷ []) w) (sym side_is) (subst (λ (z : Log). T z m.side) is here);
+      said = record {
+        one = note;
+        two = more.added;
+        part_is = refl;
+        is_first = record { from = level-from 0 (entry.Close ∷ []); own_is = level-own 0 (entry.Close ∷ []) };
+        is_second = subst (λ (x : State Token). EmptiesMaps g.scenario.now.types g.scenario.now.maps (seen number_of x) more.added) shown_is more.is_part;
+      };
+      sound = subst (Sound knows_living g) back sound;
+      tied = subst (λ (w : LivingState). T (log ++ (note ++ more.added)) w) (sym side_is) (subst (λ (z : Log). T z k.side) is here);
+      asks = subst F back (omega (arith, most, asked));
+      hands = ap (λ (w : LivingState). in_hands (known_living w).objects) side_is ∙ (lives ∙ ap (λ (w : LivingState). in_hands (known_living w).objects) was);
+      parity = λ d. ap (λ (w : LivingState). (side d (known_living w)).word % 2) side_is ∙ (stays.parity d ∙ ap (λ (w : LivingState). (side d (known_living w)).word % 2) was);
     }

@@ -8,12 +8,11 @@ use Rattle.bm_journal.specs.declared.ids.Domain.TheVariants.{Plain, Tracing}
 use Rattle.bm_journal.specs.declared.entry.Entry.{Entry}
 use Rattle.bm_journal.specs.declared.entry.Entry.TheVariants as entry
 use Rattle.bm_lang.specs.declared.scenario.Parts.{Parts}
-use Rattle.bm_law.specs.Alone.{AllAt, at_level}
+use Rattle.bm_law.specs.Alone.{AllAt}
 use Rattle.bm_law.specs.Lists.{Log, after}
 use Rattle.bm_law.specs.Spans.{own_entries}
-use Rattle.bm_law.specs.State.{opening}
+use Rattle.bm_law.specs.State.{State, opening}
 use Rattle.bm_law.proofs.Spans.{own-append}
-use Rattle.bm_law.proofs.Alone.{level-own}
 use Rattle.bm_law_laid.specs.OrderOf.{AllBelow, IsOrderOf}
 use Rattle.bm_law_lives.specs.Together.{EachLog, LogsFrom}
 use Rattle.bm_law_order.specs.ByDomain.{of}
@@ -28,7 +27,7 @@ use Rattle.bm_law_order.specs.Whole.{whole}
 use Rattle.bm_law_order.proofs.Along.{fit-append}
 use Rattle.bm_law_work.proofs.Each.{AllOf, of-append, of-map, part-then}
 use Rattle.bm_law_scenario.specs.CallEntries.{IsOfHandler}
-use Rattle.bm_law_scenario.specs.Closing.{EndsOne, close_of, in_progress}
+use Rattle.bm_law_scenario.specs.Closing.{EndsOne, in_progress}
 use Rattle.bm_law_scenario.specs.Opened.{opened_classes}
 use Rattle.bm_law_scenario.specs.Parcels.{ParcelLaw, sends_alone}
 use Rattle.bm_law_scenario.specs.Grammar.{lines_of, stock_for}
@@ -38,7 +37,7 @@ use Rattle.bm_law_places.specs.World.{AllFound, SweepsInbox, World, outset, worl
 use Rattle.bm_law_places.proofs.Standing.{all-placed, shared-of}
 use Rattle.bm_law_seals.specs.Answered.{AreAnswered, ArePut}
 use Rattle.bm_law_seals.specs.Batches.{BatchFits, GivesNoMore, SweepsLast, WaitsInBatches}
-use Rattle.bm_run.specs.Between.{AllClosed, all_openings}
+use Rattle.bm_run.specs.Between.{AllClosed, GivesFirst, all_openings}
 use Rattle.bm_run.specs.InTurns.{one_by_one}
 use Rattle.bm_run.specs.Seated.{opening_lists, opening_log}
 use Rattle.bm_law_graphs.specs.Uncalled.{CallNone, CallsNone}
@@ -47,14 +46,18 @@ use Rattle.bm_world.specs.LivingState.{living_of}
 use Rattle.bm_world.specs.Slots.{object_at}
 use Rattle.bm_world.specs.declared.slots.Object.{Object}
 use Rattle.bm_world.specs.ToldLiving.{life_of}
-use Rattle.bm_run.proofs.BatchesTold.{IsUndelayed, all-answered, handler-sends, late-batches, late-none, log-puts, no-more, no-more-append, sweeps-last}
+use Rattle.bm_law_scenario.specs.Declared.{declared_in}
+use Rattle.bm_run.proofs.GivenClosing.{AllGiven, given-all-batches, given-no-more}
+use Rattle.bm_run.proofs.GivenLaws.{given-unsent}
+use Rattle.bm_run.proofs.GivenLogs.{given-log-puts, given-log-uncalled}
+use Rattle.bm_run.proofs.BatchesTold.{all-answered, handler-sends, late-batches, late-none, no-more, no-more-append, sweeps-last}
 use Rattle.bm_run.proofs.Closes.{IsLate, ends-late, sweeps-late}
 use Rattle.bm_run.proofs.FinalLog.{final-front, opening-said}
 use Rattle.bm_run.proofs.FinalOrder.{closing_order, final_order, whole-is}
 use Rattle.bm_run.proofs.OwnParcels.{AllSendApart, IsUnsent, OrderUnsent, one-sends-apart, own-parcels, unsent-apart}
-use Rattle.bm_run.proofs.PiecesKnown.{IsFill, level-at, opening-own}
+use Rattle.bm_run.proofs.PiecesKnown.{IsFill, opening-own}
 use Rattle.bm_run.proofs.SealsTold.{LowSend}
-use Rattle.bm_run.proofs.Uncalled.{above-uncalled, ordinary-uncalled}
+use Rattle.bm_run.proofs.Uncalled.{above-uncalled}
 use Rattle.bm_run.proofs.Unsent.{scripts-unsent}
 
 -- ---- orders
@@ -166,18 +169,6 @@ low-unsent : (e : Entry) → LowSend e → IsUnsent e
 low-unsent (entry.Send c to us) h = absurd h
 low-unsent _ h = tt
 
-close-late : (p : ℕ) → AllOf IsLate (close_of p)
-close-late zero = (tt, tt)
-close-late (suc p) = tt
-
-close-undelayed : (p : ℕ) → AllOf IsUndelayed (entry.Ended ∷ close_of p)
-close-undelayed zero = (tt, (tt, tt))
-close-undelayed (suc p) = (tt, tt)
-
-close-unsent : (p : ℕ) → AllOf IsUnsent (entry.Ended ∷ close_of p)
-close-unsent zero = (tt, (tt, tt))
-close-unsent (suc p) = (tt, tt)
-
 -- where no object is known none is told
 none-there : (object : Option Object) → living_of object ≡ None → life_of object ≡ None
 none-there None e = refl
@@ -224,20 +215,22 @@ module _ (s : Parts) (turns : List ℕ) (finals : List Log) (h : AllClosed s tur
       let f = h.logs p (subst (λ k. p < k) h.finishes_many lt) in
       let plain = in_progress Plain None (opening_log s p ++ f.scripts) in
       let tracing = in_progress Tracing None (opening_log s p ++ f.scripts) in
-      (f.closes.finishes_at, part-then IsLate 0 (EndsOne Plain plain) (EndsOne Tracing tracing) (ends-late Plain plain) (ends-late Tracing tracing) f.lists (get_or h.finishes p []) f.closes.finishes_are)
+      (f.closes.finishes_at, part-then IsLate 0 (EndsOne Plain plain) (EndsOne Tracing tracing) (ends-late Plain plain) (ends-late Tracing tracing) (after f.lists (get_or h.given p [])) (get_or h.finishes p []) f.closes.finishes_are)
 
   sweep-late : (p : ℕ) → p < length h.sweeps → IsLateLog (get_or h.sweeps p [])
   sweep-late p lt =
       let f = h.logs p (subst (λ k. p < k) h.sweeps_many lt) in
-      (f.closes.sweeps_at, sweeps-late (opened_classes s.types) f.closes.boxes (after f.lists (get_or h.finishes p [])) (get_or h.sweeps p []) f.closes.sweeps_are)
+      (f.closes.sweeps_at, sweeps-late (opened_classes s.types) f.closes.boxes (after (after f.lists (get_or h.given p [])) (get_or h.finishes p [])) (get_or h.sweeps p []) f.closes.sweeps_are)
 
-  given-late : (p : ℕ) → p < length h.given → IsLateLog (get_or h.given p [])
-  given-late p lt =
-      let e = h.given_are p (subst (λ k. p < k) h.given_many lt) in
-      (subst (AllAt 0) (sym e) (level-at (close_of p)), subst (λ (z : Log). AllOf IsLate (own_entries 0 z)) (sym e) (subst (AllOf IsLate) (sym (level-own 0 (close_of p))) (close-late p)))
+  -- what is given up before
+  all-given : AllGiven (declared_in s) 0 h.given
+  all-given i lt =
+      let f = h.logs i (subst (λ k. i < k) h.given_many lt) in
+      let same : i ≡ 0 + i = omega arith in
+      (subst (λ k. (t : State ℕ) × GivesFirst (declared_in s) k t (get_or h.given i [])) same (f.lists, f.given_is), f.given_at)
 
   none-given : GivesNoMore (one_by_one 0 h.given ++ closing_order s turns finals h)
-  none-given = no-more-append (one_by_one 0 h.given) (closing_order s turns finals h) (each-no-more 0 h.given given-late) (no-more-append (one_by_one 0 h.finishes) (one_by_one 0 h.sweeps) (each-no-more 0 h.finishes finish-late) (each-no-more 0 h.sweeps sweep-late))
+  none-given = no-more-append (one_by_one 0 h.given) (closing_order s turns finals h) (given-no-more (declared_in s) 0 h.given all-given) (no-more-append (one_by_one 0 h.finishes) (one_by_one 0 h.sweeps) (each-no-more 0 h.finishes finish-late) (each-no-more 0 h.sweeps sweep-late))
 
   apart : o ≡ front ++ (one_by_one 0 h.given ++ closing_order s turns finals h)
   apart = append_assoc front (one_by_one 0 h.given) (closing_order s turns finals h)
@@ -251,17 +244,24 @@ module _ (s : Parts) (turns : List ℕ) (finals : List Log) (h : AllClosed s tur
       let P = one_by_one 0 h.finishes in
       let W = one_by_one 0 h.sweeps in
       let m1 = over waiting_after G m in
-      fit-append waiting_after BatchFits G (P ++ W) m (each-batches 0 h.given m given-late) (fit-append waiting_after BatchFits P W m1 (each-batches 0 h.finishes m1 finish-late) (each-batches 0 h.sweeps (over waiting_after P m1) sweep-late))
+      fit-append waiting_after BatchFits G (P ++ W) m (given-all-batches (declared_in s) 0 h.given m all-given) (fit-append waiting_after BatchFits P W m1 (each-batches 0 h.finishes m1 finish-late) (each-batches 0 h.sweeps (over waiting_after P m1) sweep-late))
 
-  -- the log of a processor, by its front, its end and what is late
+  -- the log of a processor, by its front, its end with what it gave up, and what is late
   abbrev ended_at_last : ℕ → Log
-  ended_at_last p = at_level 0 (entry.Ended ∷ close_of p)
+  ended_at_last p = (0, entry.Ended) ∷ get_or h.given p []
 
   abbrev late_of : ℕ → Log
   late_of p = get_or h.finishes p [] ++ get_or h.sweeps p []
 
   final-parts : (p : ℕ) (lt : p < n) → get_or finals p [] ≡ ((opening_log s p ++ (h.logs p lt).scripts) ++ ended_at_last p) ++ late_of p
   final-parts p lt = (h.logs p lt).final_is ∙ sym (append_assoc (opening_log s p ++ (h.logs p lt).scripts) (ended_at_last p) (late_of p))
+
+  late-at : (p : ℕ) → p < n → AllAt 0 (late_of p)
+  late-at p lt = at-both (get_or h.finishes p []) (get_or h.sweeps p []) (h.logs p lt).closes.finishes_at (h.logs p lt).closes.sweeps_at
+    where
+      at-both : (a b : Log) → AllAt 0 a → AllAt 0 b → AllAt 0 (a ++ b)
+      at-both [] b x y = y
+      at-both (e ∷ a) b x y = (x.0, at-both a b x.1 y)
 
   late-own : (p : ℕ) → p < n → AllOf IsLate (own_entries 0 (late_of p))
   late-own p lt =
@@ -272,7 +272,7 @@ module _ (s : Parts) (turns : List ℕ) (finals : List Log) (h : AllClosed s tur
   final-put : (p l : ℕ) → p < n → ArePut (own_entries l (get_or finals p []))
   final-put p l lt =
       let f = h.logs p lt in
-      log-puts s p (get_or finals p []) (opening_log s p ++ f.scripts) (ended_at_last p) (late_of p) (final-parts p lt) (final-front s p _ _ _ f) (late-own p lt) (subst (AllOf IsUndelayed) (sym (level-own 0 (entry.Ended ∷ close_of p))) (close-undelayed p)) f.stands f.done l
+      given-log-puts s p f.lists (get_or finals p []) (opening_log s p ++ f.scripts) (get_or h.given p []) (late_of p) (final-parts p lt) (final-front s p _ _ _ _ f) f.front_stands f.front_done f.given_is f.given_at (late-at p lt) (late-own p lt) l
 
   puts-any : (p l : ℕ) → ArePut (own_entries l (get_or finals p []))
   puts-any p l = elim (cases_lt p (length finals)) [
@@ -294,7 +294,7 @@ module _ (s : Parts) (turns : List ℕ) (finals : List Log) (h : AllClosed s tur
   final-uncalled p lt =
       let f = h.logs p lt in
       let log = get_or finals p [] in
-      have-all CallsNone log (ordinary-uncalled s p log (opening_log s p ++ f.scripts) (ended_at_last p) (late_of p) (final-parts p lt) (final-front s p _ _ _ f) (level-own 0 (entry.Ended ∷ close_of p)) (late-own p lt)) (above-uncalled s p log f.stands f.done)
+      have-all CallsNone log (given-log-uncalled s p f.lists log (opening_log s p ++ f.scripts) (get_or h.given p []) (late_of p) (final-parts p lt) (final-front s p _ _ _ _ f) f.given_is (late-own p lt)) (above-uncalled s p log f.stands f.done)
 
   uncalled-any : (p : ℕ) → AllHave CallsNone (get_or finals p [])
   uncalled-any p = elim (cases_lt p (length finals)) [
@@ -325,7 +325,7 @@ module _ (s : Parts) (turns : List ℕ) (finals : List Log) (h : AllClosed s tur
       let E : Log → List Entry = own_entries 0 in
       let opened = of-map IsFill IsUnsent fill-unsent (E op) (opening-own (opened_classes s.types) (stock_for s p) (opening p) op (opening-said s p (opening p))) in
       let ran : AllOf IsUnsent (E f.scripts) = scripts-unsent s off (lines_of p s.runs) (opening_lists s p) f.scripts f.are_scripts in
-      let ended : AllOf IsUnsent (E (ended_at_last p)) = subst (AllOf IsUnsent) (sym (level-own 0 (entry.Ended ∷ close_of p))) (close-unsent p) in
+      let ended : AllOf IsUnsent (E (ended_at_last p)) = (tt, given-unsent (declared_in s) p f.lists (get_or h.given p []) f.given_is) in
       let late = of-map IsLate IsUnsent late-unsent (E (late_of p)) (late-own p lt) in
       let one : AllOf IsUnsent (E (op ++ f.scripts)) = subst (AllOf IsUnsent) (sym (own-append 0 op f.scripts)) (of-append IsUnsent (E op) (E f.scripts) opened ran) in
       let two : AllOf IsUnsent (E ((op ++ f.scripts) ++ ended_at_last p)) = subst (AllOf IsUnsent) (sym (own-append 0 (op ++ f.scripts) (ended_at_last p))) (of-append IsUnsent (E (op ++ f.scripts)) (E (ended_at_last p)) one ended) in

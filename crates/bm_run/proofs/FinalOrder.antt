@@ -7,16 +7,16 @@ use Rattle.std.proofs.lemmas.List.FromFn.{get_or-map-range_with_len, length-map-
 use Rattle.bm_journal.specs.declared.ids.Domain.TheVariants.{Plain, Tracing}
 use Rattle.bm_journal.specs.declared.entry.Entry.TheVariants as entry
 use Rattle.bm_lang.specs.declared.scenario.Parts.{Parts}
-use Rattle.bm_law.specs.Alone.{AllAt, at_level}
+use Rattle.bm_law.specs.Alone.{AllAt}
 use Rattle.bm_law.specs.Lists.{Log, after}
 use Rattle.bm_law.specs.Spans.{own_entries}
 use Rattle.bm_law.specs.State.{opening}
-use Rattle.bm_law.proofs.Alone.{level-own}
 use Rattle.bm_law_order.specs.Orders.{Order}
 use Rattle.bm_law_order.specs.Whole.{joined, whole}
 use Rattle.bm_law_work.proofs.Each.{AllOf}
 use Rattle.bm_law_scenario.specs.CallEntries.{IsOfHandler}
-use Rattle.bm_law_scenario.specs.Closing.{close_of, in_progress}
+use Rattle.bm_law_scenario.specs.Closing.{in_progress}
+use Rattle.bm_law_scenario.specs.Declared.{declared_in}
 use Rattle.bm_law_scenario.specs.Grammar.{lines_of, stock_for}
 use Rattle.bm_law_scenario.specs.Opened.{opened_classes}
 use Rattle.bm_law_scenario.proofs.EachLevel.{above-back, handlers-above}
@@ -25,8 +25,9 @@ use Rattle.bm_run.specs.InTurns.{AreLogs, ArePieces, RunParts, made_by, one_by_o
 use Rattle.bm_run.specs.Openings.{openings}
 use Rattle.bm_run.specs.Seated.{opening_lists, opening_log}
 use Rattle.bm_run.proofs.FinalLog.{final-front, opening-said}
+use Rattle.bm_run.proofs.GivenLaws.{given-early}
 use Rattle.bm_run.proofs.LogLaw.{fill-level, fill_entries}
-use Rattle.bm_run.proofs.PiecesKnown.{AreKnown, IsEarly, IsFill, early-close, ends-own, front-unended, known-parts, level-at, opening-own, scripts-first, told-first}
+use Rattle.bm_run.proofs.PiecesKnown.{AreKnown, IsFill, ends-own, front-unended, known-parts, level-at, opening-own, scripts-first, told-first}
 use Rattle.bm_run.proofs.WholeInTurns.{made-one-by-one, whole-in-turns}
 
 module _ (s : Parts) (turns : List ℕ) (finals : List Log) (h : AllClosed s turns finals) where
@@ -56,8 +57,8 @@ module _ (s : Parts) (turns : List ℕ) (finals : List Log) (h : AllClosed s tur
       let f = h.logs p lt in
       let op : Log = opening_log s p in
       let turned : Log = joined (get_or h.taken p []) in
-      let rest : Log = at_level 0 (close_of p) ++ (get_or h.finishes p [] ++ get_or h.sweeps p []) in
-      let one : get_or finals p [] ≡ (op ++ turned) ++ rest = h.finals_are p lt ∙ ap (λ (z : Log). (op ++ turned) ++ (z ++ (get_or h.finishes p [] ++ get_or h.sweeps p []))) (h.given_are p lt) in
+      let rest : Log = get_or h.given p [] ++ (get_or h.finishes p [] ++ get_or h.sweeps p []) in
+      let one : get_or finals p [] ≡ (op ++ turned) ++ rest = h.finals_are p lt in
       let two : get_or finals p [] ≡ ((op ++ f.scripts) ++ (0, entry.Ended) ∷ []) ++ rest = f.final_is ∙ sym (append_assoc (op ++ f.scripts) ((0, entry.Ended) ∷ []) rest) in
       let same = append_cancel_right (op ++ turned) ((op ++ f.scripts) ++ (0, entry.Ended) ∷ []) rest (sym one ∙ two) in
       append_cancel_left op turned (f.scripts ++ (0, entry.Ended) ∷ []) (same ∙ append_assoc op f.scripts ((0, entry.Ended) ∷ []))
@@ -74,14 +75,14 @@ module _ (s : Parts) (turns : List ℕ) (finals : List Log) (h : AllClosed s tur
         scripts = f.scripts;
         scripts_are = turns-are p lt;
         scripts_first = scripts-first s (lines_of p s.runs) (opening_lists s p) f.scripts f.are_scripts;
-        scripts_own = front-unended s p op f.scripts (final-front s p _ _ _ f);
+        scripts_own = front-unended s p op f.scripts (final-front s p _ _ _ _ f);
         handled = above-back IsOfHandler op f.scripts (handlers-above s p (op ++ f.scripts) f.front_stands f.front_done);
-        given_at = subst (AllAt 0) (sym (h.given_are p lt)) (level-at (close_of p));
-        given_own = subst (λ (z : Log). AllOf IsEarly (own_entries 0 z)) (sym (h.given_are p lt)) (subst (AllOf IsEarly) (sym (level-own 0 (close_of p))) (early-close p));
+        given_at = f.given_at;
+        given_own = given-early (declared_in s) p f.lists (get_or h.given p []) f.given_is;
         finishes_at = f.closes.finishes_at;
-        finishes_own = ends-own (in_progress Plain None (op ++ f.scripts)) (in_progress Tracing None (op ++ f.scripts)) f.lists (get_or h.finishes p []) f.closes.finishes_are;
+        finishes_own = ends-own (in_progress Plain None (op ++ f.scripts)) (in_progress Tracing None (op ++ f.scripts)) (after f.lists (get_or h.given p [])) (get_or h.finishes p []) f.closes.finishes_are;
         sweeps_at = f.closes.sweeps_at;
-        sweeps_own = told-first classes f.closes.boxes (after f.lists (get_or h.finishes p [])) (get_or h.sweeps p []) f.closes.sweeps_are;
+        sweeps_own = told-first classes f.closes.boxes (after (after f.lists (get_or h.given p [])) (get_or h.finishes p [])) (get_or h.sweeps p []) f.closes.sweeps_are;
       }
 
   are-logs : AreLogs s.processors run_parts finals

@@ -1,7 +1,8 @@
 -- A processor that has been opened is tied to its log since the outset: its fills are what was fetched.
 use Rattle.std.specs.Prelude.{◌≡◌, ◌+◌, ◌*◌, ◌&&◌, ◌++◌, ℕ, zero, suc, Bool, true, false, List, [], ◌∷◌, map, replicate, nat_lt, Option, None, get_or, if◌then◌else◌}
+use Rattle.bm_lang.specs.declared.scenario.MapDeclaration.{MapDeclaration}
 use Rattle.bm_world.specs.ToldLiving.{knows_living}
-use Rattle.std.proofs.Common.{◌∙◌, ap, append-nil, refl, subst, sym}
+use Rattle.std.proofs.Common.{◌∙◌, arith, ap, append-nil, refl, subst, sym}
 use Rattle.bm_law.specs.Lists.{Log}
 use mathlib.Core.Path.{fun_ext}
 use Rattle.bm_page.specs.declared.units.Stocked.{Stocked}
@@ -19,6 +20,7 @@ use Rattle.bm_law_order.specs.Numbers.{first_numbers}
 use Rattle.bm_law_order.specs.Pages.{fetches}
 use Rattle.bm_law_order.specs.Seals.{Wait, WaitLeads}
 use Rattle.bm_law_order.specs.Shared.{Shared, fresh}
+use Rattle.bm_law_order.specs.Slots.{Contents, SlotsLead, empty_slot, named_in}
 use Rattle.bm_law_order.specs.Story.{AllJudged, Story, deeds, lines}
 use Rattle.bm_law_order.specs.Tie.{Tied}
 use Rattle.bm_law_order.specs.Words.{first_words}
@@ -38,7 +40,7 @@ use Rattle.bm_world.specs.ToldLiving.{LivingDoes, life_of, told_living}
 use Rattle.bm_run.specs.Filling.{filling}
 use Rattle.bm_exec_levels.specs.AtPolls.{DoesHere, polled}
 use Rattle.bm_run.specs.Opened.{fresh_side, fresh_world}
-use Rattle.bm_run.proofs.OpeningLemmas.{living_side, none-at}
+use Rattle.bm_run.proofs.OpeningLemmas.{living_side, named-empty, none-at}
 
 bare-unborn : (n : ℕ) → map bare_unit (replicate n unborn) ≡ replicate n unborn
 bare-unborn zero = refl
@@ -52,8 +54,8 @@ no-boxes n q pool p c = none (nat_lt p 8 && nat_lt c 11)
     none false = refl
 
 -- What is told where nobody did anything but take units from the stock. Whose side it is, is no matter.
-pub fresh-told : (n q pages : ℕ) (pool : Stock) (slots : List (Option Object)) (begun : List ℕ) (standings : List Standing) → AllEmpty slots → ((u : ℕ) → begun_at begun u ≡ 0) → told_living (living_side n q pool slots begun standings) ≡ record (fresh n pages) { pool = bare_pool pool }
-fresh-told n q pages pool slots begun standings e z =
+pub fresh-told : (n q pages : ℕ) (pool : Stock) (slots : List (Option Object)) (begun : List ℕ) (standings : List Standing) (maps : List MapDeclaration) → AllEmpty slots → ((u : ℕ) → begun_at begun u ≡ 0) → told_living (living_side n q pool slots begun standings maps) ≡ record (fresh n pages) { pool = bare_pool pool }
+fresh-told n q pages pool slots begun standings maps e z =
     let F : (ℕ → ℕ → List (List ℕ)) → (ℕ → ℕ) → (ℕ → Option Life) → Shared = λ b g h. record { processors = n; words = first_words; numbers = first_numbers; looks = first_looks; lives = record { begun = g; holds = h; dropping = λ p l. None }; pool = bare_pool pool; boxes = b } in
     let B : ℕ → ℕ → List (List ℕ) = λ p c. [] in
     ap (λ b. F b (begun_at begun) (λ u. life_of (object_at slots u))) (fun_ext (λ p. fun_ext (λ c. no-boxes n q pool p c)))
@@ -76,7 +78,7 @@ no-lives (suc n) = refl
 pub first-told : (n q pages : ℕ) → told_living (fresh_world n q (fresh_stock pages)) ≡ fresh n pages
 first-told n q pages =
     let F : List Stocked → Shared = λ us. record (fresh n pages) { pool = record { classes = replicate pages None; units = us } } in
-    fresh-told n q pages (fresh_stock pages) [] [] [] no-slots no-lives ∙ ap F (bare-unborn (256 * pages))
+    fresh-told n q pages (fresh_stock pages) [] [] [] [] no-slots no-lives ∙ ap F (bare-unborn (256 * pages))
 
 -- the fills of some classes from a stock
 abbrev fill_story : List ℕ → Stock → Story
@@ -110,34 +112,41 @@ fill-made : (cs : List ℕ) (pool : Stock) (w : Fields) → MadeLead (deeds (fil
 fill-made [] pool w = refl
 fill-made (c ∷ cs) pool w = (w, (refl, fill-made cs (fetched c (prefill c) pool).pool w))
 
-fill-does : (n q : ℕ) (cs : List ℕ) (before pool : Stock) (slots : List (Option Object)) (begun : List ℕ) (standings : List Standing) → pool ≡ (filling cs before).pool → AllEmpty slots → ((u : ℕ) → begun_at begun u ≡ 0) → ((u : ℕ) → standing_at standings u ≡ Nothing) →
-    LivingDoes (deeds (fill_story cs before)) (fresh_world n q before) (living_side n q pool slots begun standings)
-fill-does n q cs before pool slots begun standings same e z stands = record {
+-- nothing is exchanged
+fill-exchanged : (cs : List ℕ) (pool : Stock) (w : Contents) → SlotsLead (deeds (fill_story cs pool)) w w
+fill-exchanged [] pool w = refl
+fill-exchanged (c ∷ cs) pool w = (w, (refl, fill-exchanged cs (fetched c (prefill c) pool).pool w))
+
+fill-does : (n q : ℕ) (cs : List ℕ) (before pool : Stock) (slots : List (Option Object)) (begun : List ℕ) (standings : List Standing) (maps : List MapDeclaration) → pool ≡ (filling cs before).pool → AllEmpty slots → ((u : ℕ) → begun_at begun u ≡ 0) → ((u : ℕ) → standing_at standings u ≡ Nothing) →
+    LivingDoes (deeds (fill_story cs before)) (fresh_world n q before) (living_side n q pool slots begun standings maps)
+fill-does n q cs before pool slots begun standings maps same e z stands = record {
   waits = subst (λ w. WaitLeads (deeds (fill_story cs before)) (waits_told []) w) (fun_ext (λ u. ap told_standing (no-standing u ∙ sym (stands u)))) (fill-waits cs before (waits_told []));
   made = subst (MadeLead (deeds (fill_story cs before)) (λ u. [])) (fun_ext (λ u. ap values_of (sym (no-object (object_at slots u) (e u))))) (subst (λ w. MadeLead (deeds (fill_story cs before)) w (λ u. [])) (fun_ext (λ u. ap values_of (sym (no-object (object_at [] u) (no-slots u))))) (fill-made cs before (λ u. [])));
+  exchanged = subst (SlotsLead (deeds (fill_story cs before)) (named_in [])) (sym (named-empty maps)) (fill-exchanged cs before (λ name. empty_slot));
+  asked = omega arith;
   keeps = λ u s. stands u ∙ sym (no-standing u);
   did = λ p s.
-      let first = fresh-told n q 0 before [] [] [] no-slots no-lives in
+      let first = fresh-told n q 0 before [] [] [] [] no-slots no-lives in
       let start : Shared = record (fresh n 0) { pool = bare_pool before } in
       let lead = fill-leads p cs before start refl in
-      let now = fresh-told n q 0 pool slots begun standings e z ∙ ap (λ x. let y : Shared = record (fresh n 0) { pool = bare_pool x } in y) same in
+      let now = fresh-told n q 0 pool slots begun standings maps e z ∙ ap (λ x. let y : Shared = record (fresh n 0) { pool = bare_pool x } in y) same in
       record {
-        leads = subst (λ x. ActsLead p (deeds (fill_story cs before)) x (told_living (living_side n q pool slots begun standings))) (sym first) (subst (ActsLead p (deeds (fill_story cs before)) start) (sym now) lead);
+        leads = subst (λ x. ActsLead p (deeds (fill_story cs before)) x (told_living (living_side n q pool slots begun standings maps))) (sym first) (subst (ActsLead p (deeds (fill_story cs before)) start) (sym now) lead);
         stays = record { post_is = s.post_is; grace_is = s.grace_is; agree = s.agree; turn = s.turn; most = s.most; boxes = s.boxes; plain_words = s.plain_words; tracing_words = s.tracing_words };
         others = λ d q ne. refl;
       };
 }
 
 -- The fills of a processor's opening are tied since the stock before them.
-pub fills-tied : (n q : ℕ) (cs : List ℕ) (before pool : Stock) (slots : List (Option Object)) (begun : List ℕ) (standings : List Standing) → pool ≡ (filling cs before).pool → AllEmpty slots → ((u : ℕ) → begun_at begun u ≡ 0) → ((u : ℕ) → standing_at standings u ≡ Nothing) →
-    Tied (polled knows_living false [] (fresh_world n q before)) (DoesHere knows_living) [] (fresh_world n q before) 0 [] [] (fill_log (filling cs before).fills) (living_side n q pool slots begun standings)
-fills-tied n q cs before pool slots begun standings same e z stands =
+pub fills-tied : (n q : ℕ) (cs : List ℕ) (before pool : Stock) (slots : List (Option Object)) (begun : List ℕ) (standings : List Standing) (maps : List MapDeclaration) → pool ≡ (filling cs before).pool → AllEmpty slots → ((u : ℕ) → begun_at begun u ≡ 0) → ((u : ℕ) → standing_at standings u ≡ Nothing) →
+    Tied (polled knows_living false [] (fresh_world n q before)) (DoesHere knows_living) [] (fresh_world n q before) 0 [] [] (fill_log (filling cs before).fills) (living_side n q pool slots begun standings maps)
+fills-tied n q cs before pool slots begun standings maps same e z stands =
     let story = fill_story cs before in
     let start = fresh_world n q before in
-    let world : LivingState = living_side n q pool slots begun standings in
+    let world : LivingState = living_side n q pool slots begun standings maps in
     record {
       story = story;
       judged = fill-judged start [] cs before;
       log_is = sym (fill-lines cs before) ∙ sym (append-nil (lines story));
-      done_is = (subst (λ as'. LivingDoes as' start world) (sym (append-nil (deeds story))) (fill-does n q cs before pool slots begun standings same e z stands), refl);
+      done_is = (subst (λ as'. LivingDoes as' start world) (sym (append-nil (deeds story))) (fill-does n q cs before pool slots begun standings maps same e z stands), refl);
     }

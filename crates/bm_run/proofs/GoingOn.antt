@@ -26,6 +26,7 @@ use Rattle.bm_exec_levels.specs.Stated.{ordinary-joined}
 use Rattle.bm_exec_levels.specs.declared.processor.Processor.{Processor}
 use Rattle.bm_exec_levels.specs.declared.program.Program.{Program}
 use Rattle.bm_exec_levels.proofs.Yields.{behind-unyielding}
+use Rattle.bm_exec_levels.specs.Slotted.{in_hands}
 use Rattle.bm_run.specs.Lines.{AreDeclared, BehindScript, lines_cost, works_for}
 use Rattle.bm_run.specs.Turns.{Advanced, EndsScript, HasBegun, HasEnded, HasRun, IsNextOf, RunsBlocks, RunsOn, StillRuns, WentOn, around_in, begun_cost, begun_weight, cost_left, domain_of, lines_left, owned_by, weight_left}
 use Rattle.bm_run.specs.declared.turns.Begun.{Begun}
@@ -125,13 +126,13 @@ advanced-begun s w script p before now b r r' f sa sb e q h n d = (
     grew = λ final more. subst (λ (o : Option Begun). GrewBy (StillRuns s w before (with_begun o r)) (lists_of before) (log_of before) final) (sym e) (begun-grew s w script p before now b r r' f sa sb h n final more);
     ordinary = h.wrote.ordinary;
     can = record { stands = h.stands; declared = d };
-    owns = λ base x. h.owns base (subst (λ (o : Option Begun). owned_by s base (known_of knows_living before).objects.lives o) e x);
+    owns = λ base x. h.owns base (subst (λ (o : Option Begun). owned_by s base (in_hands (known_of knows_living before).objects) o) e x);
     used = (let u = h.used in let c = h.cost in let k = n.cost in let left = cost-none in omega (arith, u, c, k, left, same-cost));
   },
   (let k = n.cost in let l = h.light in let left = weight-none in omega (arith, k, l, left, same-cost)),
 )
   where
-    cost-none : cost_left s r ≡ 2 * lines_cost r.processor s.scripts r.lines.now
+    cost-none : cost_left s r ≡ 3 * lines_cost r.processor s.scripts r.lines.now
     cost-none = (let z = ap begun_cost e in omega (arith, z))
 
     weight-none : weight_left s r ≡ 2 * lines_cost r.processor s.scripts r.lines.now
@@ -202,7 +203,7 @@ pub record AllRemain (s : Parts) (p : ℕ) (r : Remaining) : Type 0 where
   pub all : r.lines.now ≡ s.runs
 
 -- what it costs to run them all
-pub all-cost : (s : Parts) (p : ℕ) (r : Remaining) → AllRemain s p r → cost_left s r ≡ 2 * lines_cost p s.scripts s.runs
+pub all-cost : (s : Parts) (p : ℕ) (r : Remaining) → AllRemain s p r → cost_left s r ≡ 3 * lines_cost p s.scripts s.runs
 all-cost s p r a =
     let lines : lines_cost r.processor s.scripts r.lines.now ≡ lines_cost p s.scripts s.runs = ap (λ k. lines_cost k s.scripts r.lines.now) a.own ∙ ap (lines_cost p s.scripts) a.all in
     let z = ap begun_cost a.none in

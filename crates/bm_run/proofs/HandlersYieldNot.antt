@@ -10,7 +10,6 @@ use Rattle.bm_lang.specs.declared.scenario.Block.{Block, Block', Row_of-Statemen
 use Rattle.bm_lang.specs.declared.scenario.Parts.{Parts}
 use Rattle.bm_lang.specs.declared.scenario.Script.{Script}
 use Rattle.bm_lang.specs.declared.scenario.ScriptKind.TheVariants as kind
-use Rattle.bm_lang.specs.declared.scenario.TypeDeclaration.{TypeDeclaration}
 use Rattle.bm_check.specs.declared.name_state.HeldLock.TheVariants.{Nothing as NoLock}
 use Rattle.bm_check.specs.declared.rule.Rule.{Rule}
 use Rattle.bm_check.specs.Blocks.{Broken, Outcome, Place, Reaches, and_then, at, end_line, judged_action, judged_block, judged_else, judged_row, unless_broken}

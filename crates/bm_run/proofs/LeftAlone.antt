@@ -205,9 +205,10 @@ each-had P s h = record {
 pub left-alone : (q : ℕ) (o : Order) (before : World) (a w : LivingState) (s : State Token) →
     part_of q o ≡ [] → IsWellPlaced before → AllFound o before → before.shared ≡ plainly (told_living a) → (world_over o before).shared ≡ plainly (told_living w) → before.lists q ≡ seen number_of s → IsSideOf q a.side → IsSideOf q w.side →
     ((d : Domain) → (side d (known_living a)).begins ≤ (side d (known_living w)).begins) →
+    a.asked ≤ w.asked →
     ((n : ℕ) → Has n (seen number_of s) → standing_at w.standings n ≡ standing_at a.standings n) →
     IsLeftAlone s a w
-left-alone q o before a w s none placed found is then_is lists x y begins standing =
+left-alone q o before a w s none placed found is then_is lists x y begins asked standing =
     let now : World = world_over o before in
     let alone : LeavesAlone q before now = leaves-alone q o before none placed found in
     record {
@@ -215,6 +216,7 @@ left-alone q o before a w s none placed found is then_is lists x y begins standi
       processor = y.grace_is ∙ sym x.grace_is;
       words = λ d. word-told before now a w is then_is d q x.grace_is y.grace_is (word-over d q o before none);
       begins = begins;
+      asked = asked;
       units = each-had (λ n. StaysPut n a w) s (λ n h. put-of before now a w is then_is n x.boxes y.boxes (standing n h) (alone.units n (is-with q n before (subst (Has n) (sym lists) h))));
     }
 
@@ -229,6 +231,7 @@ turn-left p q ne story places a w s t k lists turn =
     left-alone q o places (at_turn q a) (at_turn q w) s (others-part p q (lines story) ne) t.placed t.found t.told then_is lists
     (side-at q p a turn t.begins_his) (side-at q p w (subst (λ n. q < n) (sym as_many) turn) t.ends_his)
     (λ d. by-domain d (k.begins d))
+    k.asked
     (λ n h. k.standings n (story-spares p q n ne story places t.placed (subst (Has n) (sym lists) h) t.found))
   where
     by-domain : (d : Domain) → slice_index (domain_in d a.side.grace).begins q ≤ slice_index (domain_in d w.side.grace).begins q → (side d (known_living (at_turn q a))).begins ≤ (side d (known_living (at_turn q w))).begins

@@ -25,6 +25,7 @@ pub mod ParcelsTold
 pub mod StampsBound
 pub mod PollsTold
 pub mod OwnedTold
+pub mod SlotsTold
 pub mod SealsTold
 pub mod BatchesTold
 pub mod Nesting
@@ -63,6 +64,12 @@ pub mod SeatTurn
 pub mod ClosersStep
 pub mod ClosersTaken
 pub mod ClosersSteps
+pub mod Emptied
+pub mod EmptiedSlots
+pub mod GivenLaws
+pub mod GivenLogs
+pub mod GivenClosing
+pub mod EndedStands
 pub mod ClosersBegin
 pub mod ClosersLists
 pub mod ClosersEnd

@@ -5,6 +5,10 @@ use Rattle.std.proofs.lemmas.Bool.{and_from, and_parts, cases_eq, ltb-true}
 use Rattle.std.proofs.lemmas.Bool.Decides.{nat_tests}
 use Rattle.std.proofs.lemmas.List.{get_or-replicate, map-append}
 use Rattle.std.proofs.lemmas.List.Elements.{All-nil}
+use Rattle.std.specs.Str.{bytes_eq}
+use mathlib.Core.Path.{fun_ext}
+use Rattle.bm_journal.specs.declared.ids.ObjId.{ObjId}
+use Rattle.bm_lang.specs.declared.scenario.MapDeclaration.{MapDeclaration}
 use Rattle.bm_journal.specs.declared.ids.Domain.{Domain}
 use Rattle.bm_journal.specs.declared.ids.Domain.TheVariants.{Plain, Tracing}
 use Rattle.bm_journal.specs.declared.entry.Entry.TheVariants as entry
@@ -12,7 +16,7 @@ use Rattle.bm_page.specs.declared.units.Seal.{Seal}
 use Rattle.bm_page.specs.Stock.{Stock, stocked_at, fetched}
 use Rattle.bm_page.specs.Out.{AreOut}
 use Rattle.bm_page.proofs.StockLemmas.{out_inside}
-use Rattle.bm_grace.specs.Known.{side}
+use Rattle.bm_grace.specs.Known.{Living, Objects, side}
 use Rattle.bm_post.specs.HasRoom.{has_room}
 use Rattle.bm_post.specs.Kept.{IsRoomy}
 use Rattle.bm_post.specs.PostState.{Parcels, PostState, is_mine, no_parcels, waits}
@@ -34,9 +38,14 @@ use Rattle.bm_cache.specs.Tests.{Reusable, Tests}
 use Rattle.bm_cache.specs.Tokens.{Token, number_of}
 use Rattle.bm_work.specs.Dated.{Dated, DatedRow}
 use Rattle.bm_work.specs.DeskTests.{tests_by}
+use Rattle.bm_law_scenario.specs.Declared.{Declared}
 use Rattle.bm_law_scenario.specs.Fills.{prefill}
+use Rattle.bm_law_order.specs.Slots.{Slot, empty_slot, named_in}
+use Rattle.bm_world.specs.Contents.{names_in, slot_at}
+use Rattle.bm_exec.specs.Living.{one_less}
+use Rattle.bm_exec_levels.specs.Slotted.{AreStocked, in_hands, less_times, times_held}
 use Rattle.bm_run.specs.Filling.{filling, units_in, IsUnborn, NeverLived}
-use Rattle.bm_run.specs.Opened.{ascends, fresh_side}
+use Rattle.bm_run.specs.Opened.{ascends, empty_slots, fresh_side}
 use Rattle.bm_run.specs.Openings.{AreNew}
 
 pub ascending : (cs : List ℕ) (pool : Stock) → ascends cs ≡ true → Ascending (filling cs pool).fills
@@ -94,14 +103,55 @@ unlived post h e = record {
   boxes = λ i. let none : get_or post.inboxes i [] ≡ [] = ap (λ (z : List Parcels). get_or z i []) e ∙ none-at 88 i in rw none (All-nil _);
 }
 
--- the world of processor p of n with nothing alive
-abbrev pub living_side : (n p : ℕ) → Stock → List (Option Object) → List ℕ → List Standing → LivingState
-living_side n p pool slots begun standings = record { side = fresh_side n p pool; slots = slots; begun = begun; standings = standings; asked = 0 }
+-- the world of processor p of n with nothing alive, and the slots of these maps
+abbrev pub living_side : (n p : ℕ) → Stock → List (Option Object) → List ℕ → List Standing → List MapDeclaration → LivingState
+living_side n p pool slots begun standings maps = record { side = fresh_side n p pool; slots = slots; begun = begun; standings = standings; asked = 0; contents = empty_slots maps }
 
-pub side-is : (n p : ℕ) (world : LivingState) (pool : Stock) → world.side ≡ fresh_side n p pool → world.asked ≡ 0 → world ≡ living_side n p pool world.slots world.begun world.standings
-side-is n p world pool e z =
-    ap (λ s. let w : LivingState = record { side = s; slots = world.slots; begun = world.begun; standings = world.standings; asked = world.asked } in w) e ∙
-    ap (λ a. let w : LivingState = record { side = fresh_side n p pool; slots = world.slots; begun = world.begun; standings = world.standings; asked = a } in w) z
+pub side-is : (n p : ℕ) (world : LivingState) (pool : Stock) (maps : List MapDeclaration) → world.side ≡ fresh_side n p pool → world.asked ≡ 0 → world.contents ≡ empty_slots maps → world ≡ living_side n p pool world.slots world.begun world.standings maps
+side-is n p world pool maps e z c =
+    ap (λ s. let w : LivingState = record { side = s; slots = world.slots; begun = world.begun; standings = world.standings; asked = world.asked; contents = world.contents } in w) e ∙
+    (ap (λ a. let w : LivingState = record { side = fresh_side n p pool; slots = world.slots; begun = world.begun; standings = world.standings; asked = a; contents = world.contents } in w) z ∙
+    ap (λ x. let w : LivingState = record { side = fresh_side n p pool; slots = world.slots; begun = world.begun; standings = world.standings; asked = 0; contents = x } in w) c)
+
+-- ---- slots that hold nothing
+
+-- by whatever name
+pub named-empty : (maps : List MapDeclaration) → named_in (empty_slots maps) ≡ (λ name. empty_slot)
+named-empty maps = fun_ext (λ name. none maps name)
+  where
+    either : (b : Bool) (x : Slot) → x ≡ empty_slot → (if b then empty_slot else x) ≡ empty_slot
+    either true x e = refl
+    either false x e = e
+
+    none : (maps : List MapDeclaration) (name : List ℕ) → named_in (empty_slots maps) name ≡ empty_slot
+    none [] name = refl
+    none (m ∷ ms) name = either (bytes_eq m.name name) (named_in (empty_slots ms) name) (none ms name)
+
+-- .. or at whatever place
+at-empty : (maps : List MapDeclaration) (place : ℕ) → (slot_at place (empty_slots maps)).slot.held ≡ None
+at-empty [] place = refl
+at-empty (m ∷ ms) zero = refl
+at-empty (m ∷ ms) (suc place) = at-empty ms place
+
+pub names-empty : (maps : List MapDeclaration) → names_in (empty_slots maps) ≡ map (λ (m : MapDeclaration). m.name) maps
+names-empty [] = refl
+names-empty (m ∷ ms) = ap (λ ns. m.name ∷ ns) (names-empty ms)
+
+-- nothing lives, and nothing is in the slots
+pub stocked-empty : (d : Declared) (o : Objects) → o.slots ≡ empty_slots d.maps → ((u : ℕ) → o.lives u ≡ None) → AreStocked d o
+stocked-empty d o e none = record {
+  names = ap names_in e ∙ names-empty d.maps;
+  kept = λ u object h. absurd (let z : ◌≡◌ {A = Option Living} None (Some object) = sym (none u) ∙ h in cc);
+  stocked = λ place x h. absurd (let z : ◌≡◌ {A = Option ObjId} None (Some x) = sym (ap (λ ss. (slot_at place ss).slot.held) e ∙ at-empty d.maps place) ∙ h in cc);
+}
+
+-- .. so no name holds a reference
+pub no-hands : (o : Objects) (u : ℕ) → o.lives u ≡ None → in_hands o u ≡ None
+no-hands o u e = ap (less_times (times_held u o.slots)) e ∙ less (times_held u o.slots)
+  where
+    less : (k : ℕ) → less_times k None ≡ None
+    less zero = refl
+    less (suc k) = ap one_less (less k)
 
 pub none-live : (slots : List (Option Object)) → AllEmpty slots → (u : ℕ) → lives_of slots u ≡ None
 none-live slots e u = ap living_of (no-object (object_at slots u) (e u))
@@ -112,22 +162,22 @@ all-zero zero i = refl
 all-zero (suc k) zero = refl
 all-zero (suc k) (suc i) = all-zero k i
 
-pub no-numbers : (n p : ℕ) (pool : Stock) (slots : List (Option Object)) (begun : List ℕ) (standings : List Standing) (d : Domain) → (side d (known_living (living_side n p pool slots begun standings))).number ≡ 0
-no-numbers n p pool slots begun standings Plain = refl
-no-numbers n p pool slots begun standings Tracing = refl
+pub no-numbers : (n p : ℕ) (pool : Stock) (slots : List (Option Object)) (begun : List ℕ) (standings : List Standing) (maps : List MapDeclaration) (d : Domain) → (side d (known_living (living_side n p pool slots begun standings maps))).number ≡ 0
+no-numbers n p pool slots begun standings maps Plain = refl
+no-numbers n p pool slots begun standings maps Tracing = refl
 
-pub no-words : (n p : ℕ) (pool : Stock) (slots : List (Option Object)) (begun : List ℕ) (standings : List Standing) (d : Domain) → (side d (known_living (living_side n p pool slots begun standings))).word ≡ 0
-no-words n p pool slots begun standings Plain = all-zero 8 p
-no-words n p pool slots begun standings Tracing = all-zero 8 p
+pub no-words : (n p : ℕ) (pool : Stock) (slots : List (Option Object)) (begun : List ℕ) (standings : List Standing) (maps : List MapDeclaration) (d : Domain) → (side d (known_living (living_side n p pool slots begun standings maps))).word ≡ 0
+no-words n p pool slots begun standings maps Plain = all-zero 8 p
+no-words n p pool slots begun standings maps Tracing = all-zero 8 p
 
-pub all-begins : (n p : ℕ) (pool : Stock) (slots : List (Option Object)) (begun : List ℕ) (standings : List Standing) (d : Domain) → p < 8 → (side d (known_living (living_side n p pool slots begun standings))).begins ≡ 134217728
-all-begins n p pool slots begun standings Plain lt = get_or-replicate 8 p 134217728 0 lt
-all-begins n p pool slots begun standings Tracing lt = get_or-replicate 8 p 134217728 0 lt
+pub all-begins : (n p : ℕ) (pool : Stock) (slots : List (Option Object)) (begun : List ℕ) (standings : List Standing) (maps : List MapDeclaration) (d : Domain) → p < 8 → (side d (known_living (living_side n p pool slots begun standings maps))).begins ≡ 134217728
+all-begins n p pool slots begun standings maps Plain lt = get_or-replicate 8 p 134217728 0 lt
+all-begins n p pool slots begun standings maps Tracing lt = get_or-replicate 8 p 134217728 0 lt
 
 -- ---- each unit may be used again
 
-mine-here : (n p : ℕ) (pool : Stock) (slots : List (Option Object)) (begun : List ℕ) (standings : List Standing) (u : ℕ) → AllEmpty slots → (stocked_at pool.units u).out ≡ true → (rights_living (living_side n p pool slots begun standings)).mine u ≡ true
-mine-here n p pool slots begun standings u e o =
+mine-here : (n p : ℕ) (pool : Stock) (slots : List (Option Object)) (begun : List ℕ) (standings : List Standing) (maps : List MapDeclaration) (u : ℕ) → AllEmpty slots → (stocked_at pool.units u).out ≡ true → (rights_living (living_side n p pool slots begun standings maps)).mine u ≡ true
+mine-here n p pool slots begun standings maps u e o =
     let none : not (is_some (unit_at slots u)) ≡ true = ap (λ x. not (is_some x)) (e u) in
     let alone : eqb (waits u no_parcels) 0 ≡ true = ap (λ k. eqb k 0) (no-waits 88 u) in
     and_from (is_mine (fresh_side n p pool).post u) (not (is_some (unit_at slots u))) (and_from (stocked_at pool.units u).out (eqb (waits u no_parcels) 0) o alone) none
@@ -139,11 +189,11 @@ settled-here begun standings n life seal lt new none stands =
     (and_from (has_room n life) (eqb life (begun_at begun n)) (room-is n life (omega (arith, lt)) (omega (arith, z))) (eq-eqb life (begun_at begun n) (z ∙ sym none)))
     (waited-so (standing_at standings n) seal (stands ∙ ap standing_of (sym new.1)))
 
-reusable : (n p : ℕ) (pool : Stock) (slots : List (Option Object)) (begun : List ℕ) (standings : List Standing) (u : Token) → AllEmpty slots → ((k : ℕ) → begun_at begun k ≡ 0) → ((k : ℕ) → standing_at standings k ≡ Nothing) → IsUnborn pool.units → NeverLived u.life u.seal → (stocked_at pool.units u.number).out ≡ true → Reusable (tests_by (rights_living (living_side n p pool slots begun standings))) u
-reusable n p pool slots begun standings u e none stands born z o =
+reusable : (n p : ℕ) (pool : Stock) (slots : List (Option Object)) (begun : List ℕ) (standings : List Standing) (maps : List MapDeclaration) (u : Token) → AllEmpty slots → ((k : ℕ) → begun_at begun k ≡ 0) → ((k : ℕ) → standing_at standings k ≡ Nothing) → IsUnborn pool.units → NeverLived u.life u.seal → (stocked_at pool.units u.number).out ≡ true → Reusable (tests_by (rights_living (living_side n p pool slots begun standings maps))) u
+reusable n p pool slots begun standings maps u e none stands born z o =
     let inside = out_inside pool.units u.number o in
     let size = born.size in
-    and_from ((rights_living (living_side n p pool slots begun standings)).mine u.number) (may_be_used begun standings u.number u.life u.seal) (mine-here n p pool slots begun standings u.number e o) (settled-here begun standings u.number u.life u.seal (omega (arith, inside, size)) z (none u.number) (stands u.number))
+    and_from ((rights_living (living_side n p pool slots begun standings maps)).mine u.number) (may_be_used begun standings u.number u.life u.seal) (mine-here n p pool slots begun standings maps u.number e o) (settled-here begun standings u.number u.life u.seal (omega (arith, inside, size)) z (none u.number) (stands u.number))
 
 all-front : (P : Token → Type 0) (xs ys : List Token) → All P (xs ++ ys) → All P xs
 all-front P [] ys h i d lt = absurd (omega arith)
@@ -158,9 +208,9 @@ suits : (t : Tests) (fs : Fills) → All (Reusable t) (units_in fs) → FillsSui
 suits t [] h = tt
 suits t (f ∷ fs) h = (all-front (Reusable t) f.1 (units_in fs) h, suits t fs (all-back (Reusable t) f.1 (units_in fs) h))
 
-pub fills-suit : (n p : ℕ) (pool : Stock) (slots : List (Option Object)) (begun : List ℕ) (standings : List Standing) (fs : Fills) → AllEmpty slots → ((k : ℕ) → begun_at begun k ≡ 0) → ((k : ℕ) → standing_at standings k ≡ Nothing) → IsUnborn pool.units → AreNew pool (units_in fs) → FillsSuit (tests_by (rights_living (living_side n p pool slots begun standings))) fs
-fills-suit n p pool slots begun standings fs e none stands born new =
-    suits (tests_by (rights_living (living_side n p pool slots begun standings))) fs (λ i d lt. reusable n p pool slots begun standings (get_or (units_in fs) i d) e none stands born (new.unlived i d lt) (new.out i d lt))
+pub fills-suit : (n p : ℕ) (pool : Stock) (slots : List (Option Object)) (begun : List ℕ) (standings : List Standing) (maps : List MapDeclaration) (fs : Fills) → AllEmpty slots → ((k : ℕ) → begun_at begun k ≡ 0) → ((k : ℕ) → standing_at standings k ≡ Nothing) → IsUnborn pool.units → AreNew pool (units_in fs) → FillsSuit (tests_by (rights_living (living_side n p pool slots begun standings maps))) fs
+fills-suit n p pool slots begun standings maps fs e none stands born new =
+    suits (tests_by (rights_living (living_side n p pool slots begun standings maps))) fs (λ i d lt. reusable n p pool slots begun standings maps (get_or (units_in fs) i d) e none stands born (new.unlived i d lt) (new.out i d lt))
 
 -- ---- no deferred work is in progress
 

@@ -16,6 +16,7 @@ use Rattle.bm_law_order.specs.Bare.{bare_pool}
 use Rattle.bm_law_order.specs.Orders.{AllFit, AllShared, Leads, Order, by, over, part_of}
 use Rattle.bm_law_order.specs.Seals.{nobody_waits, waiting_after}
 use Rattle.bm_law_order.specs.Shared.{Shared, fresh}
+use Rattle.bm_law_order.specs.Slots.{named_in}
 use Rattle.bm_law_order.specs.Story.{Steady, plainly}
 use Rattle.bm_law_places.specs.World.{AllFound, SweepsInbox, World, outset, world_after}
 use Rattle.bm_law_seals.specs.Batches.{BatchFits}
@@ -43,7 +44,7 @@ use Rattle.bm_run.proofs.AddedParts.{part-added, part-kept}
 use Rattle.bm_run.proofs.BatchesTold.{LowStamp, unswept-append, unswept-by}
 use Rattle.bm_run.proofs.Bounds.{within}
 use Rattle.bm_run.proofs.FreshTold.{fills-tied, first-told, fresh-told, no-lives, no-slots, no-standing}
-use Rattle.bm_run.proofs.OpeningLemmas.{living_side}
+use Rattle.bm_run.proofs.OpeningLemmas.{living_side, named-empty}
 use Rattle.bm_run.proofs.Opens.{filling-leaves, opens}
 use Rattle.bm_run.proofs.SealsTold.{LowSend}
 use Rattle.bm_run.proofs.SweepsTake.{unswept-take}
@@ -129,7 +130,7 @@ record OpenedSoFar (n pages : ℕ) (o : Order) (world : LivingState) : Type 0 wh
 -- so it is before the first opening
 none-opened : (n pages : ℕ) → OpenedSoFar n pages [] (fresh_world n 0 (fresh_stock pages))
 none-opened n pages = record {
-  so_far = fresh-so-far n pages (fresh_world n 0 (fresh_stock pages)) (first-told n 0 pages);
+  so_far = fresh-so-far n pages (fresh_world n 0 (fresh_stock pages)) (first-told n 0 pages) refl;
   sealed = record { waits = fun_ext (λ u. ap told_standing (sym (no-standing u))); sealed = tt };
   batches = tt;
 }
@@ -146,7 +147,7 @@ opened-so-far n pages classes (suc p) few most =
     let start : LivingState = fresh_world n p before in
     let now : LivingState = fresh_world n p pool in
     let h = opened-so-far n pages classes p (omega (arith, few)) most in
-    let tied = fills-tied n p classes before pool [] [] [] (sym (filling-leaves classes before)) no-slots no-lives no-standing in
+    let tied = fills-tied n p classes before pool [] [] [] [] (sym (filling-leaves classes before)) no-slots no-lives no-standing in
     let own = fresh-is-side n p before (omega (arith, few)) most in
     let part = part-unopened classes pages p p (omega arith) in
     let sealed = sealed-at p o (fresh_world n 0 before) h.sealed in
@@ -159,12 +160,13 @@ opened-so-far n pages classes (suc p) few most =
     }
 
 -- What is so far is so of a world that tells the same.
-so-far-told : (n pages : ℕ) (o : Order) (a b : LivingState) → told_living a ≡ told_living b → fields_told a ≡ fields_told b → SoFar n pages o a → SoFar n pages o b
-so-far-told n pages o a b e f h = record {
+so-far-told : (n pages : ℕ) (o : Order) (a b : LivingState) → told_living a ≡ told_living b → named_in b.contents ≡ named_in a.contents → fields_told a ≡ fields_told b → SoFar n pages o a → SoFar n pages o b
+so-far-told n pages o a b e c f h = record {
   leads = subst (λ s. Leads o (fresh n pages) (plainly s)) e h.leads;
   steady = subst Steady e h.steady;
   polled = h.polled;
   owned = h.owned;
+  slots = h.slots ∙ sym c;
   made = λ u.
       subst (λ (g : Fields). MadeAs ((told_living b).lives.holds u) ((told_living b).lives.begun u) (g u) ((over owned_after o nothing_owned).objects.made u)) f
       (subst (λ (s : Shared). MadeAs (s.lives.holds u) (s.lives.begun u) (fields_told a u) ((over owned_after o nothing_owned).objects.made u)) e (h.made u));
@@ -180,20 +182,21 @@ openings-batched n pages classes most = (opened-so-far n pages classes n (omega 
 
 pub all-open : (p : Program) (classes : List ℕ) (kept : List Kept) (pool : Stock) (slots : List (Option Object)) (begun : List ℕ) (standings : List Standing) → IsProgram p → HasConditions p.scenario.now → first_limit p.scenario.now ≡ None →
     length kept ≡ p.scenario.now.processors → AreFilled p.scenario.now classes kept pool → AllEmpty slots → ((u : ℕ) → begun_at begun u ≡ 0) → ((u : ℕ) → standing_at standings u ≡ Nothing) →
-    AreOpen p classes kept (living_side p.scenario.now.processors 0 pool slots begun standings)
+    AreOpen p classes kept (living_side p.scenario.now.processors 0 pool slots begun standings p.scenario.now.maps)
 all-open p classes kept pool slots begun standings fits fine limits many filled empty none stands =
     let s : Parts = p.scenario.now in
+    let maps = s.maps in
     let n = s.processors in
     let some : 0 < n = fine.processors in
     let most : n ≤ 8 = (within s 0 some limits).processors in
     let o = openings classes s.pages n in
     let left : pool ≡ opening_stock classes s.pages n = filled.stock ∙ ap (opening_stock classes s.pages) many in
     let first : LivingState = fresh_world n 0 (opening_stock classes s.pages n) in
-    let world : LivingState = living_side n 0 pool slots begun standings in
+    let world : LivingState = living_side n 0 pool slots begun standings maps in
     let h = opened-so-far n s.pages classes n (omega arith) most in
     let same : told_living first ≡ told_living world =
-    fresh-told n 0 s.pages (opening_stock classes s.pages n) [] [] [] no-slots no-lives
-    ∙ (ap (λ (x : Stock). let y : Shared = record (fresh n s.pages) { pool = bare_pool x } in y) (sym left) ∙ sym (fresh-told n 0 s.pages pool slots begun standings empty none)) in
+    fresh-told n 0 s.pages (opening_stock classes s.pages n) [] [] [] [] no-slots no-lives
+    ∙ (ap (λ (x : Stock). let y : Shared = record (fresh n s.pages) { pool = bare_pool x } in y) (sym left) ∙ sym (fresh-told n 0 s.pages pool slots begun standings maps empty none)) in
     record {
       many = many;
       each = λ i own f.
@@ -201,7 +204,7 @@ all-open p classes kept pool slots begun standings fits fine limits many filled 
           let x = filled.each i own f in
           opens n i p (filling_of classes s.pages i) pool slots begun standings own lt most fits fine (within s i lt limits) x.filled x.units filled.unborn empty none stands;
       side = fresh-is-side n 0 pool some most;
-      so_far = so-far-told n s.pages o first world same (fun_ext (λ u. ap values_of (no-object (object_at [] u) (no-slots u) ∙ sym (no-object (object_at slots u) (empty u))))) h.so_far;
+      so_far = so-far-told n s.pages o first world same (named-empty maps) (fun_ext (λ u. ap values_of (no-object (object_at [] u) (no-slots u) ∙ sym (no-object (object_at slots u) (empty u))))) h.so_far;
       sealed = record {
         waits = h.sealed.waits ∙ fun_ext (λ u. ap told_standing (no-standing u ∙ sym (stands u)));
         sealed = h.sealed.sealed;

@@ -9,11 +9,12 @@ use Rattle.bm_page.specs.declared.units.Stocked.{Stocked}
 use Rattle.bm_page.specs.Stock.{Stock, fetched, given, next_unit, stocked_at}
 use Rattle.bm_page.specs.UnitState.{UnitState}
 use Rattle.bm_page.proofs.FetchLemmas.{fetched-next, fetched-none, fetched-zero}
+use Rattle.bm_law_scenario.specs.Declared.{declared_in}
 use Rattle.bm_law_scenario.specs.Fills.{after_fills, opening_stock, prefill}
 use Rattle.bm_cache.specs.Shown.{shown}
 use Rattle.bm_cache.proofs.Opened.{fine-opened}
 use Rattle.bm_work.specs.DeskTests.{tests_by}
-use Rattle.bm_world.specs.LivingState.{LivingState, begun_at, rights_living}
+use Rattle.bm_world.specs.LivingState.{LivingState, begun_at, known_living, rights_living}
 use Rattle.bm_world.specs.Slots.{AllEmpty}
 use Rattle.bm_world.specs.declared.slots.Object.{Object}
 use Rattle.bm_world.specs.Standings.{standing_at}
@@ -28,7 +29,7 @@ use Rattle.bm_run.specs.Filling.{Filling, IsUnborn, filling, units_in}
 use Rattle.bm_run.specs.Opened.{IsOpen}
 use Rattle.bm_run.specs.Openings.{AreFilled, AreNew, FilledInTurn, IsFilled}
 use Rattle.bm_run.proofs.Bounds.{Within}
-use Rattle.bm_run.proofs.OpeningLemmas.{all-begins, dated, fills-suit, living_side, lowered, no-numbers, no-words, none-live, stamped}
+use Rattle.bm_run.proofs.OpeningLemmas.{all-begins, dated, fills-suit, living_side, lowered, no-numbers, no-words, none-live, stamped, stocked-empty}
 use Rattle.bm_run.proofs.Started.{IsFresh, begins-enough, fresh-at, left-is}
 
 -- ---- the stock
@@ -105,11 +106,12 @@ one-more s classes kept more own p pool now h many e filled new left born =
 -- A processor whose caches were filled with new units is open in its turn, where nobody has done anything on what processors share.
 pub opens : (n i : ℕ) (p : Program) (f : Filling) (pool : Stock) (slots : List (Option Object)) (begun : List ℕ) (standings : List Standing) (kept : Kept) →
     i < n → n ≤ 8 → IsProgram p → HasConditions p.scenario.now → Within p.scenario.now i → IsFilled p.scenario.now i f.fills kept → AreNew pool (units_in f.fills) → IsUnborn pool.units → AllEmpty slots → ((u : ℕ) → begun_at begun u ≡ 0) → ((u : ℕ) → standing_at standings u ≡ Nothing) →
-    IsOpen n i p f (in_its_turn kept (living_side n i pool slots begun standings))
+    IsOpen n i p f (in_its_turn kept (living_side n i pool slots begun standings p.scenario.now.maps))
 opens n i p f pool slots begun standings kept lt most fits fine limits k new born empty none stands =
     let s = p.scenario.now in
+    let maps = s.maps in
     let fs = f.fills in
-    let world : LivingState = living_side n i pool slots begun standings in
+    let world : LivingState = living_side n i pool slots begun standings maps in
     let m : Processor LivingState = in_its_turn kept world in
     let o = k.caches in
     let none-asked : 0 + kept.settled ≡ 0 = (let z = k.settled in omega (arith, z)) in
@@ -124,26 +126,28 @@ opens n i p f pool slots begun standings kept lt most fits fine limits k new bor
       inside = k.inside;
       home = o.processor;
       processor = refl;
-      words = no-words n i pool slots begun standings;
+      words = no-words n i pool slots begun standings maps;
       asked = none-asked;
+      calls = k.calls;
+      stocked = stocked-empty (declared_in s) (known_living world).objects refl (none-live slots empty);
       begun = none;
       lives = none-live slots empty;
     } in
     record {
       sound = record {
         at = fresh-at p i m fs fits fine limits fresh o.told;
-        fine = fine-opened (λ (r : Recorded). r.told) (λ r. r.counted) i n (tests_by (rights_living world)) fs kept.caches o (fills-suit n i pool slots begun standings fs empty none stands born new) lt most;
+        fine = fine-opened (λ (r : Recorded). r.told) (λ r. r.counted) i n (tests_by (rights_living world)) fs kept.caches o (fills-suit n i pool slots begun standings maps fs empty none stands born new) lt most;
         dated = dated i (tests_by (rights_living world)) fs (shown kept.caches) o.lists;
         stamped = stamped i fs (shown kept.caches) o.lists;
-        begins = λ d. let b = begins-enough s i m _ limits fresh (all-begins n i pool slots begun standings d (omega (arith, lt, most))) in omega (arith, b);
+        begins = λ d. let b = begins-enough s i m _ limits fresh (all-begins n i pool slots begun standings maps d (omega (arith, lt, most))) in omega (arith, b);
       };
       told = o.told;
       lowered = lowered i fs (shown kept.caches) o.lists;
       none = none-live slots empty;
       begun = none;
       asked = none-asked;
-      numbers = no-numbers n i pool slots begun standings;
-      words = no-words n i pool slots begun standings;
+      numbers = no-numbers n i pool slots begun standings maps;
+      words = no-words n i pool slots begun standings maps;
       processors = refl;
       processor = refl;
       planned = left-is s i m fresh;

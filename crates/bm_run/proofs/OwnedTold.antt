@@ -1,5 +1,5 @@
--- Objects along the order of a run: each unit is given where an object was asked for, and each read finds a value with which its object was
--- made.
+-- Objects along the order of a run: each unit is given where an object was asked for, each read finds a value with which its object was
+-- made, and each exchange finds what its slot holds.
 use Rattle.std.proofs.Common.{◌≡◌, ◌∙◌, ◌+◌, ℕ, Bool, true, false, List, [], ◌∷◌, ◌++◌, Option, None, Some, ap, append-nil, eq-eqb, inl, inr, map, refl, slice_get, subst, sym}
 use Rattle.std.specs.Prelude.{◌&&◌, ◌-◌, eqb, if◌then◌else◌}
 use Rattle.std.proofs.lemmas.Bool.Decides.{eqb_tells}
@@ -13,6 +13,7 @@ use Rattle.bm_page.specs.declared.units.Seal.{Seal}
 use Rattle.bm_law_order.specs.Act.{Act}
 use Rattle.bm_law_order.specs.Act as act
 use Rattle.bm_law_order.specs.Acts.{ActsFit, acts_over}
+use Rattle.bm_law_order.specs.Calls.{calls_in}
 use Rattle.bm_law_order.specs.Chunk.{Chunk, acts_of, entries_of, seal_told}
 use Rattle.bm_law_order.specs.Chunk as chunk
 use Rattle.bm_law_order.specs.Lives.{Life, Lives, counted, lives_after}
@@ -20,6 +21,8 @@ use Rattle.bm_law_order.specs.Made.{Fields, MadeLead, with_fields}
 use Rattle.bm_law_order.specs.Orders.{AllFit, Leads, Order, by, over, part_of, shared_over}
 use Rattle.bm_law_order.specs.Quiet.{is_quiet}
 use Rattle.bm_law_order.specs.Shared.{Shared, fresh, shared_after}
+use Rattle.bm_law_order.specs.Slots.{Contents, SlotsLead, named_in}
+use Rattle.bm_law_order.proofs.SlotsJoin.{slots-split}
 use Rattle.bm_law_order.specs.Story.{AllJudged, Steady, Story, at_level, deeds, lines, lines_of, plainly}
 use Rattle.bm_law_order.specs.Tie.{Tied}
 use Rattle.bm_law_order.proofs.ActsJoin.{acts-append, acts-before, acts-later}
@@ -30,10 +33,11 @@ use Rattle.bm_world.specs.LivingState.{LivingState}
 use Rattle.bm_world.specs.Told.{IsSideOf}
 use Rattle.bm_world.specs.ToldLiving.{LivingDoes, fields_told, knows_living, told_living}
 use Rattle.bm_exec_levels.specs.Asked.{asked_after, asked_over}
-use Rattle.bm_exec_levels.specs.AtPolls.{polled}
+use Rattle.bm_exec_levels.specs.AtPolls.{home, polled}
 use Rattle.bm_run.specs.SoFar.{IsMadeOf, MadeAs}
 use Rattle.bm_run.proofs.AddedParts.{own-log}
 use Rattle.bm_run.proofs.Laid.{added-lines}
+use Rattle.bm_run.proofs.SlotsTold.{ExchangeOf, calls-along, calls-more, chunk-slots, exchange-of, tag-of}
 
 -- ---- what a level asks for
 
@@ -216,51 +220,55 @@ module _ (p : ℕ) where
   receives-live c (us ∷ parcels) s = receives-live c parcels (acts_over p (act.Receives c us ∷ []) s)
 
   module _ (closing : Bool) (since : Log) (start : LivingState) where
-    chunk-owned : (l : ℕ) (c : Chunk) (x : Owned) (s : Shared) (fields now : Fields) (log : Log) → x.lives ≡ s.lives → Agree x.objects.made s.lives fields → asked_values (x.objects.asking p l) ≡ asked_over (own_entries l log) None → ActsFit p (acts_of c) s → MadeLead (acts_of c) fields now → polled knows_living closing since start l log c →
+    chunk-owned : (l : ℕ) (c : Chunk) (x : Owned) (s : Shared) (fields now : Fields) (log : Log) → x.lives ≡ s.lives → Agree x.objects.made s.lives fields → asked_values (x.objects.asking p l) ≡ asked_over (own_entries l log) None → ActsFit p (acts_of c) s → MadeLead (acts_of c) fields now → polled knows_living closing since start l log c → ExchangeOf p c x →
         Follows p (at_level l (entries_of c)) x (acts_over p (acts_of c) s).lives now
-    chunk-owned l (chunk.Making u life type values seal) x s fields now log e h a f m j = making l u life type values seal x s fields now (a ∙ j) f.0.next_is (m.1.1 ∙ m.1.0) h
-    chunk-owned l (chunk.Finding u life place value) x s fields now log e h a f m j = finding l u life place value x s fields now e f m.1.0.0 (m.1.1 ∙ m.1.0.1) h
-    chunk-owned l (chunk.Acquiring u life seen) x s fields now log e h a f m j = record {
+    chunk-owned l (chunk.Making u life type values seal) x s fields now log e h a f m j z = making l u life type values seal x s fields now (a ∙ j) f.0.next_is (m.1.1 ∙ m.1.0) h
+    chunk-owned l (chunk.Finding u life place value) x s fields now log e h a f m j z = finding l u life place value x s fields now e f m.1.0.0 (m.1.1 ∙ m.1.0.1) h
+    chunk-owned l (chunk.Exchanging name put was from tag) x s fields now log e h a f m j z = record {
+      fit = (z, tt);
+      agrees = λ v. subst (λ (g : Fields). MadeAs (s.lives.holds v) (s.lives.begun v) (g v) (x.objects.made v)) (sym (m.1.1 ∙ m.1.0)) (h v);
+    }
+    chunk-owned l (chunk.Acquiring u life seen) x s fields now log e h a f m j z = record {
       fit = (tt, tt);
       agrees = λ v. subst (λ (g : Fields). MadeAs (if eqb v u then counted (λ n. n + 1) (s.lives.holds u) else s.lives.holds v) (s.lives.begun v) (g v) (x.objects.made v)) (sym (m.1.1 ∙ m.1.0)) (recounted-agrees (λ n. n + 1) u x.objects.made s.lives fields h v);
     }
-    chunk-owned l (chunk.GivingUp u life seen) x s fields now log e h a f m j = record {
+    chunk-owned l (chunk.GivingUp u life seen) x s fields now log e h a f m j z = record {
       fit = (tt, (tt, tt));
       agrees = λ v. subst (λ (g : Fields). MadeAs (if eqb v u then counted (λ n. n - 1) (s.lives.holds u) else s.lives.holds v) (s.lives.begun v) (g v) (x.objects.made v)) (sym (m.1.1 ∙ m.1.0)) (recounted-agrees (λ n. n - 1) u x.objects.made s.lives fields h v);
     }
-    chunk-owned l (chunk.Ending u life home true) x s fields now log e h a f m j = record {
+    chunk-owned l (chunk.Ending u life home true) x s fields now log e h a f m j z = record {
       fit = (tt, (tt, (tt, tt)));
       agrees = λ v. subst (λ (g : Fields). MadeAs (if eqb v u then None else s.lives.holds v) (s.lives.begun v) (g v) (x.objects.made v)) (sym (m.1.1 ∙ m.1.0)) (ended-agrees u x.objects.made s.lives fields h v);
     }
-    chunk-owned l (chunk.Ending u life home false) x s fields now log e h a f m j = record {
+    chunk-owned l (chunk.Ending u life home false) x s fields now log e h a f m j z = record {
       fit = (tt, (tt, (tt, tt)));
       agrees = λ v. subst (λ (g : Fields). MadeAs (if eqb v u then None else s.lives.holds v) (s.lives.begun v) (g v) (x.objects.made v)) (sym (m.1.1 ∙ m.1.0)) (ended-agrees u x.objects.made s.lives fields h v);
     }
-    chunk-owned l (chunk.Quiet e q) x s fields now log k h a f m j = let z = quiet-one l e x q in plain-one l e x s.lives fields now z.0 z.1 m h
-    chunk-owned l (chunk.Looking d ws) x s fields now log e h a f m j = nothing-said x s.lives fields now (m.1.1 ∙ m.1.0) h
-    chunk-owned l (chunk.Asking d y n) x s fields now log e h a f m j = nothing-said x s.lives fields now (m.1.1 ∙ m.1.0) h
-    chunk-owned l (chunk.Missing d even n) x s fields now log e h a f m j = nothing-said x s.lives fields now (m.1.1 ∙ m.1.0) h
-    chunk-owned l (chunk.FindingNone c) x s fields now log e h a f m j = nothing-said x s.lives fields now (m.1.1 ∙ m.1.0) h
-    chunk-owned l (chunk.Beginning d n ws) x s fields now log e h a f m j = plain-one l (entry.Begin d n) x s.lives fields now tt refl (m.1.1.1.1 ∙ (m.1.1.1.0 ∙ m.1.0)) h
-    chunk-owned l (chunk.Finishing ws q) x s fields now log e h a f m j = plain-one l (entry.Finish q) x s.lives fields now tt refl (m.1.1.1.1 ∙ (m.1.1.1.0 ∙ m.1.0)) h
-    chunk-owned l (chunk.WholePeriod n ws q) x s fields now log e h a f m j = record {
+    chunk-owned l (chunk.Quiet e q) x s fields now log k h a f m j z = let o = quiet-one l e x q in plain-one l e x s.lives fields now o.0 o.1 m h
+    chunk-owned l (chunk.Looking d ws) x s fields now log e h a f m j z = nothing-said x s.lives fields now (m.1.1 ∙ m.1.0) h
+    chunk-owned l (chunk.Asking d y n) x s fields now log e h a f m j z = nothing-said x s.lives fields now (m.1.1 ∙ m.1.0) h
+    chunk-owned l (chunk.Missing d even n) x s fields now log e h a f m j z = nothing-said x s.lives fields now (m.1.1 ∙ m.1.0) h
+    chunk-owned l (chunk.FindingNone c) x s fields now log e h a f m j z = nothing-said x s.lives fields now (m.1.1 ∙ m.1.0) h
+    chunk-owned l (chunk.Beginning d n ws) x s fields now log e h a f m j z = plain-one l (entry.Begin d n) x s.lives fields now tt refl (m.1.1.1.1 ∙ (m.1.1.1.0 ∙ m.1.0)) h
+    chunk-owned l (chunk.Finishing ws q) x s fields now log e h a f m j z = plain-one l (entry.Finish q) x s.lives fields now tt refl (m.1.1.1.1 ∙ (m.1.1.1.0 ∙ m.1.0)) h
+    chunk-owned l (chunk.WholePeriod n ws q) x s fields now log e h a f m j z = record {
       fit = (tt, (tt, tt));
       agrees = λ v. subst (λ (g : Fields). MadeAs (s.lives.holds v) (s.lives.begun v) (g v) (x.objects.made v)) (sym (m.1.1.1.1.1.1 ∙ (m.1.1.1.1.1.0 ∙ (m.1.1.1.0 ∙ m.1.0)))) (h v);
     }
-    chunk-owned l (chunk.Sweeping c us parcels) x s fields now log e h a f m j =
+    chunk-owned l (chunk.Sweeping c us parcels) x s fields now log e h a f m j z =
         subst (λ (y : Lives). Follows p (at_level l (entries_of (chunk.Sweeping c us parcels))) x y now) (sym (receives-live c parcels s)) (plain-one l _ x s.lives fields now tt refl (receives-keep c parcels fields now m) h)
-    chunk-owned l (chunk.Entering d w) x s fields now log e h a f m j = plain-one l _ x s.lives fields now tt refl (m.1.1 ∙ m.1.0) h
-    chunk-owned l (chunk.Leaving d w) x s fields now log e h a f m j = plain-one l _ x s.lives fields now tt refl (m.1.1 ∙ m.1.0) h
-    chunk-owned l (chunk.Stamping c d y) x s fields now log e h a f m j = plain-one l _ x s.lives fields now tt refl (m.1.1 ∙ m.1.0) h
-    chunk-owned l (chunk.Passing c d y n) x s fields now log e h a f m j = plain-one l _ x s.lives fields now tt refl (m.1.1 ∙ m.1.0) h
-    chunk-owned l (chunk.Filling c us) x s fields now log e h a f m j = plain-one l _ x s.lives fields now tt refl (m.1.1 ∙ m.1.0) h
-    chunk-owned l (chunk.Fetching c want us) x s fields now log e h a f m j = plain-one l _ x s.lives fields now tt refl (m.1.1 ∙ m.1.0) h
-    chunk-owned l (chunk.Returning c us) x s fields now log e h a f m j = plain-one l _ x s.lives fields now tt refl (m.1.1 ∙ m.1.0) h
-    chunk-owned l (chunk.Sending c to us) x s fields now log e h a f m j = plain-one l _ x s.lives fields now tt refl (m.1.1 ∙ m.1.0) h
-    chunk-owned l (chunk.Draining c to us) x s fields now log e h a f m j = plain-one l _ x s.lives fields now tt refl (m.1.1 ∙ m.1.0) h
-    chunk-owned l (chunk.Releasing c to us stamp n) x s fields now log e h a f m j = plain-one l _ x s.lives fields now tt refl (m.1.1 ∙ m.1.0) h
-    chunk-owned l (chunk.GivingBack c us) x s fields now log e h a f m j = plain-one l _ x s.lives fields now tt refl (m.1.1 ∙ m.1.0) h
-    chunk-owned l (chunk.Receiving c us) x s fields now log e h a f m j = plain-one l _ x s.lives fields now tt refl (m.1.1 ∙ m.1.0) h
+    chunk-owned l (chunk.Entering d w) x s fields now log e h a f m j z = plain-one l _ x s.lives fields now tt refl (m.1.1 ∙ m.1.0) h
+    chunk-owned l (chunk.Leaving d w) x s fields now log e h a f m j z = plain-one l _ x s.lives fields now tt refl (m.1.1 ∙ m.1.0) h
+    chunk-owned l (chunk.Stamping c d y) x s fields now log e h a f m j z = plain-one l _ x s.lives fields now tt refl (m.1.1 ∙ m.1.0) h
+    chunk-owned l (chunk.Passing c d y n) x s fields now log e h a f m j z = plain-one l _ x s.lives fields now tt refl (m.1.1 ∙ m.1.0) h
+    chunk-owned l (chunk.Filling c us) x s fields now log e h a f m j z = plain-one l _ x s.lives fields now tt refl (m.1.1 ∙ m.1.0) h
+    chunk-owned l (chunk.Fetching c want us) x s fields now log e h a f m j z = plain-one l _ x s.lives fields now tt refl (m.1.1 ∙ m.1.0) h
+    chunk-owned l (chunk.Returning c us) x s fields now log e h a f m j z = plain-one l _ x s.lives fields now tt refl (m.1.1 ∙ m.1.0) h
+    chunk-owned l (chunk.Sending c to us) x s fields now log e h a f m j z = plain-one l _ x s.lives fields now tt refl (m.1.1 ∙ m.1.0) h
+    chunk-owned l (chunk.Draining c to us) x s fields now log e h a f m j z = plain-one l _ x s.lives fields now tt refl (m.1.1 ∙ m.1.0) h
+    chunk-owned l (chunk.Releasing c to us stamp n) x s fields now log e h a f m j z = plain-one l _ x s.lives fields now tt refl (m.1.1 ∙ m.1.0) h
+    chunk-owned l (chunk.GivingBack c us) x s fields now log e h a f m j z = plain-one l _ x s.lives fields now tt refl (m.1.1 ∙ m.1.0) h
+    chunk-owned l (chunk.Receiving c us) x s fields now log e h a f m j z = plain-one l _ x s.lives fields now tt refl (m.1.1 ∙ m.1.0) h
 
     -- ---- stories
 
@@ -279,36 +287,42 @@ module _ (p : ℕ) where
     made-split [] fs a c h = (a, (refl, h))
     made-split (e ∷ es) fs a c h = let r = made-split es fs h.0 c h.1.1 in (r.0, ((h.0, (h.1.0, r.1.0)), r.1.1))
 
-    story-owned : (ts : Story) (x : Owned) (s : Shared) (fields now : Fields) (log : Log) → x.lives ≡ (plainly s).lives → Steady s → Agree x.objects.made s.lives fields → AskAll x log → ActsFit p (deeds ts) s → MadeLead (deeds ts) fields now → AllJudged (polled knows_living closing since start) log ts →
-        Follows p (lines ts) x (acts_over p (deeds ts) s).lives now
-    story-owned [] x s fields now log e steady h a f m j = nothing-said x s.lives fields now m h
-    story-owned (t ∷ ts) x s fields now log e steady h a f m j =
+    story-owned : (ts : Story) (x : Owned) (s : Shared) (fields now : Fields) (slots later : Contents) (log : Log) → home knows_living start ≡ p → x.objects.calls p ≡ calls_in log → x.objects.slots ≡ slots → SlotsLead (deeds ts) slots later → x.lives ≡ (plainly s).lives → Steady s → Agree x.objects.made s.lives fields → AskAll x log → ActsFit p (deeds ts) s → MadeLead (deeds ts) fields now → AllJudged (polled knows_living closing since start) log ts →
+        Follows p (lines ts) x (acts_over p (deeds ts) s).lives now × ((over owned_after (by p (lines ts)) x).objects.slots ≡ later)
+    story-owned [] x s fields now slots later log own calls held r e steady h a f m j = (nothing-said x s.lives fields now m h, held ∙ sym r)
+    story-owned (t ∷ ts) x s fields now slots later log own calls held r e steady h a f m j =
         let es = acts_of t.chunk in
         let first = lines_of t in
         let q = made-split es (deeds ts) fields now m in
+        let k = slots-split es (deeds ts) slots later r in
+        let tag = tag-of p closing since start t.level t.chunk x log own calls j.0 in
+        let found = exchange-of p t.chunk x s slots k.0 held e (acts-before p es (deeds ts) s f) k.1.0 in
         let s1 : Shared = acts_over p es s in
         let x1 : Owned = over owned_after (by p first) x in
-        let one = chunk-owned t.level t.chunk x s fields q.0 log e h (a t.level) (acts-before p es (deeds ts) s f) q.1.0 j.0 in
+        let one = chunk-owned t.level t.chunk x s fields q.0 log e h (a t.level) (acts-before p es (deeds ts) s f) q.1.0 j.0 found in
         let came = comes p t.level t.chunk s (acts-before p es (deeds ts) s f) steady in
         let lives : x1.lives ≡ (plainly s1).lives = owned-lives (by p first) x (plainly s) e ∙ ap (λ (z : Shared). z.lives) came.leads.now_is in
-        let rest = story-owned ts x1 s1 q.0 now (log ++ first) lives came.steady one.agrees (ask-more x log first a) (acts-later p es (deeds ts) s f) q.1.1 j.1 in
+        let rest = story-owned ts x1 s1 q.0 now k.0 later (log ++ first) own (calls-more p x log first calls) (chunk-slots p t.level t.chunk x slots k.0 held tag k.1.0) k.1.1 lives came.steady one.agrees (ask-more x log first a) (acts-later p es (deeds ts) s f) q.1.1 j.1 in
         let all = acts-append p es (deeds ts) s in
         let order = by-append p first (lines ts) in
-        record {
-          fit = subst (λ (o : Order). AllFit owned_after OwnedFit o x) (sym order) (fit-append owned_after OwnedFit (by p first) (by p (lines ts)) x one.fit rest.fit);
-          agrees =
-              subst (λ (z : Shared). Agree (over owned_after (by p (first ++ lines ts)) x).objects.made z.lives now) (sym all)
-              (subst (λ (y : Owned). Agree y.objects.made (acts_over p (deeds ts) s1).lives now) (sym (ap (λ (o : Order). over owned_after o x) order ∙ over-append owned_after OwnedFit (by p first) (by p (lines ts)) x)) rest.agrees);
-        }
+        let joined = ap (λ (o : Order). over owned_after o x) order ∙ over-append owned_after OwnedFit (by p first) (by p (lines ts)) x in (
+          record {
+            fit = subst (λ (o : Order). AllFit owned_after OwnedFit o x) (sym order) (fit-append owned_after OwnedFit (by p first) (by p (lines ts)) x one.fit rest.0.fit);
+            agrees =
+                subst (λ (z : Shared). Agree (over owned_after (by p (first ++ lines ts)) x).objects.made z.lives now) (sym all)
+                (subst (λ (y : Owned). Agree y.objects.made (acts_over p (deeds ts) s1).lives now) (sym joined) rest.0.agrees);
+          },
+          ap (λ (y : Owned). y.objects.slots) joined ∙ rest.1,
+        )
 
 -- what an order leaves of objects
 abbrev owned_over : Order → Owned
 owned_over o = over owned_after o nothing_owned
 
 -- Where it is so of the order so far, it is with what a processor's log adds while it is tied.
-pub tied-owned-since : (closing : Bool) (n pages p : ℕ) (o : Order) (since added log : Log) (start now : LivingState) → Leads o (fresh n pages) (plainly (told_living start)) → Steady (told_living start) → IsSideOf p start.side → part_of p o ≡ since → log ≡ since ++ added → Tied (polled knows_living closing since start) LivingDoes since start 0 [] [] log now → IsOwned o → IsMadeOf o start →
-    IsOwned (o ++ by p added) × IsMadeOf (o ++ by p added) now
-tied-owned-since closing n pages p o since added log start now leads steady own part log_is t owned made =
+pub tied-owned-since : (closing : Bool) (n pages p : ℕ) (o : Order) (since added log : Log) (start now : LivingState) → Leads o (fresh n pages) (plainly (told_living start)) → Steady (told_living start) → IsSideOf p start.side → part_of p o ≡ since → log ≡ since ++ added → Tied (polled knows_living closing since start) LivingDoes since start 0 [] [] log now → IsOwned o → IsMadeOf o start → (owned_over o).objects.slots ≡ named_in start.contents →
+    IsOwned (o ++ by p added) × (IsMadeOf (o ++ by p added) now × ((owned_over (o ++ by p added)).objects.slots ≡ named_in now.contents))
+tied-owned-since closing n pages p o since added log start now leads steady own part log_is t owned made slots =
     let judge = polled knows_living closing since start in
     let said = added-lines judge since added log start now log_is t in
     let s = told_living start in
@@ -320,10 +334,13 @@ tied-owned-since closing n pages p o since added log start now leads steady own 
     let fit = subst (λ (es : List Act). ActsFit p es s) acts did.fit in
     let led = subst (λ (es : List Act). acts_over p es s ≡ told_living now) acts did.now_is in
     let fields = subst (λ (es : List Act). MadeLead es (fields_told start) (fields_told now)) acts t.done_is.made in
-    let r = story-owned p closing since start t.story x s (fields_told start) (fields_told now) since lives steady made asks fit fields t.judged in
+    let exchanged = subst (λ (es : List Act). SlotsLead es (named_in start.contents) (named_in now.contents)) acts t.done_is.exchanged in
+    let calls : x.objects.calls p ≡ calls_in since = calls-along p o nothing_owned ∙ ap calls_in part in
+    let told = story-owned p closing since start t.story x s (fields_told start) (fields_told now) (named_in start.contents) (named_in now.contents) since own.grace_is calls slots exchanged lives steady made asks fit fields t.judged in
+    let r = told.0 in
     let whole = over-append owned_after OwnedFit o (by p (lines t.story)) nothing_owned in
     let agrees : Agree (owned_over (o ++ by p (lines t.story))).objects.made (told_living now).lives (fields_told now) =
     subst (λ (z : Shared). Agree (owned_over (o ++ by p (lines t.story))).objects.made z.lives (fields_told now)) led
     (subst (λ (y : Owned). Agree y.objects.made (acts_over p (deeds t.story) s).lives (fields_told now)) (sym whole) r.agrees) in
-    let F : Log → Type 0 = λ z. IsOwned (o ++ by p z) × IsMadeOf (o ++ by p z) now in
-    subst F (sym said) (fit-append owned_after OwnedFit o (by p (lines t.story)) nothing_owned owned r.fit, agrees)
+    let F : Log → Type 0 = λ z. IsOwned (o ++ by p z) × (IsMadeOf (o ++ by p z) now × ((owned_over (o ++ by p z)).objects.slots ≡ named_in now.contents)) in
+    subst F (sym said) (fit-append owned_after OwnedFit o (by p (lines t.story)) nothing_owned owned r.fit, (agrees, ap (λ (y : Owned). y.objects.slots) whole ∙ told.1))

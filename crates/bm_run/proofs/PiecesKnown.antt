@@ -21,7 +21,7 @@ use Rattle.bm_law_work.proofs.Each.{AllOf, PartOf, of-append, of-map, part-nothi
 use Rattle.bm_law_order.specs.Whole.{is_ended, is_fill, is_finish_or_sweep, is_sweep, is_yield, joined}
 use Rattle.bm_law_scenario.specs.Declared.{declared_in}
 use Rattle.bm_law_scenario.specs.CallEntries.{IsOfHandler, IsOfStatement}
-use Rattle.bm_law_scenario.specs.Closing.{EndsOne, SweepWhere, close_of}
+use Rattle.bm_law_scenario.specs.Closing.{EndsOne, SweepWhere}
 use Rattle.bm_law_scenario.specs.Fills.{AreFills}
 use Rattle.bm_law_scenario.specs.Grammar.{AreScripts, Front, section_of}
 use Rattle.bm_law_scenario.specs.WorkEntries.{IsOfWork}
@@ -249,10 +249,6 @@ at-back (e ∷ a) b h = at-back a b h.1
 pub level-at : (es : List Entry) → AllAt 0 (at_level 0 es)
 level-at [] = tt
 level-at (e ∷ es) = (refl, level-at es)
-
-pub early-close : (p : ℕ) → AllOf IsEarly (close_of p)
-early-close zero = (tt, tt)
-early-close (suc p) = tt
 
 -- ---- all parts
 

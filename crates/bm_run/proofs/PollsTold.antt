@@ -302,6 +302,7 @@ module _ (n pages p : ℕ) (o : Order) (since : Log) (start : LivingState) (lead
   chunk-fits closing l added (chunk.Making u life type values seal) h = made-fits p l u life type values seal (polls_at added)
   chunk-fits closing l added (chunk.Acquiring u life seen) h = (tt, tt)
   chunk-fits closing l added (chunk.Finding u life place value) h = (tt, tt)
+  chunk-fits closing l added (chunk.Exchanging name put was from tag) h = (tt, tt)
   chunk-fits closing l added (chunk.GivingUp u life seen) h = (tt, (tt, tt))
   chunk-fits closing l added (chunk.Ending u life home true) h = (tt, (tt, (tt, tt)))
   chunk-fits closing l added (chunk.Ending u life home false) h = (tt, (tt, (tt, tt)))

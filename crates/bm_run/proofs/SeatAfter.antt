@@ -35,6 +35,7 @@ use Rattle.bm_exec_levels.specs.declared.program.Program.{Program}
 use Rattle.bm_world.specs.LivingState.{LivingState, known_living}
 use Rattle.bm_world.specs.Told.{IsSideOf}
 use Rattle.bm_world.specs.ToldLiving.{knows_living}
+use Rattle.bm_exec_levels.specs.Slotted.{in_hands}
 use Rattle.bm_run.specs.Asked.{in_its_turn}
 use Rattle.bm_run.specs.Lines.{works_for}
 use Rattle.bm_run.specs.SeatTurn.{HasCeased, MayTurn, TookTurn, has_gone}
@@ -149,15 +150,15 @@ module _ (g : Program) (p : ℕ) (m n : Processor LivingState) (r r' : Remaining
       let used = h.advanced.used in
       omega (arith, same, used)
 
-  ceased-owns : (base : Lives) → owned_by s base (known_of knows_living m).objects.lives r.begun → owned_by s base (known_of knows_living n).objects.lives r'.begun
-  ceased-owns base k = subst (λ (x : LivingState). owned_by s base (known_living x).objects.lives r'.begun) (sym last-side) (h.advanced.owns base k)
+  ceased-owns : (base : Lives) → owned_by s base (in_hands (known_of knows_living m).objects) r.begun → owned_by s base (in_hands (known_of knows_living n).objects) r'.begun
+  ceased-owns base k = subst (λ (x : LivingState). owned_by s base (in_hands (known_living x).objects) r'.begun) (sym last-side) (h.advanced.owns base k)
 
 -- by how it ended
 gone-runs : (ended : Bool) (g : Program) (p : ℕ) (m n : Processor LivingState) (r r' : Remaining) (log : Log) → (known_of knows_living n).grace.processor ≡ p → log_of n ≡ Some log → IsRunning g.scenario.now p m r → has_gone ended g m r n r' → runs_or_stopped ended g.scenario.now p log n r'
 gone-runs false g p m n r r' log first told runs h = runs-after g.scenario.now p m n r r' runs h.advanced
 gone-runs true g p m n r r' log first told runs h = stopped-after g p m n r r' h log first told runs
 
-gone-owns : (ended : Bool) (g : Program) (p : ℕ) (m n : Processor LivingState) (r r' : Remaining) → has_gone ended g m r n r' → (base : Lives) → owned_by g.scenario.now base (known_of knows_living m).objects.lives r.begun → owned_by g.scenario.now base (known_of knows_living n).objects.lives r'.begun
+gone-owns : (ended : Bool) (g : Program) (p : ℕ) (m n : Processor LivingState) (r r' : Remaining) → has_gone ended g m r n r' → (base : Lives) → owned_by g.scenario.now base (in_hands (known_of knows_living m).objects) r.begun → owned_by g.scenario.now base (in_hands (known_of knows_living n).objects) r'.begun
 gone-owns false g p m n r r' h base = h.advanced.owns base
 gone-owns true g p m n r r' h base = ceased-owns g p m n r r' h base
 
@@ -172,7 +173,7 @@ pub record SeatLeft (g : Program) (p : ℕ) (since log : Log) (world now : Livin
   pub first : now.side.grace.processor ≡ p
   pub tied : Tied (polled knows_living false since (at_turn p world)) (DoesHere knows_living) since (at_turn p world) 0 [] [] log now
   pub share' : ℕ
-  pub seated : (base : Lives) → owned_by g.scenario.now base (known_living world).objects.lives seat.remaining.begun → IsSeated g p log base share' now seat'
+  pub seated : (base : Lives) → owned_by g.scenario.now base (in_hands (known_living world).objects) seat.remaining.begun → IsSeated g p log base share' now seat'
   pub few : now.asked + share' ≤ world.asked + share
 
 -- The seat after a turn: its processor is between turns again.
@@ -223,6 +224,7 @@ kept_of m = record {
   handlers = m.handlers;
   running = m.running;
   tables = m.tables;
+  calls = m.calls;
 }
 
 -- The turn of a processor, from what its seat keeps to what it keeps then.

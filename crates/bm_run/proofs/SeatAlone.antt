@@ -20,6 +20,8 @@ use Rattle.bm_exec_levels.specs.Ready.{asked_of, word_of}
 use Rattle.bm_exec_levels.specs.declared.kept.Kept.{Kept}
 use Rattle.bm_exec_levels.specs.declared.processor.Processor.{Processor}
 use Rattle.bm_exec_levels.specs.declared.program.Program.{Program}
+use Rattle.bm_law_scenario.specs.Declared.{declared_in}
+use Rattle.bm_exec_levels.specs.Slotted.{AreStocked, in_hands}
 use Rattle.bm_run.specs.Asked.{in_its_turn}
 use Rattle.bm_run.specs.LeftAlone.{IsLeftAlone}
 use Rattle.bm_run.specs.Lines.{works_for}
@@ -54,7 +56,7 @@ module _ (kept : Kept) (a b : LivingState) (words : (d : Domain) → (side d (kn
   outside-same : (d : Domain) → word_of knows_living d before % 2 ≡ 0 → word_of knows_living d now % 2 ≡ 0
   outside-same d h = ap (λ k. k % 2) (words d) ∙ h
 
-  stands-same : (s : Parts) (w : Option (List ℕ)) (base : Lives) (o : Option Begun) → owned_by s base (known_living b).objects.lives o → stands_in s w before o → stands_in s w now o
+  stands-same : (s : Parts) (w : Option (List ℕ)) (base : Lives) (o : Option Begun) → owned_by s base (in_hands (known_living b).objects) o → stands_in s w before o → stands_in s w now o
   stands-same s w base None own h = record { down = h.down; words = λ d. outside-same d (h.words d) }
   stands-same s w base (Some x) own h = record {
     found = h.found;
@@ -71,7 +73,7 @@ module _ (kept : Kept) (a b : LivingState) (words : (d : Domain) → (side d (kn
     apart = λ e. outside-same Tracing (h.apart e);
   }
 
-  runs-same : (s : Parts) (p : ℕ) (r : Remaining) (base : Lives) → owned_by s base (known_living b).objects.lives r.begun → IsRunning s p before r → IsRunning s p now r
+  runs-same : (s : Parts) (p : ℕ) (r : Remaining) (base : Lives) → owned_by s base (in_hands (known_living b).objects) r.begun → IsRunning s p before r → IsRunning s p now r
   runs-same s p r base own h = record {
     goes = λ final k. h.goes final (subst (λ (P : Part). GrewBy P (lists_of before) (log_of before) final) (still-same s (works_for s) r.begun _) k);
     can = record { stands = stands-same s (works_for s) base r.begun own h.can.stands; declared = h.can.declared };
@@ -90,7 +92,7 @@ module _ (kept : Kept) (a b : LivingState) (words : (d : Domain) → (side d (kn
     nothing = h.nothing;
   }
 
-  either-same : (ended : Bool) (s : Parts) (p : ℕ) (log : Log) (r : Remaining) (base : Lives) → owned_by s base (known_living b).objects.lives r.begun → runs_or_stopped ended s p log before r → runs_or_stopped ended s p log now r
+  either-same : (ended : Bool) (s : Parts) (p : ℕ) (log : Log) (r : Remaining) (base : Lives) → owned_by s base (in_hands (known_living b).objects) r.begun → runs_or_stopped ended s p log before r → runs_or_stopped ended s p log now r
   either-same false s p log r base own h = runs-same s p r base own h
   either-same true s p log r base own h = stopped-same s p log r h
 
@@ -99,13 +101,13 @@ module _ (kept : Kept) (a b : LivingState) (words : (d : Domain) → (side d (kn
 
 -- Ordinary code can go on on it as before, if few enough objects and works are asked for, whoever asked for them.
 pub seat-alone : (g : Program) (q : ℕ) (log : Log) (base base' : Lives) (share : ℕ) (world now : LivingState) (seat : Seat) (h : IsSeated g q log base share world seat) → IsLeftAlone (shown h.kept.caches) (at_turn q world) (at_turn q now) →
-    asked_of knows_living g.scenario.now (in_its_turn h.kept (at_turn q now)) < 2 ^ 22 → owned_by g.scenario.now base' (known_living now).objects.lives seat.remaining.begun → IsSeated g q log base' share now seat
-seat-alone g q log base base' share world now seat h alone asks own = record {
+    asked_of knows_living g.scenario.now (in_its_turn h.kept (at_turn q now)) < 2 ^ 22 → AreStocked (declared_in g.scenario.now) (known_living now).objects → owned_by g.scenario.now base' (in_hands (known_living now).objects) seat.remaining.begun → IsSeated g q log base' share now seat
+seat-alone g q log base base' share world now seat h alone asks stocked own = record {
   kept = h.kept;
   kept_is = h.kept_is;
   told = h.told;
   processor = h.processor;
-  sound = sound-alone g (in_its_turn h.kept (at_turn q world)) (at_turn q now) alone asks h.sound;
+  sound = sound-alone g (in_its_turn h.kept (at_turn q world)) (at_turn q now) alone asks stocked h.sound;
   runs = either-same h.kept (at_turn q world) (at_turn q now) alone.words seat.ended g.scenario.now q log seat.remaining base' own h.runs;
   owns = own;
   asks = asks-same h.kept (at_turn q world) (at_turn q now) alone.words g.scenario.now seat.remaining share h.asks;

@@ -12,12 +12,13 @@ use Rattle.bm_law_order.specs.Orders.{Order, by, part_of}
 use Rattle.bm_law_order.specs.Whole.{joined}
 use Rattle.bm_law_places.specs.World.{outset, world_over}
 use Rattle.bm_cache.specs.Shown.{shown}
-use Rattle.bm_exec.specs.Living.{Lives, Living}
+use Rattle.bm_exec.specs.Living.{Lives}
 use Rattle.bm_exec_levels.specs.declared.kept.Kept.{Kept}
 use Rattle.bm_exec_levels.specs.declared.processor.Processor.{Processor}
 use Rattle.bm_exec_levels.specs.declared.program.Program.{Program}
 use Rattle.bm_world.specs.LivingState.{LivingState, known_living}
 use Rattle.bm_world.specs.Told.{IsSideOf}
+use Rattle.bm_exec_levels.specs.Slotted.{in_hands}
 use Rattle.bm_run.specs.Asked.{in_its_turn}
 use Rattle.bm_run.specs.Between.{Between, all_openings, ended_of}
 use Rattle.bm_run.specs.InTurns.{AreTaken, TurnsSoFar}
@@ -95,7 +96,7 @@ module _ (g : Program) (turns rest : List ℕ) (seats : List Seat) (world : Livi
   since = get_or b.logs p []
 
   abbrev lives : Lives
-  lives = (known_living world).objects.lives
+  lives = in_hands (known_living world).objects
 
   pub before : IsSeated g p since (b.bases p) (get_or b.shares p 0) world seat
   before = b.seated p seat there
@@ -142,7 +143,7 @@ module _ (g : Program) (turns rest : List ℕ) (seats : List Seat) (world : Livi
     o = all_openings s ++ b.order
 
     abbrev lives' : Lives
-    lives' = (known_living now).objects.lives
+    lives' = in_hands (known_living now).objects
 
     left : SeatLeft g p since t.log world now (get_or b.shares p 0) seat seat'
     left = seat-after g p since (b.bases p) (get_or b.shares p 0) world now seat seat' before going his t
@@ -240,7 +241,7 @@ module _ (g : Program) (turns rest : List ℕ) (seats : List Seat) (world : Livi
 
     -- ---- the seats
 
-    few : now.asked + sum_by (λ x. x) shares' < 2 ^ 22
+    few : now.asked + sum_by (λ x. x) shares' + 128 < 2 ^ 22
     few =
         let sums : sum_by (λ x. x) shares' + get_or b.shares p 0 ≡ sum_by (λ x. x) b.shares + left.share' = sum_by-set (λ x. x) b.shares p left.share' 0 shares-below in
         let asked = left.few in
@@ -264,7 +265,7 @@ module _ (g : Program) (turns rest : List ℕ) (seats : List Seat) (world : Livi
         let all = few in
         let own : owned_by s (bases' q) lives' x.remaining.begun = owned-after s n p b.bases lives lives' turn b.add_up seat.remaining.begun seat'.remaining.begun before.owns own-seat.owns q lt ne x.remaining.begun h.owns in
         seated-as g q (get_or b.logs q []) (get_or logs' q []) (bases' q) (bases' q) (get_or b.shares q 0) (get_or shares' q 0) now x (sym (get_or-set_other b.logs p q (since ++ added) [] ne)) refl (sym same)
-        (seat-alone g q (get_or b.logs q []) (b.bases q) (bases' q) (get_or b.shares q 0) world now x h alone (omega (arith, same, most, asks, all)) own)
+        (seat-alone g q (get_or b.logs q []) (b.bases q) (bases' q) (get_or b.shares q 0) world now x h alone (omega (arith, same, most, asks, all)) own-seat.sound.at.ready.stocked own)
 
     seated : (q : ℕ) (x : Seat) → slice_get (set seats p seat') q ≡ Some x → IsSeated g q (get_or logs' q []) (bases' q) (get_or shares' q 0) now x
     seated q x at = by (cases_eq q p)

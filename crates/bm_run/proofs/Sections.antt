@@ -14,6 +14,7 @@ use Rattle.bm_grace.specs.declared.step.StepKind.TheVariants.{Enter, Leave}
 use Rattle.bm_law.specs.Lists.{Log}
 use Rattle.bm_cache.specs.Shown.{shown}
 use Rattle.bm_cache.specs.declared.caches.Caches.{Caches}
+use Rattle.bm_exec_levels.specs.Calling.{counts-plain}
 use Rattle.bm_exec_levels.proofs.Moved.{before-same, dated-same, stamped-same}
 use Rattle.bm_due.specs.Plan.{Plan}
 use Rattle.bm_due.specs.declared.planned.Due.{Due}
@@ -71,6 +72,8 @@ ready-ended p m c h e n same r =
       asks = rw left r.asks;
       words = rw left r.words;
       inside = r.inside;
+      calls = r.calls;
+      stocked = r.stocked;
     }
 
 -- its handlers don't matter to calls
@@ -86,6 +89,7 @@ ended-with p m c h e n same pr a fine s =
       at = record {
         at = subst (λ plan. Running StandsAt 0 k.grace.processor p.scenario.now plan m.running.items c.recorder.told) (sym e) (ended-at k.grace.processor p.scenario.now m.handlers.planned m.running.items (log_of m) c.recorder.told (runs-none p m s) a s.at.at);
         tells = told-more T T (log_of m) c.recorder.told 0 entry.Ended (λ es t. tells-inner p.scenario.now k es 0 entry.Ended tt t) a s.at.tells;
+        counts = counts-plain m.calls 0 entry.Ended (log_of m) c.recorder.told refl a s.at.counts;
         ready = ready-ended p m c h e n pr s.at.ready;
       };
       fine = fine;

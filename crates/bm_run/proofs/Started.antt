@@ -1,14 +1,19 @@
 -- The processor before its first script.
-use Rattle.std.proofs.Common.{◌≡◌, ◌≤◌, ℕ, ◌+◌, ◌*◌, ◌%◌, Bool, false, if◌then◌else◌, List, [], ◌∷◌, length, refl, sym, ap, subst, ◌∙◌, Option, Some, None, IfSome, slice_get, arith, vec_capacity}
+use Rattle.std.proofs.Common.{◌≡◌, ◌≤◌, ℕ, ◌+◌, ◌*◌, ◌%◌, Bool, false, if◌then◌else◌, List, [], ◌∷◌, length, map, true, refl, sym, ap, subst, ◌∙◌, Option, Some, None, IfSome, slice_get, arith, vec_capacity}
+use Rattle.bm_world.specs.Contents.{are_apart}
 use Rattle.bm_world.specs.LivingState.{LivingState}
 use Rattle.bm_world.specs.ToldLiving.{knows_living}
 use Rattle.std.specs.Prelude.{All}
 use Rattle.bm_journal.specs.declared.ids.Domain.{Domain}
 use Rattle.bm_journal.specs.declared.ids.Domain.TheVariants.{Plain}
+use Rattle.bm_lang.specs.declared.scenario.MapDeclaration.{MapDeclaration}
 use Rattle.bm_lang.specs.declared.scenario.Parts.{Parts}
 use Rattle.bm_lang.specs.declared.scenario.TypeDeclaration.{TypeDeclaration}
 use Rattle.bm_lang.specs.Fine.{HasConditions}
 use Rattle.bm_law.specs.Lists.{Log}
+use Rattle.bm_law_order.specs.Calls.{calls_in}
+use Rattle.bm_law_scenario.specs.Declared.{declared_in}
+use Rattle.bm_exec_levels.specs.Slotted.{AreStocked}
 use Rattle.bm_cache.specs.Opening.{Fills, fill_log}
 use Rattle.bm_due.specs.Due.{planned_for}
 use Rattle.bm_due.specs.Plan.{Plan}
@@ -42,6 +47,8 @@ pub record IsFresh (s : Parts) (i : ℕ) (m : Processor LivingState) : Type 0 wh
   pub processor : (known_of knows_living m).grace.processor ≡ i
   pub words : (d : Domain) → word_of knows_living d m ≡ 0
   pub asked : (known_of knows_living m).objects.asked + m.settled ≡ 0
+  pub calls : m.calls ≡ 0
+  pub stocked : AreStocked (declared_in s) (known_of knows_living m).objects
   pub begun : (u : ℕ) → (known_of knows_living m).objects.begun u ≡ 0
   pub lives : (u : ℕ) → (known_of knows_living m).objects.lives u ≡ None
 
@@ -79,12 +86,20 @@ ready p i m fits fine within f =
       asks = (let c = ap (left_cost s) left in omega (arith, none, c, cost));
       words = (let l = ap length left in omega (arith, word, l, few));
       inside = outside (word_of knows_living Plain m) m.inside word f.inside;
+      calls = (let z = f.calls in omega (arith, z));
+      stocked = f.stocked;
     }
+
+-- fills are no calls
+fills-counted : (fs : Fills) → calls_in (fill_log fs) ≡ 0
+fills-counted [] = refl
+fills-counted (f ∷ fs) = fills-counted fs
 
 pub fresh-at : (p : Program) (i : ℕ) (m : Processor LivingState) (fs : Fills) → IsProgram p → HasConditions p.scenario.now → Within p.scenario.now i → IsFresh p.scenario.now i m → IfSome (log_of m) (λ es. es ≡ fill_log fs) → IsAt knows_living StandsAt 0 p m
 fresh-at p i m fs fits fine within f told = record {
   at = stands (known_of knows_living m).grace.processor i p.scenario.now m.handlers.planned m.running.items (log_of m) fs f.processor f.planned f.running told;
   tells = where-told (Tells p.scenario.now (known_of knows_living m)) (log_of m) (fill_log fs) told (tells-filled p.scenario.now (known_of knows_living m) fs f.words);
+  counts = where-told (λ es. calls_in es ≡ m.calls) (log_of m) (fill_log fs) told (fills-counted fs ∙ sym f.calls);
   ready = ready p i m fits fine within f;
 }
 
@@ -92,7 +107,7 @@ fresh-at p i m fs fits fine within f told = record {
 pub begins-enough : (s : Parts) (i : ℕ) (m : Processor LivingState) (begins : ℕ) → Within s i → IsFresh s i m → begins ≡ 134217728 → 24 * 4194304 + 12 * length (left_of m) ≤ begins
 begins-enough s i m begins within f e = let l = ap length (left-is s i m f) in let few = few-planned s i within in omega (arith, l, few, e)
 
--- ---- a scenario without types and scripts
+-- ---- a scenario without types, maps and scripts
 
 nothing-there : {A : Type 0} (xs : List A) (i : ℕ) (x : A) → length xs ≡ 0 → slice_get xs i ≡ Some x → ⊥
 nothing-there [] i x e h = absurd cc
@@ -102,9 +117,14 @@ no-types : (types : List TypeDeclaration) (classes : List ℕ) → length types 
 no-types [] classes e f = rw f (record { each = refl })
 no-types (t ∷ ts) classes e f = absurd (omega (arith, e))
 
-pub idle_program : (p : Program) → p.types.declared.now ≡ p.scenario.now.types → p.types.classes.now ≡ [] → length p.scenario.now.types ≡ 0 → length p.scenario.now.scripts ≡ 0 → IsProgram p
-idle_program p same none types scripts = record {
+pub idle_maps : (maps : List MapDeclaration) → length maps ≡ 0 → are_apart (map (λ (m : MapDeclaration). m.name) maps) ≡ true
+idle_maps [] e = refl
+idle_maps (m ∷ ms) e = absurd (omega (arith, e))
+
+pub idle_program : (p : Program) → p.types.declared.now ≡ p.scenario.now.types → p.types.maps.now ≡ p.scenario.now.maps → p.types.classes.now ≡ [] → length p.scenario.now.types ≡ 0 → length p.scenario.now.scripts ≡ 0 → IsProgram p
+idle_program p same maps none types scripts = record {
   types = same;
+  maps = maps;
   classes = no-types p.types.declared.now p.types.classes.now (ap length same ∙ types) none;
   accepted = λ i x h. absurd (nothing-there p.scenario.now.scripts i x scripts h);
   fits = λ i x h. absurd (nothing-there p.scenario.now.scripts i x scripts h);

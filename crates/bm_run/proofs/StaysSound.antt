@@ -1,5 +1,5 @@
 -- Ordinary code can go on on a processor that was left alone.
-use Rattle.std.specs.Prelude.{◌≡◌, ◌≢◌, ◌+◌, ◌*◌, ◌<◌, ◌^◌, ◌%◌, ◌&&◌, ℕ, suc, List, Option, None, Some, IfSome, eqb, get_or, is_none, is_some, length, not}
+use Rattle.std.specs.Prelude.{◌≡◌, ◌≢◌, ◌+◌, ◌*◌, ◌<◌, ◌≤◌, ◌^◌, ◌%◌, ◌&&◌, ℕ, suc, List, Option, None, Some, IfSome, eqb, get_or, is_none, is_some, length, not}
 use Rattle.std.specs.List.{All}
 use Rattle.std.proofs.Common.{sym, ap, ◌∙◌, subst, arith, inl, inr}
 use Rattle.bm_journal.specs.declared.ids.Domain.{Domain}
@@ -33,6 +33,8 @@ use Rattle.bm_exec_levels.specs.Here.{Running}
 use Rattle.bm_exec_levels.specs.Hosting.{with_side}
 use Rattle.bm_exec_levels.specs.Logged.{Tells}
 use Rattle.bm_exec_levels.specs.Ready.{IsReady, asked_of, known_of, left_of, word_of}
+use Rattle.bm_law_scenario.specs.Declared.{declared_in}
+use Rattle.bm_exec_levels.specs.Slotted.{AreStocked}
 use Rattle.bm_exec_levels.specs.Sound.{Sound}
 use Rattle.bm_exec_levels.specs.declared.kept.Kept.{Kept}
 use Rattle.bm_exec_levels.specs.declared.processor.Processor.{Processor}
@@ -118,8 +120,8 @@ tells-words : (s : Parts) (a b : Known) (log : Option Log) → b.grace.processor
 tells-words s a b None q w t = tt
 tells-words s a b (Some es) q w t = record { done = subst (λ (n : ℕ). HandlersDone s n es) (sym q) t.done; last = λ d. t.last d ∙ sym (w d) }
 
-ready-alone : (p : Program) (m : Processor LivingState) (w : LivingState) → w.side.grace.processor ≡ m.side.side.grace.processor → word_of knows_living Plain (with_side m w) ≡ word_of knows_living Plain m → asked_of knows_living p.scenario.now (with_side m w) < 2 ^ 22 → IsReady knows_living p m → IsReady knows_living p (with_side m w)
-ready-alone p m w same word asks r = record {
+ready-alone : (p : Program) (m : Processor LivingState) (w : LivingState) → w.side.grace.processor ≡ m.side.side.grace.processor → word_of knows_living Plain (with_side m w) ≡ word_of knows_living Plain m → asked_of knows_living p.scenario.now (with_side m w) < 2 ^ 22 → m.side.asked ≤ w.asked → AreStocked (declared_in p.scenario.now) (known_living w).objects → IsReady knows_living p m → IsReady knows_living p (with_side m w)
+ready-alone p m w same word asks more stocked r = record {
   fits = r.fits;
   here = r.here ∙ sym same;
   scripts = r.scripts;
@@ -131,6 +133,8 @@ ready-alone p m w same word asks r = record {
   asks = asks;
   words = (let F : ℕ → Type 0 = λ k. k + 2 * length (left_of m) < 2 ^ 28 in subst F (sym word) r.words);
   inside = ap (λ k. k % 2) word ∙ r.inside;
+  calls = (let c = r.calls in omega (arith, c, more));
+  stocked = stocked;
 }
 
 pub fine-alone : (m : Processor LivingState) (w : LivingState) → IsLeftAlone (shown m.caches) m.side w → FineAt knows_living 0 m → FineAt knows_living 0 (with_side m w)
@@ -142,12 +146,13 @@ fine-alone m w a f = record {
 }
 
 -- Ordinary code can go on on it, if few enough objects and works are asked for, whoever asked for them.
-pub sound-alone : (p : Program) (m : Processor LivingState) (w : LivingState) → IsLeftAlone (shown m.caches) m.side w → asked_of knows_living p.scenario.now (with_side m w) < 2 ^ 22 → Sound knows_living p m → Sound knows_living p (with_side m w)
-sound-alone p m w a asks s = record {
+pub sound-alone : (p : Program) (m : Processor LivingState) (w : LivingState) → IsLeftAlone (shown m.caches) m.side w → asked_of knows_living p.scenario.now (with_side m w) < 2 ^ 22 → AreStocked (declared_in p.scenario.now) (known_living w).objects → Sound knows_living p m → Sound knows_living p (with_side m w)
+sound-alone p m w a asks stocked s = record {
   at = record {
     at = (let F : ℕ → Type 0 = λ n. Running StandsAt 0 n p.scenario.now m.handlers.planned m.running.items (log_of m) in subst F (sym a.processor) s.at.at);
     tells = tells-words p.scenario.now (known_of knows_living m) (known_living w) (log_of m) a.processor a.words s.at.tells;
-    ready = ready-alone p m w a.processor (a.words Plain) asks s.at.ready;
+    counts = s.at.counts;
+    ready = ready-alone p m w a.processor (a.words Plain) asks a.asked stocked s.at.ready;
   };
   fine = fine-alone m w a s.fine;
   dated = dated-put m.side w (shown m.caches) a.units s.dated;
@@ -156,5 +161,5 @@ sound-alone p m w a asks s = record {
 }
 
 -- The turn of another processor leaves it so.
-pub sound-in-turn : (p q : ℕ) → q ≢ p → (story : Story) (places : World) (a w : LivingState) (g : Program) (k : Kept) → IsTurnOf p story places a w → KeepsFor q (deeds story) a w → places.lists q ≡ seen number_of (shown k.caches) → q < a.side.grace.processors → asked_of knows_living g.scenario.now (in_its_turn k (at_turn q w)) < 2 ^ 22 → Sound knows_living g (in_its_turn k (at_turn q a)) → Sound knows_living g (in_its_turn k (at_turn q w))
-sound-in-turn p q ne story places a w g k t keeps lists turn asks s = sound-alone g (in_its_turn k (at_turn q a)) (at_turn q w) (turn-left p q ne story places a w (shown k.caches) t keeps lists turn) asks s
+pub sound-in-turn : (p q : ℕ) → q ≢ p → (story : Story) (places : World) (a w : LivingState) (g : Program) (k : Kept) → IsTurnOf p story places a w → KeepsFor q (deeds story) a w → places.lists q ≡ seen number_of (shown k.caches) → q < a.side.grace.processors → asked_of knows_living g.scenario.now (in_its_turn k (at_turn q w)) < 2 ^ 22 → AreStocked (declared_in g.scenario.now) (known_living w).objects → Sound knows_living g (in_its_turn k (at_turn q a)) → Sound knows_living g (in_its_turn k (at_turn q w))
+sound-in-turn p q ne story places a w g k t keeps lists turn asks stocked s = sound-alone g (in_its_turn k (at_turn q a)) (at_turn q w) (turn-left p q ne story places a w (shown k.caches) t keeps lists turn) asks stocked s

@@ -2,11 +2,11 @@
 use Rattle.std.proofs.Common.{◌≡◌, ℕ, Bool, List, Option, Some, None}
 use Rattle.bm_journal.specs.declared.ids.Domain.{Domain}
 use Rattle.bm_journal.specs.declared.ids.Domain.TheVariants.{Plain, Tracing}
-use Rattle.bm_lang.specs.declared.scenario.TypeDeclaration.{TypeDeclaration}
 use Rattle.bm_law.specs.Lists.{Log}
 use Rattle.bm_law.specs.State.{State}
 use Rattle.bm_law_work.specs.Grown.{GrewBy, GrewPart}
 use Rattle.bm_law_work.specs.Parts.{Part}
+use Rattle.bm_law_scenario.specs.Declared.{Declared}
 use Rattle.bm_law_scenario.specs.Grammar.{is_plain}
 use Rattle.bm_law_scenario.specs.Held.{Names, OwnsNothing}
 use Rattle.bm_world.specs.LivingState.{LivingState}
@@ -33,21 +33,21 @@ both-went stopped.Yielded P Q R h k f = f h k
 both-went stopped.NoMemory P Q R h k f = tt
 
 -- what open blocks run, to names that own nothing
-abbrev pub Finishes : List TypeDeclaration → Around → Option (List ℕ) → List Open → Names → Part
-Finishes types z w blocks names l part = (last : Names) × RunsStack types 0 z w blocks names last l part × ((x : List ℕ) → OwnsNothing (last x))
+abbrev pub Finishes : Declared → Around → Option (List ℕ) → List Open → Names → Part
+Finishes d z w blocks names l part = (last : Names) × RunsStack d 0 z w blocks names last l part × ((x : List ℕ) → OwnsNothing (last x))
 
-pub finishes-on : (types : List TypeDeclaration) (z z' : Around) (w : Option (List ℕ)) (s s' : State ℕ) (names names' : Names) (before now : List Open) (log log' : Option Log) →
-    ((after : Names) (final : Option Log) → GrewBy (RunsStack types 0 z' w now names' after) s' log' final → GrewBy (RunsStack types 0 z w before names after) s log final) → (mid : Option Log) →
-    GrewBy (Finishes types z' w now names') s' log' mid → GrewBy (Finishes types z w before names) s log mid
-finishes-on types z z' w s s' names names' before now log log' f None h = tt
-finishes-on types z z' w s s' names names' before now log log' f (Some mid) h =
+pub finishes-on : (d : Declared) (z z' : Around) (w : Option (List ℕ)) (s s' : State ℕ) (names names' : Names) (before now : List Open) (log log' : Option Log) →
+    ((after : Names) (final : Option Log) → GrewBy (RunsStack d 0 z' w now names' after) s' log' final → GrewBy (RunsStack d 0 z w before names after) s log final) → (mid : Option Log) →
+    GrewBy (Finishes d z' w now names') s' log' mid → GrewBy (Finishes d z w before names) s log mid
+finishes-on d z z' w s s' names names' before now log log' f None h = tt
+finishes-on d z z' w s s' names names' before now log log' f (Some mid) h =
     let p = h.is_part in
-    let g : GrewPart (RunsStack types 0 z w before names p.0) s log mid = f p.0 (Some mid) (record { log = h.log; told = h.told; added = h.added; now_is = h.now_is; is_part = p.1 }) in
+    let g : GrewPart (RunsStack d 0 z w before names p.0) s log mid = f p.0 (Some mid) (record { log = h.log; told = h.told; added = h.added; now_is = h.now_is; is_part = p.1 }) in
     record { log = g.log; told = g.told; added = g.added; now_is = g.now_is; is_part = (p.0, g.is_part, p.2) }
 
-pub finishes-ran : (types : List TypeDeclaration) (z : Around) (w : Option (List ℕ)) (s : State ℕ) (names names' : Names) (before : List Open) (log log' : Option Log) → Ran types 0 z w s names names' before log log' → GrewBy (Finishes types z w before names) s log log'
-finishes-ran types z w s names names' before log None r = tt
-finishes-ran types z w s names names' before log (Some now) r =
+pub finishes-ran : (d : Declared) (z : Around) (w : Option (List ℕ)) (s : State ℕ) (names names' : Names) (before : List Open) (log log' : Option Log) → Ran d 0 z w s names names' before log log' → GrewBy (Finishes d z w before names) s log log'
+finishes-ran d z w s names names' before log None r = tt
+finishes-ran d z w s names names' before log (Some now) r =
     let g = r.grew in
     record { log = g.log; told = g.told; added = g.added; now_is = g.now_is; is_part = (names', g.is_part, r.owns_nothing) }
 

@@ -4,6 +4,7 @@ use Rattle.bm_law.specs.Lists.{Log}
 use Rattle.bm_law_order.specs.Orders.{AllFit, Order, by, part_of, shared_over}
 use Rattle.bm_law_order.specs.Seals.{nobody_waits, waiting_after}
 use Rattle.bm_law_order.specs.Shared.{Shared, fresh, shared_after}
+use Rattle.bm_law_order.specs.Slots.{named_in}
 use Rattle.bm_law_order.specs.Story.{Steady, plainly}
 use Rattle.bm_law_order.specs.Tie.{Tied}
 use Rattle.bm_law_order.proofs.Along.{leads-join}
@@ -23,18 +24,19 @@ use Rattle.bm_run.proofs.SealsTold.{LowSend, tied-sealed-since}
 -- ---- between two turns
 
 -- so it is at the outset, of however many processors
-pub fresh-so-far : (n pages : ℕ) (world : LivingState) → told_living world ≡ fresh n pages → SoFar n pages [] world
-fresh-so-far n pages world e = record {
+pub fresh-so-far : (n pages : ℕ) (world : LivingState) → told_living world ≡ fresh n pages → world.contents ≡ [] → SoFar n pages [] world
+fresh-so-far n pages world e c = record {
   leads = fresh-leads n pages world e;
   steady = subst Steady (sym e) (fresh-steady n pages);
   polled = tt;
   owned = tt;
   made = λ u. subst (λ (s : Shared). MadeAs (s.lives.holds u) (s.lives.begun u) (fields_told world u) None) (sym e) tt;
+  slots = sym (ap named_in c);
 }
 
 -- whose side the world is, is no matter
 pub so-far-at : (n pages p : ℕ) (o : Order) (world : LivingState) → SoFar n pages o world → SoFar n pages o (at_turn p world)
-so-far-at n pages p o world h = record { leads = h.leads; steady = h.steady; polled = h.polled; owned = h.owned; made = h.made }
+so-far-at n pages p o world h = record { leads = h.leads; steady = h.steady; polled = h.polled; owned = h.owned; made = h.made; slots = h.slots }
 
 pub sealed-at : (p : ℕ) (o : Order) (world : LivingState) → SealedSoFar o world → SealedSoFar o (at_turn p world)
 sealed-at p o world h = record { waits = h.waits; sealed = h.sealed }
@@ -67,7 +69,7 @@ pub turn-taken : (closing : Bool) (n pages p : ℕ) (o : Order) (since log : Log
 turn-taken closing n pages p o since log start now h own part t =
     let bare = tied-bare knows_living (polled knows_living closing since start) since start 0 [] [] log now t in
     let r = tied-led-since (polled knows_living closing since start) p 0 since log start now own h.steady bare in
-    let objects = tied-owned-since closing n pages p o since r.added log start now h.leads h.steady own part r.log_is bare h.owned h.made in
+    let objects = tied-owned-since closing n pages p o since r.added log start now h.leads h.steady own part r.log_is bare h.owned h.made h.slots in
     record {
       added = r.added;
       log_is = r.log_is;
@@ -76,7 +78,8 @@ turn-taken closing n pages p o since log start now h own part t =
         steady = r.steady;
         polled = tied-polled-since n pages p o since start h.leads h.steady own part closing r.added log now r.log_is bare h.polled;
         owned = objects.0;
-        made = objects.1;
+        made = objects.1.0;
+        slots = objects.1.1;
       };
       stays = (bare.done_is.did p own).stays;
     }

@@ -31,6 +31,7 @@ own-part p (e ∷ log) = rw (eq-eqb p p refl) (ap (λ (x : Log). e ∷ x) (own-p
 pub keeps-for : (p q : ℕ) → q ≢ p → (acts : List Act) (a w : LivingState) → IsSideOf p a.side → LivingDoes acts a w → KeepsFor q acts a w
 keeps-for p q ne acts a w s d = record {
   begins = λ e. (let same = (d.did p s).others e q ne in omega (arith, same));
+  asked = d.asked;
   standings = d.keeps;
 }
 

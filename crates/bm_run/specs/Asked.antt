@@ -17,12 +17,13 @@ in_its_turn k w = record {
   handlers = k.handlers;
   running = k.running;
   tables = k.tables;
+  calls = k.calls;
 }
 
 -- how often a processor was asked for works, and what its handlers that haven't run may ask for
 abbrev pub own_asks : Parts → Kept → ℕ
 own_asks s k = k.settled + left_cost s k.handlers.planned.left
 
--- how many objects and works were asked for, and how many handlers may ask for that haven't run, on all processors
+-- how many objects, calls and works were asked for, and how many handlers may ask for that haven't run, on all processors
 abbrev pub asked_by_all : Parts → List Kept → LivingState → ℕ
 asked_by_all s kept world = world.asked + sum_by (own_asks s) kept

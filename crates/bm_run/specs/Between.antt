@@ -3,7 +3,7 @@ use Rattle.std.specs.Prelude.{◌≡◌, ◌<◌, ◌+◌, ◌-◌, ◌^◌, ◌
 use Rattle.bm_journal.specs.declared.ids.Domain.{Domain}
 use Rattle.bm_journal.specs.declared.entry.Entry.TheVariants as entry
 use Rattle.bm_lang.specs.declared.scenario.Parts.{Parts}
-use Rattle.bm_law.specs.Alone.{AllAt, at_level}
+use Rattle.bm_law.specs.Alone.{AllAt}
 use Rattle.bm_law.specs.Kept.{Ready}
 use Rattle.bm_law.specs.Lists.{Leaves, Log, after}
 use Rattle.bm_law.specs.Stands.{times}
@@ -14,7 +14,9 @@ use Rattle.bm_law_order.specs.Shared.{fresh}
 use Rattle.bm_law_order.specs.Whole.{joined}
 use Rattle.bm_law_logs.specs.SweepsTold.{SweepsTold}
 use Rattle.bm_law.specs.Inboxes.{Inboxes}
-use Rattle.bm_law_scenario.specs.Closing.{EndsPeriods, close_of}
+use Rattle.bm_law_work.specs.Parts.{Part, Stand, Then}
+use Rattle.bm_law_scenario.specs.Closing.{Empties, EndsPeriods, close_of}
+use Rattle.bm_law_scenario.specs.Declared.{Declared, declared_in}
 use Rattle.bm_law_scenario.specs.Opened.{opened_classes}
 use Rattle.bm_law_scenario.specs.Grammar.{AreScripts, lines_of}
 use Rattle.bm_law_scenario.specs.Handlers.{HandlersDone}
@@ -23,6 +25,7 @@ use Rattle.bm_cache.specs.Tokens.{Token, number_of}
 use Rattle.bm_exec.specs.Living.{Living, Lives, count_in}
 use Rattle.bm_exec_levels.specs.declared.program.Program.{Program}
 use Rattle.bm_world.specs.LivingState.{LivingState, known_living}
+use Rattle.bm_exec_levels.specs.Slotted.{in_hands}
 use Rattle.bm_run.specs.InTurns.{AreTaken, TurnsSoFar, one_by_one}
 use Rattle.bm_run.specs.LogsSoFar.{LogsSoFar, WaitsSoFar}
 use Rattle.bm_run.specs.Openings.{openings}
@@ -54,7 +57,8 @@ ended_of seats = map (λ (x : Seat). x.ended) seats
 abbrev pub all_openings : Parts → Order
 all_openings s = openings (opened_classes s.types) s.pages s.processors
 
--- All processors of a program are between turns, which they take in this order, of which the rest is still to come.
+-- All processors of a program are between turns, which they take in this order, of which the rest is still to come. By what they may ask for
+-- yet, two calls for each map are left for the closing.
 pub record Between (g : Program) (turns rest : List ℕ) (seats : List Seat) (world : LivingState) : Type 0 where
   pub many : length seats ≡ g.scenario.now.processors
   pub order : Order
@@ -68,9 +72,9 @@ pub record Between (g : Program) (turns rest : List ℕ) (seats : List Seat) (wo
   pub so_far : LogsSoFar g.scenario.now.processors g.scenario.now.pages (all_openings g.scenario.now ++ order) logs world
   pub waits : WaitsSoFar (all_openings g.scenario.now ++ order) world
   pub seated : (p : ℕ) (seat : Seat) → slice_get seats p ≡ Some seat → IsSeated g p (get_or logs p []) (bases p) (get_or shares p 0) world seat
-  pub add_up : AddUp g.scenario.now.processors bases (known_living world).objects.lives
+  pub add_up : AddUp g.scenario.now.processors bases (in_hands (known_living world).objects)
   pub shares_many : length shares ≡ g.scenario.now.processors
-  pub few : world.asked + sum_by (λ n. n) shares < 2 ^ 22
+  pub few : world.asked + sum_by (λ n. n) shares + 128 < 2 ^ 22
 
 -- each processor has ended
 abbrev pub AllStopped : List Seat → Type 0
@@ -78,7 +82,7 @@ AllStopped seats = (p : ℕ) (seat : Seat) → slice_get seats p ≡ Some seat �
 
 -- ---- the closing
 
--- What processor p leaves in its closing, after this front and with these lists: it ends the periods that it has in progress, and sweeps
+-- What processor p leaves in its closing, after this front and with these lists, once nothing is left to give up: it ends the periods that it has in progress, and sweeps
 -- these classes, in whose inboxes these parcels wait by then. At the end nothing stands in their lists; the other classes are as
 -- they were, and no call is in a cache or has anything in hand.
 pub record ClosesAs (classes : List ℕ) (front : Log) (lists : State ℕ) (p : ℕ) (final finishes sweeps : Log) : Type 0 where
@@ -93,22 +97,28 @@ pub record ClosesAs (classes : List ℕ) (front : Log) (lists : State ℕ) (p : 
   pub empty : (c : ℕ) → 0 < times c classes → seven_lists (last.rows c) ≡ []
   pub others : (c : ℕ) → times c classes ≡ 0 → (seen number_of last).rows c ≡ lists.rows c
 
+-- what processor p gives up in its closing: processor 0 begins it, and then empties the maps
+abbrev pub GivesFirst : Declared → ℕ → Part
+GivesFirst d p = Then (Stand 0 (close_of p)) (Empties p d)
+
 -- The log of processor p: its opening, its scripts, in whose middle and at whose end each handler stood where it was due and left its
--- phrase, its end, and its closing.
-pub record IsFinal (s : Parts) (p : ℕ) (final finishes sweeps : Log) : Type 0 where
+-- phrase, its end, and its closing, which gives up what the maps hold first.
+pub record IsFinal (s : Parts) (p : ℕ) (final given finishes sweeps : Log) : Type 0 where
   pub scripts : Log
-  pub final_is : final ≡ (opening_log s p ++ scripts) ++ ((0, entry.Ended) ∷ (at_level 0 (close_of p) ++ (finishes ++ sweeps)))
+  pub final_is : final ≡ (opening_log s p ++ scripts) ++ ((0, entry.Ended) ∷ (given ++ (finishes ++ sweeps)))
   pub are_scripts : AreScripts s (lines_of p s.runs) (opening_lists s p) scripts
   pub front_stands : HandlersStand s p (opening_log s p ++ scripts)
   pub front_done : HandlersDone s p (opening_log s p ++ scripts)
   pub lists : State ℕ
   pub front_leaves : Leaves p (opening_log s p ++ scripts) lists
+  pub given_at : AllAt 0 given
+  pub given_is : GivesFirst (declared_in s) p lists given
   pub stands : HandlersStand s p final
   pub done : HandlersDone s p final
-  pub closes : ClosesAs (opened_classes s.types) (opening_log s p ++ scripts) lists p final finishes sweeps
+  pub closes : ClosesAs (opened_classes s.types) (opening_log s p ++ scripts) (after lists given) p final finishes sweeps
 
--- All processors of a scenario have closed, and these are their logs: the turns made this order; then processor 0 began the closing; then
--- each ended its periods, and then each swept its classes.
+-- All processors of a scenario have closed, and these are their logs: the turns made this order; then processor 0 began the closing,
+-- and emptied the maps; then each ended its periods, and then each swept its classes.
 pub record AllClosed (s : Parts) (turns : List ℕ) (finals : List Log) : Type 0 where
   pub order : Order
   pub taken : List (List Log)
@@ -124,9 +134,8 @@ pub record AllClosed (s : Parts) (turns : List ℕ) (finals : List Log) : Type 0
   pub given_many : length given ≡ s.processors
   pub finishes_many : length finishes ≡ s.processors
   pub sweeps_many : length sweeps ≡ s.processors
-  pub given_are : (p : ℕ) → p < s.processors → get_or given p [] ≡ at_level 0 (close_of p)
   pub finals_are : (p : ℕ) → p < s.processors → get_or finals p [] ≡ (opening_log s p ++ joined (get_or taken p [])) ++ (get_or given p [] ++ (get_or finishes p [] ++ get_or sweeps p []))
-  pub logs : (p : ℕ) → p < s.processors → IsFinal s p (get_or finals p []) (get_or finishes p []) (get_or sweeps p [])
+  pub logs : (p : ℕ) → p < s.processors → IsFinal s p (get_or finals p []) (get_or given p []) (get_or finishes p []) (get_or sweeps p [])
   pub world : LivingState
   pub so_far : LogsSoFar s.processors s.pages (((all_openings s ++ order) ++ one_by_one 0 given) ++ (one_by_one 0 finishes ++ one_by_one 0 sweeps)) finals world
   pub lives : (u : ℕ) → (known_living world).objects.lives u ≡ None

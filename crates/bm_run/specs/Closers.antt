@@ -1,8 +1,7 @@
 -- The closing of all processors on one thread: what a step of one of them needs, and what it makes. (This project's own.)
-use Rattle.std.specs.Prelude.{◌≡◌, ◌≤◌, ◌<◌, ◌%◌, ◌++◌, ℕ, zero, suc, false, true, List, [], ◌∷◌, Option, None, Some, get_or, length, map, set, slice_get}
+use Rattle.std.specs.Prelude.{◌≡◌, ◌≤◌, ◌<◌, ◌+◌, ◌*◌, ◌%◌, ◌++◌, ℕ, zero, suc, false, true, List, [], ◌∷◌, Option, None, Some, get_or, length, map, set, slice_get}
 use Rattle.std.specs.List.{concat}
 use Rattle.bm_journal.specs.declared.ids.Domain.{Domain}
-use Rattle.bm_journal.specs.declared.entry.Entry.TheVariants as entry
 use Rattle.bm_journal.specs.Recording.{Kept as Recorded}
 use Rattle.bm_law.specs.Alone.{AllAt}
 use Rattle.bm_law.specs.Lists.{Log}
@@ -13,6 +12,7 @@ use Rattle.bm_law_order.specs.Orders.{Order}
 use Rattle.bm_law_order.specs.Tie.{Tied}
 use Rattle.bm_law_work.specs.Parts.{Part}
 use Rattle.bm_grace.specs.AtRest.{AreEven, IsDriven}
+use Rattle.bm_grace.specs.Known.{side as of_side}
 use Rattle.bm_grace.specs.PlainState.{domain_in, side_in}
 use Rattle.bm_post.specs.PostState.{told_in}
 use Rattle.bm_cache.specs.Shown.{shown}
@@ -30,7 +30,14 @@ use Rattle.bm_closing.specs.EndsBegun.{EndsBegun}
 use Rattle.bm_closing.specs.declared.crew.Phase.{Phase}
 use Rattle.bm_closing.specs.declared.crew.Phase.TheVariants.{Ends, Sweeps}
 use Rattle.bm_exec_levels.specs.AtPolls.{DoesHere, polled}
+use Rattle.bm_exec_levels.specs.Ready.{asked_of}
+use Rattle.bm_exec_levels.specs.Slotted.{in_hands}
+use Rattle.bm_exec_levels.specs.Sound.{Sound}
 use Rattle.bm_exec_levels.specs.declared.kept.Kept.{Kept}
+use Rattle.bm_exec_levels.specs.declared.program.Program.{Program}
+use Rattle.bm_law_scenario.specs.Declared.{declared_in}
+use Rattle.bm_run.specs.Asked.{in_its_turn}
+use Rattle.bm_run.specs.Between.{GivesFirst}
 use Rattle.bm_run.specs.LogsSoFar.{LogsSoFar}
 use Rattle.bm_run.specs.SoFar.{at_turn}
 
@@ -215,14 +222,17 @@ held_of (c ∷ cs) g p = units_kept (slice_get g.places p) c ++ (units_waiting g
 
 -- ---- the begin and the end
 
--- Processor 0 has noted that the closing begins, behind this log.
-pub record BeginsClosing (kept : Kept) (side : LivingState) (log : Log) (then : Kept) (now : LivingState) : Type 0 where
-  pub told : then.caches.recorder.told ≡ Some (log ++ (0, entry.Close) ∷ [])
-  pub lists : shown then.caches ≡ shown kept.caches
-  pub processor : then.caches.processor ≡ kept.caches.processor
-  pub same : now ≡ side
-  pub fine : FineHere then.caches now
-  pub tied : Tied (polled knows_living false log side) (DoesHere knows_living) log side 0 [] [] (log ++ (0, entry.Close) ∷ []) now
+-- Processor 0 has begun the closing, behind this log: it noted that, and emptied the maps of the program. Names hold what they held, it is in a
+-- section or in none as before, few more objects and works were asked for, and ordinary code could go on.
+pub record BeginsClosing (g : Program) (kept : Kept) (side : LivingState) (log : Log) (then : Kept) (now : LivingState) : Type 0 where
+  pub added : Log
+  pub told : then.caches.recorder.told ≡ Some (log ++ added)
+  pub said : GivesFirst (declared_in g.scenario.now) 0 (seen number_of (shown kept.caches)) added
+  pub sound : Sound knows_living g (in_its_turn then now)
+  pub tied : Tied (polled knows_living false log side) (DoesHere knows_living) log side 0 [] [] (log ++ added) now
+  pub asks : asked_of knows_living g.scenario.now (in_its_turn then now) ≤ asked_of knows_living g.scenario.now (in_its_turn kept side) + 2 * length g.scenario.now.maps
+  pub hands : in_hands (known_living now).objects ≡ in_hands (known_living side).objects
+  pub parity : (d : Domain) → (of_side d (known_living now)).word % 2 ≡ (of_side d (known_living side)).word % 2
 
 -- what its recorder tells, if it is there
 abbrev pub log_kept : Option Kept → Option Log

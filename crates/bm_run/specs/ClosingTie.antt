@@ -18,6 +18,7 @@ use Rattle.bm_law_order.specs.Act.{Act, Sealed, units_of}
 use Rattle.bm_law_order.specs.Act as act
 use Rattle.bm_law_order.specs.Chunk.{Shows}
 use Rattle.bm_law_order.specs.Chunk as chunk
+use Rattle.bm_law_order.specs.Slots.{Contents, SlotsLead, named_in}
 use Rattle.bm_law_order.specs.Made.{Fields, MadeLead}
 use Rattle.bm_law_order.specs.Quiet.{is_quiet}
 use Rattle.bm_law_order.specs.Story.{at_level, deeds, lines}
@@ -119,10 +120,16 @@ unread acts d x m a b here = (did-before here.0, here.1)
     made-unread [] p q w = w.1.1 ∙ w.1.0
     made-unread (e ∷ es) p q w = (w.0, (w.1.0, made-unread es w.0 q w.1.1))
 
+    slots-unread : (es : List Act) (p q : Contents) → SlotsLead (es ++ act.Reads d x m ∷ []) p q → SlotsLead es p q
+    slots-unread [] p q w = w.1.1 ∙ w.1.0
+    slots-unread (e ∷ es) p q w = (w.0, (w.1.0, slots-unread es w.0 q w.1.1))
+
     did-before : LivingDoes (acts ++ act.Reads d x m ∷ []) a b → LivingDoes acts a b
     did-before did = record {
       waits = go-unread acts d x m (waits_told a.standings) (waits_told b.standings) did.waits;
       made = made-unread acts (fields_told a) (fields_told b) did.made;
+      exchanged = slots-unread acts (named_in a.contents) (named_in b.contents) did.exchanged;
+      asked = did.asked;
       keeps = λ n s. did.keeps n (spare-append n acts (act.Reads d x m ∷ []) s (tt, tt));
       did = λ p s.
           let h = did.did p s in

@@ -33,17 +33,19 @@ pub record StaysPut (n : ℕ) (before now : LivingState) : Type 0 where
   pub standing : standing_at now.standings n ≡ standing_at before.standings n
 
 -- Between two worlds, both as the side of one processor with these lists and hands, it was left alone: there are as many processors, it has
--- its section words and may begin no fewer periods, and nothing happened to the units that it has.
+-- its section words and may begin no fewer periods, no fewer calls are counted, and nothing happened to the units that it has.
 pub record IsLeftAlone (lists : State Token) (before now : LivingState) : Type 0 where
   pub processors : now.side.grace.processors ≡ before.side.grace.processors
   pub processor : now.side.grace.processor ≡ before.side.grace.processor
   pub words : (d : Domain) → (side d (known_living now)).word ≡ (side d (known_living before)).word
   pub begins : (d : Domain) → (side d (known_living before)).begins ≤ (side d (known_living now)).begins
+  pub asked : before.asked ≤ now.asked
   pub units : Each (λ c k u. StaysPut u.number before now) (λ u. StaysPut u.number before now) lists
 
--- Acts keep for processor q what it may begin, and of each unit that they spare what it waits for, since the same stamps.
+-- Acts keep for processor q what it may begin and the calls that were counted, and of each unit that they spare what it waits for, since the same stamps.
 pub record KeepsFor (q : ℕ) (acts : List Act) (before now : LivingState) : Type 0 where
   pub begins : (d : Domain) → slice_index (domain_in d before.side.grace).begins q ≤ slice_index (domain_in d now.side.grace).begins q
+  pub asked : before.asked ≤ now.asked
   pub standings : (n : ℕ) → AllSpare n acts → standing_at now.standings n ≡ standing_at before.standings n
 
 -- A turn of processor p, by its story, from one world to another: each unit is in one place when it begins, each of its entries finds what it needs,

@@ -16,5 +16,6 @@ pub mod Spared
 pub mod InTurns
 pub mod WorkedInTurns
 pub mod AllTurns
+pub mod Emptied
 pub mod Closers
 pub mod ClosersCrew

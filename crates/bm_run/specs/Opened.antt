@@ -1,7 +1,9 @@
 -- A processor after its opening.
-use Rattle.std.specs.Prelude.{◌≡◌, ◌+◌, ◌&&◌, ℕ, Bool, true, false, List, [], ◌∷◌, None, IfSome, nat_lt}
+use Rattle.std.specs.Prelude.{◌≡◌, ◌+◌, ◌&&◌, ℕ, Bool, true, false, List, [], ◌∷◌, None, IfSome, map, nat_lt}
 use Rattle.bm_world.specs.ToldLiving.{knows_living}
 use Rattle.bm_journal.specs.declared.ids.Domain.{Domain}
+use Rattle.bm_lang.specs.declared.scenario.MapDeclaration.{MapDeclaration}
+use Rattle.bm_law_order.specs.Slots.{Named, empty_slot}
 use Rattle.bm_page.specs.Stock.{Stock}
 use Rattle.bm_grace.specs.Known.{side}
 use Rattle.bm_grace.specs.PlainState.{idle}
@@ -32,9 +34,13 @@ fresh_side n p pool = record {
   grace = record { processors = n; processor = p; plain = idle; tracing = idle };
 }
 
--- .. where no unit lives or has begun a life, and none was asked for
+-- .. where no unit lives or has begun a life, none was asked for, and nothing is in a slot
 abbrev pub fresh_world : (processors p : ℕ) → Stock → LivingState
-fresh_world n p pool = record { side = fresh_side n p pool; slots = []; begun = []; standings = []; asked = 0 }
+fresh_world n p pool = record { side = fresh_side n p pool; slots = []; begun = []; standings = []; asked = 0; contents = [] }
+
+-- the slots of these maps, which hold nothing
+abbrev pub empty_slots : List MapDeclaration → List Named
+empty_slots maps = map (λ (m : MapDeclaration). let s : Named = record { name = m.name; slot = empty_slot } in s) maps
 
 -- the world of one processor before its opening: all units are in stock
 abbrev pub outset : (pages : ℕ) → LivingState

@@ -28,11 +28,12 @@ abbrev pub openings : (classes : List ℕ) (pages n : ℕ) → Order
 openings classes pages zero = []
 openings classes pages (suc p) = openings classes pages p ++ by p (fill_log (filling_of classes pages p).fills)
 
--- What processor p keeps once its caches were filled so: no work was asked for, it is in no section, none of the handlers that the
+-- What processor p keeps once its caches were filled so: no work was asked for, its log has no call, it is in no section, none of the handlers that the
 -- scenario plans for it has run, and there is the memory that they need.
 pub record IsFilled (s : Parts) (p : ℕ) (fs : Fills) (kept : Kept) : Type 0 where
   pub caches : Opened (λ (k : Recorded). k.told) (λ k. k.counted) p fs kept.caches
   pub settled : kept.settled ≡ 0
+  pub calls : kept.calls ≡ 0
   pub inside : kept.inside ≡ false
   pub planned : kept.handlers.planned ≡ record { left = planned_for p s; ended = false }
   pub scripts : kept.handlers.scripts ≡ length s.scripts

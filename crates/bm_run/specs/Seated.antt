@@ -22,6 +22,7 @@ use Rattle.bm_exec_levels.specs.Sound.{Sound}
 use Rattle.bm_exec_levels.specs.declared.kept.Kept.{Kept}
 use Rattle.bm_exec_levels.specs.declared.processor.Processor.{Processor}
 use Rattle.bm_exec_levels.specs.declared.program.Program.{Program}
+use Rattle.bm_exec_levels.specs.Slotted.{in_hands}
 use Rattle.bm_run.specs.Asked.{in_its_turn}
 use Rattle.bm_run.specs.Lines.{works_for}
 use Rattle.bm_run.specs.Openings.{filling_of}
@@ -73,5 +74,5 @@ pub record IsSeated (g : Program) (p : ℕ) (log : Log) (base : Lives) (share : 
   pub processor : seat.remaining.processor ≡ p
   pub sound : Sound knows_living g (in_its_turn kept (at_turn p world))
   pub runs : runs_or_stopped seat.ended g.scenario.now p log (in_its_turn kept (at_turn p world)) seat.remaining
-  pub owns : owned_by g.scenario.now base (known_living world).objects.lives seat.remaining.begun
+  pub owns : owned_by g.scenario.now base (in_hands (known_living world).objects) seat.remaining.begun
   pub asks : seat_asks g.scenario.now (in_its_turn kept (at_turn p world)) seat.remaining ≤ share

@@ -6,6 +6,7 @@ use Rattle.bm_law_order.specs.Orders.{Leads, Order, by, over}
 use Rattle.bm_law_order.specs.Polls.{IsPolled}
 use Rattle.bm_law_order.specs.Seals.{IsSealed, nobody_waits, waiting_after}
 use Rattle.bm_law_order.specs.Shared.{fresh}
+use Rattle.bm_law_order.specs.Slots.{named_in}
 use Rattle.bm_law_order.specs.Story.{Steady, plainly}
 use Rattle.bm_world.specs.LivingState.{LivingState}
 use Rattle.bm_world.specs.Standings.{waits_told}
@@ -26,13 +27,15 @@ IsMadeOf o world =
 
 -- The entries so far, of so many processors, each find what they need, and lead from the outset to what the world tells, which is
 -- steady; each period was begun for a batch that waits for it, and each pass ended a poll that had rested; and each unit was given where an
--- object was asked for, each read found a value with which its object was made, and those that live were made with what the world tells.
+-- object was asked for, each read found a value with which its object was made, each exchange found what the slot held, those that live were
+-- made with what the world tells, and the slots hold what it tells.
 pub record SoFar (processors pages : ℕ) (o : Order) (world : LivingState) : Type 0 where
   pub leads : Leads o (fresh processors pages) (plainly (told_living world))
   pub steady : Steady (told_living world)
   pub polled : IsPolled processors pages o
   pub owned : IsOwned o
   pub made : IsMadeOf o world
+  pub slots : (over owned_after o nothing_owned).objects.slots ≡ named_in world.contents
 
 -- So it is while nothing was swept: units wait for what the world tells, and each was given with what it had waited for.
 pub record SealedSoFar (o : Order) (world : LivingState) : Type 0 where

@@ -30,6 +30,7 @@ use Rattle.bm_exec.specs.declared.frame.Open.{Open}
 use Rattle.bm_exec_levels.specs.AtProcessor.{SameLives, lists_of, log_of}
 use Rattle.bm_exec_levels.specs.Ordinary.{Ordinary, around_of}
 use Rattle.bm_exec_levels.specs.Ready.{known_of, word_of}
+use Rattle.bm_exec_levels.specs.Slotted.{in_hands}
 use Rattle.bm_exec_levels.specs.declared.processor.Processor.{Processor}
 use Rattle.bm_run.specs.Lines.{AreDeclared, BehindScript, Wrote, asks_in, lines_cost}
 use Rattle.bm_run.specs.declared.turns.Begun.{Begun}
@@ -39,7 +40,7 @@ use Rattle.bm_run.specs.declared.turns.Turned.TheVariants as turned
 
 -- ---- a script that has begun
 
--- how many objects, works and words were asked for so far, with what handlers that haven't run may ask for
+-- how many objects, calls, works and words were asked for so far, with what handlers that haven't run may ask for
 abbrev pub used_in : Parts → Processor LivingState → ℕ
 used_in s m = asks_in s m + word_of knows_living Tracing m
 
@@ -67,7 +68,7 @@ outermost b = record { whole = starts_inside b.script.now; begun = None }
 -- scenario's, and the processor is in its section.
 pub record IsInScript (s : Parts) (w : Option (List ℕ)) (m : Processor LivingState) (b : Begun) : Type 0 where
   pub found : (i : ℕ) × (slice_get s.scripts i ≡ Some b.script.now)
-  pub can : CanGoOn s.types (around_in m b) w (lists_of m) (known_of knows_living m).objects.lives b.activation.names (blocks_of b)
+  pub can : CanGoOn (declared_in s) (around_in m b) w (lists_of m) (in_hands (known_of knows_living m).objects) b.activation.names (blocks_of b)
   pub sections : Sectioned (outermost b) (around_in m b) (blocks_of b)
   pub within : starts_inside b.script.now ≡ true → m.inside ≡ true
   pub inside : word_of knows_living (domain_of b) m % 2 ≡ 1
@@ -80,7 +81,7 @@ pub record IsOutside (w : Option (List ℕ)) (m : Processor LivingState) : Type 
 
 -- what the statements that are left of it run
 abbrev pub RunsBlocks : Parts → Option (List ℕ) → Around → Begun → Part
-RunsBlocks s w z b l part = (last : Names) × RunsStack s.types 0 z w (blocks_of b) (held_by b) last l part × ((x : List ℕ) → OwnsNothing (last x))
+RunsBlocks s w z b l part = (last : Names) × RunsStack (declared_in s) 0 z w (blocks_of b) (held_by b) last l part × ((x : List ℕ) → OwnsNothing (last x))
 
 -- the end of a script with this word inside its section, and the deferred work after it
 abbrev pub EndsScript : Option (List ℕ) → Script → (word : ℕ) → Part
@@ -97,7 +98,7 @@ pub record HasBegun (s : Parts) (w : Option (List ℕ)) (script : Script) (befor
   pub wrote : Wrote (Stand 0 (entry.Script script.name ∷ entry.In (section_of script.kind) (word_of knows_living (section_of script.kind) now) ∷ [])) before now
   pub stands : IsInScript s w now b
   pub runs : (l : State ℕ) (part : Log) → RunsBlocks s w (around_in now b) b l part → (last : Names) × RunsBlock (declared_in s) 0 (starts_inside script) (Behind w) script.body no_names last l part × ((x : List ℕ) → OwnsNothing (last x))
-  pub owns : (base : Lives) → (known_of knows_living before).objects.lives ≡ base → Holds s.types base (known_of knows_living now).objects.lives (held_by b)
+  pub owns : (base : Lives) → in_hands (known_of knows_living before).objects ≡ base → Holds s.types base (in_hands (known_of knows_living now).objects) (held_by b)
   pub cost : stack_cost (blocks_of b) ≡ block_cost script.body
   pub light : weight (blocks_of b) ≤ 2 * block_cost script.body + 1
   pub used : used_in s now ≤ used_in s before + 3
@@ -107,8 +108,8 @@ pub record WentOn (s : Parts) (w : Option (List ℕ)) (before now : Processor Li
   pub same : b'.script.now ≡ b.script.now
   pub grew : (mid : Option Log) → GrewBy (RunsBlocks s w (around_in now b') b') (lists_of now) (log_of now) mid → GrewBy (RunsBlocks s w (around_in before b) b) (lists_of before) (log_of before) mid
   pub stands : IsInScript s w now b'
-  pub owns : (base : Lives) → Holds s.types base (known_of knows_living before).objects.lives (held_by b) → Holds s.types base (known_of knows_living now).objects.lives (held_by b')
-  pub used : used_in s now + 2 * stack_cost (blocks_of b') ≤ used_in s before + 2 * stack_cost (blocks_of b)
+  pub owns : (base : Lives) → Holds s.types base (in_hands (known_of knows_living before).objects) (held_by b) → Holds s.types base (in_hands (known_of knows_living now).objects) (held_by b')
+  pub used : used_in s now + 3 * stack_cost (blocks_of b') ≤ used_in s before + 3 * stack_cost (blocks_of b)
   pub less : weight (blocks_of b') < weight (blocks_of b)
 
 -- All its statements were run, and its names own nothing.
@@ -116,8 +117,8 @@ pub record HasRun (s : Parts) (w : Option (List ℕ)) (before now : Processor Li
   pub grew : GrewBy (RunsBlocks s w (around_in before b) b) (lists_of before) (log_of before) (log_of now)
   pub down : Behind w (lists_of now) []
   pub inside : now.inside ≡ starts_inside b.script.now
-  pub owns : (base : Lives) → Holds s.types base (known_of knows_living before).objects.lives (held_by b) → (known_of knows_living now).objects.lives ≡ base
-  pub used : used_in s now ≤ used_in s before + 2 * stack_cost (blocks_of b)
+  pub owns : (base : Lives) → Holds s.types base (in_hands (known_of knows_living before).objects) (held_by b) → in_hands (known_of knows_living now).objects ≡ base
+  pub used : used_in s now ≤ used_in s before + 3 * stack_cost (blocks_of b)
 
 -- A script has ended on a processor, with the deferred work after it.
 pub record HasEnded (s : Parts) (w : Option (List ℕ)) (script : Script) (before now : Processor LivingState) : Type 0 where
@@ -162,17 +163,17 @@ owned_by s base lives None = lives ≡ base
 owned_by s base lives (Some b) = Holds s.types base lives (held_by b)
 
 abbrev pub Owns : Parts → Lives → Processor LivingState → Remaining → Type 0
-Owns s base m r = owned_by s base (known_of knows_living m).objects.lives r.begun
+Owns s base m r = owned_by s base (in_hands (known_of knows_living m).objects) r.begun
 
 -- ---- what it costs
 
 abbrev pub begun_cost : Option Begun → ℕ
 begun_cost None = 0
-begun_cost (Some b) = 2 * stack_cost (blocks_of b) + 2
+begun_cost (Some b) = 3 * stack_cost (blocks_of b) + 2
 
 -- how many may be asked for yet
 abbrev pub cost_left : Parts → Remaining → ℕ
-cost_left s r = begun_cost r.begun + 2 * lines_cost r.processor s.scripts r.lines.now
+cost_left s r = begun_cost r.begun + 3 * lines_cost r.processor s.scripts r.lines.now
 
 abbrev pub begun_weight : Option Begun → ℕ
 begun_weight None = 0

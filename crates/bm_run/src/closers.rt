@@ -1,6 +1,6 @@
 //! The closing of all processors.
 
-ghost use Rattle.std.specs.Prelude.{◌≡◌, ◌<◌, ◌≤◌, ◌++◌, ◌∷◌, [], All, IfOk, IfSome, IsTrue, None, OnOk, Some, ℕ, List, length, map, set, slice_get};
+ghost use Rattle.std.specs.Prelude.{◌≡◌, ◌<◌, ◌≤◌, ◌++◌, ◌∷◌, [], All, IfOk, IfSome, IsTrue, None, OnOk, Some, ℕ, List, length, map, set, slice_get, true};
 ghost use Rattle.bm_journal.specs.WellFormed.{is_whole_log};
 ghost use Rattle.bm_law.specs.Lists.{Log as LogValue};
 ghost use Rattle.bm_closing.specs.declared.crew.Phase.TheVariants.{Ends as EndsPhase};
@@ -9,11 +9,18 @@ ghost use Rattle.bm_world.specs.LivingState.{LivingState};
 ghost use Rattle.bm_exec_levels.specs.declared.kept.Kept.{Kept as KeptValue};
 ghost use Rattle.bm_run.specs.Between.{AllClosed, AllStopped, Between};
 ghost use Rattle.bm_run.specs.Closers.{BeginsClosing, CloseTogether, EndsOf, FineHere, IsAmong, IsEmptied, IsResting, Keeps, NeedsFor, OwnAfter, OwnBefore, StepOf, SweepsOf, TookStep, gathered_with, held_of, log_kept, number_among};
+ghost use Rattle.bm_exec_levels.specs.Sound.{Sound};
+ghost use Rattle.bm_lang.specs.declared.scenario.MapDeclaration.{MapDeclaration as MapValue};
+ghost use Rattle.bm_world.specs.Contents.{are_apart};
+ghost use Rattle.bm_world.specs.ToldLiving.{knows_living};
+ghost use Rattle.bm_run.specs.Asked.{in_its_turn};
+ghost use Rattle.bm_run.specs.Emptied.{AreSlots, HasRoomFor};
 ghost use Rattle.bm_run.specs.SoFar.{at_turn};
 ghost use Rattle.bm_run.specs.ClosersCrew.{all-even, gathered, holds-none, sweeps-next};
 ghost use Rattle.bm_run.specs.declared.seats.Seat.{Seat as SeatValue};
 
 use crate::closing_desk::ClosingDesk;
+use crate::emptying::empty_maps;
 use crate::seats::Seat;
 use crate::stretches::note;
 use bm_class::Class;
@@ -116,6 +123,7 @@ fn end_own<B: Since<LivingSide>>(
         handlers,
         running,
         tables,
+        calls,
     } = kept;
     let mut desk = ClosingDesk::<B> {
         caches,
@@ -137,6 +145,7 @@ fn end_own<B: Since<LivingSide>>(
         handlers,
         running,
         tables,
+        calls,
     };
     if_told(kept, side)
 }
@@ -162,6 +171,7 @@ fn sweep_own<B: Since<LivingSide>>(
         handlers,
         running,
         tables,
+        calls,
     } = kept;
     let mut desk = ClosingDesk::<B> {
         caches,
@@ -188,6 +198,7 @@ fn sweep_own<B: Since<LivingSide>>(
         handlers,
         running,
         tables,
+        calls,
     };
     if_told(kept, side)
 }
@@ -298,14 +309,22 @@ impl<'s> Crew for Closers<'s> {
     ghost empty = { λ c p h. holds-none (gathered c) p h };
 }
 
-// Processor 0 notes that the closing begins. Want of memory is the only refusal.
-fn begin_own(kept: Kept, side: LivingSide) -> Result<(Kept, LivingSide), NoMemory>
-    requires fine { FineHere kept.caches side }
-    ensures { IfOk result (λ r. (log : LogValue) → kept.caches.recorder.told ≡ Some log →
-        BeginsClosing kept side log r.0 r.1) }
+// Processor 0 notes that the closing begins, and empties the maps. Want of memory is the only refusal.
+fn begin_own<'s, B: Since<LivingSide>>(
+    kept: Kept,
+    side: LivingSide,
+    program: &'s Program<'s>,
+) -> Result<(Kept, LivingSide), NoMemory>
+    requires told { kept.caches.recorder.told ≡ Some B.since }
+    requires start { B.start ≡ side }
+    requires sound { Sound knows_living program.now (in_its_turn kept side) }
+    requires slots { AreSlots program.now.scenario.now.maps }
+    requires room { HasRoomFor program.now (in_its_turn kept side) }
+    ensures { IfOk result (λ r. BeginsClosing program.now kept side B.since r.0 r.1) }
 {
     let mut own = Processor::open(kept, side);
     note(&mut own, Entry::Close);
+    empty_maps::<B>(&mut own, program);
     let (kept, side) = own.close();
     if_told(kept, side)
 }
@@ -327,6 +346,7 @@ fn log_of(place: Option<Kept>) -> Option<Log>
         handlers: _,
         running: _,
         tables: _,
+        calls: _,
     } = kept;
     caches.finish().into_log()
 }
@@ -403,8 +423,8 @@ fn close_begun(
     logs_of(alloc, places)
 }
 
-/// The closing of all processors, whose scripts have ended: processor 0 begins it, each ends the periods that it has in progress, and then
-/// each sweeps these classes. The answer is what their recorders hold, ascending. Out of memory is the only refusal.
+/// The closing of all processors, whose scripts have ended: processor 0 begins it, and gives up what the slots hold; each ends the periods
+/// that it has in progress; and then each sweeps these classes. The answer is what their recorders hold, ascending. Out of memory is the only refusal.
 pub fn close_seats<'s>(
     alloc: Global,
     seats: Vec<Seat<'s>>,
@@ -415,13 +435,15 @@ pub fn close_seats<'s>(
     requires between { (turns : List ℕ) × Between program.now turns [] seats.items world }
     requires stopped { AllStopped seats.items }
     requires classes { classes.now ≡ opened_classes program.now.scenario.now.types }
+    requires slots { AreSlots program.now.scenario.now.maps }
+    requires apart { are_apart (map (λ (m : MapValue). m.name) program.now.scenario.now.maps) ≡ true }
+    requires few { length program.now.scenario.now.maps ≤ 64 }
     ensures closed { IfOk result (λ logs. (turns : List ℕ) →
         Between program.now turns [] seats.entry.items world →
         AllClosed program.now.scenario.now turns logs.items) }
     ensures whole { IfOk result (λ logs. All (λ log. IsTrue (is_whole_log log)) logs.items) }
 {
     handled_law();
-    world.all_at_rest();
     let mut places = match places_of(alloc, seats) {
         Ok(places) => places,
         Err(_) => {
@@ -431,7 +453,7 @@ pub fn close_seats<'s>(
     };
     let kept = take_kept(&mut places, 0);
     let side = turned(Some(world), 0);
-    let (kept, world) = match begin_own(kept, side) {
+    let (kept, world) = match begin_own::<Brand>(kept, side, program) {
         Ok(begun) => begun,
         Err(_) => {
             give_up_places(places);
@@ -439,5 +461,6 @@ pub fn close_seats<'s>(
         }
     };
     put_kept(&mut places, 0, kept);
+    world.all_at_rest();
     close_begun(alloc, places, world, classes)
 }

@@ -2,6 +2,7 @@
 
 ghost use Rattle.std.specs.Prelude.{◌≡◌, ◌≤◌, All, IfOk, IsTrue, Some, map};
 ghost use Rattle.bm_journal.specs.WellFormed.{is_whole_log};
+ghost use Rattle.bm_lang.specs.declared.scenario.MapDeclaration.{MapDeclaration as MapValue};
 ghost use Rattle.bm_lang.specs.declared.scenario.Script.{Script};
 ghost use Rattle.bm_lang.specs.declared.scenario.TypeDeclaration.{TypeDeclaration};
 ghost use Rattle.bm_lang.specs.Fine.{HasConditions};
@@ -23,7 +24,7 @@ use bm_class::Class;
 use bm_exec::Types;
 use bm_exec_levels::{Deferred, Program};
 use bm_journal::{Histories, Journal, Log, Logs, Names, Opened, totals_of};
-use bm_lang::{Parts, Scenario, Script, TypeDeclaration};
+use bm_lang::{MapDeclaration, Parts, Scenario, Script, TypeDeclaration};
 use bm_law_graphs::{graphs_law, uncalled_law};
 use bm_law_laid::journal_law;
 use bm_law_logs::{handled_law, returned_law, returns_law, sweeps_law};
@@ -38,6 +39,17 @@ fn type_names(alloc: Global, types: &[TypeDeclaration]) -> Result<Names, NoMemor
 {
     let mut names = Vec::new(alloc);
     for declared in types {
+        names.push(declared.name.duplicate())?;
+    }
+    Ok(Names::new(names))
+}
+
+// The names of maps.
+fn map_names(alloc: Global, maps: &[MapDeclaration]) -> Result<Names, NoMemory>
+    ensures { IfOk result (λ names. names ≡ map (λ (m : MapValue). m.name) maps.now) }
+{
+    let mut names = Vec::new(alloc);
+    for declared in maps {
         names.push(declared.name.duplicate())?;
     }
     Ok(Names::new(names))
@@ -83,11 +95,11 @@ fn journal_of(
     graphs_law();
     uncalled_law();
     let types = type_names(alloc, scenario.types.as_slice())?;
+    let maps = map_names(alloc, scenario.maps.as_slice())?;
     let scripts = script_names(alloc, scenario.scripts.as_slice())?;
     let classes = Opened::new(with_marks(alloc, classes)?);
     let logs = Logs::new(logs);
     let totals = totals_of(&logs);
-    let maps = Names::new(Vec::new(alloc));
     let graphs = Histories::new(Vec::new(alloc));
     Ok(Journal {
         processors: scenario.processors as u8,
@@ -131,6 +143,7 @@ fn logs_of(
         types: Types {
             declared: parts.types.as_slice(),
             classes,
+            maps: parts.maps.as_slice(),
         },
     };
     let deferred = Deferred {

@@ -21,6 +21,7 @@ mod all_turns;
 mod classes;
 mod closers;
 mod closing_desk;
+mod emptying;
 mod filling;
 mod journals;
 mod opening;

@@ -1,14 +1,16 @@
 //! The opening of processors.
 
-ghost use Rattle.std.specs.Prelude.{◌≡◌, ◌<◌, ◌≤◌, [], ℕ, IfOk, None, length, true};
+ghost use Rattle.std.specs.Prelude.{◌≡◌, ◌<◌, ◌≤◌, [], ℕ, IfOk, None, length, map, true};
+ghost use Rattle.bm_lang.specs.declared.scenario.MapDeclaration.{MapDeclaration as MapValue};
 ghost use Rattle.bm_lang.specs.Fine.{HasConditions};
 ghost use Rattle.bm_lang.specs.Limits.{first_limit};
 ghost use Rattle.bm_law_scenario.specs.Fills.{fresh_stock};
 ghost use Rattle.bm_exec_levels.specs.AtTie.{TiedAt};
 ghost use Rattle.bm_exec_levels.specs.Ready.{IsProgram};
 ghost use Rattle.bm_run.specs.Filling.{IsUnborn, filling, units_in};
-ghost use Rattle.bm_run.specs.Opened.{IsOpen, ascends, fresh_side, outset};
+ghost use Rattle.bm_run.specs.Opened.{IsOpen, ascends, empty_slots, fresh_side, outset};
 ghost use Rattle.bm_run.specs.Openings.{AreFilled, AreNew, AreOpen, IsFilled};
+ghost use Rattle.bm_world.specs.Contents.{are_apart};
 ghost use Rattle.bm_world.specs.LivingState.{begun_at};
 ghost use Rattle.bm_world.specs.Slots.{AllEmpty};
 ghost use Rattle.bm_world.specs.Standings.{standing_at};
@@ -21,15 +23,37 @@ use bm_class::Class;
 use bm_exec_levels::{Kept, Processor, Program};
 use bm_grace::PlainGrace;
 use bm_journal::Keep;
-use bm_lang::Scenario;
+use bm_lang::{MapDeclaration, Scenario};
 use bm_page::Pool;
 use bm_post::PlainPost;
 use bm_word::NoMemory;
-use bm_world::{LivingSide, OneSide};
+use bm_world::{Contents, LivingSide, MapSlot, OneSide};
 use std::alloc::Global;
 
-// The side of processor 0, of so many, with this stock, on which nobody has done anything. Want of memory is the only refusal.
-fn open_side(alloc: Global, pool: Pool, processors: u8) -> Result<LivingSide, NoMemory>
+// The slots of these maps, which hold nothing. Want of memory is the only refusal.
+fn empty_slots(alloc: Global, maps: &[MapDeclaration]) -> Result<Contents, NoMemory>
+    requires apart { are_apart (map (λ (m : MapValue). m.name) maps.now) ≡ true }
+    ensures { IfOk result (λ contents. contents ≡ empty_slots maps.now) }
+{
+    let mut slots = Vec::new(alloc);
+    for declared in maps {
+        slots.push(MapSlot {
+            name: declared.name.duplicate(),
+            held: None,
+            by: None,
+        })?;
+    }
+    Ok(Contents::create(slots))
+}
+
+// The side of processor 0, of so many, with this stock and these slots, on which nobody has done anything. Want of memory is the only
+// refusal.
+fn open_side(
+    alloc: Global,
+    pool: Pool,
+    processors: u8,
+    contents: Contents,
+) -> Result<LivingSide, NoMemory>
     requires some { 0 < processors }
     requires limit { processors ≤ 8 }
     requires unborn { IsUnborn pool.units }
@@ -38,10 +62,12 @@ fn open_side(alloc: Global, pool: Pool, processors: u8) -> Result<LivingSide, No
     ensures begun { IfOk result (λ world. (n : ℕ) → begun_at world.begun n ≡ 0) }
     ensures standings { IfOk result (λ world. (n : ℕ) → standing_at world.standings n ≡ WaitsForNothing) }
     ensures asked { IfOk result (λ world. world.asked ≡ 0) }
+    ensures contents { IfOk result (λ world. world.contents ≡ contents) }
 {
     match PlainPost::create(alloc, pool, processors) {
         Ok(post) => {
-            match LivingSide::create(alloc, OneSide::new(post, PlainGrace::new(processors))) {
+            let side = OneSide::new(post, PlainGrace::new(processors));
+            match LivingSide::create(alloc, side, contents) {
                 Ok(world) => Ok(world),
                 Err(side) => {
                     let (post, _grace) = side.into_parts();
@@ -135,7 +161,7 @@ fn open_each(
 /// What the processors of a scenario keep before their first turns, ascending, and the world that they share, which is the side of
 /// processor 0. They run this program, the types of the scenario each with its class, and open one after the other: each fills its
 /// caches of these classes, ascending, from the stock that those before it have left, and has all memory that the handlers need
-/// which are planned for it. Want of memory is the only refusal. From `bpf_mem_alloc_init` of kernel/bpf/memalloc.c.
+/// which are planned for it. The slots of its maps hold nothing. Want of memory is the only refusal. From `bpf_mem_alloc_init` of kernel/bpf/memalloc.c.
 pub fn open_all(
     alloc: Global,
     scenario: &Scenario,
@@ -147,16 +173,18 @@ pub fn open_all(
     requires fine { HasConditions scenario.now }
     requires limits { first_limit scenario.now ≡ None }
     requires ascend { ascends classes.now ≡ true }
+    requires apart { are_apart (map (λ (m : MapValue). m.name) scenario.now.maps) ≡ true }
     ensures { IfOk result (λ all. AreOpen program.now classes.now all.0.items all.1) }
 {
     let parts = program.scenario;
     let processors = parts.processors as u8;
+    let contents = empty_slots(alloc, parts.maps.as_slice())?;
     let mut pool = Pool::create(alloc, parts.pages as u16)?;
     let Ok(kept) = open_each(alloc, scenario, classes, processors, &mut pool) else {
         pool.give_up();
         return Err(NoMemory);
     };
-    match open_side(alloc, pool, processors) {
+    match open_side(alloc, pool, processors, contents) {
         Ok(world) => Ok((kept, world)),
         Err(_) => {
             give_up_kept(kept);

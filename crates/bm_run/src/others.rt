@@ -10,6 +10,7 @@ ghost use Rattle.bm_law_order.specs.Orders.{AllFit, Order, by, part_of};
 ghost use Rattle.bm_law_order.specs.Seals.{Wait, WaitLeads};
 ghost use Rattle.bm_law_order.specs.Story.{Story, deeds, lines, plainly};
 ghost use Rattle.bm_law_order.specs.Tie.{Tied};
+ghost use Rattle.bm_law_scenario.specs.Declared.{declared_in};
 ghost use Rattle.bm_law_places.specs.Placed.{IsWellPlaced};
 ghost use Rattle.bm_law_places.specs.World.{AllFound, SweepsInbox, World, outset, world_after, world_over};
 ghost use Rattle.bm_grace.specs.Known.{side};
@@ -23,6 +24,7 @@ ghost use Rattle.bm_world.specs.ToldLiving.{knows_living, told_living};
 ghost use Rattle.bm_exec_levels.specs.AtPolls.{DoesHere, polled};
 ghost use Rattle.bm_exec_levels.specs.Hosting.{with_side};
 ghost use Rattle.bm_exec_levels.specs.Ready.{asked_of};
+ghost use Rattle.bm_exec_levels.specs.Slotted.{AreStocked};
 ghost use Rattle.bm_exec_levels.specs.Sound.{Sound};
 ghost use Rattle.bm_exec_levels.specs.declared.kept.Kept.{Kept};
 ghost use Rattle.bm_exec_levels.specs.declared.processor.Processor.{Processor};
@@ -34,8 +36,8 @@ ghost use Rattle.bm_run.specs.SoFar.{at_turn};
 ghost use Rattle.bm_run.specs.Spared.{Has};
 
 /// Ordinary code can go on on a processor that was left alone between two worlds, if few enough objects and works are asked for in the
-/// later one. An order without entries of processor q, in which each entry finds what it needs, leaves q alone where the units that q
-/// has wait for what they waited for, and q may begin as many periods. The acts of a turn of another processor spare each unit that q
+/// later one, and what lives there, and what slots hold, is as the program's types and maps have it. An order without entries of processor q, in which each entry finds what it needs, leaves q alone where the units that q
+/// has wait for what they waited for, q may begin as many periods, and no fewer calls are counted. The acts of a turn of another processor spare each unit that q
 /// has, and acts that spare a unit change nothing that is told of its waiting. So a turn leaves q alone whose acts keep what q may begin
 /// and what the units that they spare wait for, and ordinary code can go on on q afterwards. A turn is such a one where its log is tied to
 /// the world since its begin, goes on naming what is there, and sweeps what waits in the inboxes, as one that doesn't sweep does.
@@ -43,6 +45,7 @@ pub fn others_law()
     ensures sound { (p : Program) (m : Processor LivingState) (now : LivingState) →
         IsLeftAlone (shown m.caches) m.side now →
         asked_of knows_living p.scenario.now (with_side m now) < 2 ^ 22 →
+        AreStocked (declared_in p.scenario.now) (known_living now).objects →
         Sound knows_living p m → Sound knows_living p (with_side m now) }
     ensures alone { (q : ℕ) (o : Order) (w : World) (before now : LivingState) (s : State Token) →
         part_of q o ≡ [] → IsWellPlaced w → AllFound o w →
@@ -51,6 +54,7 @@ pub fn others_law()
         w.lists q ≡ seen number_of s → IsSideOf q before.side → IsSideOf q now.side →
         ((d : Domain) →
         (side d (known_living before)).begins ≤ (side d (known_living now)).begins) →
+        before.asked ≤ now.asked →
         ((n : ℕ) → Has n (seen number_of s) →
         standing_at now.standings n ≡ standing_at before.standings n) →
         IsLeftAlone s before now }
@@ -67,6 +71,7 @@ pub fn others_law()
         IsTurnOf p story w before now → KeepsFor q (deeds story) before now →
         w.lists q ≡ seen number_of (shown k.caches) → q < before.side.grace.processors →
         asked_of knows_living g.scenario.now (in_its_turn k (at_turn q now)) < 2 ^ 22 →
+        AreStocked (declared_in g.scenario.now) (known_living now).objects →
         Sound knows_living g (in_its_turn k (at_turn q before)) →
         Sound knows_living g (in_its_turn k (at_turn q now)) }
     ensures told { (closing : Bool) (p : ℕ) (since log : Log)

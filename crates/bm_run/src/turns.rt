@@ -86,7 +86,7 @@ fn begin<'s>(
     requires sound { Sound knows_living program.now own.old }
     requires found { (i : ℕ) × (slice_get program.now.scenario.now.scripts i ≡ Some script.now) }
     requires outside { (d : DomainValue) → word_of knows_living d own.old % 2 ≡ 0 }
-    requires room { used_in program.now.scenario.now own.old + 2 * block_cost script.now.body + 5 < 2 ^ 22 }
+    requires room { used_in program.now.scenario.now own.old + 3 * block_cost script.now.body + 5 < 2 ^ 22 }
     ensures begun { IfOk result (λ begun. (w : Option (List ℕ)) → Behind w (lists_of own.old) []
         → HasBegun program.now.scenario.now w script.now own.old own.new begun) }
     ensures yields { OnOk result (Unyielding 0 (log_of own.old) (log_of own.new)) }
@@ -111,7 +111,7 @@ fn go_on<'s, B: Since<LivingSide>>(
     requires tied { TiedAt knows_living B.since B.start own.old }
     requires few { IfSome deferred.now.behind (λ classes. length classes.now ≤ 11) }
     requires stands { IsInScript program.now.scenario.now (behind_of deferred.now.behind) own.old begun }
-    requires room { used_in program.now.scenario.now own.old + 2 * stack_cost (blocks_of begun) < 2 ^ 22 }
+    requires room { used_in program.now.scenario.now own.old + 3 * stack_cost (blocks_of begun) < 2 ^ 22 }
     ensures turn { IsTurn result.0 0 (log_of own.old) (log_of own.new) }
     ensures yielded { result.0 ≡ stopped.Yielded
         → WentOn program.now.scenario.now (behind_of deferred.now.behind) own.old own.new begun.entry result.1 }

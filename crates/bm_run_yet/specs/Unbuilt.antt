@@ -12,8 +12,6 @@ use Rattle.bm_lang.specs.Tokens.{Sort, Reserved, End, Mark}
 abbrev pub is_unbuilt_word : Keyword → Bool
 is_unbuilt_word word.List = true
 is_unbuilt_word word.Tree = true
-is_unbuilt_word word.Slot = true
-is_unbuilt_word word.Xchg = true
 is_unbuilt_word word.Lock = true
 is_unbuilt_word word.Unlock = true
 is_unbuilt_word word.PushFront = true

@@ -14,8 +14,6 @@ fn is_unbuilt_word(word: Keyword) -> bool
         word,
         Keyword::List
             | Keyword::Tree
-            | Keyword::Slot
-            | Keyword::Xchg
             | Keyword::Lock
             | Keyword::Unlock
             | Keyword::PushFront

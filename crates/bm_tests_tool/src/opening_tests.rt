@@ -1,4 +1,4 @@
-//! Openings of two classes, for a scenario without types and scripts: of three processors over a stock of two pages.
+//! Openings of two classes, for a scenario without types, maps and scripts: of three processors over a stock of two pages.
 
 ghost use Rattle.std.specs.Prelude.{◌≡◌, ◌∷◌, []};
 
@@ -29,7 +29,7 @@ fn two_classes(rt: &impl Abort) -> [Class; 2]
 /// takes the next units of the first page, and finds no page for the greatest. What each log tells is counted here, entry by entry. No
 /// work was asked for, no handler is planned, and there is a table for each of three.
 #[test]
-#[tactic(auto, using(bm_run::proofs::Started::idle_program))]
+#[tactic(auto, using(bm_run::proofs::Started::idle_program, bm_run::proofs::Started::idle_maps))]
 fn each_processor_takes_what_those_before_left(rt: HostRuntime) -> Result<(), Fail> {
     let classes = two_classes(&rt);
     let scenario = read_scenario(rt.alloc(), THREE)?;
@@ -40,6 +40,9 @@ fn each_processor_takes_what_those_before_left(rt: HostRuntime) -> Result<(), Fa
     if parts.types.as_slice().len() != 0 {
         return Err(Fail::from("a scenario without types"));
     }
+    if parts.maps.as_slice().len() != 0 {
+        return Err(Fail::from("a scenario without maps"));
+    }
     if parts.scripts.as_slice().len() != 0 {
         return Err(Fail::from("a scenario without scripts"));
     }
@@ -48,6 +51,7 @@ fn each_processor_takes_what_those_before_left(rt: HostRuntime) -> Result<(), Fa
         types: Types {
             declared: parts.types.as_slice(),
             classes: &[],
+            maps: parts.maps.as_slice(),
         },
     };
     let (kept, world) = open_all(rt.alloc(), &scenario, &program, &classes)?;

@@ -16,6 +16,8 @@ mod post_tests;
 #[cfg(test)]
 mod recorder_tests;
 #[cfg(test)]
+mod slot_tests;
+#[cfg(test)]
 mod text_tests;
 #[cfg(test)]
 mod waiting_tests;

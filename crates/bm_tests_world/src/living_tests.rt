@@ -12,16 +12,21 @@ use bm_grace::{Grace, PlainGrace};
 use bm_journal::{Domain, ObjId, Values};
 use bm_page::{Seal, Unit};
 use bm_post::{PlainPost, Post};
-use bm_world::{Lives, LivingSide, OneSide};
+use bm_world::{Contents, Lives, LivingSide, OneSide};
 use std::process::Abort;
 
-/// The side of the one processor, where nothing lives and no object was asked for.
-fn living_side(rt: &(impl Abort + AllocGlobal)) -> LivingSide
+/// The side of the one processor with these slots, where nothing lives and no object was asked for.
+pub(crate) fn living_side(rt: &(impl Abort + AllocGlobal), slots: Contents) -> LivingSide
     ensures asked { result.asked ≡ 0 }
+    ensures contents { result.contents ≡ slots }
     ensures grace { result.side.grace ≡ record { processors = 1; processor = 0; plain = idle; tracing = idle } }
 {
     match PlainPost::create(rt.alloc(), one_page(rt), 1) {
-        Ok(post) => match LivingSide::create(rt.alloc(), OneSide::new(post, PlainGrace::new(1))) {
+        Ok(post) => match LivingSide::create(
+            rt.alloc(),
+            OneSide::new(post, PlainGrace::new(1)),
+            slots,
+        ) {
             Ok(world) => world,
             Err(_side) => panic!(rt; "there is memory for what lives"),
         },
@@ -29,13 +34,24 @@ fn living_side(rt: &(impl Abort + AllocGlobal)) -> LivingSide
     }
 }
 
+/// No slots.
+fn no_slots(rt: &impl AllocGlobal) -> Contents {
+    Contents::create(Vec::new(rt.alloc()))
+}
+
 /// A unit of a class, which may be used again, and whose home is processor 0.
-fn fetch_one(rt: &(impl Abort + AllocGlobal), world: &mut LivingSide, class: Class) -> Unit
+pub(crate) fn fetch_one(
+    rt: &(impl Abort + AllocGlobal),
+    world: &mut LivingSide,
+    class: Class,
+) -> Unit
     ensures class { result.class ≡ class }
     ensures mine { (rights_living world.new).mine result.number ≡ true }
     ensures settled { IsSettled (rights_living world.new) result }
     ensures home { result.home ≡ 0 }
+    ensures slots { world.new.slots ≡ world.old.slots }
     ensures asked { world.new.asked ≡ world.old.asked }
+    ensures contents { world.new.contents ≡ world.old.contents }
     ensures grace { world.new.side.grace ≡ world.old.side.grace }
 {
     let mut units = Vec::new(rt.alloc());
@@ -51,7 +67,7 @@ fn fetch_one(rt: &(impl Abort + AllocGlobal), world: &mut LivingSide, class: Cla
 }
 
 /// The values of an object's fields.
-fn fields(rt: &impl Abort, values: &[u32]) -> Values
+pub(crate) fn fields(rt: &impl Abort, values: &[u32]) -> Values
     ensures { result ≡ values.now }
 {
     Values::new(values).expect(rt, "at most eight")
@@ -71,7 +87,7 @@ fn parcel_of(rt: &(impl Abort + AllocGlobal), unit: Unit) -> Vec<Unit>
 #[test]
 fn a_unit_lives_twice(rt: HostRuntime) {
     let class = Class::new(1).expect(&rt, "an index is a class");
-    let mut world = living_side(&rt);
+    let mut world = living_side(&rt, no_slots(&rt));
     let unit = fetch_one(&rt, &mut world, class);
     assert_eq!(rt; unit.number(), 0);
     assert_eq!(rt; unit.life(), 0);
@@ -114,7 +130,7 @@ fn receive_unit(rt: &(impl Abort + AllocGlobal), world: &mut LivingSide, class: 
 #[test]
 fn a_unit_waits_between_two_lives(rt: HostRuntime) {
     let class = Class::new(1).expect(&rt, "an index is a class");
-    let mut world = living_side(&rt);
+    let mut world = living_side(&rt, no_slots(&rt));
     let unit = fetch_one(&rt, &mut world, class);
     let object = world.begin_life(unit, 0, fields(&rt, &[]));
     let mut ended = world.end_life(object.unit, true);
@@ -146,7 +162,7 @@ fn a_unit_waits_between_two_lives(rt: HostRuntime) {
 #[test]
 fn a_unit_has_two_references(rt: HostRuntime) {
     let class = Class::new(1).expect(&rt, "an index is a class");
-    let mut world = living_side(&rt);
+    let mut world = living_side(&rt, no_slots(&rt));
     let unit = fetch_one(&rt, &mut world, class);
     let object = world.begin_life(unit, 0, fields(&rt, &[]));
     assert_eq!(rt; world.references(object.unit), 1);
@@ -166,7 +182,7 @@ fn a_unit_has_two_references(rt: HostRuntime) {
 #[test]
 fn a_unit_has_fields(rt: HostRuntime) {
     let class = Class::new(1).expect(&rt, "an index is a class");
-    let mut world = living_side(&rt);
+    let mut world = living_side(&rt, no_slots(&rt));
     let unit = fetch_one(&rt, &mut world, class);
     let object = world.begin_life(unit, 3, fields(&rt, &[7, 9]));
     assert_eq!(rt; world.read(object, 0), 7);

@@ -7,3 +7,4 @@ pub mod SlotLemmas
 pub mod Did
 pub mod LivingDid
 pub mod KnownLiving
+pub mod NamedLemmas

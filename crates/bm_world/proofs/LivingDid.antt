@@ -1,5 +1,5 @@
 -- What each call of the world with the units that live in it does.
-use Rattle.std.proofs.Common.{◌≡◌, ◌≢◌, ◌⊎◌, Bool, ℕ, ◌+◌, ◌<◌, ◌≤◌, true, List, [], ◌∷◌, false, set, length, Option, None, Some, Result, Ok, Err, OnOk, refl, sym, ◌∙◌, ap, subst, inl, inr, eq-eqb, ne_eqb}
+use Rattle.std.proofs.Common.{◌≡◌, ◌≢◌, ◌⊎◌, Bool, ℕ, ◌+◌, ◌<◌, ◌≤◌, true, List, [], ◌∷◌, false, set, length, Option, None, Some, Result, Ok, Err, OnOk, refl, sym, ◌∙◌, ap, subst, inl, inr, eq-eqb, ne_eqb, arith}
 use Rattle.std.specs.Prelude.{eqb, if◌then◌else◌, slice_get, slice_index}
 use Rattle.std.specs.List.{All}
 use Rattle.std.proofs.lemmas.Bool.{cases_eq}
@@ -15,12 +15,19 @@ use Rattle.bm_law_order.specs.Made.{Fields, MadeBy, MadeLead, with_fields}
 use Rattle.bm_law_order.specs.Seals.{Goes, HasPassed, WaitLeads, WaitsBy, on_unit, seal_among, wait_after, waited_for}
 use Rattle.bm_law_order.specs.Seals as seals
 use Rattle.bm_law_order.specs.Shared.{Shared}
+use Rattle.bm_law_order.specs.Slots.{Contents, ExchangedBy, Named, Slot, SlotsLead, named_in, with_slot}
+use Rattle.bm_journal.specs.declared.ids.ObjId.{ObjId}
+use Rattle.bm_journal.specs.declared.ids.Tag.{Tag}
 use Rattle.bm_page.specs.declared.units.Seal.{Seal}
 use Rattle.bm_law.specs.Stands.{times}
 use Rattle.bm_post.specs.Rights.{numbers}
 use Rattle.bm_law_order.specs.Act.{sealed, units_of}
 use Rattle.bm_world.specs.Spared.{AllSpare}
-use Rattle.bm_world.specs.LivingState.{LivingState, begun_at, next_life, slots_counted, standings_after, wait_now, with_begun, with_ended}
+use Rattle.bm_world.specs.Contents.{put_at, slot_at}
+use Rattle.bm_world.specs.Lives.{PutLives}
+use Rattle.bm_world.proofs.KnownLiving.{is-living}
+use Rattle.bm_law_order.specs.Lives.{IfAlive}
+use Rattle.bm_world.specs.LivingState.{LivingState, begun_at, lives_of, next_life, slots_counted, standings_after, wait_now, with_begun, with_ended, with_exchanged}
 use Rattle.bm_world.specs.Standings.{AreStanding, IsTimed, has_waited, is_over, left_by, standing_at, standing_of, told_standing, waits_told}
 use Rattle.bm_world.specs.declared.standing.Standing.{Standing}
 use Rattle.bm_world.specs.declared.standing.Standing.TheVariants.{Nothing, Waits}
@@ -37,15 +44,24 @@ use Rattle.bm_world.proofs.SlotLemmas.{no-object, object-other, object-same, val
 abbrev pub KeepWaits : List Act → Type 0
 KeepWaits acts = (w : ℕ → seals.Wait) → WaitLeads acts w w
 
--- .. and by which no life is made or read
+-- .. and by which no life is made or read, and no slot's content is exchanged
 abbrev pub KeepMade : List Act → Type 0
-KeepMade acts = (w : Fields) → MadeLead acts w w
+KeepMade acts = ((w : Fields) → MadeLead acts w w) × ((w : Contents) → SlotsLead acts w w)
+
+keep-slots : (acts : List Act) (a b : LivingState) → b.contents ≡ a.contents → ((w : Contents) → SlotsLead acts w w) → SlotsLead acts (named_in a.contents) (named_in b.contents)
+keep-slots acts a b same k = subst (λ (xs : List Named). SlotsLead acts (named_in a.contents) (named_in xs)) (sym same) (k (named_in a.contents))
+
+-- one act that exchanges nothing, of two states that show the same slots
+none-exchanged : (x : Act) (a b : LivingState) → b.contents ≡ a.contents → ((w : Contents) → ExchangedBy x w w) → SlotsLead (x ∷ []) (named_in a.contents) (named_in b.contents)
+none-exchanged x a b same k = keep-slots (x ∷ []) a b same (λ w. (w, (k w, refl)))
 
 -- what the side did, where no unit began or ended a life
-pub lifts-so : (acts : List Act) (a b : LivingState) → b.slots ≡ a.slots → b.begun ≡ a.begun → WaitLeads acts (waits_told a.standings) (waits_told b.standings) → ((n : ℕ) → AllSpare n acts → standing_at b.standings n ≡ standing_at a.standings n) → KeepMade acts → SideDoes acts a.side b.side → LivingDoes acts a b
-lifts-so acts a b slots begun w k m d = let F : List (Option Object) → Fields = λ xs n. values_of (object_at xs n) in let same-fields : fields_told b ≡ fields_told a = ap F slots in record {
+pub lifts-so : (acts : List Act) (a b : LivingState) → b.contents ≡ a.contents → a.asked ≤ b.asked → b.slots ≡ a.slots → b.begun ≡ a.begun → WaitLeads acts (waits_told a.standings) (waits_told b.standings) → ((n : ℕ) → AllSpare n acts → standing_at b.standings n ≡ standing_at a.standings n) → KeepMade acts → SideDoes acts a.side b.side → LivingDoes acts a b
+lifts-so acts a b contents asked slots begun w k m d = let F : List (Option Object) → Fields = λ xs n. values_of (object_at xs n) in let same-fields : fields_told b ≡ fields_told a = ap F slots in record {
   waits = w;
-  made = subst (MadeLead acts (fields_told a)) (sym same-fields) (m (fields_told a));
+  made = subst (MadeLead acts (fields_told a)) (sym same-fields) (m.0 (fields_told a));
+  exchanged = keep-slots acts a b contents m.1;
+  asked = asked;
   keeps = k;
   did = λ p s.
       let u = d.did p s in
@@ -54,12 +70,12 @@ lifts-so acts a b slots begun w k m d = let F : List (Option Object) → Fields 
 }
 
 -- .. and none went away
-pub lifts : (acts : List Act) (a b : LivingState) → b.slots ≡ a.slots → b.begun ≡ a.begun → b.standings ≡ a.standings → KeepWaits acts → KeepMade acts → SideDoes acts a.side b.side → LivingDoes acts a b
-lifts acts a b slots begun standings k m d = lifts-so acts a b slots begun (subst (λ (ss : List Standing). WaitLeads acts (waits_told a.standings) (waits_told ss)) (sym standings) (k (waits_told a.standings))) (λ n s. ap (λ (ss : List Standing). standing_at ss n) standings) m d
+pub lifts : (acts : List Act) (a b : LivingState) → b.contents ≡ a.contents → a.asked ≤ b.asked → b.slots ≡ a.slots → b.begun ≡ a.begun → b.standings ≡ a.standings → KeepWaits acts → KeepMade acts → SideDoes acts a.side b.side → LivingDoes acts a b
+lifts acts a b contents asked slots begun standings k m d = lifts-so acts a b contents asked slots begun (subst (λ (ss : List Standing). WaitLeads acts (waits_told a.standings) (waits_told ss)) (sym standings) (k (waits_told a.standings))) (λ n s. ap (λ (ss : List Standing). standing_at ss n) standings) m d
 
-pub lifts-ok : {A E : Type 0} (r : Result A E) (acts : List Act) (a b : LivingState) → b.slots ≡ a.slots → b.begun ≡ a.begun → OnOk r (WaitLeads acts (waits_told a.standings) (waits_told b.standings)) → OnOk r ((n : ℕ) → AllSpare n acts → standing_at b.standings n ≡ standing_at a.standings n) → KeepMade acts → OnOk r (SideDoes acts a.side b.side) → OnOk r (LivingDoes acts a b)
-lifts-ok (Ok x) acts a b slots begun w k m d = lifts-so acts a b slots begun w k m d
-lifts-ok (Err x) acts a b slots begun w k m d = tt
+pub lifts-ok : {A E : Type 0} (r : Result A E) (acts : List Act) (a b : LivingState) → b.contents ≡ a.contents → a.asked ≤ b.asked → b.slots ≡ a.slots → b.begun ≡ a.begun → OnOk r (WaitLeads acts (waits_told a.standings) (waits_told b.standings)) → OnOk r ((n : ℕ) → AllSpare n acts → standing_at b.standings n ≡ standing_at a.standings n) → KeepMade acts → OnOk r (SideDoes acts a.side b.side) → OnOk r (LivingDoes acts a b)
+lifts-ok (Ok x) acts a b contents asked slots begun w k m d = lifts-so acts a b contents asked slots begun w k m d
+lifts-ok (Err x) acts a b contents asked slots begun w k m d = tt
 
 pub on-ok : {A E P : Type 0} (r : Result A E) → P → OnOk r P
 on-ok (Ok x) p = p
@@ -69,8 +85,8 @@ on-ok (Err x) p = tt
 pub keep-one : (a : Act) → ((w : ℕ → seals.Wait) → WaitsBy a w w) → KeepWaits (a ∷ [])
 keep-one a h w = (w, (h w, refl))
 
-pub made-one : (a : Act) → ((w : Fields) → MadeBy a w w) → KeepMade (a ∷ [])
-made-one a h w = (w, (h w, refl))
+pub made-one : (a : Act) → ((w : Fields) → MadeBy a w w) → ((w : Contents) → ExchangedBy a w w) → KeepMade (a ∷ [])
+made-one a h k = (λ w. (w, (h w, refl)), λ w. (w, (k w, refl)))
 
 -- standings that didn't change
 pub kept-none : (acts : List Act) (ss : List Standing) (n : ℕ) → AllSpare n acts → standing_at ss n ≡ standing_at ss n
@@ -138,6 +154,8 @@ pub does-make : (type : ℕ) (values : List ℕ) (u : UnitState) (a b : LivingSt
 does-make type values u a b e stands timed within-standings none next counts there home = record {
   waits = (waits_told b.standings, ((ap told_standing stands ∙ told-is u.seal, (passed-is a.side.grace.plain.number a.side.grace.tracing.number u.seal (subst (IsTimed a.side.grace.plain.number a.side.grace.tracing.number) stands timed), fun_ext (λ n. ap (λ (ss : List Standing). waits_told ss n) (ap (λ (w : LivingState). w.standings) e) ∙ told-set a.standings u.number n Nothing within-standings))), refl));
   made = (fields_told b, (fun_ext (λ m. ap (λ (w : LivingState). fields_told w m) e ∙ fields-set a.slots u.number (Some (new_object type values (next_life u))) m there), refl));
+  exchanged = none-exchanged (act.Makes u.number (u.life + 1) type values u.seal) a b (ap (λ (w : LivingState). w.contents) e) (λ w. refl);
+  asked = (let z = ap (λ (w : LivingState). w.asked) e in omega (arith, z));
   keeps = λ n s. ap (λ (w : LivingState). standing_at w.standings n) e ∙ get_or-set_other a.standings u.number n Nothing Nothing s.0;
   did = λ p s. record {
     leads = record {
@@ -165,6 +183,8 @@ pub does-end : (delayed : Bool) (n : ℕ) (u : UnitState) (a b : LivingState) �
 does-end delayed n u a b e stands within-standings lives last there = record {
   waits = (waits_told b.standings, (fun_ext (λ m. ap (λ (ss : List Standing). waits_told ss m) (ap (λ (w : LivingState). w.standings) e) ∙ told-ended delayed m), refl));
   made = (fields_told b, (fun_ext (λ m. ap (λ (w : LivingState). fields_told w m) e ∙ fields-set a.slots n None m there), refl));
+  exchanged = none-exchanged (act.Ends n u.life u.home delayed) a b (ap (λ (w : LivingState). w.contents) e) (λ w. refl);
+  asked = (let z = ap (λ (w : LivingState). w.asked) e in omega (arith, z));
   keeps = λ m s. ap (λ (w : LivingState). standing_at w.standings m) e ∙ kept-ended delayed m s.0;
   did = λ p s. record {
     leads = record {
@@ -196,10 +216,12 @@ does-end delayed n u a b e stands within-standings lives last there = record {
 -- ---- references
 
 -- an act by which there are so many references to the object that a unit is
-pub does-recount : (x : Act) (f : ℕ → ℕ) (n life count : ℕ) (a b : LivingState) → ((w : ℕ → seals.Wait) → WaitsBy x w w) → ((w : Fields) → MadeBy x w w) → ((m : ℕ) → AllSpare m (x ∷ [])) → ((p : ℕ) → Has n life (count_of (object_at a.slots n)) (lives_told a) → ActFits p x (told_living a)) → ((p : ℕ) → act_after p x (told_living a) ≡ told (recounted f n (lives_told a)) a.side) → b.side ≡ a.side → b.standings ≡ a.standings → b.begun ≡ a.begun → b.slots ≡ slots_counted n count a.slots → count ≡ f (count_of (object_at a.slots n)) → n < length a.slots → Has n life (count_of (object_at a.slots n)) (lives_told a) → LivingDoes (x ∷ []) a b
-does-recount x f n life count a b waits made spares fits after side standings begun slots is lt has = record {
+pub does-recount : (x : Act) (f : ℕ → ℕ) (n life count : ℕ) (a b : LivingState) → ((w : ℕ → seals.Wait) → WaitsBy x w w) → ((w : Fields) → MadeBy x w w) → ((m : ℕ) → AllSpare m (x ∷ [])) → ((p : ℕ) → Has n life (count_of (object_at a.slots n)) (lives_told a) → ActFits p x (told_living a)) → ((p : ℕ) → act_after p x (told_living a) ≡ told (recounted f n (lives_told a)) a.side) → b.side ≡ a.side → b.standings ≡ a.standings → b.begun ≡ a.begun → b.slots ≡ slots_counted n count a.slots → count ≡ f (count_of (object_at a.slots n)) → n < length a.slots → Has n life (count_of (object_at a.slots n)) (lives_told a) → b.contents ≡ a.contents → a.asked ≤ b.asked → ((w : Contents) → ExchangedBy x w w) → LivingDoes (x ∷ []) a b
+does-recount x f n life count a b waits made spares fits after side standings begun slots is lt has contents asked quiet = record {
   waits = subst (λ (ss : List Standing). WaitLeads (x ∷ []) (waits_told a.standings) (waits_told ss)) (sym standings) (waits_told a.standings, (waits (waits_told a.standings), refl));
   made = subst (MadeLead (x ∷ []) (fields_told a)) (sym fields) (fields_told a, (made (fields_told a), refl));
+  exchanged = none-exchanged x a b contents quiet;
+  asked = asked;
   keeps = λ m s. ap (λ (ss : List Standing). standing_at ss m) standings;
   did = λ p s. record {
     leads = record {
@@ -237,9 +259,36 @@ pub does-read : (n life place value : ℕ) (a : LivingState) (o : Object) → ob
 does-read n life place value a o e now is = record {
   waits = (waits_told a.standings, (refl, refl));
   made = (fields_told a, ((is, refl), refl));
+  exchanged = (named_in a.contents, (refl, refl));
+  asked = omega arith;
   keeps = λ m s. refl;
   did = λ p s. record {
     leads = record { fit = (record { held = record { maker = o.unit.home; count = o.count }; holds = ap life_of e; now_is = now }, tt); now_is = refl };
+    stays = s;
+    others = λ d q ne. refl;
+  };
+}
+
+-- ---- slots
+
+-- what is put into a slot lives, if anything is
+put-alive : (put : Option ObjId) (a : LivingState) → ((n : ℕ) (o : Object) → object_at a.slots n ≡ Some o → o.unit.life ≡ begun_at a.begun n) → PutLives (lives_of a.slots) put → IfAlive put (lives_told a)
+put-alive None a last h = tt
+put-alive (Some x) a last h =
+    let alive = is-living a.slots x.unit x.life h.0 h.1 in
+    record { held = record { maker = alive.object.unit.home; count = alive.object.count }; holds = ap life_of alive.is; now_is = sym alive.now_is ∙ last x.unit alive.object alive.is }
+
+-- an exchange
+pub does-exchange : (place : ℕ) (put : Option ObjId) (tag : Tag) (a : LivingState) → ((n : ℕ) (o : Object) → object_at a.slots n ≡ Some o → o.unit.life ≡ begun_at a.begun n) → PutLives (lives_of a.slots) put → named_in (put_at place (record { held = put; by = Some tag }) a.contents) ≡ with_slot (slot_at place a.contents).name (record { held = put; by = Some tag }) (named_in a.contents) → named_in a.contents (slot_at place a.contents).name ≡ (slot_at place a.contents).slot →
+    LivingDoes (act.Exchanges (slot_at place a.contents).name put (slot_at place a.contents).slot.held (slot_at place a.contents).slot.by tag ∷ []) a (with_exchanged place put tag a)
+does-exchange place put tag a last lives told is = record {
+  waits = (waits_told a.standings, (refl, refl));
+  made = (fields_told a, (refl, refl));
+  exchanged = (named_in (with_exchanged place put tag a).contents, ((ap (λ (s : Slot). s.held) (sym is), ap (λ (s : Slot). s.by) (sym is), told), refl));
+  asked = omega arith;
+  keeps = λ m s. refl;
+  did = λ p s. record {
+    leads = record { fit = (put-alive put a last lives, tt); now_is = refl };
     stays = s;
     others = λ d q ne. refl;
   };

@@ -1,4 +1,6 @@
 pub mod Lives
+pub mod Contents
+pub mod NamedSlots
 pub mod LivingState
 pub mod SideState
 pub mod Slots

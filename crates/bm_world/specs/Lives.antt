@@ -1,10 +1,13 @@
 -- What a side knows once a life began or ended, and what stays as it was of all other units. (This project's own.)
 use Rattle.std.specs.Prelude.{◌≡◌, ◌≢◌, ◌+◌, ◌-◌, ℕ, Option, Some, None, List, [], eqb, if◌then◌else◌}
+use Rattle.bm_journal.specs.declared.ids.ObjId.{ObjId}
+use Rattle.bm_journal.specs.declared.ids.Tag.{Tag}
 use Rattle.bm_journal.specs.declared.ids.Domain.{Domain}
 use Rattle.bm_page.specs.declared.units.Seal.{Seal}
 use Rattle.bm_page.specs.UnitState.{UnitState}
 use Rattle.bm_grace.specs.Known.{Known, Living, Lives}
 use Rattle.bm_grace.specs.Rights.{Rights}
+use Rattle.bm_world.specs.Contents.{put_at}
 
 -- the object of this type that a unit is, with so many references and these values
 abbrev pub life_of_unit : (type count : ℕ) → (values : List ℕ) → UnitState → Living
@@ -40,7 +43,7 @@ with_references count (Some object) = Some (record object { count = count })
 abbrev pub with_life : ℕ → Option Living → Lives → Lives
 with_life u l lives = λ v. if eqb u v then l else lives v
 
--- An object was asked for.
+-- One more call is counted.
 abbrev pub asked_once : Known → Known
 asked_once k = record k { objects = record k.objects { asked = k.objects.asked + 1 } }
 
@@ -51,6 +54,7 @@ life_begun type values unit k = record k {
     lives = with_life unit.number (Some (life_of_unit type 1 values (record unit { life = unit.life + 1 }))) k.objects.lives;
     begun = λ n. if eqb unit.number n then unit.life + 1 else k.objects.begun n;
     asked = k.objects.asked + 1;
+    slots = k.objects.slots;
   };
 }
 
@@ -67,6 +71,15 @@ life_acquired n k = record k {
 -- There is one less.
 abbrev pub life_given_up : ℕ → Known → Known
 life_given_up n k = record k { objects = record k.objects { lives = recounted n (count_in (k.objects.lives n) - 1) k.objects.lives } }
+
+-- The slot at a place holds something else, which a call has put there.
+abbrev pub slot_exchanged : (place : ℕ) → (put : Option ObjId) → Tag → Known → Known
+slot_exchanged place put tag k = record k { objects = record k.objects { slots = put_at place (record { held = put; by = Some tag }) k.objects.slots } }
+
+-- what is put there, if anything is, lives
+abbrev pub PutLives : Lives → Option ObjId → Type 0
+PutLives lives None = Unit {0}
+PutLives lives (Some o) = (l : Living) × HasLife lives o.unit o.life l
 
 -- A unit lives no more.
 abbrev pub life_ended : ℕ → Known → Known

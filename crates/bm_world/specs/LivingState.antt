@@ -4,6 +4,10 @@ use Rattle.std.specs.Prelude.{◌≡◌, ℕ, ◌+◌, ◌-◌, ◌%◌, ◌^◌
 use Rattle.std.specs.List.{All}
 use Rattle.std.proofs.lemmas.Bool.{and_parts}
 use Rattle.bm_journal.specs.declared.ids.Domain.{Domain}
+use Rattle.bm_journal.specs.declared.ids.ObjId.{ObjId}
+use Rattle.bm_journal.specs.declared.ids.Tag.{Tag}
+use Rattle.bm_law_order.specs.Slots.{Named}
+use Rattle.bm_world.specs.Contents.{put_at}
 use Rattle.bm_journal.specs.declared.ids.Domain.TheVariants.{Plain, Tracing}
 use Rattle.bm_page.specs.declared.units.Seal.{Seal}
 use Rattle.bm_page.specs.UnitState.{UnitState}
@@ -23,14 +27,15 @@ use Rattle.bm_world.specs.declared.wait.Wait.{Wait}
 use Rattle.bm_world.specs.declared.standing.Standing.{Standing}
 use Rattle.bm_world.specs.declared.standing.Standing.TheVariants.{Nothing, Waits}
 
--- The side; by a unit's number the object that it is, if it lives, how many lives it has begun, and what it waits for; and how many
--- objects and further references were asked for.
+-- The side; by a unit's number the object that it is, if it lives, how many lives it has begun, and what it waits for; how many calls for
+-- objects were counted; and the slots with what they hold.
 pub record LivingState : Type 0 where
   pub side : SideState
   pub slots : List (Option Object)
   pub begun : List ℕ
   pub standings : List Standing
   pub asked : ℕ
+  pub contents : List Named
 
 -- an object that lives, as it is known
 abbrev pub living_of : Option Object → Option Living
@@ -46,7 +51,7 @@ begun_at begun n = slice_index_or begun n 0
 
 -- It knows what its side knows, and tells what lives and how many lives began.
 abbrev pub known_living : LivingState → Known
-known_living world = record (known_of world.side) { objects = record { lives = lives_of world.slots; begun = begun_at world.begun; asked = world.asked } }
+known_living world = record (known_of world.side) { objects = record { lives = lives_of world.slots; begun = begun_at world.begun; asked = world.asked; slots = world.contents } }
 
 -- Whether a unit with these lives so far may be used again: it has room for one life more, and they are the lives that it has
 -- begun.
@@ -79,7 +84,7 @@ LivingAtRest world = SideAtRest world.side
 abbrev pub next_life : UnitState → UnitState
 next_life unit = record unit { life = unit.life + 1; seal = None }
 
--- An object was asked for.
+-- One more call is counted.
 abbrev pub with_asked : LivingState → LivingState
 with_asked world = record world { asked = world.asked + 1 }
 
@@ -103,6 +108,10 @@ with_acquired n world = record world { slots = slots_counted n (count_of (object
 
 abbrev pub with_given_up : ℕ → LivingState → LivingState
 with_given_up n world = record world { slots = slots_counted n (count_of (object_at world.slots n) - 1) world.slots }
+
+-- The slot at a place holds something else, which a call has put there.
+abbrev pub with_exchanged : (place : ℕ) → (put : Option ObjId) → Tag → LivingState → LivingState
+with_exchanged place put tag world = record world { contents = put_at place (record { held = put; by = Some tag }) world.contents }
 
 -- What units wait for once the life of unit n has ended: behind a free with delay it waits from now on, behind a plain one for nothing,
 -- as before.
@@ -174,4 +183,5 @@ no_living_state = record {
   begun = [];
   standings = [];
   asked = 0;
+  contents = [];
 }

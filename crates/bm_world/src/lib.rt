@@ -2,11 +2,12 @@
 //!
 //! - `World` is a `Post` and a `Grace` in one value, so that a grace period that has passed can make the post's units ripe.
 //! - `OneSide` is the world on one thread for any number of processors, of which one has its turn.
-//! - `Lives` is a `World` in which units live: `begin_life`, `acquire`, `read`, `release_other`, `end_life`, `ask`.
+//! - `Lives` is a `World` in which units live: `begin_life`, `acquire`, `read`, `exchange`, `release_other`, `end_life`, `ask`.
 //! - `LivingSide` is such a world on one thread: beside a `OneSide` it owns the objects that live, by the numbers of their units, and keeps
 //!   what each unit waits for (`Standing`).
 //! - `Since` says since when a processor's log and its side are tied.
 //! - `WaitingSide` tells which units wait and since when; the tests of delayed frees stand on it.
+//! - `Contents` has the slots of a scenario (`MapSlot`), with what they hold; an exchange answers what was there (`Displaced`).
 //! - `Slots` holds the objects that live, each with its unit, how many references there are to it, and the values of its fields.
 //!
 //! Deferred work (`bm_work`) is generic over any world, and the machines of a run (`bm_exec_levels`) over any world with lives.
@@ -19,6 +20,7 @@
 #![tactic(auto)]
 
 mod begun;
+mod contents;
 mod law;
 mod lives;
 mod living;
@@ -31,6 +33,7 @@ mod waiting;
 mod waiting_law;
 mod world;
 
+pub use contents::{Contents, Displaced, MapSlot};
 pub use law::aged_law;
 pub use lives::Lives;
 pub use living::LivingSide;

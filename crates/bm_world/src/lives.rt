@@ -1,24 +1,26 @@
 //! Lives of units.
 
-ghost use Rattle.std.specs.Prelude.{◌≡◌, ◌+◌, ◌^◌, ◌<◌, ◌∷◌, [], ℕ, Option, None, Some, false, is_some, slice_get, true};
+ghost use Rattle.std.specs.Prelude.{◌≡◌, ◌+◌, ◌^◌, ◌<◌, ◌∷◌, [], ℕ, Option, None, Some, false, is_some, length, slice_get, true};
 ghost use Rattle.bm_law_order.specs.Act as act;
 ghost use Rattle.bm_grace.specs.Rest.{StaysAtRest};
 ghost use Rattle.bm_grace.specs.Rights.{AsBefore};
 ghost use Rattle.bm_page.specs.declared.units.Seal.{Seal as SealValue};
 ghost use Rattle.bm_post.specs.Rights.{Gains, IsSettled, Loses};
 ghost use Rattle.bm_grace.specs.Known.{Living};
-ghost use Rattle.bm_world.specs.Lives.{HasLife, OthersAsBefore, asked_once, count_in, life_acquired, life_begun, life_ended, life_given_up, life_of_unit, type_in, values_in};
+ghost use Rattle.bm_world.specs.Lives.{HasLife, OthersAsBefore, PutLives, asked_once, count_in, life_acquired, life_begun, life_ended, life_given_up, life_of_unit, slot_exchanged, type_in, values_in};
+ghost use Rattle.bm_world.specs.Contents.{slot_at};
 
 use crate::World;
-use bm_journal::{ObjId, Values};
+use crate::contents::Displaced;
+use bm_journal::{ObjId, Tag, Values};
 use bm_page::Unit;
 
 /// A world in which units live: it owns each unit that lives, by its number, with how many references there are to it and the values of
-/// its fields, and counts how many lives each unit has begun and how many objects and further references were asked for. A unit that lives isn't mine: its number can be named, and nothing can be done with it, until
+/// its fields, and counts how many lives each unit has begun and how many calls for objects were made. It has the slots of a scenario, with what they hold. A unit that lives isn't mine: its number can be named, and nothing can be done with it, until
 /// its life ends. No call takes memory, and each changes what the side knows by one equation. This project's own; in the kernel
 /// an object that lives is a pointer, which a program owns.
 pub trait Lives: World {
-    /// An object is asked for, and there is none to give.
+    /// One more call is counted: one that neither begins a life nor asks for a reference.
     fn ask(&mut self)
         requires room { (Self.known self.old).objects.asked + 1 < 2 ^ 31 }
         ensures known { Self.known self.new ≡ asked_once (Self.known self.old) }
@@ -67,6 +69,19 @@ pub trait Lives: World {
         requires there { is_some (slice_get (values_in ((Self.known self.now).objects.lives object.unit)) place) ≡ true }
         ensures value { slice_get (values_in ((Self.known self.now).objects.lives object.unit)) place ≡ Some result }
         ensures does { Self.does (act.Finds object.unit object.life place result ∷ []) self.now self.now };
+
+    /// What a slot holds is exchanged, by its place: for a reference to an object that lives, or for nothing. The call has this tag. It answers
+    /// what was there, and the call that had put that. From bpf_kptr_xchg of kernel/bpf/helpers.c.
+    fn exchange(&mut self, place: usize, put: Option<ObjId>, tag: Tag) -> Displaced
+        requires there { place < length (Self.known self.old).objects.slots }
+        requires lives { PutLives (Self.known self.old).objects.lives put }
+        ensures held { result.held ≡ (slot_at place (Self.known self.old).objects.slots).slot.held }
+        ensures by { result.by ≡ (slot_at place (Self.known self.old).objects.slots).slot.by }
+        ensures known { Self.known self.new ≡ slot_exchanged place put tag (Self.known self.old) }
+        ensures same { AsBefore (Self.rights self.old) (Self.rights self.new) }
+        ensures rest { StaysAtRest Self.rest self.old self.new }
+        ensures does { let name = (slot_at place (Self.known self.old).objects.slots).name in
+            Self.does (act.Exchanges name put result.held result.by tag ∷ []) self.old self.new };
 
     /// A reference to an object that has others is given up: there is one less than the number that is answered. Of all units everything is
     /// as before. From __bpf_obj_drop_impl of kernel/bpf/helpers.c, where the count isn't 0 then.

@@ -24,20 +24,22 @@ ghost use Rattle.bm_world.specs.ToldLiving.{LivingDoes, living-join, living-same
 ghost use Rattle.bm_law_order.specs.Act as act;
 ghost use Rattle.bm_law_order.specs.Act.{sealed};
 ghost use Rattle.bm_grace.specs.Begins.{begin_act};
-ghost use Rattle.bm_world.specs.LivingState.{HaveLived, LivingAtRest, begun_at, idle-living, known_living, lives_of, rights_living, room-living, with_acquired, with_asked, standings_after, with_begun, with_ended, with_given_up};
+ghost use Rattle.bm_world.specs.LivingState.{HaveLived, LivingAtRest, begun_at, idle-living, known_living, lives_of, rights_living, room-living, with_acquired, with_asked, standings_after, with_begun, with_ended, with_exchanged, with_given_up};
+ghost use Rattle.bm_world.specs.Contents.{slot_at};
 ghost use Rattle.bm_world.specs.Standings.{left_by, standing_at};
 ghost use Rattle.bm_world.specs.declared.standing.Standing.TheVariants.{Nothing as WaitsForNothing};
-ghost use Rattle.bm_world.specs.Lives.{HasLife, OthersAsBefore, asked_once, count_in, life_acquired, life_begun, life_ended, life_given_up, life_of_unit, type_in, values_in};
+ghost use Rattle.bm_world.specs.Lives.{HasLife, OthersAsBefore, PutLives, asked_once, count_in, life_acquired, life_begun, life_ended, life_given_up, life_of_unit, slot_exchanged, type_in, values_in};
 ghost use Rattle.bm_page.specs.declared.units.Seal.{Seal as SealValue};
 
 use crate::begun::Begun;
+use crate::contents::{Contents, Displaced};
 use crate::slots::Slots;
 use crate::standing::{Standing, Standings};
 use crate::wait::Wait;
 use crate::{Lives, OneSide, World};
 use bm_class::Class;
 use bm_grace::{Began, Done, Grace, Knows, Look};
-use bm_journal::{Domain, ObjId, Period, Values};
+use bm_journal::{Domain, ObjId, Period, Tag, Values};
 use bm_page::Unit;
 use bm_post::Post;
 use bm_word::NoMemory;
@@ -45,7 +47,7 @@ use std::alloc::Global;
 use std::marker::Model;
 
 /// The world on one thread with the units that live in it. Beside the side it owns each unit that lives, by its number, counts how
-/// many lives each unit has begun, and keeps what each unit waits for. It has to be ended, by `give_up` or by ending its parts. This
+/// many lives each unit has begun, keeps what each unit waits for, and has the slots of a scenario. It has to be ended, by `give_up` or by ending its parts. This
 /// project's own.
 ///
 /// A unit that lives isn't mine: its number can be named, and nothing can be done with it, until its life ends. A unit whose life
@@ -60,8 +62,10 @@ pub struct LivingSide {
     begun: Begun,
     /// By number, what the unit waits for.
     standings: Standings,
-    /// How many objects and further references were asked for.
+    /// How many calls for objects were counted.
     asked: u32,
+    /// The slots of the scenario, with what they hold.
+    contents: Contents,
 }
 
 impl Model for LivingSide {
@@ -76,21 +80,23 @@ impl Model for LivingSide {
       begun = world.begun.counts.items;
       standings = world.standings.standings.items;
       asked = world.asked;
+      contents = world.contents;
     } };
 
     ghost invariant = { λ world. AreLiving world.side.post world.side.grace.plain.number world.side.grace.tracing.number world.slots.slots.items world.begun.counts.items world.standings.standings.items world.asked × (length world.standings.before.items ≡ 2 ^ 16) };
 }
 
 impl LivingSide {
-    /// A side in which nothing lives, and for which no object was asked. No unit of its pool or its inboxes has ever lived. Want
+    /// A side with these slots, in which nothing lives, and for which no object was asked. No unit of its pool or its inboxes has ever lived. Want
     /// of memory is the only refusal, and hands the side back.
-    pub fn create(alloc: Global, side: OneSide) -> Result<LivingSide, OneSide>
+    pub fn create(alloc: Global, side: OneSide, contents: Contents) -> Result<LivingSide, OneSide>
         requires { HaveLived [] [] side.post }
         ensures side { IfOk result (λ world. world.side ≡ side) }
         ensures slots { IfOk result (λ world. AllEmpty world.slots) }
         ensures begun { IfOk result (λ world. (n : ℕ) → begun_at world.begun n ≡ 0) }
         ensures standings { IfOk result (λ world. (n : ℕ) → standing_at world.standings n ≡ WaitsForNothing) }
         ensures asked { IfOk result (λ world. world.asked ≡ 0) }
+        ensures contents { IfOk result (λ world. world.contents ≡ contents) }
         ensures err { IfErr result (λ back. back ≡ side) }
     {
         let begun = match Begun::new(alloc) {
@@ -108,6 +114,7 @@ impl LivingSide {
                 begun,
                 standings,
                 asked: 0,
+                contents,
             }),
             Err(_) => Err(side),
         }
@@ -125,6 +132,7 @@ impl LivingSide {
             begun: _,
             standings: _,
             asked,
+            contents: _,
         } = self;
         (side, slots, asked)
     }
@@ -137,6 +145,7 @@ impl LivingSide {
             begun: _,
             standings: _,
             asked: _,
+            contents: _,
         } = self;
         slots.give_up();
         let (post, _grace) = side.into_parts();
@@ -222,6 +231,7 @@ impl Grace for LivingSide {
         ensures begun { self.new.begun ≡ self.old.begun }
         ensures standings { self.new.standings ≡ self.old.standings }
         ensures asked { self.new.asked ≡ self.old.asked }
+        ensures contents { self.new.contents ≡ self.old.contents }
         ensures grace { self.new.side.grace
             ≡ with_domain domain (word_moved self.old.side.grace.processor (domain_in domain self.old.side.grace)) self.old.side.grace }
         ensures word { result ≡ (side domain (known_living self.old)).word + 1 }
@@ -240,6 +250,7 @@ impl Grace for LivingSide {
         ensures begun { self.new.begun ≡ self.old.begun }
         ensures standings { self.new.standings ≡ self.old.standings }
         ensures asked { self.new.asked ≡ self.old.asked }
+        ensures contents { self.new.contents ≡ self.old.contents }
         ensures grace { self.new.side.grace
             ≡ with_domain domain (word_moved self.old.side.grace.processor (domain_in domain self.old.side.grace)) self.old.side.grace }
         ensures word { result ≡ (side domain (known_living self.old)).word + 1 }
@@ -289,6 +300,7 @@ impl Grace for LivingSide {
         ensures begun { self.new.begun ≡ self.old.begun }
         ensures standings { self.new.standings ≡ self.old.standings }
         ensures asked { self.new.asked ≡ self.old.asked }
+        ensures contents { self.new.contents ≡ self.old.contents }
         ensures grace { self.new.side.grace
             ≡ with_domain domain (period_begun self.old.side.grace.processor result (domain_in domain self.old.side.grace)) self.old.side.grace }
         ensures answer { BeganAt result even }
@@ -309,6 +321,7 @@ impl Grace for LivingSide {
         ensures begun { self.new.begun ≡ self.old.begun }
         ensures standings { self.new.standings ≡ self.old.standings }
         ensures asked { self.new.asked ≡ self.old.asked }
+        ensures contents { self.new.contents ≡ self.old.contents }
         ensures grace { self.new.side.grace
             ≡ with_domain domain (period_looked (words_in domain self.old.side.grace) (domain_in domain self.old.side.grace)) self.old.side.grace }
         ensures first { length (side domain (known_living self.new)).first ≡ looks domain self.old.side.grace.processors }
@@ -330,6 +343,7 @@ impl Grace for LivingSide {
         ensures begun { self.new.begun ≡ self.old.begun }
         ensures standings { self.new.standings ≡ self.old.standings }
         ensures asked { self.new.asked ≡ self.old.asked }
+        ensures contents { self.new.contents ≡ self.old.contents }
         ensures grace { self.new.side.grace ≡ with_domain domain (period_ended (domain_in domain self.old.side.grace)) self.old.side.grace }
         ensures period { result ≡ ended domain (side domain (known_living self.old)) }
         ensures known { known_living self.new ≡ finished false domain (known_living self.old) }
@@ -364,6 +378,7 @@ impl Post for LivingSide {
         ensures begun { self.new.begun ≡ self.old.begun }
         ensures standings { self.new.standings ≡ self.old.standings }
         ensures asked { self.new.asked ≡ self.old.asked }
+        ensures contents { self.new.contents ≡ self.old.contents }
         ensures ok { IfOk result (λ n. Fetches class want n out.old.items out.new.items (rights_living self.old) (rights_living self.new)) }
         ensures err { OnErr result (out.new.items ≡ out.old.items) }
         ensures same { OnErr result (AreSame (rights_living self.old) (rights_living self.new)) }
@@ -385,6 +400,7 @@ impl Post for LivingSide {
         ensures begun { self.new.begun ≡ self.old.begun }
         ensures standings { self.new.standings ≡ left_by units.items self.old.standings }
         ensures asked { self.new.asked ≡ self.old.asked }
+        ensures contents { self.new.contents ≡ self.old.contents }
         ensures back { GivesBack (numbers units.items) (rights_living self.old) (rights_living self.new) }
         ensures lasts { Lasting (numbers units.items) (rights_living self.old) (rights_living self.new) }
         ensures known { Posts false (known_living self.old) (known_living self.new) }
@@ -410,6 +426,7 @@ impl Post for LivingSide {
         ensures standings { OnOk result (self.new.standings ≡ left_by units.items self.old.standings) }
         ensures err_standings { OnErr result (self.new.standings ≡ self.old.standings) }
         ensures asked { self.new.asked ≡ self.old.asked }
+        ensures contents { self.new.contents ≡ self.old.contents }
         ensures sent { OnOk result (GivesBack (numbers units.items) (rights_living self.old) (rights_living self.new)) }
         ensures refused { IfErr result (λ back. back.items ≡ units.items) }
         ensures same { OnErr result (AreSame (rights_living self.old) (rights_living self.new)) }
@@ -447,6 +464,7 @@ impl Post for LivingSide {
         ensures begun { self.new.begun ≡ self.old.begun }
         ensures standings { self.new.standings ≡ self.old.standings }
         ensures asked { self.new.asked ≡ self.old.asked }
+        ensures contents { self.new.contents ≡ self.old.contents }
         ensures some { IfSome result (λ units. Receives class units.items (rights_living self.old) (rights_living self.new)) }
         ensures none { IfNone result (AreSame (rights_living self.old) (rights_living self.new)) }
         ensures lasts { Lasting [] (rights_living self.old) (rights_living self.new) }
@@ -538,6 +556,21 @@ impl Lives for LivingSide {
         ensures does { LivingDoes (act.Finds object.unit object.life place result ∷ []) self.now self.now }
     {
         self.slots.value(object.unit, place)
+    }
+
+    fn exchange(&mut self, place: usize, put: Option<ObjId>, tag: Tag) -> Displaced
+        requires there { place < length self.old.contents }
+        requires lives { PutLives (lives_of self.old.slots) put }
+        ensures held { result.held ≡ (slot_at place self.old.contents).slot.held }
+        ensures by { result.by ≡ (slot_at place self.old.contents).slot.by }
+        ensures state { self.new ≡ with_exchanged place put tag self.old }
+        ensures known { known_living self.new ≡ slot_exchanged place put tag (known_living self.old) }
+        ensures same { AsBefore (rights_living self.old) (rights_living self.new) }
+        ensures rest { StaysAtRest LivingAtRest self.old self.new }
+        ensures does { let name = (slot_at place self.old.contents).name in
+            LivingDoes (act.Exchanges name put result.held result.by tag ∷ []) self.old self.new }
+    {
+        self.contents.exchange(place, put, tag)
     }
 
     fn release_other(&mut self, object: ObjId) -> u32

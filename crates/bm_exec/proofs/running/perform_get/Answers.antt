@@ -11,6 +11,7 @@ use Rattle.bm_exec.proofs.Performing.{get-performed}
 use Rattle.bm_exec.proofs.Results.{get-is}
 use Rattle.bm_exec.proofs.Tables.{same_word}
 use Rattle.bm_exec.proofs.Yields.{read-unyielding}
+use Rattle.bm_exec.specs.Named.{declared_of}
 use Rattle.bm_exec.proofs.running.perform_get.Goals as goal
 
 true-false : (b : Bool) → b ≡ true → b ≡ false → ⊥
@@ -70,7 +71,7 @@ returns-clause-performed g c os =
     let at = found-at (bytes_eq c.args.field.now) c.as_slice.result.now c.in-Some-place_of.place (sym c.in-Some-place_of.ensures.place) in
     let named = ap (λ fields. slice_get fields c.in-Some-place_of.place) (sym c.as_slice.ensures) ∙ (at.1 ∙ ap Some (sym (same_word c.args.field.now at.0 at.2))) in
     let of : IsField types c.in-Object.type_id.0 c.args.field.now c.in-Some-place_of.place = record { declared = d; found = get-is types _ d c.in-Some.ensures.lookup.3.0 (c.in-Some.ensures.lookup.3.1 _); named = named } in
-    rw e.around (get-performed types (g.M.Machine.level m0) (g.M.Machine.around m0) (g.M.Machine.behind m0) (g.M.Machine.processor m0) (g.M.Machine.lists m0) (g.M.Machine.lists m1) c.args.name.now c.args.field.now _ c.in-Object.object c.in-Some-place_of.place
+    rw e.around (get-performed (declared_of c.args.types.now) (g.M.Machine.level m0) (g.M.Machine.around m0) (g.M.Machine.behind m0) (g.M.Machine.processor m0) (g.M.Machine.lists m0) (g.M.Machine.lists m1) c.args.name.now c.args.field.now _ c.in-Object.object c.in-Some-place_of.place
     (names_of c.args.names.now) (g.M.Machine.lives m0) (g.M.Machine.lives m1) (g.M.Machine.asked m0) (g.M.Machine.asked m1) (g.M.Machine.log m0) (g.M.Machine.log m1)
     (g.met.M.Machine.told m0 c.requires.sound) (rw e.processor at (g.met.M.Machine.told m1 e.sound)) of (sym held) e.read e.asked e.lists e.lives c.requires.down os)
 

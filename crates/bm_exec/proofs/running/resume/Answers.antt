@@ -8,6 +8,7 @@ use Rattle.bm_exec.specs.Seen.{has_name}
 use Rattle.bm_exec.proofs.KnownNames.{same-names}
 use Rattle.bm_exec.proofs.Meeting.{may-inherits}
 use Rattle.bm_exec.proofs.Objects.{only-base}
+use Rattle.bm_exec.specs.Named.{declared_of}
 use Rattle.bm_exec.proofs.running.resume.Goals as goal
 
 pub loop-statement-init : goal.loop-statement-init
@@ -25,14 +26,14 @@ loop-statement-init g c = record {
 }
 
 pub returns-in-End-clause-ended : goal.returns-in-End-clause-ended
-returns-in-End-clause-ended g c = λ _. went-end _ _ _ _ _ c.requires.can.accepted.0 _ _ _ _ _ _ _ _ _ _ _ _ c.loop-statement.invariant.went (rw c.in-End.is at c.next_statement.ensures.stepped) c.requires.can.accepted.2
+returns-in-End-clause-ended g c = λ _. went-end _ _ _ _ _ c.requires.can.accepted.0 _ _ _ _ _ _ _ _ _ _ _ _ c.loop-statement.invariant.went (rw c.in-End.is at c.next_statement.ensures.stepped) c.requires.can.accepted.2 c.requires.can.accepted.3
 
 pub returns-in-End-clause-turn : goal.returns-in-End-clause-turn
 returns-in-End-clause-turn g c = c.loop-statement.invariant.yields
 
 pub returns-in-End-clause-lives : goal.returns-in-End-clause-lives
 returns-in-End-clause-lives g c = λ _ base h.
-    (let r = went-end _ _ _ _ _ c.requires.can.accepted.0 _ _ _ _ _ _ _ _ _ _ _ _ c.loop-statement.invariant.went (rw c.in-End.is at c.next_statement.ensures.stepped) c.requires.can.accepted.2 in
+    (let r = went-end _ _ _ _ _ c.requires.can.accepted.0 _ _ _ _ _ _ _ _ _ _ _ _ c.loop-statement.invariant.went (rw c.in-End.is at c.next_statement.ensures.stepped) c.requires.can.accepted.2 c.requires.can.accepted.3 in
     only-base _ base _ _ (c.loop-statement.invariant.went.holds base h) r.owns_nothing)
 
 pub returns-in-End-clause-asked : goal.returns-in-End-clause-asked
@@ -40,6 +41,9 @@ returns-in-End-clause-asked g c = λ _. omega (arith, c.loop-statement.invariant
 
 pub returns-in-End-clause-down : goal.returns-in-End-clause-down
 returns-in-End-clause-down g c = c.loop-statement.invariant.went.down
+
+pub perform-requires-clause-declared : goal.perform-requires-clause-declared
+perform-requires-clause-declared g c = g.met.M.Machine.keeps_declared c.args.machine.now c.loop-statement.machine c.loop-statement.invariant.keeps ∙ c.requires.declared
 
 pub perform-requires-clause-room : goal.perform-requires-clause-room
 perform-requires-clause-room g c = let t = rw c.in-Statement.is at c.next_statement.ensures.stepped in omega (arith, c.requires.room, c.loop-statement.invariant.went.cost, t.cost, some-cost c.in-Statement.statement.now.action)
@@ -50,7 +54,7 @@ perform-requires-clause-holds g c = (c.requires.can.holds.0, c.loop-statement.in
 pub perform-requires-clause-may : goal.perform-requires-clause-may
 perform-requires-clause-may g c =
     let t = rw c.in-Statement.is at c.next_statement.ensures.stepped in
-    let types = c.args.types.now.declared.now in
+    let types = declared_of c.args.types.now in
     let known = has_name c.args.names.now in
     let all = c.loop-statement.invariant.went.meets (may_run types known) (may-inherits types known) c.requires.can.may in
     rw (same-names c.args.names.now c.loop-statement.names c.loop-statement.invariant.known) (t.meets_action (may_run types known) all)
@@ -62,7 +66,7 @@ pub perform-requires-clause-open : goal.perform-requires-clause-open
 perform-requires-clause-open g c = let t = rw c.in-Statement.is at c.next_statement.ensures.stepped in t.some
 
 pub perform-requires-clause-needed : goal.perform-requires-clause-needed
-perform-requires-clause-needed g c = let t = rw c.in-Statement.is at c.next_statement.ensures.stepped in (c.requires.can.accepted.0, c.requires.can.accepted.1, t.safe _ _ (c.loop-statement.invariant.went.safe _ c.requires.can.accepted.2))
+perform-requires-clause-needed g c = let t = rw c.in-Statement.is at c.next_statement.ensures.stepped in (c.requires.can.accepted.0, c.requires.can.accepted.1, c.requires.can.accepted.2, t.safe _ _ (c.loop-statement.invariant.went.safe _ c.requires.can.accepted.2 c.requires.can.accepted.3))
 
 pub loop-statement-smaller-else-is_yield : goal.loop-statement-smaller-else-is_yield
 loop-statement-smaller-else-is_yield g c =

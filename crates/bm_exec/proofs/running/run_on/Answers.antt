@@ -20,6 +20,9 @@ turns-init g c = record {
 pub resume-requires-clause-room : goal.resume-requires-clause-room
 resume-requires-clause-room g c = omega (arith, c.requires.room, c.turns.invariant.went.cost)
 
+pub resume-requires-clause-declared : goal.resume-requires-clause-declared
+resume-requires-clause-declared g c = g.met.M.Machine.keeps_declared c.args.machine.now c.turns.machine c.turns.invariant.keeps ∙ c.requires.declared
+
 -- ---- it yields
 
 pub turns-smaller : goal.turns-smaller

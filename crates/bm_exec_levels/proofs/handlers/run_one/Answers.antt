@@ -38,7 +38,7 @@ returns-clause-between g c =
     let d = c.end_handler.new.own in
     let e = c.begin_handler-table.ensures in
     let f = c.end_handler.ensures in
-    let inside : Between g.W.Knows (due_cost p due) 2 due.level p b z = between-as g.W.Knows (2 * script_cost (Some x)) (due_cost p due) g.L.Rank.number due.level p b z (cost-is p due x c.script_of-script.ensures) c.requires.level c.run_inside.ensures.between in
+    let inside : Between g.W.Knows (due_cost p due) 2 due.level p b z = between-as g.W.Knows (3 * script_cost (Some x)) (due_cost p due) g.L.Rank.number due.level p b z (cost-is p due x c.script_of-script.ensures) c.requires.level c.run_inside.ensures.between in
     let runs : z.running.items ≡ m.running.items ++ due ∷ [] = c.run_inside.ensures.between.stays.running ∙ e.running in
     ran g.W.Knows (due_cost p due) due.level p due m b z d e.same f.same inside e.came f.came f.fine (f.running m.running.items runs) e.tables f.tables
 

@@ -1,8 +1,12 @@
-use Rattle.std.specs.Prelude.{None, get_or, length}
-use Rattle.std.proofs.Common.{rules, ◌∙◌, map, ◌≡◌, ◌<◌, ◌≤◌, ℕ, [], List, Some, ap, arith, refl, slice_get, subst, sym}
+use Rattle.std.specs.Prelude.{Bool, IsTrue, None, false, get_or, length, not, true}
+use Rattle.std.specs.List.{list_all, list_any}
+use Rattle.std.specs.Str.{bytes_eq}
+use Rattle.std.proofs.lemmas.Bool.{and_parts, not-true}
+use Rattle.bm_world.specs.Contents.{are_apart}
+use Rattle.std.proofs.Common.{rules, ◌∙◌, map, ◌≡◌, ◌<◌, ◌≤◌, ℕ, suc, [], ◌∷◌, List, Some, ap, arith, refl, slice_get, subst, sym}
 use Rattle.std.proofs.lemmas.List.Sums.{list_all-from_AllPass}
 use Rattle.std.proofs.lemmas.Option.{get_or_from_slice_get, slice_get_within}
-use Rattle.bm_journal.specs.WellFormed.{is_whole_log}
+use Rattle.bm_journal.specs.WellFormed.{all_differ, is_whole_log}
 use Rattle.bm_journal.specs.declared.past.Past.{Past}
 use Rattle.bm_lang.specs.declared.scenario.MapDeclaration.{MapDeclaration}
 use Rattle.bm_journal.specs.declared.ids.Domain.TheVariants.{Plain, Tracing}
@@ -36,6 +40,7 @@ use Rattle.bm_law_order.specs.Polls.{IsPolled}
 use Rattle.bm_law_order.specs.Seals.{IsSealed}
 use Rattle.bm_law_places.specs.Placed.{IsPlaced}
 use Rattle.bm_law_scenario.specs.SectionWords.{SectionWords}
+use Rattle.bm_run.specs.Emptied.{AreSlots}
 use Rattle.bm_run.proofs.FinalLaws.{owned-is, batched-is, each-log, found-is, idle-is, inbox-is, inboxes-are, laid-is, log-of-each, none-alive, none-dropping, order-is, parcels-are, placed-is, polled-is, sealed-is, uncalled-is}
 use Rattle.bm_run.proofs.FinalLog.{final-lawful}
 use Rattle.bm_run.proofs.ParcelsArrive.{parcels-arrive}
@@ -55,14 +60,15 @@ each-lawful c p lt =
     let there : p < s.processors = subst (λ k. p < k) h.so_far.many lt in
     let laid = subst (λ k. IsLaid k s.pages (whole turns logs)) (sym h.so_far.many) (laid-is s turns logs h) in
     let words = log-of-each (λ p log. SectionWords log) logs (c.journal_law.ensures.words s.pages logs (whole turns logs) few (order-is s turns logs h) laid) p lt in
-    final-lawful s p (get_or logs p []) (get_or h.finishes p []) (get_or h.sweeps p []) c.handled_law.ensures.rows c.handled_law.ensures.null c.sweeps_law.ensures c.requires.yet.no_maps (h.logs p there) words (parcels-are s turns logs h p there)
+    final-lawful s p (get_or logs p []) (get_or h.given p []) (get_or h.finishes p []) (get_or h.sweeps p []) c.handled_law.ensures.rows c.handled_law.ensures.null c.sweeps_law.ensures (h.logs p there) words (parcels-are s turns logs h p there)
 
 classes-are : (c : goal.After-result-1) → c.new-classes.result ≡ opened c.args.scenario.now.types
 classes-are c = c.new-classes.ensures ∙ (c.in_ok-with_marks.ensures ∙ ap (λ (cs : List ℕ). map (λ k. (k, marks_of_size (size_of_class k))) cs) c.requires.classes)
 
--- no map is declared, and no list or tree has a history
-maps-none : (c : goal.After-result-1) → c.new-maps.result ≡ []
-maps-none c = search rules
+-- no list or tree has a history
+no-graphs : (maps : List MapDeclaration) → AreSlots maps → graph_names maps ≡ []
+no-graphs [] slots = refl
+no-graphs (m ∷ ms) slots = rw (slots 0 m refl) (no-graphs ms (λ i w e. slots (suc i) w e))
 
 graphs-none : (c : goal.After-result-1) → c.new-graphs.result ≡ []
 graphs-none c = search rules
@@ -71,11 +77,11 @@ graphs-none c = search rules
 order-none : (c : goal.After-result-1) → CallNone (whole (named_turns c.args.scenario.now.turns) c.args.logs.items)
 order-none c = uncalled-is c.args.scenario.now (named_turns c.args.scenario.now.turns) c.args.logs.items c.requires.closed
 
-graphs-lawful : (c : goal.After-result-1) → GraphLaws c.new-maps.result (history_of c.new-graphs.result) c.args.logs.items
+graphs-lawful : (c : goal.After-result-1) → GraphLaws c.in_ok-maps.maps (history_of c.new-graphs.result) c.args.logs.items
 graphs-lawful c =
     let s = c.args.scenario.now in
     let logs : List Log = c.args.logs.items in
-    let names : List (List ℕ) = c.new-maps.result in
+    let names : List (List ℕ) = c.in_ok-maps.maps in
     let order : Order = whole (named_turns s.turns) logs in
     let none = order-none c in
     let laws = c.graphs_law.ensures.logs names logs order (order-is s (named_turns s.turns) logs c.requires.closed) (c.uncalled_law.ensures.shelved names order none) (c.uncalled_law.ensures.within names order none) in
@@ -86,6 +92,27 @@ graphs-lawful c =
       locks = laws.locks;
       takes = laws.takes;
     })
+
+-- no two maps have one name
+none-any : (n : List ℕ) (ns : List (List ℕ)) → list_all (λ m. not (bytes_eq n m)) ns ≡ true → list_any (bytes_eq n) ns ≡ false
+none-any n [] h = refl
+none-any n (m ∷ ms) h =
+    let parts = and_parts (not (bytes_eq n m)) (list_all (λ x. not (bytes_eq n x)) ms) h in
+    rw (not-true (bytes_eq n m) parts.0) (none-any n ms parts.1)
+
+names-differ : (ns : List (List ℕ)) → are_apart ns ≡ true → all_differ ns ≡ true
+names-differ [] h = refl
+names-differ (n ∷ ns) h =
+    let parts = and_parts (list_all (λ m. not (bytes_eq n m)) ns) (are_apart ns) h in
+    rw (none-any n ns parts.0) (names-differ ns parts.1)
+
+pub invariant_of-result-clause-maps_differ : goal.invariant_of-result-clause-maps_differ
+invariant_of-result-clause-maps_differ c =
+    subst (λ (ns : List (List ℕ)). IsTrue (all_differ ns)) (sym (c.in_ok-maps.ensures ∙ ap (map (λ (m : MapDeclaration). m.name)) c.as_slice-2.ensures))
+    (is-true (all_differ (map (λ (m : MapDeclaration). m.name) c.args.scenario.now.maps)) (names-differ (map (λ (m : MapDeclaration). m.name) c.args.scenario.now.maps) c.requires.yet.apart))
+  where
+    is-true : (b : Bool) → b ≡ true → IsTrue b
+    is-true b e = e
 
 pub returns-clause-lawful : goal.returns-clause-lawful
 returns-clause-lawful c =
@@ -126,7 +153,7 @@ returns-clause-lawful c =
         count = subst (λ (x : List Log). length x ≡ n) one many;
         logs = subst (λ (x : List Log). (p : ℕ) (log : Log) → slice_get x p ≡ Some log → LawfulLog s p log) one
             (λ p log e. subst (LawfulLog s p) (get_or_from_slice_get logs p log [] e) (each-lawful c p (slice_get_within logs p log e)));
-        graphs = subst (λ (maps : List MapDeclaration). map (λ (h : List ℕ × List Past). h.0) c.new-graphs.result ≡ graph_names maps) (sym c.requires.yet.no_maps)
+        graphs = subst (λ (names : List (List ℕ)). map (λ (h : List ℕ × List Past). h.0) c.new-graphs.result ≡ names) (sym (no-graphs s.maps c.requires.yet.slots))
             (ap (λ (graphs : List (List ℕ × List Past)). map (λ (h : List ℕ × List Past). h.0) graphs) (graphs-none c));
         totals = search rules;
         short = subst (JournalShort s.pages) one (laws.short n s.pages logs order of-logs laid);
@@ -149,7 +176,7 @@ returns-clause-lawful c =
       references = subst ReferenceLaw one (c.counts_law.ensures.laid n s.pages logs order of-logs laid (none-alive s turns logs h));
       slots = λ slot. subst (SlotChain slot) one (c.slots_law.ensures.logs slot logs order of-logs owned);
       reads = subst ReadsLaw one (c.reads_law.ensures.logs logs order of-logs owned);
-      graphs = subst (GraphLaws c.new-maps.result (history_of c.new-graphs.result)) one (graphs-lawful c);
+      graphs = subst (GraphLaws c.in_ok-maps.maps (history_of c.new-graphs.result)) one (graphs-lawful c);
     }
 
 pub returns-clause-laid : goal.returns-clause-laid
@@ -168,6 +195,6 @@ returns-clause-laid c =
       polled = subst (λ (x : List Log). IsPolled n s.pages (whole turns x)) one (polled-is s turns logs h);
       sealed = subst (λ (x : List Log). IsSealed (whole turns x)) one (sealed-is s turns logs h);
       owned = subst (λ (x : List Log). IsOwned (whole turns x)) one (owned-is s turns logs h);
-      shelved = c.uncalled_law.ensures.shelved c.new-maps.result order none;
-      histories = λ name. ap (λ (graphs : List (List ℕ × List Past)). history_of graphs name) (graphs-none c) ∙ sym (c.uncalled_law.ensures.histories c.new-maps.result order none name);
+      shelved = c.uncalled_law.ensures.shelved c.in_ok-maps.maps order none;
+      histories = λ name. ap (λ (graphs : List (List ℕ × List Past)). history_of graphs name) (graphs-none c) ∙ sym (c.uncalled_law.ensures.histories c.in_ok-maps.maps order none name);
     }

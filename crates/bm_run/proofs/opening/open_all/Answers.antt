@@ -1,4 +1,4 @@
-use Rattle.std.proofs.Common.{◌≡◌, List, None, subst, sym}
+use Rattle.std.proofs.Common.{◌≡◌, ◌∙◌, ap, List, None, subst, sym}
 use Rattle.bm_world.specs.LivingState.{LivingState}
 use Rattle.bm_page.specs.Stock.{Stock}
 use Rattle.bm_lang.specs.declared.scenario.Parts.{Parts}
@@ -6,6 +6,7 @@ use Rattle.bm_lang.specs.Fine.{HasConditions}
 use Rattle.bm_lang.specs.Limits.{first_limit}
 use Rattle.bm_exec_levels.specs.declared.kept.Kept.{Kept}
 use Rattle.bm_exec_levels.specs.declared.program.Program.{Program}
+use Rattle.bm_run.specs.Opened.{empty_slots}
 use Rattle.bm_run.specs.Openings.{AreFilled, AreOpen}
 use Rattle.bm_run.proofs.OpeningLemmas.{living_side, side-is}
 use Rattle.bm_run.proofs.OpeningTurns.{all-open}
@@ -22,7 +23,7 @@ returns-in-Ok-open_side c =
     let world : LivingState = c.in-Ok-open_side.world in
     let kept : List Kept = c.in-Ok.kept.items in
     let filled : AreFilled s c.args.classes.now kept pool = subst (λ (x : Parts). AreFilled x c.args.classes.now kept pool) same k.kept in
-    let done : AreOpen p c.args.classes.now kept (living_side s.processors 0 pool world.slots world.begun world.standings) =
+    let done : AreOpen p c.args.classes.now kept (living_side s.processors 0 pool world.slots world.begun world.standings s.maps) =
     all-open p c.args.classes.now kept pool world.slots world.begun world.standings c.requires.fits (subst HasConditions same c.requires.fine)
     (subst (λ (x : Parts). first_limit x ≡ None) same c.requires.limits) k.many filled w.slots w.begun w.standings in
-    subst (AreOpen p c.args.classes.now kept) (sym (side-is s.processors 0 world pool w.side w.asked)) done
+    subst (AreOpen p c.args.classes.now kept) (sym (side-is s.processors 0 world pool s.maps w.side w.asked (w.contents ∙ (c.in_ok-contents.ensures ∙ ap empty_slots c.as_slice.ensures)))) done

@@ -7,6 +7,6 @@ use Rattle.bm_run.proofs.opening.open_side.Goals as goal
 
 pub create-requires-in-Ok : goal.create-requires-in-Ok
 create-requires-in-Ok c =
-    let post = ap (λ (s : SideState). s.post) c.new-in-Ok.ensures ∙ c.in-Ok.ensures.ok in
+    let post = ap (λ (s : SideState). s.post) c.new-side.ensures ∙ c.in-Ok.ensures.ok in
     let units = ap (λ (p : PostState). p.pool.units) post in
-    unlived c.new-in-Ok.result.post (subst IsUnborn (sym units) c.requires.unborn) (ap (λ (p : PostState). p.inboxes) post)
+    unlived c.new-side.result.post (subst IsUnborn (sym units) c.requires.unborn) (ap (λ (p : PostState). p.inboxes) post)

@@ -16,4 +16,4 @@ returns-clause-wrote c =
     (rw c.duplicate.ensures at c.note.ensures.wrote) (subst (λ k. Wrote (Stand 0 (entry.In c.args.domain (k + 1) ∷ [])) c.note.new.own c.go_in.new.own) (ap (word_of knows_living c.args.domain) c.note.ensures.same) c.go_in.ensures.wrote)
 
 pub returns-clause-sound : goal.returns-clause-sound
-returns-clause-sound c p s = c.go_in.ensures.sound p (c.note.ensures.sound p refl tt s)
+returns-clause-sound c p s = c.go_in.ensures.sound p (c.note.ensures.sound p refl refl tt s)

@@ -14,4 +14,4 @@ returns-clause-wrote c =
     c.go_out.ensures.wrote (rw c.duplicate.ensures at c.note.ensures.wrote)
 
 pub returns-clause-sound : goal.returns-clause-sound
-returns-clause-sound c p s = c.note.ensures.sound p refl tt (c.go_out.ensures.sound p s)
+returns-clause-sound c p s = c.note.ensures.sound p refl refl tt (c.go_out.ensures.sound p s)

@@ -12,9 +12,9 @@ pub returns-clause-fine : goal.returns-clause-fine
 returns-clause-fine c = fine-noted knows_living 0 c.args.own.now c.note.new.self c.note.ensures.same c.note.ensures.step.processor c.note.ensures.placed c.requires.fine
 
 pub returns-clause-sound : goal.returns-clause-sound
-returns-clause-sound c p k i s =
+returns-clause-sound c p k plain i s =
     let n = rw c.ordinary.ensures at c.note.ensures.step in
-    sound-noted knows_living p c.args.own.now c.note.new.self c.args.entry k i c.note.ensures.same n.processor n.records (fine-noted knows_living 0 c.args.own.now c.note.new.self c.note.ensures.same c.note.ensures.step.processor c.note.ensures.placed c.requires.fine) s
+    sound-noted knows_living p c.args.own.now c.note.new.self c.args.entry k i plain c.note.ensures.same n.processor n.records (fine-noted knows_living 0 c.args.own.now c.note.new.self c.note.ensures.same c.note.ensures.step.processor c.note.ensures.placed c.requires.fine) s
 
 pub returns-clause-wrote : goal.returns-clause-wrote
 returns-clause-wrote c =

@@ -5,6 +5,7 @@ use Rattle.bm_world.specs.LivingState.{LivingState}
 use Rattle.bm_world.specs.ToldLiving.{knows_living}
 use Rattle.bm_exec_levels.specs.Ready.{word_of}
 use Rattle.bm_exec_levels.specs.declared.processor.Processor.{Processor}
+use Rattle.bm_exec_levels.proofs.Phrases.{program-declared}
 use Rattle.bm_run.proofs.Beginning.{has-begun}
 use Rattle.bm_run.proofs.GoingOn.{stand-unyielding}
 use Rattle.bm_run.proofs.Sections.{even-out, few-words}
@@ -31,12 +32,15 @@ begin-requires-clause-fits c = c.requires.sound.at.ready.fits.fits c.requires.fo
 pub begin-requires-clause-types : goal.begin-requires-clause-types
 begin-requires-clause-types c = sym c.requires.sound.at.ready.fits.types
 
+pub begin-requires-clause-maps : goal.begin-requires-clause-maps
+begin-requires-clause-maps c = sym c.requires.sound.at.ready.fits.maps
+
 pub returns-clause-begun : goal.returns-clause-begun
 returns-clause-begun c = λ w down.
     let m : Processor LivingState = c.args.own.now in
     let e = rw c.section_of-domain.ensures at c.begin_script.ensures in
     let out = even-out m.inside (word_of knows_living Plain m) c.requires.sound.at.ready.inside (c.requires.outside Plain) in
-    has-begun c.args.program.now m c.begin_script.new.own _ w c.requires.sound.at.ready.fits.types out c.requires.outside c.requires.found down e.known e.inside e.same e.lists e.wrote c.in_ok-activation.ensures.start
+    has-begun c.args.program.now m c.begin_script.new.own _ w (program-declared c.args.program.now.types c.args.program.now.scenario.now c.requires.sound.at.ready.fits.types c.requires.sound.at.ready.fits.maps) out c.requires.outside c.requires.found down e.known e.inside e.same e.lists e.wrote c.in_ok-activation.ensures.start
 
 pub returns-clause-yields : goal.returns-clause-yields
 returns-clause-yields c = stand-unyielding _ _ _ _ (tt, (tt, tt)) c.begin_script.ensures.wrote.grew

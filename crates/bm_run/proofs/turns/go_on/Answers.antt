@@ -4,6 +4,8 @@ use Rattle.bm_exec.specs.Lists.{behind_of}
 use Rattle.bm_exec_levels.specs.AtTie.{TiedAt}
 use Rattle.bm_exec_levels.specs.Ordinary.{Scripted}
 use Rattle.bm_exec_levels.specs.Sound.{Sound}
+use Rattle.bm_exec_levels.proofs.Phrases.{program-declared}
+use Rattle.bm_law_scenario.specs.Declared.{declared_in}
 use Rattle.bm_exec_levels.specs.declared.processor.Processor.{Processor}
 use Rattle.bm_law_scenario.specs.Grammar.{starts_inside}
 use Rattle.bm_world.specs.ToldLiving.{knows_living}
@@ -14,7 +16,7 @@ use Rattle.bm_run.proofs.Stopping.{both-went, finishes-on, finishes-ran, if-went
 use Rattle.bm_run.proofs.turns.go_on.Goals as goal
 
 pub resume-stopped-requires-clause-can : goal.resume-stopped-requires-clause-can
-resume-stopped-requires-clause-can g c = rw (c.is_plain-within.ensures, c.requires.sound.at.ready.fits.types) c.requires.stands.can
+resume-stopped-requires-clause-can g c = rw (c.is_plain-within.ensures, program-declared c.args.program.now.types c.args.program.now.scenario.now c.requires.sound.at.ready.fits.types c.requires.sound.at.ready.fits.maps) c.requires.stands.can
 
 pub returns-clause-yielded : goal.returns-clause-yielded
 returns-clause-yielded g c = λ y.
@@ -27,7 +29,7 @@ returns-clause-yielded g c = λ y.
     let k : Processor LivingState = c.resume-stopped.new.machine.own.now in
     let through = c.resume-stopped.ensures.through in
     let lent : c.own-1.given.0 ≡ k = search (rules, through) in
-    let e = rw (c.is_plain-within.ensures, c.requires.sound.at.ready.fits.types) at c.resume-stopped.ensures in
+    let e = rw (c.is_plain-within.ensures, program-declared c.args.program.now.types c.args.program.now.scenario.now c.requires.sound.at.ready.fits.types c.requires.sound.at.ready.fits.maps, c.requires.sound.at.ready.fits.types) at c.resume-stopped.ensures in
     let keeps = rw y at e.keeps in
     let went = rw (keeps.2, keeps.1) at (e.yielded y) in
     let behind = rw y at e.behind in
@@ -37,7 +39,7 @@ returns-clause-yielded g c = λ y.
     let word = section-kept (domain_of b) _ m k refl keeps.0 in
     let on : WentOn s w m k b b' = record {
       same = refl;
-      grew = finishes-on s.types _ _ _ _ _ _ _ _ _ _ _ went.grew;
+      grew = finishes-on (declared_in s) _ _ _ _ _ _ _ _ _ _ _ went.grew;
       stands = record {
         found = stands.found;
         can = can;
@@ -62,14 +64,14 @@ returns-clause-ended g c = λ y.
     let k : Processor LivingState = c.resume-stopped.new.machine.own.now in
     let through = c.resume-stopped.ensures.through in
     let lent : c.own-1.given.0 ≡ k = search (rules, through) in
-    let e = rw (c.is_plain-within.ensures, c.requires.sound.at.ready.fits.types) at c.resume-stopped.ensures in
+    let e = rw (c.is_plain-within.ensures, program-declared c.args.program.now.types c.args.program.now.scenario.now c.requires.sound.at.ready.fits.types c.requires.sound.at.ready.fits.maps, c.requires.sound.at.ready.fits.types) at c.resume-stopped.ensures in
     let keeps = rw y at e.keeps in
     let sound = rw (keeps.2, keeps.1) at (rw y at e.sound) in
     let around = rw keeps.2 at (e.around y) in
     let asked = rw keeps.1 at (e.asked y) in
     let tracing = keeps.0.tracing in
     let run : HasRun s w m k b = record {
-      grew = finishes-ran s.types _ _ _ _ _ _ _ _ (e.ended y);
+      grew = finishes-ran (declared_in s) _ _ _ _ _ _ _ _ (e.ended y);
       down = rw y at e.down;
       inside = inside-of _ k sound.3 (around (outermost b) stands.sections);
       owns = e.lives y;

@@ -1,11 +1,13 @@
-use Rattle.std.proofs.Common.{◌∙◌, ◌≤◌, Option, Some, ap, arith, refl, subst, sym}
+use Rattle.std.proofs.Common.{◌≡◌, ◌∙◌, ◌≤◌, ◌%◌, Option, Some, ap, arith, refl, subst, sym}
 use Rattle.bm_lang.specs.declared.scenario.Script.{Script}
-use Rattle.bm_law_scenario.specs.Grammar.{starts_inside}
+use Rattle.bm_law_scenario.specs.Grammar.{section_of, starts_inside}
 use Rattle.bm_world.specs.LivingState.{LivingState}
+use Rattle.bm_world.specs.ToldLiving.{knows_living}
 use Rattle.bm_exec.specs.Lists.{behind_of}
 use Rattle.bm_exec.proofs.Yields.{unyielding-join, yields-join}
+use Rattle.bm_exec_levels.specs.Ready.{word_of}
 use Rattle.bm_exec_levels.specs.declared.processor.Processor.{Processor}
-use Rattle.bm_run.specs.Turns.{Advanced, HasEnded, begun_weight, domain_of, weight_left}
+use Rattle.bm_run.specs.Turns.{Advanced, HasEnded, begun_weight, domain_of, stands_in, weight_left}
 use Rattle.bm_run.specs.declared.turns.Begun.{Begun}
 use Rattle.bm_run.specs.declared.turns.Remaining.{Remaining}
 use Rattle.bm_run.proofs.GoingOn.{advanced-ended, advanced-join, advanced-on}
@@ -91,3 +93,15 @@ scripts-preserved g c =
       processor = next.processor ∙ i.processor;
       light = omega (arith, light, less, before);
     }
+
+-- the script stops in its section
+pub finish-requires-clause-inside : goal.finish-requires-clause-inside
+finish-requires-clause-inside g c =
+    let m : Processor LivingState = c.next_begun.new.own in
+    let n : Processor LivingState = c.go_on-stopped.new.own in
+    let b : Begun = c.in-Some.begun in
+    let went = c.go_on-stopped.ensures in
+    let scripted = rw c.in-Ended.is at went.scripted in
+    let word = section-kept (domain_of b) (starts_inside b.script.now) m n refl scripted in
+    let stands = (subst (λ (o : Option Begun). stands_in c.args.program.now.scenario.now (behind_of c.args.deferred.now.behind) m o) c.in-Some.is c.in_ok-begun.ensures.advanced.can.stands).inside in
+    subst (λ (x : Script). word_of knows_living (section_of x.kind) n % 2 ≡ 1) (sym went.same) (ap (λ k. k % 2) word ∙ stands)

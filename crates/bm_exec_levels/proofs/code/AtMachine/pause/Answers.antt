@@ -12,7 +12,7 @@ returns-clause-sound g c =
     let p = c.args.self.now.program.now in
     let s = c.requires.sound in
     let n = rw c.level.ensures.number at c.note.ensures.step in (
-      at-say g.W.Knows l p m c.note.new.self entry.Yield refl tt n.processor n.records s.0,
+      at-say g.W.Knows l p m c.note.new.self entry.Yield refl tt refl n.processor n.records s.0,
       fine-noted g.W.Knows l m c.note.new.self c.note.ensures.same n.processor c.note.ensures.placed s.1,
       tied-quiet g.W.Knows g.B.Since.since g.B.Since.start l m c.note.new.self entry.Yield refl n.records s.2,
     )

@@ -47,7 +47,7 @@ returns-clause-known c =
     let lives = subst (λ (s : LivingState). (l : Living) × HasLife (lives_of s.slots) n life l) (sym c.self.view_is) c.requires.lives in
     let alive = is-living i.slots.slots.items n life lives.0 lives.1 in
     let counted = counted-at i.asked i.slots.slots.items n life alive (c.self.invariant.0.counted n) in
-    let a : LivingState = record { side = i.side; slots = i.slots.slots.items; begun = i.begun.counts.items; standings = i.standings.standings.items; asked = i.asked } in
+    let a : LivingState = record { side = i.side; slots = i.slots.slots.items; begun = i.begun.counts.items; standings = i.standings.standings.items; asked = i.asked; contents = i.contents } in
     rw (← c.self.view_is, c.count.ensures, c.references-count.ensures) (known-acquired n a alive.within)
 
 pub returns-clause-same : goal.returns-clause-same
@@ -68,6 +68,6 @@ returns-clause-does c =
     let lives = subst (λ (s : LivingState). (l : Living) × HasLife (lives_of s.slots) n life l) (sym c.self.view_is) c.requires.lives in
     let alive = is-living i.slots.slots.items n life lives.0 lives.1 in
     let counted = counted-at i.asked i.slots.slots.items n life alive (c.self.invariant.0.counted n) in
-    let a : LivingState = record { side = i.side; slots = i.slots.slots.items; begun = i.begun.counts.items; standings = i.standings.standings.items; asked = i.asked } in
+    let a : LivingState = record { side = i.side; slots = i.slots.slots.items; begun = i.begun.counts.items; standings = i.standings.standings.items; asked = i.asked; contents = i.contents } in
     let has = has-life n life a alive.object alive.is (sym alive.now_is ∙ c.self.invariant.0.life n alive.object.unit (ap unit_of alive.is)) in
-    rw (← c.self.view_is, c.count.ensures, c.references-count.ensures) (does-recount (act.Acquires n life (count_of (object_at i.slots.slots.items n))) (λ k. k + 1) n life (count_of (object_at i.slots.slots.items n) + 1) a (with_acquired n a) (λ w. refl) (λ w. refl) (λ m. (tt, tt)) (λ p h. h) (λ p. refl) refl refl refl refl refl alive.within has)
+    rw (← c.self.view_is, c.count.ensures, c.references-count.ensures) (does-recount (act.Acquires n life (count_of (object_at i.slots.slots.items n))) (λ k. k + 1) n life (count_of (object_at i.slots.slots.items n) + 1) a (with_acquired n a) (λ w. refl) (λ w. refl) (λ m. (tt, tt)) (λ p h. h) (λ p. refl) refl refl refl refl refl alive.within has refl (omega arith) (λ w. refl))

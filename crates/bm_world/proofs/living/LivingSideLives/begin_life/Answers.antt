@@ -53,7 +53,7 @@ pub returns-clause-does : goal.returns-clause-does
 returns-clause-does c h =
     let i = c.self.inside in
     let u = c.args.unit in
-    let a : LivingState = record { side = i.side; slots = i.slots.slots.items; begun = i.begun.counts.items; standings = i.standings.standings.items; asked = i.asked } in
+    let a : LivingState = record { side = i.side; slots = i.slots.slots.items; begun = i.begun.counts.items; standings = i.standings.standings.items; asked = i.asked; contents = i.contents } in
     let mine = subst (λ (s : LivingState). (rights_living s).mine u.number ≡ true) (sym c.self.view_is) c.requires.mine in
     let used = subst (λ (s : LivingState). may_be_used s.begun s.standings u.number u.life u.seal ≡ true) (sym c.self.view_is) c.requires.settled in
     let settled = lives-so i.begun.counts.items i.standings.standings.items u.number u.life u.seal used in
@@ -81,7 +81,7 @@ pub returns-clause-known : goal.returns-clause-known
 returns-clause-known c =
     let i = c.self.inside in
     let u = c.args.unit in
-    let a : LivingState = record { side = i.side; slots = i.slots.slots.items; begun = i.begun.counts.items; standings = i.standings.standings.items; asked = i.asked } in
+    let a : LivingState = record { side = i.side; slots = i.slots.slots.items; begun = i.begun.counts.items; standings = i.standings.standings.items; asked = i.asked; contents = i.contents } in
     let used = subst (λ (s : LivingState). may_be_used s.begun s.standings u.number u.life u.seal ≡ true) (sym c.self.view_is) c.requires.settled in
     let settled = lives-so i.begun.counts.items i.standings.standings.items u.number u.life u.seal used in
     let number = (room-of u.number u.life u.seal (has-room i.begun.counts.items u.number u.life settled)).0 in
@@ -97,7 +97,7 @@ pub returns-clause-others : goal.returns-clause-others
 returns-clause-others c =
     let i = c.self.inside in
     let u = c.args.unit in
-    let a : LivingState = record { side = i.side; slots = i.slots.slots.items; begun = i.begun.counts.items; standings = i.standings.standings.items; asked = i.asked } in
+    let a : LivingState = record { side = i.side; slots = i.slots.slots.items; begun = i.begun.counts.items; standings = i.standings.standings.items; asked = i.asked; contents = i.contents } in
     let put = rw c.begin_life.ensures at c.put.ensures in
     let said = rw c.begin_life.ensures at (rw c.life.ensures at (rw c.number.ensures at c.set.ensures)) in
     let stood = rw c.begin_life.ensures at (rw c.number.ensures at c.set-2.ensures.standings) in

@@ -67,7 +67,7 @@ returns-clause-does c =
     let i = c.self.inside in
     let n = c.args.number in
     let u = c.take.result in
-    let a : LivingState = record { side = i.side; slots = i.slots.slots.items; begun = i.begun.counts.items; standings = i.standings.standings.items; asked = i.asked } in
+    let a : LivingState = record { side = i.side; slots = i.slots.slots.items; begun = i.begun.counts.items; standings = i.standings.standings.items; asked = i.asked; contents = i.contents } in
     let inside = within i.slots.slots.items n u c.take.ensures.unit in
     let size = c.self.invariant.0.size in
     let stands = c.self.invariant.0.standing.size in
@@ -97,11 +97,11 @@ pub returns-clause-known : goal.returns-clause-known
 returns-clause-known c =
     let i = c.self.inside in
     let n = c.args.number in
-    let a : LivingState = record { side = i.side; slots = i.slots.slots.items; begun = i.begun.counts.items; standings = i.standings.standings.items; asked = i.asked } in
+    let a : LivingState = record { side = i.side; slots = i.slots.slots.items; begun = i.begun.counts.items; standings = i.standings.standings.items; asked = i.asked; contents = i.contents } in
     rw (← c.self.view_is, c.take.ensures.empty, c.end_standing.ensures.side) (known-ended c.args.delayed n a (object-same i.slots.slots.items n None (within i.slots.slots.items n c.take.result c.take.ensures.unit)))
 
 pub returns-clause-others : goal.returns-clause-others
 returns-clause-others c =
     let i = c.self.inside in
-    let a : LivingState = record { side = i.side; slots = i.slots.slots.items; begun = i.begun.counts.items; standings = i.standings.standings.items; asked = i.asked } in
+    let a : LivingState = record { side = i.side; slots = i.slots.slots.items; begun = i.begun.counts.items; standings = i.standings.standings.items; asked = i.asked; contents = i.contents } in
     rw (← c.self.view_is, c.take.ensures.empty, c.end_standing.ensures.standings, c.end_standing.ensures.side) (ended-others c.args.delayed c.args.number a)

@@ -1,7 +1,7 @@
 use Rattle.bm_world.proofs.Alive.{fetches-living, living-fetched}
 use Rattle.bm_world.proofs.Lived.{lived-fetched}
 use Rattle.bm_world.proofs.living.LivingSidePost.fetch.Goals as goal
-use Rattle.std.proofs.Common.{[], ◌∷◌, drop, length, refl}
+use Rattle.std.proofs.Common.{arith, [], ◌∷◌, drop, length, refl}
 use Rattle.bm_law_order.specs.Act as act
 use Rattle.bm_post.specs.Rights.{numbers}
 use Rattle.bm_world.specs.Standings.{waits_told}
@@ -26,4 +26,4 @@ returns-clause-ok c =
 pub returns-clause-does : goal.returns-clause-does
 returns-clause-does c =
     let i = c.self.inside in
-    rw (← c.self.view_is) (lifts-ok c.fetch.result (act.Fetches c.args.class c.args.want (numbers (drop (length c.args.out.now.items) c.fetch.new.out.items)) ∷ []) (record { side = i.side; slots = i.slots.slots.items; begun = i.begun.counts.items; standings = i.standings.standings.items; asked = i.asked }) (record { side = c.fetch.new.self; slots = i.slots.slots.items; begun = i.begun.counts.items; standings = i.standings.standings.items; asked = i.asked }) refl refl (on-ok c.fetch.result (keep-one (act.Fetches c.args.class c.args.want (numbers (drop (length c.args.out.now.items) c.fetch.new.out.items))) (λ w. refl) (waits_told i.standings.standings.items))) (on-ok c.fetch.result (kept-none (act.Fetches c.args.class c.args.want (numbers (drop (length c.args.out.now.items) c.fetch.new.out.items)) ∷ []) i.standings.standings.items)) (made-one (act.Fetches c.args.class c.args.want (numbers (drop (length c.args.out.now.items) c.fetch.new.out.items))) (λ w. refl)) c.fetch.ensures.does)
+    rw (← c.self.view_is) (lifts-ok c.fetch.result (act.Fetches c.args.class c.args.want (numbers (drop (length c.args.out.now.items) c.fetch.new.out.items)) ∷ []) (record { side = i.side; slots = i.slots.slots.items; begun = i.begun.counts.items; standings = i.standings.standings.items; asked = i.asked; contents = i.contents }) (record { side = c.fetch.new.self; slots = i.slots.slots.items; begun = i.begun.counts.items; standings = i.standings.standings.items; asked = i.asked; contents = i.contents }) refl (omega arith) refl refl (on-ok c.fetch.result (keep-one (act.Fetches c.args.class c.args.want (numbers (drop (length c.args.out.now.items) c.fetch.new.out.items))) (λ w. refl) (waits_told i.standings.standings.items))) (on-ok c.fetch.result (kept-none (act.Fetches c.args.class c.args.want (numbers (drop (length c.args.out.now.items) c.fetch.new.out.items)) ∷ []) i.standings.standings.items)) (made-one (act.Fetches c.args.class c.args.want (numbers (drop (length c.args.out.now.items) c.fetch.new.out.items))) (λ w. refl) (λ w. refl)) c.fetch.ensures.does)

@@ -1,7 +1,7 @@
 use Rattle.bm_world.proofs.Alive.{living-received, receives-living}
 use Rattle.bm_world.proofs.Lived.{lived-received, parcel-lived}
 use Rattle.bm_world.proofs.living.LivingSidePost.receive.Goals as goal
-use Rattle.std.proofs.Common.{[], ◌∷◌, refl}
+use Rattle.std.proofs.Common.{arith, [], ◌∷◌, refl}
 use Rattle.std.specs.Option.{option_map_or}
 use Rattle.bm_law_order.specs.Act as act
 use Rattle.bm_post.specs.Rights.{numbers}
@@ -26,4 +26,4 @@ returns-clause-some c =
 pub returns-clause-does : goal.returns-clause-does
 returns-clause-does c =
     let i = c.self.inside in
-    rw (← c.self.view_is) (lifts (act.Receives c.args.class (option_map_or (λ units. numbers units.items) c.receive.result []) ∷ []) (record { side = i.side; slots = i.slots.slots.items; begun = i.begun.counts.items; standings = i.standings.standings.items; asked = i.asked }) (record { side = c.receive.new.self; slots = i.slots.slots.items; begun = i.begun.counts.items; standings = i.standings.standings.items; asked = i.asked }) refl refl refl (keep-one (act.Receives c.args.class (option_map_or (λ units. numbers units.items) c.receive.result [])) (λ w. refl)) (made-one (act.Receives c.args.class (option_map_or (λ units. numbers units.items) c.receive.result [])) (λ w. refl)) c.receive.ensures.does)
+    rw (← c.self.view_is) (lifts (act.Receives c.args.class (option_map_or (λ units. numbers units.items) c.receive.result []) ∷ []) (record { side = i.side; slots = i.slots.slots.items; begun = i.begun.counts.items; standings = i.standings.standings.items; asked = i.asked; contents = i.contents }) (record { side = c.receive.new.self; slots = i.slots.slots.items; begun = i.begun.counts.items; standings = i.standings.standings.items; asked = i.asked; contents = i.contents }) refl (omega arith) refl refl refl (keep-one (act.Receives c.args.class (option_map_or (λ units. numbers units.items) c.receive.result [])) (λ w. refl)) (made-one (act.Receives c.args.class (option_map_or (λ units. numbers units.items) c.receive.result [])) (λ w. refl) (λ w. refl)) c.receive.ensures.does)

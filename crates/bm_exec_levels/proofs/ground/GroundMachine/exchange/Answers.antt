@@ -1,0 +1,28 @@
+use Rattle.std.proofs.Common.{◌∙◌, refl, arith}
+use Rattle.bm_exec_levels.proofs.Grounds.{sound-still, statements-still}
+use Rattle.bm_exec_levels.proofs.Scripts.{around-same, scripted-of, words-most}
+use Rattle.bm_exec_levels.proofs.ground.GroundMachine.exchange.Goals as goal
+
+pub returns-clause-sound : goal.returns-clause-sound
+returns-clause-sound g c =
+    let s = c.requires.sound in
+    let e = c.exchange.ensures in
+    (sound-still g.W.Knows 1 c.args.self.now.program.now c.args.self.now.own.now c.exchange.new.own e.between e.at s.0, s.1, c.exchange.ensures.tied, λ h. e.between.stays.inside ∙ s.3 h)
+
+pub returns-clause-asked : goal.returns-clause-asked
+returns-clause-asked g c =
+    let e = c.exchange.ensures in
+    let most = e.between.stays.asks_most in
+    let words = words-most g.W.Knows c.args.self.now.own.now c.exchange.new.own (statements-still g.W.Knows 1 c.args.self.now.program.now c.args.self.now.own.now c.exchange.new.own e.between) in
+    omega (arith, most, words)
+
+pub returns-clause-around : goal.returns-clause-around
+returns-clause-around g c =
+    let e = c.exchange.ensures in
+    around-same g.W.Knows c.args.self.now.within c.args.self.now.own.now c.exchange.new.own c.requires.sound.0.at.ready.inside (statements-still g.W.Knows 1 c.args.self.now.program.now c.args.self.now.own.now c.exchange.new.own e.between)
+
+pub returns-clause-keeps : goal.returns-clause-keeps
+returns-clause-keeps g c =
+    let e = c.exchange.ensures in
+    let s = c.requires.sound in
+    (scripted-of g.W.Knows c.args.self.now.within c.args.self.now.own.now c.exchange.new.own s.3 s.0.at.ready.inside (statements-still g.W.Knows 1 c.args.self.now.program.now c.args.self.now.own.now c.exchange.new.own e.between), refl, refl)

@@ -1,0 +1,52 @@
+-- What names hold of the objects that live, where slots hold references too. (This project's own. In the kernel a slot, a map value's field for a
+-- pointer to an object, has a reference of its own, which bpf_kptr_xchg hands over.)
+use Rattle.std.specs.Prelude.{◌≡◌, ◌<◌, ◌≤◌, ℕ, zero, suc, Bool, false, eqb, if◌then◌else◌, List, [], ◌∷◌, map, Option, Some, None, slice_get}
+use Rattle.bm_journal.specs.declared.ids.ObjId.{ObjId}
+use Rattle.bm_lang.specs.declared.scenario.MapDeclaration.{MapDeclaration}
+use Rattle.bm_lang.specs.declared.scenario.TypeDeclaration.{TypeDeclaration}
+use Rattle.bm_law_order.specs.Slots.{Named}
+use Rattle.bm_law_scenario.specs.Declared.{Declared}
+use Rattle.bm_grace.specs.Known.{Living, Lives, Objects}
+use Rattle.bm_world.specs.Contents.{names_in, slot_at}
+use Rattle.bm_exec.specs.Living.{IsMade, one_less}
+
+-- how many of these slots hold a reference to unit u
+abbrev pub is_of : (u : ℕ) → Option ObjId → Bool
+is_of u None = false
+is_of u (Some x) = eqb x.unit u
+
+abbrev pub times_held : (u : ℕ) → List Named → ℕ
+times_held u [] = 0
+times_held u (s ∷ ss) = if is_of u s.slot.held then suc (times_held u ss) else times_held u ss
+
+-- so many references less
+abbrev pub less_times : ℕ → Option Living → Option Living
+less_times zero o = o
+less_times (suc k) o = one_less (less_times k o)
+
+-- the objects to which names hold references, each with how many of these: all but those that slots hold
+abbrev pub in_hands : Objects → Lives
+in_hands o = λ u. less_times (times_held u o.slots) (o.lives u)
+
+-- An object that lives was made as one of its type. There are references to it, among them those that slots hold; and only one where its
+-- type carries no count of them.
+pub record IsKept (types : List TypeDeclaration) (held : ℕ) (object : Living) : Type 0 where
+  pub made : IsMade types object.class object.type object.values
+  pub some : 0 < object.count
+  pub most : held ≤ object.count
+  pub single : made.declared.counted ≡ false → object.count ≡ 1
+
+-- what the slot at a place holds lives, as an object of the slot's type
+pub record IsStocked (maps : List MapDeclaration) (lives : Lives) (place : ℕ) (x : ObjId) : Type 0 where
+  pub slot : MapDeclaration
+  pub found : slice_get maps place ≡ Some slot
+  pub object : Living
+  pub lives_so : lives x.unit ≡ Some object
+  pub life_is : object.life ≡ x.life
+  pub type_is : object.type ≡ slot.type_id.0
+
+-- The slots are those of the declared maps, so it is of each object that lives, and of what each slot holds.
+pub record AreStocked (d : Declared) (o : Objects) : Type 0 where
+  pub names : names_in o.slots ≡ map (λ (m : MapDeclaration). m.name) d.maps
+  pub kept : (u : ℕ) (object : Living) → o.lives u ≡ Some object → IsKept d.types (times_held u o.slots) object
+  pub stocked : (place : ℕ) (x : ObjId) → (slot_at place o.slots).slot.held ≡ Some x → IsStocked d.maps o.lives place x
