@@ -32,7 +32,7 @@ fn found(text: &[u8], fault: At) -> Result<At, Fail> {
 // Texts with the place of their fault, where they have one, and the place of their first form that can't be run yet.
 #[test]
 fn texts_with_the_place_of_their_first_form(rt: HostRuntime) -> Result<(), Fail> {
-    let table: [(&str, At, At); 29] = [
+    let table: [(&str, At, At); 33] = [
         // none
         ("", None, None),
         (
@@ -68,7 +68,8 @@ fn texts_with_the_place_of_their_first_form(rt: HostRuntime) -> Result<(), Fail>
         ("type item list { a }", None, Some((1, 11))),
         ("type item\ttree { a }", None, Some((1, 11))),
         // maps
-        ("type item { a }\nslot s item\n", None, Some((2, 1))),
+        ("type item { a }\nslot s item\n", None, None),
+        ("slot s item slot t item\ntree g item", None, Some((2, 1))),
         ("type item { a }\r\nlist q item\n", None, Some((2, 1))),
         ("type item { a }\n  tree t item\n", None, Some((2, 3))),
         // scripts
@@ -78,7 +79,17 @@ fn texts_with_the_place_of_their_first_form(rt: HostRuntime) -> Result<(), Fail>
         ("run 0 main turns { 0 }", None, None),
         ("script m plain { section { lock q } }", None, Some((1, 28))),
         // the first of several
-        ("processors 3 deferred on slot s item", None, Some((1, 26))),
+        ("processors 3 deferred on list q item", None, Some((1, 26))),
+        (
+            "slot s t script m plain { xchg x s null }\n unlock lock",
+            None,
+            Some((2, 2)),
+        ),
+        (
+            "slot s t script h handler { xchg y s x pop_back x q }",
+            None,
+            Some((1, 40)),
+        ),
         (
             "script m plain { new x t drop x }\nyield add",
             None,
@@ -92,6 +103,8 @@ fn texts_with_the_place_of_their_first_form(rt: HostRuntime) -> Result<(), Fail>
         // a fault whose place is on the same line, or in the same column
         ("a b c add", Some((1, 5)), None),
         ("a\nadd b\nc", Some((3, 1)), Some((2, 1))),
+        // a slot and an exchange before a fault, and such a form behind it
+        ("slot s t xchg 7 add", Some((1, 15)), None),
     ];
     for (text, fault, want) in table {
         assert_eq!(rt; found(text.as_bytes(), fault)?, want, "{text}");
@@ -112,7 +125,8 @@ fn with_statement(alloc: Global, word: &str) -> Result<Vec<u8>, Fail> {
 #[test]
 fn statements_with_their_first_word(rt: HostRuntime) -> Result<(), Fail> {
     let words = [
-        "xchg",
+        "list",
+        "tree",
         "lock",
         "unlock",
         "push_front",
@@ -128,8 +142,8 @@ fn statements_with_their_first_word(rt: HostRuntime) -> Result<(), Fail> {
         assert_eq!(rt; found(text.as_slice(), None)?, Some((8, 10)), "{word}");
     }
     for word in [
-        "new", "drop", "acquire", "get", "if", "else", "repeat", "section", "yield", "null", "pad",
-        "x",
+        "new", "drop", "acquire", "get", "slot", "xchg", "if", "else", "repeat", "section",
+        "yield", "null", "pad", "x",
     ] {
         let text = with_statement(rt.alloc(), word)?;
         assert_eq!(rt; found(text.as_slice(), None)?, None, "{word}");

@@ -1,8 +1,8 @@
 //! Whole calls: journals, totals, and devices that fail. What is expected is worked out by hand from the rules.
 
 use crate::calls::{agrees, call, call_over, call_with, give_their_journals, give_their_totals};
-use crate::examples::EXAMPLES;
 use crate::examples::one_object::SCENARIO;
+use crate::examples::{EXAMPLES, MORE_EXAMPLES};
 use bm_text::{MemSink, MemSource};
 use std::alloc::Global;
 use std::process::Abort;
@@ -122,6 +122,12 @@ fn journals_and_their_totals_alone(rt: HostRuntime) -> Result<(), Fail> {
 fn examples_give_their_journals(rt: HostRuntime) -> Result<(), Fail> {
     give_their_journals(&rt, rt.alloc(), EXAMPLES)?;
     give_their_totals(&rt, rt.alloc(), EXAMPLES)
+}
+
+#[test]
+fn more_examples_give_their_journals(rt: HostRuntime) -> Result<(), Fail> {
+    give_their_journals(&rt, rt.alloc(), MORE_EXAMPLES)?;
+    give_their_totals(&rt, rt.alloc(), MORE_EXAMPLES)
 }
 
 // Blocks six deep, with names that are bound again. By the rules an `item` has 16 bytes and a `big` 512, so the opening

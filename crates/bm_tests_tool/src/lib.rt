@@ -24,4 +24,6 @@ mod refusal_tests;
 #[cfg(test)]
 mod section_tests;
 #[cfg(test)]
+mod slot_tests;
+#[cfg(test)]
 mod worked_tests;

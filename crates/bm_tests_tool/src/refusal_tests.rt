@@ -91,11 +91,28 @@ const RULES_OF_BUILT_FORMS: &[(&str, &str)] = &[
         "new x item 1\nif x { if x { drop x } else { drop x } }",
         "line 8: rule 12",
     ),
+    // exchanges of a slot of items
+    ("xchg x s y", "line 7: rule 1"),
+    ("new x item 1\nxchg y s x", "line 8: rule 2"),
+    (
+        "new x item 1\nif x { xchg y s x\nif y { drop y }\ndrop x }",
+        "line 10: rule 3",
+    ),
+    ("xchg x s null", "line 8: rule 4"),
+    (
+        "new x other 1\nif x {\nxchg y s x if y { drop y } }",
+        "line 9: rule 12",
+    ),
+    (
+        "xchg x s null\nif x { acquire y x drop y drop x }",
+        "line 8: rule 12",
+    ),
 ];
 
 fn are_rejected(rt: &impl Abort, alloc: Global, rows: &[(&str, &str)]) -> Result<(), Fail> {
     for (body, line) in rows {
-        let text = with_body(alloc, "type item { a }", body)?;
+        let declared = "type item { a } type other { b } slot s item";
+        let text = with_body(alloc, declared, body)?;
         let told = format!(in alloc; "bpfmem: script main {line}\n")?;
         is_refused(rt, alloc, REPLAY, text.as_str(), 6, told.as_str(), body)?;
         is_refused(rt, alloc, TOTALS, text.as_str(), 6, told.as_str(), body)?;
@@ -120,7 +137,7 @@ const RULES_OF_ALL_FORMS: &[(&str, &str)] = &[
     ("lock q\nnew x job 1", "line 8: rule 9"),
     ("lock q", "line 8: rule 10"),
     (
-        "xchg x s null\nif x { acquire y x drop y drop x }",
+        "lock q pop_front x q unlock\nif x { acquire y x drop y drop x }",
         "line 8: rule 12",
     ),
 ];
@@ -272,11 +289,40 @@ const CAUSES: &[(&str, u8, &str, u8, &str)] = &[
     ),
     // a fault and a form that can't be run yet, in both orders
     (
-        "scenario {\nprocessors 2 pages 1 deferred on type t { a }\nslot s t\npages",
+        "scenario {\nprocessors 2 pages 1 deferred on type t { a }\nslot s t script m plain { lock\npages",
         5,
-        "line 3 column 1: not_yet",
+        "line 3 column 27: not_yet",
         5,
         "line 4 column 1: unexpected",
+    ),
+    (
+        "scenario {\nprocessors 2 pages 1 deferred on type t { a }\nslot s t\npages",
+        5,
+        "line 4 column 1: unexpected",
+        5,
+        "line 4 column 1: unexpected",
+    ),
+    // a slot of one name with another, of a type that there isn't, and one that there isn't
+    (
+        "scenario { processors 1 pages 1 deferred off type t { a }\nslot s t slot s t }",
+        5,
+        "line 2 column 15: duplicate",
+        5,
+        "line 2 column 15: duplicate",
+    ),
+    (
+        "scenario { processors 1 pages 1 deferred off type t { a }\nslot s u }",
+        5,
+        "line 2 column 8: unknown",
+        5,
+        "line 2 column 8: unknown",
+    ),
+    (
+        "scenario { processors 1 pages 1 deferred off type t { a } slot s t\nscript m plain { xchg x q null } }",
+        5,
+        "line 2 column 25: unknown",
+        5,
+        "line 2 column 25: unknown",
     ),
     (
         "scenario {\nprocessors 1\npages x\ndeferred on",
