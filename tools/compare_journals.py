@@ -3,8 +3,8 @@
 
 For each seed a scenario is made, replayed by both, and the journals are compared byte by byte; one that differs is told, and
 its scenario kept in the folder for temporary files. Scenarios that exceed the limit of statements are left out. The last line
-counts. The status is 0 where no journal differs. With `--processors` the scenarios are of two to eight processors, with `--objects` of
-the whole language: with slots, lists and trees, which the program can't run yet.
+counts. The status is 0 where no journal differs. With `--processors` the scenarios are of two to eight processors, with `--slots` they have
+slots, which handlers exchange too, and with `--objects` they are of the whole language: with lists and trees, which the program can't run yet.
 """
 
 import subprocess

@@ -5,7 +5,7 @@ import tempfile
 from collections.abc import Iterator
 from pathlib import Path
 
-from object_scenarios import ObjectMaker
+from object_scenarios import ObjectMaker, SlotMaker
 from random_scenarios import Maker
 
 
@@ -18,10 +18,12 @@ def words_with_makers(about: str) -> tuple[str, Iterator[tuple[int, Maker]]]:
     """The same, and for each seed what makes its scenario."""
     parser = parser_of(about)
     parser.add_argument("--processors", action="store_true", help="scenarios of two to eight processors, not of one")
-    parser.add_argument("--objects", action="store_true", help="scenarios of the whole language")
+    forms = parser.add_mutually_exclusive_group()
+    forms.add_argument("--slots", action="store_true", help="scenarios with slots too, without lists and trees")
+    forms.add_argument("--objects", action="store_true", help="scenarios of the whole language")
     given = parser.parse_args()
     program, seeds = program_and_seeds(given)
-    made_by = ObjectMaker if given.objects else Maker
+    made_by = ObjectMaker if given.objects else SlotMaker if given.slots else Maker
     return program, ((seed, made_by(seed, given.processors)) for seed in seeds)
 
 

@@ -2,7 +2,8 @@
 """Writes the scenarios of examples/ that have a journal, and these, as the constants that the tests of the program walk through.
 
 The files of examples/ are the home of these texts. A test can't read files, so it has them as constants, in
-crates/bm_tests_tool/src/examples/, one file an example, and a table of them in crates/bm_tests_tool/src/examples.rt.
+crates/bm_tests_tool/src/examples/, one file an example, and tables of them in crates/bm_tests_tool/src/examples.rt, each of which is
+short enough for the proof of the test that walks it.
 
     tools/examples_to_tests.py            writes these files
     tools/examples_to_tests.py --check    writes nothing; ends with 1 where one of them isn't what it would be
@@ -13,6 +14,10 @@ import sys
 TOP = pathlib.Path(__file__).resolve().parent.parent
 EXAMPLES = TOP / "examples"
 SOURCES = TOP / "crates/bm_tests_tool/src"
+
+# The tables, and how many examples one may have.
+TABLES = ["EXAMPLES", "MORE_EXAMPLES"]
+MOST = 10
 
 
 def constant(name: str, text: str) -> str:
@@ -40,14 +45,18 @@ def files() -> dict[pathlib.Path, str]:
             + "\n"
             + constant("JOURNAL", journal)
         )
-    rows = "".join(row(name) for name in names)
+    if len(names) > MOST * len(TABLES):
+        sys.exit(f"more than {MOST * len(TABLES)} examples: another table is needed, and a test that walks it")
+    tables = ""
+    for index, table in enumerate(TABLES):
+        rows = "".join(row(name) for name in names[MOST * index : MOST * (index + 1)])
+        tables += f"\n/// {'Scenarios' if index == 0 else 'More scenarios'}, each with its journal.\n"
+        tables += f"pub(crate) const {table}: &[(&str, &str)] = &[\n{rows}];\n"
     made[SOURCES / "examples.rt"] = (
         "//! The scenarios of examples/ with their journals, as tools/examples_to_tests.py writes them. Where the journals are from is\n"
         "//! told in examples/README.md.\n\n"
         + "".join(f"pub(crate) mod {name};\n" for name in names)
-        + "\n/// Each scenario with its journal.\npub(crate) const EXAMPLES: &[(&str, &str)] = &[\n"
-        + rows
-        + "];\n"
+        + tables
     )
     return made
 

@@ -4,8 +4,8 @@
 For each seed a scenario is made and replayed, and its journal judged by laid.py; one that doesn't fit is told, and its scenario kept
 in the folder for temporary files. Then one entry of the journal is turned to a wrong one, which has to be refused. Scenarios that exceed
 the limit of statements are left out. The last line counts. The status is 0 where each journal fits and each turned one doesn't. With
-`--processors` the scenarios are of two to eight processors, with `--objects` of the whole language. The second simulator, as
-`tools/second_simulator.py`, can stand for the program.
+`--processors` the scenarios are of two to eight processors, with `--slots` they have slots, with `--objects` they are of the whole language.
+The second simulator, as `tools/second_simulator.py`, can stand for the program.
 """
 
 import random

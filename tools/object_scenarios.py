@@ -1,8 +1,8 @@
-"""Random scenarios of the whole language, as the checker accepts them: with second references, fields that are read, slots, lists, trees."""
+"""Random scenarios, as the checker accepts them: of the whole language, with slots, lists and trees, or with slots alone."""
 
 import random
 
-from language import Block, Graph, ObjectType, Scenario, Statement
+from language import AtLine, Block, Graph, ObjectType, RunLine, Scenario, Script, Statement
 from random_scenarios import DEEPEST, Maker
 
 KINDS = {"list": ("push_front", "push_back"), "tree": ("add",)}
@@ -90,4 +90,62 @@ class ObjectMaker(Maker):
     def scenario(self) -> Scenario:
         made = super().scenario()
         made.maps = {each.name: each for each in self.maps}
+        return made
+
+
+class SlotMaker(ObjectMaker):
+    """As its parent, but with slots alone: without lists, trees and locks. What is taken out of a slot may be read, referred to again, or put into a slot."""
+
+    # how deep exchanges stand inside one another, of which each opens a block, and how deep they may
+    inner, innermost = 0, 4
+
+    def object_type(self, number: int) -> ObjectType:
+        return Maker.object_type(self, number)
+
+    def script(self, name: str, kind: str, lengths: list[int]) -> Script:
+        # shorter ones than of its parent, since what is taken may be put again
+        made = super().script(name, kind, [max(length // 3, 1) for length in lengths])
+        # handlers that free what others made: so frees stand within frees
+        taken = [statement for _ in range(self.draw.randint(0, 2)) for statement in self.exchange(self.draw.choice(self.maps), [])]
+        if kind == "handler":
+            made.body.statements[:0] = taken
+        else:
+            made.body.statements[:0] = self.filling()
+        return made
+
+    def filling(self) -> list[Statement]:
+        """Objects are put into slots, which handlers then find."""
+        made = []
+        for slot in self.maps if self.draw.random() < 0.4 else []:
+            name, self.names = f"p{self.names}", self.names + 1
+            self.made[name] = slot.type
+            new = Statement("new", [name], type=slot.type, values=[self.draw.randint(0, 99) for _ in slot.type.fields])
+            made += [new, Statement("if", [name], blocks=[Block(self.exchange(slot, [name]))])]
+        return made
+
+    def planned(self, handlers: list[Script]) -> list[AtLine]:
+        made = super().planned(handlers)
+        # some come a few steps after one that they may interrupt, so that frees stand within frees
+        for each in list(made):
+            if each.level < 3 and self.draw.random() < 0.5:
+                made.append(AtLine(each.processor, each.step + self.draw.randint(1, 4), each.level + 1, self.draw.choice(handlers)))
+        return made
+
+    def run_lines(self, ordinary: list[Script]) -> list[RunLine]:
+        # at least one, which scripts with slots need to meet another
+        return super().run_lines(ordinary) + [RunLine(self.processor(), self.draw.choice(ordinary))]
+
+    def exchange(self, slot: Graph, put: list[str]) -> list[Statement]:
+        # sometimes what was there gets the name of what is put
+        old = put[0] if put and self.draw.random() < 0.2 else self.fresh()
+        self.made[old] = slot.type
+        return [Statement("xchg", [old, *put], map=slot), self.if_there(old)]
+
+    def if_there(self, name: str) -> Statement:
+        if self.inner == self.innermost or self.draw.random() < 0.5:
+            return super().if_there(name)
+        self.inner += 1
+        # DEEPEST, so that no other block stands in it
+        made = Statement("if", [name], blocks=[Block(self.use_of(name, DEEPEST, 1))])
+        self.inner -= 1
         return made
