@@ -1,5 +1,5 @@
 -- Blocks as lists of statements, and the ends of an `if` and of a `repeat`.
-use Rattle.std.proofs.Common.{◌≡◌, ℕ, List, [], ◌∷◌, ◌++◌, length, refl, sym, ap, ap₂, ◌∙◌, Option, Some, None, Vec, Global, Result, Ok, Err, OnOk, ◌<◌, ◌≤◌, ◌+◌, suc, get_or, drop, arith, length-append, drop-cons, add-one}
+use Rattle.std.proofs.Common.{◌≡◌, ℕ, List, [], ◌∷◌, length, refl, sym, ap, ◌∙◌, Option, Some, None, Vec, Global, Result, Ok, Err, OnOk, ◌<◌, ◌≤◌, ◌+◌, suc, get_or, drop, drop-cons, add-one}
 use mathlib.Core.Path.{fun_ext}
 use mathlib.Core.Former.{Count}
 use Rattle.bm_lang.specs.declared.scenario.Action.{Action, If', Repeat, Section, If, None', Some', back-Action-If-2}

@@ -1,5 +1,5 @@
 -- Logs of changes, and what applying one gives.
-use Rattle.std.proofs.Common.{◌≡◌, ℕ, Bool, true, false, not, ◌==◌, ◌||◌, ◌<◌, ◌-◌, zero, suc, length, get_or, slice_get, option_to_list, Option, Some, None, arith, List, [], ◌∷◌, ◌++◌, map, Result, Ok, Err, OnOk, OnErr, refl, sym, ap, ap₂, ◌∙◌, subst, inl, inr, ◌⊎◌, Bor, if◌then◌else◌}
+use Rattle.std.proofs.Common.{◌≡◌, ℕ, Bool, true, false, ◌==◌, ◌||◌, ◌<◌, ◌-◌, zero, suc, length, get_or, slice_get, option_to_list, Option, Some, None, arith, List, [], ◌∷◌, ◌++◌, map, Result, Ok, Err, OnOk, OnErr, refl, sym, ap, ap₂, ◌∙◌, subst, inl, inr, Bor, if◌then◌else◌}
 use mathlib.Core.Path.{fun_ext}
 use Rattle.std.proofs.lemmas.Option.{slice_get-get_or}
 use Rattle.std.specs.List.{list_any}
@@ -10,15 +10,15 @@ use Rattle.bm_check.specs.declared.name_state.NameState.TheVariants.{Unbound, Sp
 use Rattle.bm_check.specs.declared.meeting.Meeting.{Meeting}
 use Rattle.bm_check.specs.declared.meeting.Meeting.TheVariants.{Branches, Body}
 use Rattle.bm_check.specs.declared.name_log.Change.{Change}
-use Rattle.bm_check.specs.NameStates.{is_soft, soft_spent, is_same, agrees, clashes, joined_state}
-use Rattle.bm_check.specs.Names.{Names, put, with_name, soft_ended, some_name}
+use Rattle.bm_check.specs.NameStates.{is_soft, is_same}
+use Rattle.bm_check.specs.Names.{Names, put, with_name, soft_ended}
 use Rattle.bm_check.specs.Tables.{AreListed, listed}
 use Rattle.bm_check.specs.declared.name_state.HeldLock.{HeldLock}
 use Rattle.bm_check.specs.declared.stop.Stop.{Stop}
 use Rattle.bm_check.specs.Blocks.{at, Broken, Reaches}
 use Rattle.bm_check.specs.Meetings.{breaks, outcome, rule_of, after_meeting}
 use Rattle.bm_check.specs.Changes.{at_states, applied, AreMet, Leads, end_of, breaks_at, met_at, some_break}
-use Rattle.bm_check.proofs.TableLemmas.{is_or_not, same_word, word_is_itself, flipped, named}
+use Rattle.bm_check.proofs.TableLemmas.{is_or_not, same_word, flipped, named}
 use Rattle.bm_check.proofs.Growth.{put_has}
 
 -- a change, as a function of what it gives

@@ -17,7 +17,7 @@ use Rattle.bm_check.specs.Names.{Names, Covered, put, soft_ended, back_to, branc
 use Rattle.bm_check.specs.Statements.{Setting, row_of, need, broken_by, names_after, lock_after, bound_free, with_binding, binds_of, type_of_map, holds_type, is_counted, has_field, any_type, pushed, owning, reading, non_owning, doubtful, declared, outside_locks, no_second_lock, no_handler, is_handler, under_lock_of, is_lock_of, some_lock, lock_from_here, is_free_of_locks, setting_of}
 use Rattle.bm_check.specs.Blocks.{Place, at, Outcome, Broken, Reaches, after_if, after_repeat, from_inside, given_back, judged_action, judged_else, judged_block, judged_row, last_line, end_line}
 use Rattle.bm_check.specs.Scripts.{judged_script, broken_rule}
-use Rattle.bm_check.specs.Values.{Value, Empty, Null, Owning, NonOwning, is_owning, Store, with_value, with_lock, MayBind, NoLock, HoldsLock, NotHandler, Answered, Refers, Pushes, Pops, Times, SafeAction, SafeElse, SafeBlock, SafeRow, Fits, Stands, empty_store, OwnsNothing, AcceptedIsSafe, StatesAreRight}
+use Rattle.bm_check.specs.Values.{Value, Empty, Null, Owning, NonOwning, is_owning, Store, with_value, with_lock, MayBind, NoLock, HoldsLock, NotHandler, Answered, Refers, Pushes, Pops, Times, SafeAction, SafeElse, SafeBlock, SafeRow, Fits, Stands, empty_store, OwnsNothing, AcceptedIsSafe, StatesAreRight, soft_ended as ended}
 use Rattle.bm_check.proofs.TableLemmas.{is_or_not, same_word, no_head, no_tail}
 use Rattle.bm_check.proofs.Growth.{action_grows, else_grows, block_grows, grows_on, put_grows, back_grows, not_front, unless_reaches, then_reaches, same_place, statement_reaches}
 use Rattle.bm_check.proofs.Needs.{both_none, met, not_met, lock_free, lock_here, is_owned, is_readable, is_node, not_owned, free_owns, fits_spent, fits_non_null, null_or_not, fits_joined_first, fits_joined_second, fits_start, fits_repeated}
@@ -49,7 +49,7 @@ stands_known n l s x st f h = record { values = values; lock = h.lock }
     values : (y : List ℕ) → Fits ((put n x st).state y) (s.value y)
     values y = elim (is_or_not (bytes_eq x y)) [ inl isit ↦ rw isit (subst (λ (z : List ℕ). Fits st (s.value z)) (same_word x y isit) f) | inr isnt ↦ rw isnt (h.values y) ]
 
-stands_soft : (n : Names) (l : HeldLock) (s : Store) → Stands (at n l) s → Stands (at (soft_ended n) l) s
+stands_soft : (n : Names) (l : HeldLock) (s : Store) → Stands (at n l) s → Stands (at (soft_ended n) l) (ended s)
 stands_soft n l s h = record { values = λ y. fits_spent (n.state y) (s.value y) (h.values y); lock = h.lock }
 
 stands_locked : (n : Names) (l k : HeldLock) (s : Store) → Stands (at n l) s → Stands (at n k) (with_lock s k)
@@ -163,11 +163,11 @@ plain_safe e n l (Add q x) plain s Q here h k = pushes_safe e n l s here q x Q (
 plain_safe e n l (PopFront x q) plain s Q here h k =
     let b = both_none (option_or (under_lock_of q l) (declared e q)) _ h in
     let c = both_none (under_lock_of q l) (declared e q) b.0 in
-    pops_safe e n l s here (soft_ended n) (stands_soft n l s here) q x Maybe Owning Q maybe_null maybe_owning c.0 c.1 b.1 k
+    pops_safe e (soft_ended n) l (ended s) (stands_soft n l s here) (soft_ended n) (stands_soft n l s here) q x Maybe Owning Q maybe_null maybe_owning c.0 c.1 b.1 k
 plain_safe e n l (PopBack x q) plain s Q here h k =
     let b = both_none (option_or (under_lock_of q l) (declared e q)) _ h in
     let c = both_none (under_lock_of q l) (declared e q) b.0 in
-    pops_safe e n l s here (soft_ended n) (stands_soft n l s here) q x Maybe Owning Q maybe_null maybe_owning c.0 c.1 b.1 k
+    pops_safe e (soft_ended n) l (ended s) (stands_soft n l s here) (soft_ended n) (stands_soft n l s here) q x Maybe Owning Q maybe_null maybe_owning c.0 c.1 b.1 k
 plain_safe e n l (First x t) plain s Q here h k =
     let b = both_none (option_or (under_lock_of t l) (declared e t)) _ h in
     let c = both_none (under_lock_of t l) (declared e t) b.0 in
@@ -177,7 +177,7 @@ plain_safe e n l (Remove y t x) plain s Q here h k =
     let c = both_none (under_lock_of t l) (option_or (non_owning t (n.state x)) (declared e t)) b.0 in
     let d = both_none (non_owning t (n.state x)) (declared e t) c.1 in
     let o = is_node t (n.state x) d.0 in
-    (node o.0 o.1, pops_safe e n l s here (soft_ended n) (stands_soft n l s here) t y Maybe Owning Q maybe_null maybe_owning c.0 d.1 b.1 k)
+    (node o.0 o.1, pops_safe e (soft_ended n) l (ended s) (stands_soft n l s here) (soft_ended n) (stands_soft n l s here) t y Maybe Owning Q maybe_null maybe_owning c.0 d.1 b.1 k)
   where
     node : (u : TypeId) → ((n.state x ≡ Soft u t) ⊎ (n.state x ≡ MaybeSoft u t)) → (s.value x ≡ Null) ⊎ ((u : TypeId) × (s.value x ≡ NonOwning u t))
     node u which = elim which [
@@ -191,7 +191,7 @@ plain_safe e n l (Lock g) plain s Q here h k =
 plain_safe e n l Unlock plain s Q here h k =
     let b = both_none (option_or (some_lock l) (lock_from_here l)) None h in
     let o = lock_here l b.0 in
-    (o.0, here.lock ∙ o.1, k (with_lock s Nothing) (stands_locked (soft_ended n) l Nothing s (stands_soft n l s here)))
+    (o.0, here.lock ∙ o.1, k (with_lock (ended s) Nothing) (stands_locked (soft_ended n) l Nothing (ended s) (stands_soft n l s here)))
 plain_safe e n l Yield plain s Q here h k =
     let b = both_none (option_or (no_handler e) (outside_locks l)) None h in
     let c = both_none (no_handler e) (outside_locks l) b.0 in

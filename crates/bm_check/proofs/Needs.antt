@@ -12,7 +12,7 @@ use Rattle.bm_check.specs.declared.rule.Rule.{Rule}
 use Rattle.bm_check.specs.NameStates.{is_free, owns, is_same, agrees, clashes, joined_state, repeated_state, soft_spent, non_null}
 use Rattle.bm_check.specs.Statements.{need, owning, reading, non_owning, doubtful, some_lock, lock_from_here, is_free_of_locks}
 use Rattle.bm_check.proofs.TableLemmas.{is_or_not}
-use Rattle.bm_check.specs.Values.{Value, Null, is_owning, Fits, Refers}
+use Rattle.bm_check.specs.Values.{Value, Empty, Null, Owning, NonOwning, is_owning, Fits, Refers, soft_spent as ended}
 
 pub both_none : (a b : Option Rule) → option_or a b ≡ None → (a ≡ None) × (b ≡ None)
 both_none None b h = (refl, h)
@@ -92,13 +92,23 @@ fits_free (Owned t) v h f = cc
 fits_free (Soft t g) v h f = cc
 fits_free (MaybeSoft t g) v h f = cc
 
-pub fits_spent : (s : NameState) (v : Value) → Fits s v → Fits (soft_spent s) v
-fits_spent Unbound v f = f
-fits_spent Spent v f = f
-fits_spent (Maybe t) v f = f
-fits_spent (Owned t) v f = f
-fits_spent (Soft t g) v f = ap is_owning f
-fits_spent (MaybeSoft t g) v f = elim f [ inl null ↦ ap is_owning null | inr node ↦ ap is_owning node ]
+-- a value whose non-owning reference ends owns no more than before
+ended_owns : (v : Value) → is_owning v ≡ false → is_owning (ended v) ≡ false
+ended_owns Empty h = refl
+ended_owns Null h = refl
+ended_owns (Owning t) h = h
+ended_owns (NonOwning t g) h = refl
+
+pub fits_spent : (s : NameState) (v : Value) → Fits s v → Fits (soft_spent s) (ended v)
+fits_spent Unbound v f = ended_owns v f
+fits_spent Spent v f = ended_owns v f
+fits_spent (Maybe t) v f = elim f [ inl null ↦ inl (ap ended null) | inr owns ↦ inr (ap ended owns) ]
+fits_spent (Owned t) v f = ap ended f
+fits_spent (Soft t g) v f = ap (λ (w : Value). is_owning (ended w)) f
+fits_spent (MaybeSoft t g) v f = elim f [
+  | inl null ↦ ap (λ (w : Value). is_owning (ended w)) null
+  | inr node ↦ ap (λ (w : Value). is_owning (ended w)) node
+]
 
 -- the name of an `if`
 not_null : (t : TypeId) → Refers Null t → ⊥

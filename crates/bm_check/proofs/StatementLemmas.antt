@@ -1,5 +1,5 @@
 -- A statement without blocks, once its needs are met and it has spent what it spends.
-use Rattle.std.proofs.Common.{◌≡◌, ℕ, Option, Some, None, Ok, Err, refl, sym, ap, ap₂, ◌∙◌}
+use Rattle.std.proofs.Common.{◌≡◌, ℕ, Option, Some, None, Ok, Err, sym, ap, ap₂, ◌∙◌}
 use Rattle.std.specs.Option.{option_or}
 use Rattle.bm_lang.specs.declared.scenario.Action.{Action}
 use Rattle.bm_check.specs.declared.name_state.HeldLock.{HeldLock}
@@ -9,7 +9,7 @@ use Rattle.bm_check.specs.declared.stop.Stop.TheVariants as stop
 use Rattle.bm_check.specs.Names.{Names}
 use Rattle.bm_check.specs.Answers.{IsBound, IsJudged}
 use Rattle.bm_check.specs.Statements.{Row, bound_free, with_binding, broken_by, lock_after}
-use Rattle.bm_check.specs.Blocks.{at, Reaches, Broken, after_statement, unless_broken}
+use Rattle.bm_check.specs.Blocks.{at, Reaches, Broken, after_statement}
 
 binds_by : (r : Row) (n : Names) (o : Option Rule) → r.needs ≡ None → n ≡ r.leaves → bound_free n r.bound ≡ o → broken_by r ≡ o
 binds_by r n o met is free = ap (λ (t : Option Rule). option_or t (bound_free r.leaves r.bound)) met ∙ (ap (λ (m : Names). bound_free m r.bound) (sym is) ∙ free)

@@ -38,6 +38,14 @@ pub record Store : Type 0 where
 abbrev pub with_value : Store → List ℕ → Value → Store
 with_value s x v = record { value = λ y. if bytes_eq x y then v else s.value y; lock = s.lock }
 
+-- Non-owning references end, where objects may leave their list or tree.
+abbrev pub soft_spent : Value → Value
+soft_spent (NonOwning t g) = Empty
+soft_spent v = v
+
+abbrev pub soft_ended : Store → Store
+soft_ended s = record { value = λ x. soft_spent (s.value x); lock = s.lock }
+
 abbrev pub with_lock : Store → HeldLock → Store
 with_lock s l = record { value = s.value; lock = l }
 
@@ -92,12 +100,12 @@ abbrev mutual
   SafeAction e s (PushFront q x) Q = Pushes e s q x Q
   SafeAction e s (PushBack q x) Q = Pushes e s q x Q
   SafeAction e s (Add t x) Q = Pushes e s t x Q
-  SafeAction e s (PopFront x q) Q = Pops e s x q Owning Q
-  SafeAction e s (PopBack x q) Q = Pops e s x q Owning Q
+  SafeAction e s (PopFront x q) Q = Pops e (soft_ended s) x q Owning Q
+  SafeAction e s (PopBack x q) Q = Pops e (soft_ended s) x q Owning Q
   SafeAction e s (First x t) Q = Pops e s x t (λ u. NonOwning u t) Q
-  SafeAction e s (Remove y t x) Q = ((s.value x ≡ Null) ⊎ ((u : TypeId) × (s.value x ≡ NonOwning u t))) × Pops e s y t Owning Q
+  SafeAction e s (Remove y t x) Q = ((s.value x ≡ Null) ⊎ ((u : TypeId) × (s.value x ≡ NonOwning u t))) × Pops e (soft_ended s) y t Owning Q
   SafeAction e s (Lock g) Q = NotHandler e × NoLock s × Q (with_lock s (Here g))
-  SafeAction e s Unlock Q = (g : MapId) × (s.lock ≡ Here g) × Q (with_lock s Nothing)
+  SafeAction e s Unlock Q = (g : MapId) × (s.lock ≡ Here g) × Q (with_lock (soft_ended s) Nothing)
   SafeAction e s Yield Q = NotHandler e × NoLock s × Q s
   SafeAction e s (If' x body otherwise) Q =
       (s.value x ≡ Null → SafeElse e s otherwise Q)

@@ -28,15 +28,6 @@ struct Leaving {
     lock: HeldLock,
 }
 
-fn from_inside(lock: HeldLock) -> HeldLock
-    ensures { result ≡ spec.from_inside lock }
-{
-    match lock {
-        HeldLock::Here(graph) => HeldLock::Around(graph),
-        other => other,
-    }
-}
-
 fn is_here(lock: HeldLock) -> bool
     ensures { spec.given_back lock ≡ (if result then Some LockInItsBlock else None) }
 {
@@ -115,7 +106,7 @@ pub fn judge_block<'a>(
     ensures judged { IsJudged result (names_in log.new) (spec.judged_block (setting_of setting.now.scenario.now setting.now.kind) (spec.at (names_in log.old) lock) block.now) }
     ensures kept { OnOk result (KeepsStart log.old log.new) }
 {
-    let mut held = from_inside(lock);
+    let mut held = lock.from_inside();
     for statement in &block.statements {
         held = judge_action(alloc, setting, log, held, statement.line, &statement.action)?;
     }

@@ -24,14 +24,29 @@ pub enum NameState {
 }
 
 /// The lock that a script holds at a statement.
-#[derive(Clone, Copy, Debug)]
+#[derive(Clone, Copy, Debug, Default)]
 pub enum HeldLock {
     /// No lock is held.
+    #[default]
     Nothing,
     /// The lock of this graph is held, and was taken in this block.
     Here(MapId),
     /// The lock of this graph is held, and was taken in a block around this one.
     Around(MapId),
+}
+
+impl HeldLock {
+    ghost use Rattle.bm_check.specs.Blocks as blocks;
+
+    /// The lock as an inner block sees it: one that is held was taken in a block around it.
+    pub fn from_inside(self) -> HeldLock
+        ensures { result ≡ blocks.from_inside self }
+    {
+        match self {
+            HeldLock::Here(graph) => HeldLock::Around(graph),
+            other => other,
+        }
+    }
 }
 
 impl NameState {

@@ -1,17 +1,17 @@
-use Rattle.std.proofs.Common.{◌≡◌, ℕ, sym, ◌∙◌, ap, refl, subst, [], Err, Option, Some, None}
+use Rattle.std.proofs.Common.{◌≡◌, ℕ, sym, ◌∙◌, ap, refl, subst, [], Err, Some, None}
 use Rattle.std.proofs.lemmas.Result.{err_from_is_err_and}
 use Rattle.bm_check.specs.declared.name_log.NameLog.{NameLog}
 use Rattle.bm_check.specs.Changes.{names_in, at_states, Leads, Starts}
 use Rattle.bm_check.proofs.ChangeLemmas.{leads_as, leads_later, no_changes}
 use Rattle.bm_check.specs.Statements.{setting_of}
-use Rattle.bm_lang.specs.declared.scenario.Action.{If, back-Action-If-2}
-use Rattle.bm_lang.specs.declared.scenario.Block.{Block, out-Block}
+use Rattle.bm_lang.specs.declared.scenario.Action.{If}
+use Rattle.bm_lang.specs.declared.scenario.Block.{out-Block}
 use Rattle.bm_check.specs.declared.name_state.HeldLock.{HeldLock}
 use Rattle.bm_check.specs.Answers.{IsJudged, IsOther}
 use Rattle.bm_check.specs.declared.name_state.NameState.TheVariants.{Spent}
 use Rattle.bm_check.specs.NameStates.{non_null}
 use Rattle.bm_check.specs.Names.{Names, put, back_to}
-use Rattle.bm_check.specs.Blocks.{at, Reaches, judged_block, judged_else, from_inside, after_if, end_line, last_line}
+use Rattle.bm_check.specs.Blocks.{at, Reaches, judged_block, from_inside, after_if, end_line}
 use Rattle.bm_check.proofs.Growth.{Grows, block_grows}
 use Rattle.bm_check.proofs.BlockLemmas.{err_then, err_statement, one_statement, block_judged, block_whole, judged_list, block_ends, plain_is, repeat_is, if_is, if_whole, first_grows, last_is, OtherEnds, forth_there, outer_there, kept_on}
 use Rattle.bm_check.proofs.block.+blocks.Goals as goal

@@ -1,4 +1,4 @@
-use Rattle.std.proofs.Common.{◌≡◌, sym, ◌∙◌, ap, refl}
+use Rattle.std.proofs.Common.{sym, ◌∙◌, ap, refl}
 use Rattle.bm_check.specs.Names.{Names}
 use Rattle.bm_check.specs.Blocks.{at, Broken, Reaches}
 use Rattle.bm_check.specs.Meetings.{outcome}

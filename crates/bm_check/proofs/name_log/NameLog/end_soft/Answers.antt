@@ -1,4 +1,4 @@
-use Rattle.std.proofs.Common.{◌≡◌, List, ℕ, [], ◌∷◌, ◌++◌, length, None, Some, slice_get, ◌-◌, sym, ◌∙◌, ap, subst, Bor}
+use Rattle.std.proofs.Common.{◌≡◌, List, ℕ, [], length, Some, slice_get, ◌-◌, sym, ◌∙◌, ap, subst, Bor}
 use Rattle.bm_check.specs.Tables.{AreListed}
 use Rattle.bm_check.specs.Changes.{names_in}
 use Rattle.bm_check.proofs.ChangeLemmas.{last_off, none_soft, popped, no_last}

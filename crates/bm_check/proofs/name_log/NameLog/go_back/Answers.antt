@@ -1,4 +1,4 @@
-use Rattle.std.proofs.Common.{sym, ◌∙◌, ap, refl}
+use Rattle.std.proofs.Common.{sym, ◌∙◌, ap}
 use Rattle.bm_check.specs.Names.{Names}
 use Rattle.bm_check.specs.Changes.{names_in, at_states}
 use Rattle.bm_check.proofs.ChangeLemmas.{leads_as, no_changes}

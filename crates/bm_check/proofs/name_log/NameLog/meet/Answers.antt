@@ -1,4 +1,4 @@
-use Rattle.std.proofs.Common.{◌≡◌, ℕ, List, Bool, true, false, map, ◌++◌, sym, ◌∙◌, ap, ap₂, refl, subst}
+use Rattle.std.proofs.Common.{◌≡◌, ℕ, List, Bool, true, false, map, ◌++◌, sym, ◌∙◌, ap, ap₂, subst}
 use Rattle.std.specs.List.{list_any}
 use Rattle.bm_check.specs.declared.name_state.NameState.{NameState}
 use Rattle.bm_check.specs.declared.name_log.Change.{Change}

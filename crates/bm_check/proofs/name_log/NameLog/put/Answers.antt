@@ -1,4 +1,3 @@
-use Rattle.std.proofs.Common.{◌≡◌}
 use Rattle.bm_check.specs.Changes.{names_in}
 use Rattle.bm_check.specs.Tables.{names_of}
 use Rattle.bm_check.specs.declared.name_log.Change.{Change}

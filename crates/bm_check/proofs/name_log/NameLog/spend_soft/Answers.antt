@@ -1,11 +1,9 @@
 use Rattle.std.proofs.Common.{◌≡◌, true, false, sym, ◌∙◌, ap, refl, inl, inr}
 use Rattle.std.specs.Str.{bytes_eq}
 use Rattle.std.specs.List.{list_any}
-use Rattle.bm_check.specs.declared.name_state.NameState.TheVariants.{Spent}
 use Rattle.bm_check.specs.NameStates.{is_soft}
-use Rattle.bm_check.specs.Names.{soft_ended, put}
+use Rattle.bm_check.specs.Names.{soft_ended}
 use Rattle.bm_check.specs.Changes.{names_in}
-use Rattle.bm_check.specs.Tables.{words_of}
 use Rattle.bm_check.proofs.TableLemmas.{absent, is_or_not, word_is_itself}
 use Rattle.bm_check.proofs.ChangeLemmas.{one_ended}
 use Rattle.bm_check.proofs.name_log.NameLog.spend_soft.Goals as goal
