@@ -6,9 +6,10 @@ use Rattle.bm_journal.specs.declared.ids.ObjId.{ObjId}
 use Rattle.bm_lang.specs.declared.scenario.TypeDeclaration.{TypeDeclaration}
 use Rattle.bm_lang.specs.declared.scenario.TypeId.{TypeId}
 use Rattle.bm_class.specs.Sizes.{class_of_size}
-use Rattle.bm_law_scenario.specs.Held.{Held, Nothing, Null, Object, Names, with_name, OwnsNothing}
+use Rattle.bm_law_scenario.specs.Held.{Held, Nothing, Null, Object, Soft, Names, soft_ended, soft_spent, with_name, OwnsNothing}
 use Rattle.bm_law_scenario.specs.Opened.{OfClass, object_size}
 use Rattle.bm_law_scenario.specs.Calls.{Puts, answered, taken}
+use Rattle.bm_check.specs.declared.name_state.HeldLock.{HeldLock}
 use Rattle.bm_check.specs.Values as safe
 use Rattle.bm_exec.specs.Runnable.{Classes, has_fields}
 use Rattle.bm_exec.specs.Stores.{store_of, value_of}
@@ -38,8 +39,8 @@ value-if : (b : Bool) (v w : Held) → value_of (if b then v else w) ≡ (if b t
 value-if true v w = refl
 value-if false v w = refl
 
-pub store-with : (x : List ℕ) (v : Held) (names : Names) → store_of (with_name x v names) ≡ safe.with_value (store_of names) x (value_of v)
-store-with x v names = ap (λ f. let s : safe.Store = record { value = f; lock = (store_of names).lock } in s) (fun_ext (λ y. value-if (bytes_eq x y) v (names y)))
+pub store-with : (x : List ℕ) (v : Held) (names : Names) (k : HeldLock) → store_of (with_name x v names) k ≡ safe.with_value (store_of names k) x (value_of v)
+store-with x v names k = ap (λ f. let s : safe.Store = record { value = f; lock = k } in s) (fun_ext (λ y. value-if (bytes_eq x y) v (names y)))
 
 -- what a name holds after it got something
 pub here : (x : List ℕ) (v : Held) (names : Names) (y : List ℕ) → bytes_eq x y ≡ true → with_name x v names y ≡ v
@@ -64,6 +65,7 @@ owns-none : (u : ℕ) (v : Held) → is_owning (value_of v) ≡ false → refers
 owns-none u Nothing e = refl
 owns-none u Null e = refl
 owns-none u (Object t v n) e = cc
+owns-none u (Soft t graph v n) e = refl
 
 refers-if : (u : ℕ) (b : Bool) (v w : Held) → refers u (if b then v else w) ≡ (if b then refers u v else refers u w)
 refers-if u true v w = refl
@@ -140,6 +142,7 @@ referring-none u (suc k) names some o r = owned (names r.0) (o r.0) r.1
     owned Nothing h e = cc
     owned Null h e = cc
     owned (Object t v n) h e = absurd h
+    owned (Soft t graph v n) h e = cc
 
 -- ---- lives
 
@@ -242,6 +245,7 @@ abbrev HeldAs : List TypeDeclaration → Lives → Held → Type 0
 HeldAs types lives Nothing = Unit {0}
 HeldAs types lives Null = Unit {0}
 HeldAs types lives (Object t u n) = IsHeld types lives t u n
+HeldAs types lives (Soft t graph u n) = Unit {0}
 
 -- what a name holds after it got something: that, or what it held
 held-now : (x : List ℕ) (v : Held) (names : Names) (y : List ℕ) (w : Held) → with_name x v names y ≡ w → ((x ≡ y) × (v ≡ w)) ⊎ ((bytes_eq x y ≡ false) × (names y ≡ w))
@@ -250,7 +254,7 @@ held-now x v names y w f = elim (is_or_not (bytes_eq x y)) [
   | inr other ↦ inr (other, sym (elsewhere x v names y other) ∙ f)
 ]
 
-holds-null : (types : List TypeDeclaration) (base lives lives' : Lives) (names : Names) (x : List ℕ) (v : Held) → ((u : ℕ) → refers u v ≡ false) → ((t : TypeId) (u n : ℕ) → v ≡ Object t u n → ⊥) → is_owning (value_of (names x)) ≡ false → lives' ≡ lives → Holds types base lives names → Holds types base lives' (with_name x v names)
+pub holds-null : (types : List TypeDeclaration) (base lives lives' : Lives) (names : Names) (x : List ℕ) (v : Held) → ((u : ℕ) → refers u v ≡ false) → ((t : TypeId) (u n : ℕ) → v ≡ Object t u n → ⊥) → is_owning (value_of (names x)) ≡ false → lives' ≡ lives → Holds types base lives names → Holds types base lives' (with_name x v names)
 holds-null types base lives lives' names x v bare none free e h = record {
   living = λ y t u n f. elim (held-now x v names y _ f) [ inl a ↦ absurd (none t u n a.1) | inr b ↦ rw e (h.living y t u n b.1) ];
   reached = λ u. reached-aside u (base u) (lives u) (lives' u) x v names (owns-none u (names x) free) (bare u) (ap (λ (f : Lives). f u) e) (h.reached u);
@@ -508,6 +512,36 @@ holds-taken types base lives lives' names y t o free x h = by-life (lives o.unit
 pub holds-takes : (types : List TypeDeclaration) (base lives lives' : Lives) (names : Names) (y : List ℕ) (t : TypeId) (was : Option ObjId) → is_owning (value_of (names y)) ≡ false → TakesOut types t.0 lives lives' was → Holds types base lives names → Holds types base lives' (with_name y (taken t was) names)
 holds-takes types base lives lives' names y t None free e h = holds-null types base lives lives' names y Null (λ u. refl) (λ t u n f. null-is-none t u n f) free e h
 holds-takes types base lives lives' names y t (Some o) free x h = holds-taken types base lives lives' names y t o free x h
+
+-- ---- non-owning references
+
+-- which objects names hold decides, and no non-owning reference does
+pub holds-like : (types : List TypeDeclaration) (base lives : Lives) (names names' : Names) → ((x : List ℕ) (t : TypeId) (u n : ℕ) → names' x ≡ Object t u n → names x ≡ Object t u n) → ((u : ℕ) (x : List ℕ) → refers u (names x) ≡ refers u (names' x)) → Holds types base lives names → Holds types base lives names'
+holds-like types base lives names names' same e h = record {
+  living = λ x t u n f. h.living x t u n (same x t u n f);
+  reached = λ u. let r = h.reached u in record { own = r.own; held = referring-same u r.own names names' (e u) r.held; adds = r.adds };
+}
+
+object-before : (v : Held) (t : TypeId) (u n : ℕ) → soft_spent v ≡ Object t u n → v ≡ Object t u n
+object-before Nothing t u n e = cc
+object-before Null t u n e = cc
+object-before (Object s v m) t u n e = e
+object-before (Soft s graph v m) t u n e = cc
+
+refers-spent : (u : ℕ) (v : Held) → refers u v ≡ refers u (soft_spent v)
+refers-spent u Nothing = refl
+refers-spent u Null = refl
+refers-spent u (Object t v n) = refl
+refers-spent u (Soft t graph v n) = refl
+
+pub holds-ended : (types : List TypeDeclaration) (base lives : Lives) (names : Names) → Holds types base lives names → Holds types base lives (soft_ended names)
+holds-ended types base lives names h = holds-like types base lives names (soft_ended names) (λ x t u n f. object-before (names x) t u n f) (λ u x. refers-spent u (names x)) h
+
+-- a name holds what is no owning reference, in place of nothing
+pub holds-other : (types : List TypeDeclaration) (base lives : Lives) (names : Names) (x : List ℕ) (v : Held) → ((u : ℕ) → refers u v ≡ false) → ((t : TypeId) (u n : ℕ) → v ≡ Object t u n → ⊥) → Holds types base lives (with_name x Nothing names) → Holds types base lives (with_name x v names)
+holds-other types base lives names x v bare none h = holds-like types base lives (with_name x Nothing names) (with_name x v names)
+    (λ y t u n f. elim (held-now x v names y _ f) [ inl a ↦ absurd (none t u n a.1) | inr b ↦ elsewhere x Nothing names y b.0 ∙ b.1 ])
+    (λ u y. refers-if u (bytes_eq x y) Nothing (names y) ∙ (ap (λ (b : Bool). if bytes_eq x y then b else refers u (names y)) (sym (bare u)) ∙ sym (refers-if u (bytes_eq x y) v (names y)))) h
 
 -- where no name owns, there are the references of the others
 pub only-base : (types : List TypeDeclaration) (base lives : Lives) (names : Names) → Holds types base lives names → ((x : List ℕ) → OwnsNothing (names x)) → lives ≡ base

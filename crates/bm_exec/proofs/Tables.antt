@@ -5,10 +5,11 @@ use mathlib.Core.Path.{fun_ext}
 use Rattle.std.specs.List.{list_any, position_or_len}
 use Rattle.std.specs.Str.{bytes_eq}
 use Rattle.std.proofs.lemmas.Slice.Eq.{bytes_eq-Decides}
-use Rattle.bm_law_scenario.specs.Held.{Names, no_names, with_name, Nothing as NothingHeld}
+use Rattle.bm_law_scenario.specs.Held.{Names, no_names, soft_ended, soft_spent, with_name, Nothing as NothingHeld}
 use Rattle.bm_exec.specs.declared.holding.Holding.{Holding}
-use Rattle.bm_exec.specs.declared.holding.Holding.TheVariants.{Nothing}
+use Rattle.bm_exec.specs.declared.holding.Holding.TheVariants.{Nothing, Null, Object, Soft}
 use Rattle.bm_exec.specs.Seen.{held_of, looked_up, words_of}
+use Rattle.bm_exec.specs.Softened.{without_soft}
 
 pub is_or_not : (b : Bool) → (b ≡ true) ⊎ (b ≡ false)
 is_or_not true = inl refl
@@ -161,3 +162,25 @@ nothing-anew names x e = fun_ext (λ y. elim (is_or_not (bytes_eq x y)) [
 
 pub not-both : (b : Bool) (A : Type 0) → b ≡ false → b ≡ true → A
 not-both b A isnt isit = absurd (cc)
+
+-- ---- non-owning references end
+
+held-ended : (h : Holding) → held_of (without_soft h) ≡ soft_spent (held_of h)
+held-ended Nothing = refl
+held-ended Null = refl
+held-ended (Object t o) = refl
+held-ended (Soft t graph o) = refl
+
+looked-ended : (met : List (List ℕ)) (old now : List Holding) → length now ≡ length old → ((k : ℕ) → get_or now k Nothing ≡ without_soft (get_or old k Nothing)) → (x : List ℕ) → looked_up met now x ≡ without_soft (looked_up met old x)
+looked-ended [] old now long each x = refl
+looked-ended (w ∷ met) [] [] long each x = refl
+looked-ended (w ∷ met) (o ∷ old) [] long each x = absurd (omega (arith, long))
+looked-ended (w ∷ met) [] (n ∷ now) long each x = absurd (omega (arith, long))
+looked-ended (w ∷ met) (o ∷ old) (n ∷ now) long each x = elim (is_or_not (bytes_eq x w)) [
+  | inl isit ↦ rw isit (each 0)
+  | inr isnt ↦ rw isnt (looked-ended met old now (omega (arith, long)) (λ k. each (suc k)) x)
+]
+
+-- where they end at each place, they end for each name
+pub names-ended : (met : List (List ℕ)) (old now : List Holding) → length now ≡ length old → ((k : ℕ) → get_or now k Nothing ≡ without_soft (get_or old k Nothing)) → (λ x. held_of (looked_up met now x)) ≡ soft_ended (λ x. held_of (looked_up met old x))
+names-ended met old now long each = fun_ext (λ x. ap held_of (looked-ended met old now long each x) ∙ held-ended (looked_up met old x))

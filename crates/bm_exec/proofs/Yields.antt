@@ -15,7 +15,14 @@ use Rattle.bm_law_scenario.specs.Calls.{Allocates}
 use Rattle.bm_law_scenario.proofs.Freed.{either-free}
 use Rattle.bm_exec.specs.Around.{Around, Entered, HasLeft}
 use Rattle.bm_exec.specs.Living.{Acquired, Created, Disposed, Exchanged, GivenUp, HasRead, LetGo, Lives, reply_of}
-use Rattle.bm_exec.specs.Yields.{AllInTurn, Unyielding, YieldsLast}
+use Rattle.bm_graph.specs.Calls.{first_call}
+use Rattle.bm_graph.specs.Entries.{call_entry}
+use Rattle.bm_graph.specs.Ways.{pop_call, push_call, refused_push}
+use Rattle.bm_graph.specs.declared.ways.End.{End}
+use Rattle.bm_graph.specs.declared.ways.End.TheVariants as end_is
+use Rattle.bm_graph.specs.declared.ways.Way.{Way}
+use Rattle.bm_graph.specs.declared.ways.Way.TheVariants as way_is
+use Rattle.bm_exec.specs.Yields.{AllInTurn, IsInTurn, Unyielding, YieldsLast}
 
 -- ---- one after the other
 
@@ -108,3 +115,28 @@ entered-unyielding l z z' a b h = record { own = _; none = (tt, tt); records = h
 
 pub left-unyielding : (l : ℕ) (z z' : Around) (a b : Option Log) → HasLeft l z z' a b → Unyielding l a b
 left-unyielding l z z' a b h = record { own = _; none = (tt, tt); records = h.records }
+
+-- ---- calls on lists and trees
+
+pub one-unyielding : (l : ℕ) (e : Entry) (a b : Option Log) → IsInTurn e → Records l (e ∷ []) a b → Unyielding l a b
+one-unyielding l e a b quiet r = record { own = e ∷ []; none = (quiet, tt); records = r }
+
+pub push-quiet : (way : Way) (o : ObjId) (name : List ℕ) (position : ℕ) (owner : List ℕ) → IsInTurn (call_entry name position owner (push_call way o 0))
+push-quiet way_is.Front o name position owner = tt
+push-quiet way_is.Back o name position owner = tt
+push-quiet way_is.Ordered o name position owner = tt
+
+pub refused-quiet : (way : Way) (o : ObjId) (name : List ℕ) (position : ℕ) (owner : List ℕ) (place : ℕ) → IsInTurn (call_entry name position owner (refused_push way o 0 place))
+refused-quiet way_is.Front o name position owner place = tt
+refused-quiet way_is.Back o name position owner place = tt
+refused-quiet way_is.Ordered o name position owner place = tt
+
+pub pop-quiet : (end : End) (was : Option ObjId) (name : List ℕ) (position : ℕ) (owner : List ℕ) → IsInTurn (call_entry name position owner (pop_call end was))
+pop-quiet end_is.Front None name position owner = tt
+pop-quiet end_is.Front (Some o) name position owner = tt
+pop-quiet end_is.Back None name position owner = tt
+pop-quiet end_is.Back (Some o) name position owner = tt
+
+pub first-quiet : (item : Option ObjId) (name : List ℕ) (position : ℕ) (owner : List ℕ) → IsInTurn (call_entry name position owner (first_call item))
+first-quiet None name position owner = tt
+first-quiet (Some o) name position owner = tt

@@ -17,3 +17,5 @@ pub mod Meets
 pub mod Fields
 pub mod Named
 pub mod Given
+pub mod Guarded
+pub mod Softened

@@ -11,7 +11,7 @@ pub use Rattle.bm_world.specs.Lives.{count_in, recounted, type_in, values_in, wi
 use Rattle.bm_law.specs.Lists.{Log}
 use Rattle.bm_law.specs.Spans.{Records}
 use Rattle.bm_law.specs.State.{State}
-use Rattle.bm_law_scenario.specs.Held.{Held, Names, Nothing, Null, Object, with_name}
+use Rattle.bm_law_scenario.specs.Held.{Held, Names, Nothing, Null, Object, Soft, with_name}
 use Rattle.bm_law_scenario.specs.Opened.{OfClass}
 use Rattle.bm_law_scenario.specs.Calls.{Allocates, Frees}
 
@@ -154,11 +154,12 @@ pub record Exchanged (l : ℕ) (types : List TypeDeclaration) (t : ℕ) (name : 
   pub records : Records l (entry.Xchg name put was by ∷ []) log log'
   pub takes : TakesOut types t (without put lives) lives' was
 
--- whether what is held is a reference to an object of unit u
+-- whether what is held is a reference to an object of unit u; a non-owning one isn't counted
 abbrev pub refers : (u : ℕ) → Held → Bool
 refers u Nothing = false
 refers u Null = false
 refers u (Object t v n) = eqb v u
+refers u (Soft t graph v n) = false
 
 -- So many names hold references to unit u: where they let go of them one after the other, none is left.
 abbrev pub Referring : (u count : ℕ) → Names → Type 0

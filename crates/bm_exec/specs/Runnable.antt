@@ -1,5 +1,5 @@
--- Which scripts run so far: those of `new`, `drop`, `acquire`, `get`, `xchg`, `if`, `repeat`, `section` and `yield`.
-use Rattle.std.specs.Prelude.{◌≡◌, ℕ, Bool, true, false, ◌&&◌, List, length, eqb, nat_le, slice_get, map, None, Option, Some}
+-- What a script's statements need of what is declared, to run on a machine.
+use Rattle.std.specs.Prelude.{◌≡◌, ℕ, Bool, true, false, ◌&&◌, ◌||◌, not, List, length, eqb, nat_le, nat_lt, slice_get, map, None, Option, Some}
 use Rattle.bm_class.specs.Sizes.{class_of_size}
 use Rattle.bm_lang.specs.declared.scenario.Action.{Action, New, Drop, Acquire, Get, Exchange, If', Repeat, Section, Lock, Unlock, Yield, PushFront, PushBack, PopFront, PopBack, Add, First, Remove, Held-Action-If-2, None', Some'}
 use Rattle.bm_lang.specs.declared.scenario.Block.{Block, Block', Row_of-Statement, end_of-Statement, more_of-Statement}
@@ -15,16 +15,36 @@ abbrev pub has_fields : Option TypeDeclaration → ℕ → Bool
 has_fields None n = false
 has_fields (Some d) n = eqb n (length d.fields)
 
--- a slot, and no list or tree
+-- which kind of map it is
 abbrev pub is_slot_kind : MapKind → Bool
 is_slot_kind kind.Slot = true
 is_slot_kind kind.List = false
 is_slot_kind kind.Tree = false
 
+abbrev pub is_graph_kind : (is_tree : Bool) → MapKind → Bool
+is_graph_kind b kind.Slot = false
+is_graph_kind b kind.List = not b
+is_graph_kind b kind.Tree = b
+
 -- the map is declared, as a slot
 abbrev pub is_slot : Option MapDeclaration → Bool
 is_slot None = false
 is_slot (Some m) = is_slot_kind m.kind
+
+-- .. as a tree, or else as a list
+abbrev pub is_graph : (is_tree : Bool) → Option MapDeclaration → Bool
+is_graph b None = false
+is_graph b (Some m) = is_graph_kind b m.kind
+
+-- the type is declared with some field
+abbrev pub has_some_field : Option TypeDeclaration → Bool
+has_some_field None = false
+has_some_field (Some d) = nat_lt 0 (length d.fields)
+
+-- the map's objects have a first field, by which a tree orders them
+abbrev pub has_key : List TypeDeclaration → Option MapDeclaration → Bool
+has_key types None = false
+has_key types (Some m) = has_some_field (slice_get types m.type_id.0)
 
 abbrev mutual
   pub can_run_action : Declared → Action → Bool
@@ -36,16 +56,16 @@ abbrev mutual
   can_run_action d (Acquire y x) = true
   can_run_action d (Get x field) = true
   can_run_action d (Exchange y slot x) = is_slot (slice_get d.maps slot.0)
-  can_run_action d (Lock graph) = false
-  can_run_action d Unlock = false
+  can_run_action d (Lock graph) = is_graph false (slice_get d.maps graph.0) || is_graph true (slice_get d.maps graph.0)
+  can_run_action d Unlock = true
   can_run_action d Yield = true
-  can_run_action d (PushFront list x) = false
-  can_run_action d (PushBack list x) = false
-  can_run_action d (PopFront x list) = false
-  can_run_action d (PopBack x list) = false
-  can_run_action d (Add tree x) = false
-  can_run_action d (First x tree) = false
-  can_run_action d (Remove y tree x) = false
+  can_run_action d (PushFront list x) = is_graph false (slice_get d.maps list.0)
+  can_run_action d (PushBack list x) = is_graph false (slice_get d.maps list.0)
+  can_run_action d (PopFront x list) = is_graph false (slice_get d.maps list.0)
+  can_run_action d (PopBack x list) = is_graph false (slice_get d.maps list.0)
+  can_run_action d (Add tree x) = is_graph true (slice_get d.maps tree.0) && has_key d.types (slice_get d.maps tree.0)
+  can_run_action d (First x tree) = is_graph true (slice_get d.maps tree.0)
+  can_run_action d (Remove y tree x) = is_graph true (slice_get d.maps tree.0)
 
   pub can_run_else : Declared → Held-Action-If-2 → Bool
   can_run_else d None' = true

@@ -5,13 +5,14 @@ use Rattle.std.specs.List.{list_any}
 use Rattle.std.specs.Str.{bytes_eq}
 use Rattle.bm_law_scenario.specs.Held as held
 use Rattle.bm_exec.specs.declared.holding.Holding.{Holding}
-use Rattle.bm_exec.specs.declared.holding.Holding.TheVariants.{Nothing, Null, Object}
+use Rattle.bm_exec.specs.declared.holding.Holding.TheVariants.{Nothing, Null, Object, Soft}
 use Rattle.bm_exec.specs.declared.names.NameTable.{NameTable}
 
 abbrev pub held_of : Holding → held.Held
 held_of Nothing = held.Nothing
 held_of Null = held.Null
 held_of (Object t o) = held.Object t o.unit o.life
+held_of (Soft t graph o) = held.Soft t graph o.unit o.life
 
 abbrev pub words_of : List (Vec ℕ) → List (List ℕ)
 words_of keys = map (λ k. k.items) keys

@@ -35,8 +35,8 @@ impl<'s> Activation<'s> {
         requires accepted { Accepted scenario.now script.now }
         requires types { scenario.now.types ≡ types.now.declared.now }
         requires maps { scenario.now.maps ≡ types.now.maps.now }
-        ensures start { IfOk result (λ begun. IsAtStart (declared_of types.now) script.now.body
-            begun.names (reverse begun.frame.blocks.items)) }
+        ensures start { IfOk result (λ begun. IsAtStart (declared_of types.now) script.now.kind
+            script.now.body begun.names (reverse begun.frame.blocks.items)) }
     {
         accepted_scripts_are_safe();
         let names = NameTable::for_script(alloc, script)?;

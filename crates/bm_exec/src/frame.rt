@@ -3,19 +3,22 @@
 ghost use Rattle.std.specs.Prelude.{◌≡◌, ◌⊎◌, ◌∷◌, ◌<◌, [], ℕ, IfSome, None, Some, false, length, reverse, suc, true};
 ghost use Rattle.arrayvec.specs.ArrayVec.{array_vec_len};
 ghost use Rattle.bm_exec.specs.Lists.{block_list};
+ghost use Rattle.bm_exec.specs.Stack.{lock_of, under_lock};
 ghost use Rattle.bm_exec.specs.Steps.{BeginsAgain, Pushed, Stepped};
 
 use arrayvec::ArrayVec;
+use bm_check::HeldLock;
 use bm_lang::{Block, Script, Statement};
 
-/// A block that is open: what it has still to run this time, how many more times it runs whole, and whether a plain section that a
-/// statement began ends with it.
+/// A block that is open: what it has still to run this time, how many more times it runs whole, whether a plain section that a
+/// statement began ends with it, and the lock that is held in it.
 #[derive(Clone, Copy, Default)]
 pub struct Open<'s> {
     pub rest: &'s [Statement],
     pub repeats: u32,
     pub body: Option<&'s Block>,
     pub leaves: bool,
+    pub lock: HeldLock,
 }
 
 /// What comes next in a script: a statement, the end of the section that one began, or nothing more.
@@ -65,6 +68,7 @@ fn again<'s>(ended: &Open<'s>) -> Option<Open<'s>>
         repeats: ended.repeats - 1,
         body: ended.body,
         leaves: ended.leaves,
+        lock: ended.lock,
     })
 }
 
@@ -82,6 +86,7 @@ pub fn next_statement<'s>(blocks: &mut ArrayVec<Open<'s>, 16>) -> Next<'s>
                 repeats: top.repeats,
                 body: top.body,
                 leaves: top.leaves,
+                lock: top.lock,
             });
             return Next::Statement(first);
         }
@@ -97,17 +102,46 @@ pub fn next_statement<'s>(blocks: &mut ArrayVec<Open<'s>, 16>) -> Next<'s>
     Next::End
 }
 
+/// The lock that is held in the innermost of some open blocks.
+pub fn held_lock<'s>(blocks: &ArrayVec<Open<'s>, 16>) -> HeldLock
+    ensures { result ≡ lock_of (reverse blocks.now.items) }
+{
+    match blocks.as_slice().last() {
+        Some(top) => top.lock,
+        None => HeldLock::Nothing,
+    }
+}
+
+/// The innermost of some open blocks is under another lock, or under none.
+pub fn set_lock<'s>(blocks: &mut ArrayVec<Open<'s>, 16>, lock: HeldLock)
+    ensures { reverse blocks.new.items ≡ under_lock lock (reverse blocks.old.items) }
+{
+    // No more than sixteen are open: the length says so.
+    let _open = blocks.len();
+    if let Some(top) = blocks.pop() {
+        blocks.push(Open {
+            rest: top.rest,
+            repeats: top.repeats,
+            body: top.body,
+            leaves: top.leaves,
+            lock,
+        });
+    }
+}
+
 /// Opens a block, which runs once; a section ends with it, or none.
 pub fn open_block<'s>(blocks: &mut ArrayVec<Open<'s>, 16>, block: &'s Block, leaves: bool)
     requires room { array_vec_len blocks.old < 16 }
     ensures pushed { Pushed (reverse blocks.old.items) (reverse blocks.new.items) (block_list block.now) 0 leaves block.now }
 {
     let rest = statements_of(block);
+    let lock = held_lock(blocks).from_inside();
     blocks.push(Open {
         rest,
         repeats: 0,
         body: Some(block),
         leaves,
+        lock,
     });
 }
 
@@ -116,10 +150,12 @@ pub fn repeat_block<'s>(blocks: &mut ArrayVec<Open<'s>, 16>, repeats: u32, block
     requires room { array_vec_len blocks.old < 16 }
     ensures pushed { Pushed (reverse blocks.old.items) (reverse blocks.new.items) [] repeats false block.now }
 {
+    let lock = held_lock(blocks).from_inside();
     blocks.push(Open {
         rest: &[],
         repeats,
         body: Some(block),
         leaves: false,
+        lock,
     });
 }

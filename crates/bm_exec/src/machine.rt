@@ -1,20 +1,24 @@
 //! Machines: what statements run on.
 
-ghost use Rattle.std.specs.Prelude.{◌≡◌, ◌+◌, ◌<◌, ◌≤◌, ◌^◌, ◌∷◌, [], ℕ, IfSome, IsOk, List, None, OnOk, Option, Some, false, is_some, slice_get, true};
+ghost use Rattle.std.specs.Prelude.{◌≡◌, ◌+◌, ◌<◌, ◌≤◌, ◌^◌, ◌∷◌, [], ℕ, Bool, IfOk, IfSome, IsOk, List, None, Ok, OnOk, Option, Some, false, is_some, length, slice_get, true};
 ghost use Rattle.bm_lang.specs.declared.scenario.MapDeclaration.{MapDeclaration};
 ghost use Rattle.bm_journal.specs.declared.entry.Entry.TheVariants as entry;
 ghost use Rattle.bm_law.specs.State.{State};
 ghost use Rattle.bm_law.specs.Lists.{Log, Leaves};
 ghost use Rattle.bm_law.specs.Spans.{Records};
 ghost use Rattle.bm_law_scenario.specs.Calls.{IsCounted};
-ghost use Rattle.bm_law_scenario.specs.Declared.{Declared, IsSlot};
+ghost use Rattle.bm_law_scenario.specs.Declared.{Declared, IsGraph, IsSlot};
 ghost use Rattle.bm_law_work.specs.Grown.{GrewBy};
+ghost use Rattle.bm_graph.specs.Ways.{is_for_tree};
+ghost use Rattle.bm_graph.specs.declared.ways.Way.TheVariants as way_is;
 ghost use Rattle.bm_exec.specs.Around.{Around, Entered, HasLeft, is_inside};
+ghost use Rattle.bm_exec.specs.Guarded.{Found, Guarded, HasLooked, IsShelved, Popped, PutIn, Refused, Removed, shelved_values, with_guard};
 ghost use Rattle.bm_exec.specs.Lists.{Behind};
 ghost use Rattle.bm_exec.specs.Living.{Acquired, Created, Exchanged, HasRead, HasType, IsMade, IsToPut, LetGo, Lives, LivesAs, type_in, values_in};
 ghost use Rattle.bm_exec.specs.Yields.{Unyielding};
 
 use bm_class::Class;
+use bm_graph::{End, Way};
 use bm_journal::{ObjId, Values};
 use bm_lang::{MapId, TypeId};
 use bm_word::{Name, NoMemory};
@@ -43,8 +47,11 @@ pub trait Machine {
     /// The plain section around the code.
     ghost around: { Self → Around };
 
-    /// How many times it was asked: for an object, a reference, a field, an exchange, the work after a statement, or the begin or the end
-    /// of a section. It may count beforehand what handlers that are planned may still ask for, so a call may lower it.
+    /// The lock that the code holds, and the objects that are in lists and trees.
+    ghost guarded: { Self → Guarded };
+
+    /// How many times it was asked: for an object, a reference, a field, an exchange, a call on a list or tree, the work after a statement, or
+    /// the begin or the end of a section. It may count beforehand what handlers that are planned may still ask for, so a call may lower it.
     ghost asked: { Self → ℕ };
 
     /// The classes for which deferred work runs behind each statement, until no flag is up; none where none runs.
@@ -72,6 +79,7 @@ pub trait Machine {
         ensures processor { processor self.new ≡ processor self.old }
         ensures behind { behind self.new ≡ behind self.old }
         ensures through { through self.new ≡ through self.old }
+        ensures guarded { guarded self.new ≡ guarded self.old }
         ensures around { around self.new ≡ around self.old }
         ensures keeps { keeps self.old self.new };
 
@@ -90,6 +98,7 @@ pub trait Machine {
         ensures processor { processor self.new ≡ processor self.old }
         ensures behind { behind self.new ≡ behind self.old }
         ensures through { through self.new ≡ through self.old }
+        ensures guarded { guarded self.new ≡ guarded self.old }
         ensures around { around self.new ≡ around self.old }
         ensures keeps { keeps self.old self.new };
 
@@ -108,6 +117,7 @@ pub trait Machine {
         ensures processor { processor self.new ≡ processor self.old }
         ensures behind { behind self.new ≡ behind self.old }
         ensures through { through self.new ≡ through self.old }
+        ensures guarded { guarded self.new ≡ guarded self.old }
         ensures around { around self.new ≡ around self.old }
         ensures keeps { keeps self.old self.new };
 
@@ -127,6 +137,7 @@ pub trait Machine {
         ensures processor { processor self.new ≡ processor self.old }
         ensures behind { behind self.new ≡ behind self.old }
         ensures through { through self.new ≡ through self.old }
+        ensures guarded { guarded self.new ≡ guarded self.old }
         ensures around { around self.new ≡ around self.old }
         ensures keeps { keeps self.old self.new };
 
@@ -141,6 +152,183 @@ pub trait Machine {
             → Exchanged (level self.old) (declared self.old).types m.type_id.0 name put
             (log self.old) (log self.new) (lives self.old) (lives self.new) result }
         ensures lists { lists self.new ≡ lists self.old }
+        ensures sound { sound self.new }
+        ensures level { level self.new ≡ level self.old }
+        ensures asked { asked self.new ≤ asked self.old + 1 }
+        ensures processor { processor self.new ≡ processor self.old }
+        ensures behind { behind self.new ≡ behind self.old }
+        ensures through { through self.new ≡ through self.old }
+        ensures guarded { guarded self.new ≡ guarded self.old }
+        ensures around { around self.new ≡ around self.old }
+        ensures keeps { keeps self.old self.new };
+
+    /// Takes the lock of a list or tree, by its number: none is held. It takes no memory but the recorder's. It stands for `bpf_spin_lock` of
+    /// kernel/bpf/helpers.c.
+    fn lock(&mut self, graph: MapId, name: Name)
+        requires sound { sound self.old }
+        requires room { asked self.old + 1 < 2 ^ 22 }
+        requires ground { level self.old ≡ 0 }
+        requires free { (guarded self.old).lock ≡ None }
+        requires graph { (b : Bool) × (m : MapDeclaration)
+            × IsGraph (declared self.old).maps b graph.0 m × (m.name ≡ name) }
+        ensures locked { Records (level self.old) (entry.Lock name ∷ [])
+            (log self.old) (log self.new) }
+        ensures guarded { guarded self.new ≡ with_guard (Some graph.0) (guarded self.old) }
+        ensures lists { lists self.new ≡ lists self.old }
+        ensures lives { lives self.new ≡ lives self.old }
+        ensures sound { sound self.new }
+        ensures level { level self.new ≡ level self.old }
+        ensures asked { asked self.new ≤ asked self.old + 1 }
+        ensures processor { processor self.new ≡ processor self.old }
+        ensures behind { behind self.new ≡ behind self.old }
+        ensures through { through self.new ≡ through self.old }
+        ensures around { around self.new ≡ around self.old }
+        ensures keeps { keeps self.old self.new };
+
+    /// Gives back the lock of a list or tree, by its number: it is the one that is held. It takes no memory but the recorder's. It stands for
+    /// `bpf_spin_unlock` of kernel/bpf/helpers.c.
+    fn unlock(&mut self, graph: MapId, name: Name)
+        requires sound { sound self.old }
+        requires room { asked self.old + 1 < 2 ^ 22 }
+        requires ground { level self.old ≡ 0 }
+        requires held { (guarded self.old).lock ≡ Some graph.0 }
+        requires graph { (b : Bool) × (m : MapDeclaration)
+            × IsGraph (declared self.old).maps b graph.0 m × (m.name ≡ name) }
+        ensures unlocked { Records (level self.old) (entry.Unlock name ∷ [])
+            (log self.old) (log self.new) }
+        ensures guarded { guarded self.new ≡ with_guard None (guarded self.old) }
+        ensures lists { lists self.new ≡ lists self.old }
+        ensures lives { lives self.new ≡ lives self.old }
+        ensures sound { sound self.new }
+        ensures level { level self.new ≡ level self.old }
+        ensures asked { asked self.new ≤ asked self.old + 1 }
+        ensures processor { processor self.new ≡ processor self.old }
+        ensures behind { behind self.new ≡ behind self.old }
+        ensures through { through self.new ≡ through self.old }
+        ensures around { around self.new ≡ around self.old }
+        ensures keeps { keeps self.old self.new };
+
+    /// Puts a reference into the list or tree whose lock is held, by its number: answers whether it did. It doesn't where the object is in a list or
+    /// tree already, and then nothing changes but that the call is recorded. Want of memory is the only refusal. From
+    /// `bpf_list_push_front_impl`, `bpf_list_push_back_impl` and `bpf_rbtree_add_impl` of kernel/bpf/helpers.c.
+    fn push(&mut self, graph: MapId, name: Name, way: Way, object: ObjId) -> Result<bool, NoMemory>
+        requires sound { sound self.old }
+        requires room { asked self.old + 1 < 2 ^ 22 }
+        requires ground { level self.old ≡ 0 }
+        requires held { (guarded self.old).lock ≡ Some graph.0 }
+        requires graph { (m : MapDeclaration)
+            × IsGraph (declared self.old).maps (is_for_tree way) graph.0 m
+            × (m.name ≡ name) × IsToPut m.type_id.0 (lives self.old) (Some object) }
+        requires keyed { way ≡ way_is.Ordered
+            → 0 < length (values_in (lives self.old object.unit)) }
+        ensures put_in { result ≡ Ok true → PutIn (level self.old) graph.0 name way object
+            (log self.old) (log self.new) (lives self.old) (lives self.new)
+            (guarded self.old) (guarded self.new) }
+        ensures refused { result ≡ Ok false
+            → Refused (level self.old) (declared self.old).types (declared self.old).maps
+            name way object
+            (log self.old) (log self.new) (lives self.old) (lives self.new)
+            (guarded self.old) (guarded self.new) }
+        ensures lists { OnOk result (lists self.new ≡ lists self.old) }
+        ensures sound { OnOk result (sound self.new) }
+        ensures level { OnOk result (level self.new ≡ level self.old) }
+        ensures asked { OnOk result (asked self.new ≤ asked self.old + 1) }
+        ensures processor { OnOk result (processor self.new ≡ processor self.old) }
+        ensures behind { OnOk result (behind self.new ≡ behind self.old) }
+        ensures through { through self.new ≡ through self.old }
+        ensures around { OnOk result (around self.new ≡ around self.old) }
+        ensures keeps { OnOk result (keeps self.old self.new) };
+
+    /// Takes the object at an end of the list whose lock is held, by its number: answers what it took, and None where the list is empty. Want of
+    /// memory is the only refusal. From `bpf_list_pop_front` and `bpf_list_pop_back` of kernel/bpf/helpers.c.
+    fn pop(&mut self, graph: MapId, name: Name, end: End) -> Result<Option<ObjId>, NoMemory>
+        requires sound { sound self.old }
+        requires room { asked self.old + 1 < 2 ^ 22 }
+        requires ground { level self.old ≡ 0 }
+        requires held { (guarded self.old).lock ≡ Some graph.0 }
+        requires graph { (m : MapDeclaration)
+            × IsGraph (declared self.old).maps false graph.0 m × (m.name ≡ name) }
+        ensures popped { IfOk result (λ was. (m : MapDeclaration)
+            → IsGraph (declared self.old).maps false graph.0 m
+            → Popped (level self.old) (declared self.old).types m.type_id.0 name end
+            (log self.old) (log self.new) (lives self.old) (lives self.new)
+            (guarded self.old) (guarded self.new) was) }
+        ensures lists { OnOk result (lists self.new ≡ lists self.old) }
+        ensures sound { OnOk result (sound self.new) }
+        ensures level { OnOk result (level self.new ≡ level self.old) }
+        ensures asked { OnOk result (asked self.new ≤ asked self.old + 1) }
+        ensures processor { OnOk result (processor self.new ≡ processor self.old) }
+        ensures behind { OnOk result (behind self.new ≡ behind self.old) }
+        ensures through { through self.new ≡ through self.old }
+        ensures around { OnOk result (around self.new ≡ around self.old) }
+        ensures keeps { OnOk result (keeps self.old self.new) };
+
+    /// Looks for the first object of the tree whose lock is held, by its number: None where the tree is empty. Want of memory is the only refusal.
+    /// From `bpf_rbtree_first` of kernel/bpf/helpers.c.
+    fn first(&mut self, graph: MapId, name: Name) -> Result<Option<ObjId>, NoMemory>
+        requires sound { sound self.old }
+        requires room { asked self.old + 1 < 2 ^ 22 }
+        requires ground { level self.old ≡ 0 }
+        requires held { (guarded self.old).lock ≡ Some graph.0 }
+        requires graph { (m : MapDeclaration)
+            × IsGraph (declared self.old).maps true graph.0 m × (m.name ≡ name) }
+        ensures found { IfOk result (λ item. (m : MapDeclaration)
+            → IsGraph (declared self.old).maps true graph.0 m
+            → Found (level self.old) (declared self.old).types m.type_id.0 graph.0 name
+            (log self.old) (log self.new) (guarded self.old) item) }
+        ensures guarded { OnOk result (guarded self.new ≡ guarded self.old) }
+        ensures lists { OnOk result (lists self.new ≡ lists self.old) }
+        ensures lives { OnOk result (lives self.new ≡ lives self.old) }
+        ensures sound { OnOk result (sound self.new) }
+        ensures level { OnOk result (level self.new ≡ level self.old) }
+        ensures asked { OnOk result (asked self.new ≤ asked self.old + 1) }
+        ensures processor { OnOk result (processor self.new ≡ processor self.old) }
+        ensures behind { OnOk result (behind self.new ≡ behind self.old) }
+        ensures through { through self.new ≡ through self.old }
+        ensures around { OnOk result (around self.new ≡ around self.old) }
+        ensures keeps { OnOk result (keeps self.old self.new) };
+
+    /// Takes an object that is in the tree whose lock is held out of it. Want of memory is the only refusal. From `bpf_rbtree_remove` of
+    /// kernel/bpf/helpers.c.
+    fn remove(&mut self, graph: MapId, name: Name, object: ObjId) -> Result<(), NoMemory>
+        requires sound { sound self.old }
+        requires room { asked self.old + 1 < 2 ^ 22 }
+        requires ground { level self.old ≡ 0 }
+        requires held { (guarded self.old).lock ≡ Some graph.0 }
+        requires graph { (m : MapDeclaration)
+            × IsGraph (declared self.old).maps true graph.0 m × (m.name ≡ name)
+            × IsShelved (declared self.old).types m.type_id.0 graph.0 (guarded self.old)
+            object.unit object.life }
+        ensures removed { OnOk result ((m : MapDeclaration)
+            → IsGraph (declared self.old).maps true graph.0 m
+            → Removed (level self.old) (declared self.old).types m.type_id.0 name object
+            (log self.old) (log self.new) (lives self.old) (lives self.new)
+            (guarded self.old) (guarded self.new)) }
+        ensures lists { OnOk result (lists self.new ≡ lists self.old) }
+        ensures sound { OnOk result (sound self.new) }
+        ensures level { OnOk result (level self.new ≡ level self.old) }
+        ensures asked { OnOk result (asked self.new ≤ asked self.old + 1) }
+        ensures processor { OnOk result (processor self.new ≡ processor self.old) }
+        ensures behind { OnOk result (behind self.new ≡ behind self.old) }
+        ensures through { through self.new ≡ through self.old }
+        ensures around { OnOk result (around self.new ≡ around self.old) }
+        ensures keeps { OnOk result (keeps self.old self.new) };
+
+    /// Reads a field, by its place, of an object that is in a list or tree whose lock is held. It takes no memory but the recorder's.
+    fn look(&mut self, object: ObjId, place: u8)
+        requires sound { sound self.old }
+        requires room { asked self.old + 1 < 2 ^ 22 }
+        requires ground { level self.old ≡ 0 }
+        requires shelved { (t graph : ℕ)
+            × IsShelved (declared self.old).types t graph (guarded self.old) object.unit object.life
+            × ((guarded self.old).lock ≡ Some graph) }
+        requires there { is_some
+            (slice_get (shelved_values ((guarded self.old).within object.unit)) place) ≡ true }
+        ensures looked { HasLooked (level self.old) object place
+            (log self.old) (log self.new) (guarded self.old) }
+        ensures guarded { guarded self.new ≡ guarded self.old }
+        ensures lists { lists self.new ≡ lists self.old }
+        ensures lives { lives self.new ≡ lives self.old }
         ensures sound { sound self.new }
         ensures level { level self.new ≡ level self.old }
         ensures asked { asked self.new ≤ asked self.old + 1 }
@@ -169,6 +357,7 @@ pub trait Machine {
         ensures processor { processor self.new ≡ processor self.old }
         ensures behind { behind self.new ≡ behind self.old }
         ensures through { through self.new ≡ through self.old }
+        ensures guarded { guarded self.new ≡ guarded self.old }
         ensures keeps { keeps self.old self.new };
 
     /// Ends the plain section that `enter` began; where it began none it does nothing. It takes no memory but the recorder's. It stands
@@ -186,6 +375,7 @@ pub trait Machine {
         ensures processor { processor self.new ≡ processor self.old }
         ensures behind { behind self.new ≡ behind self.old }
         ensures through { through self.new ≡ through self.old }
+        ensures guarded { guarded self.new ≡ guarded self.old }
         ensures keeps { keeps self.old self.new };
 
     /// Records that the code yields. It takes no memory but the recorder's.
@@ -200,6 +390,7 @@ pub trait Machine {
         ensures processor { processor self.new ≡ processor self.old }
         ensures behind { behind self.new ≡ behind self.old }
         ensures through { through self.new ≡ through self.old }
+        ensures guarded { guarded self.new ≡ guarded self.old }
         ensures around { around self.new ≡ around self.old }
         ensures keeps { keeps self.old self.new };
 
@@ -219,6 +410,7 @@ pub trait Machine {
         ensures processor { OnOk result (processor self.new ≡ processor self.old) }
         ensures behind { OnOk result (behind self.new ≡ behind self.old) }
         ensures through { through self.new ≡ through self.old }
+        ensures guarded { OnOk result (guarded self.new ≡ guarded self.old) }
         ensures around { OnOk result (around self.new ≡ around self.old) }
         ensures keeps { OnOk result (keeps self.old self.new) }
         ensures none { behind self.old ≡ None → IsOk result };

@@ -1,6 +1,7 @@
 //! The names of a running script.
 
-ghost use Rattle.std.specs.Prelude.{◌≡◌, length, vec_len, slice_index_or, EachIndex};
+ghost use Rattle.std.specs.Prelude.{◌≡◌, ℕ, length, vec_len, slice_index_or, EachIndex};
+ghost use Rattle.bm_exec.specs.Softened.{without_soft};
 ghost use Rattle.bm_exec.specs.declared.holding.Holding.TheVariants.{Nothing};
 
 use crate::holding::Holding;
@@ -36,9 +37,20 @@ fn clear_all(holdings: &mut [Holding])
     }
 }
 
+// Non-owning references end at each place.
+fn end_each(holdings: &mut [Holding])
+    ensures length { length holdings.new ≡ length holdings.old }
+    ensures each { (k : ℕ) → slice_index_or holdings.new k Nothing
+        ≡ without_soft (slice_index_or holdings.old k Nothing) }
+{
+    for holding in holdings.iter_mut() {
+        *holding = holding.ended();
+    }
+}
+
 impl NameTable {
     ghost use Rattle.std.specs.Prelude.{ℕ, List, true, IsOk, OnOk};
-    ghost use Rattle.bm_law_scenario.specs.Held.{no_names, with_name};
+    ghost use Rattle.bm_law_scenario.specs.Held.{no_names, soft_ended, with_name};
     ghost use Rattle.bm_exec.specs.Seen.{held_of, names_of, has_name};
 
     /// A table without names.
@@ -97,6 +109,14 @@ impl NameTable {
             return Ok(());
         }
         self.put(name, Holding::Nothing)
+    }
+
+    /// Lets no name hold a non-owning reference. It takes no memory, and all names stay there.
+    pub fn end_soft(&mut self)
+        ensures names { names_of self.new ≡ soft_ended (names_of self.old) }
+        ensures keys { self.new.names.keys ≡ self.old.names.keys }
+    {
+        end_each(self.holdings.as_mut_slice());
     }
 
     /// Lets no name hold anything. It takes no memory, and all names stay there.

@@ -19,15 +19,16 @@ use Rattle.bm_journal.specs.declared.ids.Tag.{Tag}
 use Rattle.bm_lang.specs.declared.scenario.MapDeclaration.{MapDeclaration}
 use Rattle.bm_due.specs.Standing as standing
 use Rattle.bm_due.specs.Standing.{kind_of}
-use Rattle.bm_law_order.specs.Calls.{is_call}
+use Rattle.bm_lang.specs.declared.scenario.MapId.{MapId}
+use Rattle.bm_law_order.specs.Calls.{is_call, lock_after}
 use Rattle.bm_law_scenario.specs.Calls.{IsCounted}
 use Rattle.bm_law_scenario.specs.Declared.{Declared, declared_in}
 use Rattle.bm_grace.specs.Known.{Living}
 use Rattle.bm_exec.specs.Living.{IsMade, IsToPut, count_in, type_in}
-use Rattle.bm_exec_levels.specs.Calling.{call-counts, call-inner, call-stays, counts-more, is_object_call}
+use Rattle.bm_exec_levels.specs.Calling.{Reckons, call-counts, call-inner, call-stays, counts-locked, counts-more, is_marked, is_object_call, lock_name}
 use Rattle.bm_exec_levels.specs.Slotted.{AreStocked, in_hands}
 use Rattle.bm_exec_levels.proofs.Stocked.{stocked-acquired, stocked-begun, stocked-ended, stocked-exchanged, stocked-given-up}
-use Rattle.bm_exec_levels.specs.AtProcessor.{IsAt, log_of}
+use Rattle.bm_exec_levels.specs.AtProcessor.{IsAt, lock_of, log_of}
 use Rattle.bm_exec_levels.specs.Growing.{IsInner, tells-inner}
 use Rattle.bm_exec_levels.specs.Hosting.{at-say, with_caches, with_side}
 use Rattle.bm_exec_levels.specs.Logged.{Tells}
@@ -50,7 +51,7 @@ tells-same s k n (Some es) g t = record { done = (let F : ℕ → Type 0 = λ p.
 
 -- what lives and what slots hold, where one more call is counted
 pub stocked-once : (d : Declared) (k : Known) → AreStocked d k.objects → AreStocked d (asked_once k).objects
-stocked-once d k a = record { names = a.names; kept = a.kept; stocked = a.stocked }
+stocked-once d k a = record { names = a.names; graphs = a.graphs; kinds = a.kinds; kept = a.kept; stocked = a.stocked; items = a.items }
 
 module _ {W : Type 0} (knows : Knows W) where
   -- what lives, and what slots hold, is as the program has it
@@ -111,7 +112,7 @@ module _ {W : Type 0} (knows : Knows W) where
       subst F (sym same) (record {
         at = stands-say l v.grace.processor p.scenario.now m.handlers.planned m.running.items (log_of m) (log_of k) e (call-stays e call) x mid.at;
         tells = told-more (Tells p.scenario.now v) (Tells p.scenario.now v) (log_of m) (log_of k) l e (λ es h. tells-inner p.scenario.now v es l e (call-inner e call) h) x mid.tells;
-        counts = counts-more m.calls l e (log_of m) (log_of k) (call-counts e call) x s.counts;
+        counts = counts-more m.calls (lock_of p m) l e (log_of m) (log_of k) (call-counts e call) x s.counts;
         ready = record {
           fits = r.fits;
           here = pr ∙ r.here;
@@ -154,5 +155,36 @@ module _ {W : Type 0} (knows : Knows W) where
       (subst (λ (x : Known). AreStocked (declared_in p.scenario.now) x.objects) (sym e) (stocked-exchanged (declared_in p.scenario.now) (known_of knows m).objects place (record { held = put; by = Some tag }) s.ready.stocked lt slot found held)) s
 
   -- an entry that is no call
-  pub at-noted : (l : ℕ) (p : Program) (m : Processor W) (z : Caches Recorded) (e : Entry) → kind_of e ≡ standing.Stays → IsInner e → is_call e ≡ false → z.processor ≡ m.caches.processor → Appends (log_of m) l e z.recorder.told → IsAt knows StandsAt l p m → IsAt knows StandsAt l p (with_caches m z)
+  pub at-noted : (l : ℕ) (p : Program) (m : Processor W) (z : Caches Recorded) (e : Entry) → kind_of e ≡ standing.Stays → IsInner e → is_marked e ≡ false → z.processor ≡ m.caches.processor → Appends (log_of m) l e z.recorder.told → IsAt knows StandsAt l p m → IsAt knows StandsAt l p (with_caches m z)
   at-noted l p m z e k i none same x s = at-say knows l p m z e k i none same x s
+
+  -- a lock is taken, or given back
+  pub at-locked : (l : ℕ) (p : Program) (m : Processor W) (z : Caches Recorded) (k : Option MapId) (e : Entry) → kind_of e ≡ standing.Stays → IsInner e → is_call e ≡ false → lock_after (lock_of p m) e ≡ lock_name p.scenario.now.maps k → z.processor ≡ m.caches.processor → Appends (log_of m) l e z.recorder.told → IsAt knows StandsAt l p m → IsAt knows StandsAt l p (record m { caches = z; locked = k })
+  at-locked l p m z k e stays inner none lock same a s =
+      let n : Known = known_of knows m in
+      let r = s.ready in
+      let K : Option (List ℕ) → Type 0 = λ x. IfSome z.recorder.told (Reckons m.calls x) in
+      record {
+        at = stands-say l n.grace.processor p.scenario.now m.handlers.planned m.running.items (log_of m) z.recorder.told e stays a s.at;
+        tells = told-more (Tells p.scenario.now n) (Tells p.scenario.now n) (log_of m) z.recorder.told l e (λ es h. tells-inner p.scenario.now n es l e inner h) a s.tells;
+        counts = subst K lock (counts-locked m.calls (lock_of p m) l e (log_of m) z.recorder.told none a s.counts);
+        ready = record {
+          fits = r.fits;
+          here = same ∙ r.here;
+          scripts = r.scripts;
+          planned = r.planned;
+          bound = r.bound;
+          tables = r.tables;
+          room_running = r.room_running;
+          room_tables = r.room_tables;
+          asks = r.asks;
+          words = r.words;
+          inside = r.inside;
+          calls = r.calls;
+          stocked = r.stocked;
+        };
+      }
+
+  -- a list or tree was called
+  pub at-graphed : (l : ℕ) (p : Program) (m : Processor W) (w : W) → (knows.known w).grace ≡ (known_of knows m).grace → (knows.known w).objects.asked ≡ (known_of knows m).objects.asked → StockedAt p w → IsAt knows StandsAt l p m → IsAt knows StandsAt l p (with_side m w)
+  at-graphed l p m w g a stocked s = at-uncounted l p m w g a stocked s

@@ -166,6 +166,7 @@ module _ {W : Type 0} (knows : Knows W) where
     came = came-none knows k m;
     stays = record {
       settled = refl;
+      locked = refl;
       running = refl;
       tables = refl;
       inside = refl;

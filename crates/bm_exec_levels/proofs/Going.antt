@@ -5,7 +5,7 @@ use Rattle.bm_plan.specs.Position.{AboutTo}
 use Rattle.bm_work.specs.Still.{goes-still}
 use Rattle.bm_due.specs.declared.planned.Due.{Due}
 use Rattle.bm_exec_levels.specs.AtProcessor.{Between, FineAt, IsAt, IsBegun, SameLives, Stays, due_cost}
-use Rattle.bm_exec_levels.specs.Hosting.{goes-joined, stays-same}
+use Rattle.bm_exec_levels.specs.Hosting.{goes-joined, lives-joined, lives-same, stays-same}
 use Rattle.bm_journal.specs.declared.ids.Domain.TheVariants.{Plain}
 use Rattle.bm_exec_levels.specs.Ready.{known_of, left_of, word_of}
 use Rattle.bm_exec_levels.specs.declared.processor.Processor.{Processor}
@@ -32,6 +32,7 @@ module _ {W : Type 0} (knows : Knows W) where
   stays-turn : (l : ℕ) (p : Program) (due : Due) (a b c d : Processor W) → Stays knows 0 0 p a b → Stays knows 0 0 p b c → IsBegun knows l p due b c → Stays knows (due_cost p due) 2 p c d → Stays knows 0 0 p a d
   stays-turn l p due a b c d x y g z = record {
     settled = z.settled ∙ y.settled ∙ x.settled;
+    locked = z.locked ∙ y.locked ∙ x.locked;
     running = z.running ∙ y.running ∙ x.running;
     tables = z.tables ∙ y.tables ∙ x.tables;
     inside = z.inside ∙ y.inside ∙ x.inside;
@@ -62,7 +63,7 @@ module _ {W : Type 0} (knows : Knows W) where
 
   module _ (l : ℕ) (p : Program) where
     pub going-none : (a : Processor W) → IsAt knows AboutTo l p a → FineAt knows (l + 1) a → Going l p a a
-    going-none a x f = record { at = x; between = between-none (l + 1) p a f; lives = refl; quiet = λ _. refl }
+    going-none a x f = record { at = x; between = between-none (l + 1) p a f; lives = lives-same knows a; quiet = λ _. refl }
 
     -- one more handler
     pub going-more : (due : Due) (a b c d : Processor W) → Going l p a b → Between knows 0 0 (l + 1) p b c → SameLives knows b c → IsBegun knows l p due b c → IsAt knows AboutTo l p d → Between knows (due_cost p due) 2 (l + 1) p c d → SameLives knows c d → Going l p a d
@@ -73,7 +74,7 @@ module _ {W : Type 0} (knows : Knows W) where
         record {
           at = x;
           between = between-turn l (l + 1) p due a b c d g.between y h z;
-          lives = t ∙ s ∙ g.lives;
+          lives = lives-joined knows a c d (lives-joined knows a b c g.lives s) t;
           quiet = λ e. absurd (omega (arith, m, n, o, e));
         }
 

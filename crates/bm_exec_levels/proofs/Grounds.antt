@@ -1,5 +1,5 @@
 -- What ordinary code leaves of its processor, statement by statement.
-use Rattle.std.proofs.Common.{◌≡◌, ◌≤◌, ◌+◌, ◌*◌, ℕ, false, Result, Ok, Err, OnOk, sym, subst, arith}
+use Rattle.std.proofs.Common.{◌≡◌, ◌≤◌, ◌+◌, ◌*◌, ℕ, false, Option, Result, Ok, Err, OnOk, ap, ap₂, sym, subst, arith}
 use Rattle.std.specs.Prelude.{length}
 use Rattle.std.proofs.lemmas.Nat.{mul-le}
 use Rattle.bm_journal.specs.declared.ids.Domain.{Domain}
@@ -13,7 +13,10 @@ use Rattle.bm_cache.specs.Tokens.{Token}
 use Rattle.bm_work.specs.Dated.{Dated}
 use Rattle.bm_work.proofs.Points.{dated-kept}
 use Rattle.bm_plan.specs.Position.{StandsAt}
-use Rattle.bm_exec_levels.specs.AtProcessor.{Between, FineAt, IsAt, Stays, tests_of}
+use Rattle.std.specs.Option.{option_map}
+use Rattle.bm_lang.specs.declared.scenario.MapId.{MapId}
+use Rattle.bm_exec.specs.Guarded.{Guarded, Shelved}
+use Rattle.bm_exec_levels.specs.AtProcessor.{Between, FineAt, IsAt, SameItems, Stays, guarded_of, tests_of}
 use Rattle.bm_exec_levels.specs.Ordinary.{Ordinary, Statements}
 use Rattle.bm_exec_levels.specs.Ready.{known_of, left_of}
 use Rattle.bm_exec_levels.specs.Sound.{Sound}
@@ -65,6 +68,25 @@ module _ {W : Type 0} (knows : Knows W) where
         let settled = x.stays.settled in
         omega (arith, h, same, fewer, settled);
   }
+
+  -- a lock was taken or given back
+  pub sound-locked : (k : Option MapId) (p : Program) (a b : Processor W) → Between knows 0 0 0 p (record a { locked = k }) b → IsAt knows StandsAt 0 p b → Sound knows p a → Sound knows p b
+  sound-locked k p a b x at s = record {
+    at = at;
+    fine = x.fine;
+    dated = dated-kept 0 (tests_of knows a) (tests_of knows b) (shown a.caches) (shown b.caches) (λ j. (x.came.kept.rows j).deferred) x.came.lasting s.dated;
+    stamped = λ j. let D : Deferred Token → Type 0 = λ d. is_unstamped d.plain ≡ false in subst D (sym (x.came.kept.rows j).deferred) (s.stamped j);
+    begins = λ d.
+        let h = s.begins d in
+        let same = x.goes.begins d in
+        let fewer = x.fewer in
+        let settled = x.stays.settled in
+        omega (arith, h, same, fewer, settled);
+  }
+
+  -- works leave the lock, and what is in lists and trees
+  pub guarded-same : (a b : Processor W) → b.locked ≡ a.locked → SameItems knows a b → guarded_of knows b ≡ guarded_of knows a
+  guarded-same a b e s = ap₂ (λ (x : Option ℕ) (f : ℕ → Option Shelved). let g : Guarded = record { lock = x; within = f } in g) (ap (option_map (λ (g : MapId). g.0)) e) s.items
 
   -- works were done, of a processor that was asked for them once more
   pub statements-worked : (p : Program) (a b : Processor W) → Stays knows 0 0 p (record a { settled = a.settled + 1 }) b → length (left_of b) ≤ length (left_of a) → Ordinary knows a b → Statements knows a b

@@ -19,3 +19,5 @@ pub mod Grounds
 pub mod Moved
 pub mod Scripts
 pub mod Yields
+pub mod Graphed
+pub mod Graphing

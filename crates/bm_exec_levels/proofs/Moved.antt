@@ -21,7 +21,7 @@ use Rattle.bm_due.specs.Standing.{kind_of}
 use Rattle.bm_plan.specs.Position.{StandsAt}
 use Rattle.bm_exec_levels.specs.AtProcessor.{FineAt, IsAt, log_of, tests_of}
 use Rattle.bm_exec_levels.specs.Growing.{IsInner}
-use Rattle.bm_law_order.specs.Calls.{is_call}
+use Rattle.bm_exec_levels.specs.Calling.{is_marked}
 use Rattle.bm_exec_levels.specs.Hosting.{at-say}
 use Rattle.bm_exec_levels.specs.Ordinary.{Ordinary}
 use Rattle.bm_exec_levels.specs.Ready.{known_of, left_of}
@@ -71,7 +71,7 @@ module _ {W : Type 0} (knows : Knows W) where
   }
 
   -- an entry that moves nothing
-  pub sound-noted : (p : Program) (m : Processor W) (c : Caches Recorded) (e : Entry) → kind_of e ≡ standing.Stays → IsInner e → is_call e ≡ false → shown c ≡ shown m.caches → c.processor ≡ m.caches.processor → Appends (log_of m) 0 e c.recorder.told → FineAt knows 0 (record m { caches = c }) → Sound knows p m → Sound knows p (record m { caches = c })
+  pub sound-noted : (p : Program) (m : Processor W) (c : Caches Recorded) (e : Entry) → kind_of e ≡ standing.Stays → IsInner e → is_marked e ≡ false → shown c ≡ shown m.caches → c.processor ≡ m.caches.processor → Appends (log_of m) 0 e c.recorder.told → FineAt knows 0 (record m { caches = c }) → Sound knows p m → Sound knows p (record m { caches = c })
   sound-noted p m c e k i none same pr a fine s = record {
     at = at-say knows 0 p m c e k i none pr a s.at;
     fine = fine;

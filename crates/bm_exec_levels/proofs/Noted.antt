@@ -134,6 +134,7 @@ module _ {W : Type 0} (knows : Knows W) where
     came = c;
     stays = record {
       settled = refl;
+      locked = refl;
       running = refl;
       tables = refl;
       inside = refl;
@@ -169,6 +170,7 @@ module _ {W : Type 0} (knows : Knows W) where
     came = x.came;
     stays = record {
       settled = x.stays.settled;
+      locked = x.stays.locked;
       running = x.stays.running;
       tables = x.stays.tables;
       inside = x.stays.inside;
@@ -191,6 +193,7 @@ module _ {W : Type 0} (knows : Knows W) where
     came = x.came;
     stays = record {
       settled = x.stays.settled;
+      locked = x.stays.locked;
       running = x.stays.running;
       tables = x.stays.tables;
       inside = x.stays.inside;

@@ -72,6 +72,7 @@ module _ {W : Type 0} (knows : Knows W) where
         let asked-d = asked-moved end p c d f n in
         record {
           settled = ap (λ (y : Processor W). y.settled) f ∙ x.stays.settled ∙ ap (λ (y : Processor W). y.settled) e;
+          locked = ap (λ (y : Processor W). y.locked) f ∙ x.stays.locked ∙ ap (λ (y : Processor W). y.locked) e;
           running = ap (λ (y : Processor W). y.running.items) f ∙ x.stays.running ∙ ap (λ (y : Processor W). y.running.items) e;
           tables = omega (arith, tables, tables-b, tables-d);
           inside = same;

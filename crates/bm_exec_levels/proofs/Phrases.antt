@@ -84,5 +84,5 @@ script-bound scripts i x t h e = script-passes (λ (y : Script). binds_among (ha
 -- a program's types and maps are its scenario's
 pub program-declared : (t : Types) (s : Parts) → t.declared.now ≡ s.types → t.maps.now ≡ s.maps → declared_of t ≡ declared_in s
 program-declared t s a b =
-    ap (λ (types : List TypeDeclaration). let d : Declared = record { types = types; maps = t.maps.now } in d) a
-    ∙ ap (λ (maps : List MapDeclaration). let d : Declared = record { types = s.types; maps = maps } in d) b
+    ap (λ (types : List TypeDeclaration). let d : Declared = record { types = types; maps = t.maps.now; lock = None } in d) a
+    ∙ ap (λ (maps : List MapDeclaration). let d : Declared = record { types = s.types; maps = maps; lock = None } in d) b

@@ -70,6 +70,7 @@ module _ {W : Type 0} (knows : Knows W) where
         let words-d = ap (λ (y : Processor W). word_of knows Plain y + 2 * length (left_of y)) f in
         record {
           settled = ap (λ (y : Processor W). y.settled) f ∙ x.stays.settled ∙ ap (λ (y : Processor W). y.settled) e;
+          locked = ap (λ (y : Processor W). y.locked) f ∙ x.stays.locked ∙ ap (λ (y : Processor W). y.locked) e;
           running = r;
           tables = omega (arith, tables, n, o);
           inside = ap (λ (y : Processor W). y.inside) f ∙ x.stays.inside ∙ ap (λ (y : Processor W). y.inside) e;

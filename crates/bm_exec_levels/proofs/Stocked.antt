@@ -7,6 +7,8 @@ use mathlib.Core.Path.{fun_ext}
 use Rattle.bm_journal.specs.declared.ids.ObjId.{ObjId}
 use Rattle.bm_lang.specs.declared.scenario.MapDeclaration.{MapDeclaration}
 use Rattle.bm_lang.specs.declared.scenario.TypeDeclaration.{TypeDeclaration}
+use Rattle.bm_graph.specs.declared.ways.Way.{Way}
+use Rattle.bm_law_order.specs.Graphs.{NamedGraph, Standing, standing_from}
 use Rattle.bm_law_order.specs.Slots.{Named, Slot}
 use Rattle.bm_law_scenario.specs.Calls.{IsCounted}
 use Rattle.bm_law_scenario.specs.Declared.{Declared}
@@ -17,7 +19,7 @@ use Rattle.bm_world.specs.Contents.{names_in, put_at, slot_at}
 use Rattle.bm_world.specs.Lives.{HasLife, PutLives, life_acquired, life_begun, life_ended, life_given_up, life_of_unit, with_references}
 use Rattle.bm_world.proofs.NamedLemmas.{names-stay}
 use Rattle.bm_exec.specs.Living.{HasType, IsMade, IsToPut, LivesAs, TakenOut, TakesOut, count_in, less_of, let_go, new_life, one_less, recounted, type_in, values_in, with_life, without}
-use Rattle.bm_exec_levels.specs.Slotted.{AreStocked, IsKept, IsStocked, in_hands, is_of, less_times, times_held}
+use Rattle.bm_exec_levels.specs.Slotted.{AreStocked, IsItem, IsKept, IsStocked, as_item, elsewhere, in_hands, is_of, less_times, times_held}
 
 some-is : {A : Type 0} (x y : A) → Some x ≡ Some y → x ≡ y
 some-is x y e = cc
@@ -116,18 +118,18 @@ times-some u (suc place) x (s ∷ ss) e same =
 
 -- ---- what names hold
 
--- Names hold references to unit u: the object that lives there, and how many of the references to it slots hold.
+-- Names hold references to unit u: the object that lives there, and how many of the references to it slots, lists and trees have.
 pub record Handed (o : Objects) (u : ℕ) (h : Living) : Type 0 where
   pub object : Living
   pub lives_so : o.lives u ≡ Some object
-  pub below : times_held u o.slots < object.count
-  pub is : h ≡ record object { count = object.count - times_held u o.slots }
+  pub below : elsewhere o u < object.count
+  pub is : h ≡ record object { count = object.count - elsewhere o u }
 
 pub handed : (d : Declared) (o : Objects) → AreStocked d o → (u : ℕ) (h : Living) → in_hands o u ≡ Some h → Handed o u h
 handed d o a u h e = of (o.lives u) refl e
   where
     t : ℕ
-    t = times_held u o.slots
+    t = elsewhere o u
 
     split : (l : Living) (n : ℕ) → o.lives u ≡ Some l → l.count - t ≡ n → of_count n l ≡ Some h → Handed o u h
     split l zero q m f = cc
@@ -146,18 +148,28 @@ handed-back k l below = less-is k l (omega (arith, below)) (omega (arith, below)
     of-some (suc n) m = refl
 
 -- another life of one unit, and what names hold of it then
-hands-at : (slots : List Named) (lives : Lives) (n : ℕ) (x y : Option Living) → less_times (times_held n slots) x ≡ y → (λ u. less_times (times_held u slots) (with_life n x lives u)) ≡ with_life n y (λ u. less_times (times_held u slots) (lives u))
-hands-at slots lives n x y e = fun_ext at
+hands-at : (others : ℕ → ℕ) (lives : Lives) (n : ℕ) (x y : Option Living) → less_times (others n) x ≡ y → (λ u. less_times (others u) (with_life n x lives u)) ≡ with_life n y (λ u. less_times (others u) (lives u))
+hands-at others lives n x y e = fun_ext at
   where
-    at : (v : ℕ) → less_times (times_held v slots) (with_life n x lives v) ≡ with_life n y (λ u. less_times (times_held u slots) (lives u)) v
+    at : (v : ℕ) → less_times (others v) (with_life n x lives v) ≡ with_life n y (λ u. less_times (others u) (lives u)) v
     at v = elim (eqb_tells n v) [
-      | inl z ↦ rw z.0 (subst (λ k. less_times (times_held k slots) x ≡ y) z.1 e)
+      | inl z ↦ rw z.0 (subst (λ k. less_times (others k) x ≡ y) z.1 e)
       | inr z ↦ rw z.0 refl
     ]
 
--- no slot holds what doesn't live
-pub none-held : (d : Declared) (o : Objects) → AreStocked d o → (u : ℕ) → o.lives u ≡ None → times_held u o.slots ≡ 0
-none-held d o a u e = times-none u o.slots (λ place x held same. (let s = a.stocked place x held in let f : o.lives u ≡ Some s.object = subst (λ k. o.lives k ≡ Some s.object) same s.lives_so in cc))
+-- no slot, list or tree has what doesn't live
+pub no-item : (d : Declared) (o : Objects) → AreStocked d o → (u : ℕ) → o.lives u ≡ None → standing_from 0 o.graphs u ≡ None
+no-item d o a u e = of (standing_from 0 o.graphs u) refl
+  where
+    of : (x : Option Standing) → standing_from 0 o.graphs u ≡ x → x ≡ None
+    of None q = refl
+    of (Some s) q = (let f : o.lives u ≡ Some (a.items u s q).object = (a.items u s q).lives_so in let g : None ≡ Some (a.items u s q).object = sym e ∙ f in cc)
+
+pub none-held : (d : Declared) (o : Objects) → AreStocked d o → (u : ℕ) → o.lives u ≡ None → elsewhere o u ≡ 0
+none-held d o a u e =
+    let slots : times_held u o.slots ≡ 0 = times-none u o.slots (λ place x held same. (let s = a.stocked place x held in let f : o.lives u ≡ Some s.object = subst (λ k. o.lives k ≡ Some s.object) same s.lives_so in cc)) in
+    let items : as_item (standing_from 0 o.graphs u) ≡ 0 = ap as_item (no-item d o a u e) in
+    omega (arith, slots, items)
 
 -- ---- an object begins
 
@@ -165,12 +177,12 @@ pub hands-begun : (d : Declared) (k : Known) (type : ℕ) (values : List ℕ) (u
     in_hands (life_begun type values u k).objects ≡ with_life u.number (Some (life_of_unit type 1 values (record u { life = u.life + 1 }))) (in_hands k.objects)
 hands-begun d k type values u a none =
     let new : Option Living = Some (life_of_unit type 1 values (record u { life = u.life + 1 })) in
-    hands-at k.objects.slots k.objects.lives u.number new new (ap (λ n. less_times n new) (none-held d k.objects a u.number none))
+    hands-at (elsewhere k.objects) k.objects.lives u.number new new (ap (λ n. less_times n new) (none-held d k.objects a u.number none))
 
 -- of another unit it is as it was
-kept-aside : (types : List TypeDeclaration) (slots : List Named) (lives : Lives) (n : ℕ) (x : Option Living) → ((u : ℕ) (l : Living) → lives u ≡ Some l → IsKept types (times_held u slots) l) → ((l : Living) → x ≡ Some l → IsKept types (times_held n slots) l) → (u : ℕ) (l : Living) → with_life n x lives u ≡ Some l → IsKept types (times_held u slots) l
-kept-aside types slots lives n x h new u l e = elim (eqb_tells n u) [
-  | inl z ↦ subst (λ k. IsKept types (times_held k slots) l) z.1 (new l (rw z.0 at e))
+kept-aside : (types : List TypeDeclaration) (others : ℕ → ℕ) (lives : Lives) (n : ℕ) (x : Option Living) → ((u : ℕ) (l : Living) → lives u ≡ Some l → IsKept types (others u) l) → ((l : Living) → x ≡ Some l → IsKept types (others n) l) → (u : ℕ) (l : Living) → with_life n x lives u ≡ Some l → IsKept types (others u) l
+kept-aside types others lives n x h new u l e = elim (eqb_tells n u) [
+  | inl z ↦ subst (λ k. IsKept types (others k) l) z.1 (new l (rw z.0 at e))
   | inr z ↦ h u l (rw z.0 at e)
 ]
 
@@ -183,15 +195,27 @@ stocked-aside maps lives n place x y h s = elim (eqb_tells n x.unit) [
   | inr z ↦ record { slot = s.slot; found = s.found; object = s.object; lives_so = rw z.0 s.lives_so; life_is = s.life_is; type_is = s.type_is }
 ]
 
+-- what is in a list or tree too
+item-aside : (maps : List MapDeclaration) (lives : Lives) (n u : ℕ) (x : Standing) (y : Option Living) → ((l : Living) → lives n ≡ Some l → u ≡ n → (m : Living) × (y ≡ Some m) × (m.life ≡ l.life) × (m.type ≡ l.type)) → IsItem maps lives u x → IsItem maps (with_life n y lives) u x
+item-aside maps lives n u x y h s = elim (eqb_tells n u) [
+  | inl z ↦
+      let m = h s.object (subst (λ k. lives k ≡ Some s.object) (sym z.1) s.lives_so) (sym z.1) in
+      record { graph = s.graph; found = s.found; object = m.0; lives_so = rw z.0 m.1; life_is = m.2 ∙ s.life_is; type_is = m.3 ∙ s.type_is }
+  | inr z ↦ record { graph = s.graph; found = s.found; object = s.object; lives_so = rw z.0 s.lives_so; life_is = s.life_is; type_is = s.type_is }
+]
+
 pub stocked-begun : (d : Declared) (k : Known) (type : ℕ) (values : List ℕ) (u : UnitState) → AreStocked d k.objects → k.objects.lives u.number ≡ None → IsMade d.types u.class type values → AreStocked d (life_begun type values u k).objects
 stocked-begun d k type values u a none made =
     let held = none-held d k.objects a u.number none in
     let new : Living = life_of_unit type 1 values (record u { life = u.life + 1 }) in
     record {
       names = a.names;
-      kept = kept-aside d.types k.objects.slots k.objects.lives u.number (Some new) a.kept
-          (λ l e. subst (λ (x : Living). IsKept d.types (times_held u.number k.objects.slots) x) (some-is new l e) (record { made = made; some = omega arith; most = omega (arith, held); single = λ f. refl }));
+      graphs = a.graphs;
+      kinds = a.kinds;
+      kept = kept-aside d.types (elsewhere k.objects) k.objects.lives u.number (Some new) a.kept
+          (λ l e. subst (λ (x : Living). IsKept d.types (elsewhere k.objects u.number) x) (some-is new l e) (record { made = made; some = omega arith; most = omega (arith, held); single = λ f. refl }));
       stocked = λ place x e. stocked-aside d.maps k.objects.lives u.number place x (Some new) (λ l f same. (let g : None ≡ Some l = sym none ∙ f in cc)) (a.stocked place x e);
+      items = λ v x e. item-aside d.maps k.objects.lives u.number v x (Some new) (λ l f same. (let g : None ≡ Some l = sym none ∙ f in cc)) (a.items v x e);
     }
 
 -- ---- one more reference
@@ -200,14 +224,14 @@ pub hands-acquired : (d : Declared) (k : Known) (n : ℕ) (h : Living) → AreSt
 hands-acquired d k n h a e =
     let g = handed d k.objects a n h e in
     let l = g.object in
-    let t = times_held n k.objects.slots in
+    let t = elsewhere k.objects n in
     let below = g.below in
     let more : Option Living = with_references (count_in (k.objects.lives n) + 1) (k.objects.lives n) in
     let was : more ≡ Some (record l { count = l.count + 1 }) = ap (λ (o : Option Living). with_references (count_in o + 1) o) g.lives_so in
     let left : (l.count + 1) - t ≡ (l.count - t) + 1 = omega (arith, below) in
     let now : less_times t more ≡ Some (record l { count = (l.count - t) + 1 }) = ap (less_times t) was ∙ (handed-back t (record l { count = l.count + 1 }) (omega (arith, below)) ∙ ap (λ (c : ℕ). let x : Living = record l { count = c } in Some x) left) in
     let last : with_references (count_in (in_hands k.objects n) + 1) (in_hands k.objects n) ≡ Some (record l { count = (l.count - t) + 1 }) = ap (λ (o : Option Living). with_references (count_in o + 1) o) (e ∙ ap (λ (x : Living). Some x) g.is) in
-    hands-at k.objects.slots k.objects.lives n more (with_references (count_in (in_hands k.objects n) + 1) (in_hands k.objects n)) (now ∙ sym last)
+    hands-at (elsewhere k.objects) k.objects.lives n more (with_references (count_in (in_hands k.objects n) + 1) (in_hands k.objects n)) (now ∙ sym last)
 
 -- types that are declared so are counted or not
 one-declared : (types : List TypeDeclaration) (t : ℕ) (x y : TypeDeclaration) → slice_get types t ≡ Some x → slice_get types t ≡ Some y → x ≡ y
@@ -221,15 +245,18 @@ counted-not false p q = cc
 recount-kept : (types : List TypeDeclaration) (held count : ℕ) (l : Living) → IsKept types held l → 0 < count → held ≤ count → ((d : TypeDeclaration) → slice_get types l.type ≡ Some d → d.counted ≡ false → count ≡ 1) → IsKept types held (record l { count = count })
 recount-kept types held count l k some most single = record { made = k.made; some = some; most = most; single = λ f. single k.made.declared k.made.of_class.found f }
 
-pub stocked-counted : (d : Declared) (o : Objects) (n count asked : ℕ) (l : Living) → AreStocked d o → o.lives n ≡ Some l → 0 < count → times_held n o.slots ≤ count → ((t : TypeDeclaration) → slice_get d.types l.type ≡ Some t → t.counted ≡ false → count ≡ 1) → AreStocked d (record o { lives = recounted n count o.lives; asked = asked })
+pub stocked-counted : (d : Declared) (o : Objects) (n count asked : ℕ) (l : Living) → AreStocked d o → o.lives n ≡ Some l → 0 < count → elsewhere o n ≤ count → ((t : TypeDeclaration) → slice_get d.types l.type ≡ Some t → t.counted ≡ false → count ≡ 1) → AreStocked d (record o { lives = recounted n count o.lives; asked = asked })
 stocked-counted d o n count asked l a e some most single =
     let now : Living = record l { count = count } in
     let is : with_references count (o.lives n) ≡ Some now = ap (with_references count) e in
     record {
       names = a.names;
-      kept = kept-aside d.types o.slots o.lives n (with_references count (o.lives n)) a.kept
-          (λ m f. subst (λ (x : Living). IsKept d.types (times_held n o.slots) x) (some-is now m (sym is ∙ f)) (recount-kept d.types (times_held n o.slots) count l (a.kept n l e) some most single));
+      graphs = a.graphs;
+      kinds = a.kinds;
+      kept = kept-aside d.types (elsewhere o) o.lives n (with_references count (o.lives n)) a.kept
+          (λ m f. subst (λ (x : Living). IsKept d.types (elsewhere o n) x) (some-is now m (sym is ∙ f)) (recount-kept d.types (elsewhere o n) count l (a.kept n l e) some most single));
       stocked = λ place x h. stocked-aside d.maps o.lives n place x (with_references count (o.lives n)) (λ m f same. (let q : l ≡ m = some-is l m (sym e ∙ f) in (now, is, ap (λ (x : Living). x.life) q, ap (λ (x : Living). x.type) q))) (a.stocked place x h);
+      items = λ v x h. item-aside d.maps o.lives n v x (with_references count (o.lives n)) (λ m f same. (let q : l ≡ m = some-is l m (sym e ∙ f) in (now, is, ap (λ (x : Living). x.life) q, ap (λ (x : Living). x.type) q))) (a.items v x h);
     }
 
 -- an object that names hold is of this type
@@ -252,7 +279,7 @@ pub hands-given-up : (d : Declared) (k : Known) (n : ℕ) (h : Living) → AreSt
 hands-given-up d k n h a e others =
     let g = handed d k.objects a n h e in
     let l = g.object in
-    let t = times_held n k.objects.slots in
+    let t = elsewhere k.objects n in
     let below = g.below in
     let count : count_in (k.objects.lives n) ≡ l.count = ap count_in g.lives_so in
     let less : Option Living = with_references (count_in (k.objects.lives n) - 1) (k.objects.lives n) in
@@ -260,7 +287,7 @@ hands-given-up d k n h a e others =
     let now : less_times t less ≡ of_count ((l.count - 1) - t) l = ap (less_times t) was ∙ less-is t (record l { count = l.count - 1 }) (omega (arith, others, count)) (omega (arith, below)) ∙ same-count l (l.count - 1) ((l.count - 1) - t) in
     let left : l.count - t ≡ suc ((l.count - 1) - t) = omega (arith, below, others, count) in
     let last : one_less (in_hands k.objects n) ≡ of_count ((l.count - 1) - t) l = ap (λ (o : Option Living). one_less (less_times t o)) g.lives_so ∙ (ap one_less (less-is t l (omega (arith, below)) (omega (arith, below)) ∙ ap (λ n. of_count n l) left) ∙ one-less-of ((l.count - 1) - t) l) in
-    hands-at k.objects.slots k.objects.lives n less (one_less (in_hands k.objects n)) (now ∙ sym last)
+    hands-at (elsewhere k.objects) k.objects.lives n less (one_less (in_hands k.objects n)) (now ∙ sym last)
   where
     same-count : (m : Living) (c j : ℕ) → of_count j (record m { count = c }) ≡ of_count j m
     same-count m c zero = refl
@@ -293,8 +320,8 @@ others-counted d k n h counted a e others typed =
 
 -- ---- the last reference
 
--- no slot holds an object to which there is one reference, which a name holds
-pub last-free : (d : Declared) (k : Known) (n : ℕ) (h : Living) → AreStocked d k.objects → in_hands k.objects n ≡ Some h → count_in (k.objects.lives n) ≡ 1 → times_held n k.objects.slots ≡ 0
+-- no slot, list or tree has an object to which there is one reference, which a name holds
+pub last-free : (d : Declared) (k : Known) (n : ℕ) (h : Living) → AreStocked d k.objects → in_hands k.objects n ≡ Some h → count_in (k.objects.lives n) ≡ 1 → elsewhere k.objects n ≡ 0
 last-free d k n h a e only =
     let g = handed d k.objects a n h e in
     let below = g.below in
@@ -311,31 +338,42 @@ hands-ended d k n h a e only =
     let l = g.object in
     let count : l.count ≡ 1 = ap count_in (sym g.lives_so) ∙ only in
     let last : one_less (in_hands k.objects n) ≡ None = ap one_less (last-held d k n h a e only ∙ g.lives_so) ∙ ap (λ c. less_of c l) count in
-    hands-at k.objects.slots k.objects.lives n None (one_less (in_hands k.objects n)) (less-none (times_held n k.objects.slots) ∙ sym last)
+    hands-at (elsewhere k.objects) k.objects.lives n None (one_less (in_hands k.objects n)) (less-none (elsewhere k.objects n) ∙ sym last)
 
 pub stocked-ended : (d : Declared) (k : Known) (n : ℕ) (h : Living) → AreStocked d k.objects → in_hands k.objects n ≡ Some h → count_in (k.objects.lives n) ≡ 1 → AreStocked d (life_ended n k).objects
 stocked-ended d k n h a e only =
     let free = last-free d k n h a e only in
     record {
       names = a.names;
-      kept = kept-aside d.types k.objects.slots k.objects.lives n None a.kept (λ l f. cc);
+      graphs = a.graphs;
+      kinds = a.kinds;
+      kept = kept-aside d.types (elsewhere k.objects) k.objects.lives n None a.kept (λ l f. cc);
       stocked = λ place x held. stocked-aside d.maps k.objects.lives n place x None (λ l f same. (let some = times-some n place x k.objects.slots held same in absurd (omega (arith, some, free)))) (a.stocked place x held);
+      items = λ v x held. item-aside d.maps k.objects.lives n v x None (λ l f same. (let some : as_item (standing_from 0 k.objects.graphs n) ≡ 1 = ap as_item (subst (λ j. standing_from 0 k.objects.graphs j ≡ Some x) same held) in absurd (omega (arith, some, free)))) (a.items v x held);
     }
 
--- ---- an exchange
+-- .. so it is in no list or tree
+pub last-out : (d : Declared) (k : Known) (n : ℕ) (h : Living) → AreStocked d k.objects → in_hands k.objects n ≡ Some h → count_in (k.objects.lives n) ≡ 1 → standing_from 0 k.objects.graphs n ≡ None
+last-out d k n h a e only = (let free = last-free d k n h a e only in of (standing_from 0 k.objects.graphs n) free)
+  where
+    of : (x : Option Standing) → times_held n k.objects.slots + as_item x ≡ 0 → x ≡ None
+    of None q = refl
+    of (Some s) q = absurd (omega (arith, q))
+
+-- ---- references that move between names and slots, lists and trees
 
 -- what names hold without the reference that is put
-without-is : (put : Option ObjId) (o : Objects) (v : ℕ) → without put (in_hands o) v ≡ less_times (times_held v o.slots + bit-of v put) (o.lives v)
-without-is None o v = (let same : times_held v o.slots ≡ times_held v o.slots + 0 = omega arith in ap (λ n. less_times n (o.lives v)) same)
+without-is : (put : Option ObjId) (o : Objects) (v : ℕ) → without put (in_hands o) v ≡ less_times (elsewhere o v + bit-of v put) (o.lives v)
+without-is None o v = (let same : elsewhere o v ≡ elsewhere o v + 0 = omega arith in ap (λ n. less_times n (o.lives v)) same)
 without-is (Some x) o v = elim (eqb_tells x.unit v) [
   | inl z ↦
-      let same : suc (times_held v o.slots) ≡ times_held v o.slots + 1 = omega arith in
-      rw z.0 (ap (λ k. one_less (less_times (times_held k o.slots) (o.lives k))) z.1 ∙ ap (λ n. less_times n (o.lives v)) same)
-  | inr z ↦ (let same : times_held v o.slots ≡ times_held v o.slots + 0 = omega arith in rw z.0 (ap (λ n. less_times n (o.lives v)) same))
+      let same : suc (elsewhere o v) ≡ elsewhere o v + 1 = omega arith in
+      rw z.0 (ap (λ k. one_less (less_times (elsewhere o k) (o.lives k))) z.1 ∙ ap (λ n. less_times n (o.lives v)) same)
+  | inr z ↦ (let same : elsewhere o v ≡ elsewhere o v + 0 = omega arith in rw z.0 (ap (λ n. less_times n (o.lives v)) same))
 ]
 
--- slots hold no more references than there are, also with the one that is put
-most-put : (d : Declared) (o : Objects) (t : ℕ) (put : Option ObjId) → AreStocked d o → IsToPut t (in_hands o) put → (v : ℕ) (l : Living) → o.lives v ≡ Some l → times_held v o.slots + bit-of v put ≤ l.count
+-- there are no more references elsewhere than there are, also with the one that is put
+most-put : (d : Declared) (o : Objects) (t : ℕ) (put : Option ObjId) → AreStocked d o → IsToPut t (in_hands o) put → (v : ℕ) (l : Living) → o.lives v ≡ Some l → elsewhere o v + bit-of v put ≤ l.count
 most-put d o t None a h v l e = (let k = a.kept v l e in let most = k.most in omega (arith, most))
 most-put d o t (Some x) a h v l e = elim (eqb_tells x.unit v) [
   | inl z ↦
@@ -348,54 +386,50 @@ most-put d o t (Some x) a h v l e = elim (eqb_tells x.unit v) [
   | inr z ↦ (let k = a.kept v l e in let most = k.most in rw z.0 (omega (arith, most)))
 ]
 
--- the slots once one was exchanged
-abbrev pub exchanged : (place : ℕ) → Slot → Objects → Objects
-exchanged place slot o = record o { slots = put_at place slot o.slots }
+-- What is taken lives, as an object of this type.
+abbrev pub IsThere : (t : ℕ) → Lives → Option ObjId → Type 0
+IsThere t lives None = Unit {0}
+IsThere t lives (Some x) = (l : Living) × (lives x.unit ≡ Some l) × (l.life ≡ x.life) × (l.type ≡ t)
 
-module _ (d : Declared) (o : Objects) (place : ℕ) (slot : Slot) (a : AreStocked d o) (lt : place < length o.slots) (m : MapDeclaration) (found : slice_get d.maps place ≡ Some m) (held : IsToPut m.type_id.0 (in_hands o) slot.held) where
-  -- what the slot held
-  abbrev pub displaced : Option ObjId
-  displaced = (slot_at place o.slots).slot.held
+-- A reference that a name holds may be put elsewhere, and one that was elsewhere is taken: the same objects live.
+module _ (d : Declared) (o now : Objects) (a : AreStocked d o) (same : now.lives ≡ o.lives) (t : ℕ) (put displaced : Option ObjId) (total : (v : ℕ) → elsewhere now v + bit-of v displaced ≡ elsewhere o v + bit-of v put) (held : IsToPut t (in_hands o) put) (there : IsThere t o.lives displaced) where
+  same-at : (v : ℕ) → now.lives v ≡ o.lives v
+  same-at v = ap (λ (f : Lives). f v) same
 
-  total : (v : ℕ) → times_held v (put_at place slot o.slots) + bit-of v displaced ≡ times_held v o.slots + bit-of v slot.held
-  total v = times-put v place slot o.slots lt
-
-  -- a unit that the slot didn't hold
-  aside : (v : ℕ) → bit-of v displaced ≡ 0 → in_hands (exchanged place slot o) v ≡ without slot.held (in_hands o) v
+  -- a unit that isn't taken
+  aside : (v : ℕ) → bit-of v displaced ≡ 0 → in_hands now v ≡ without put (in_hands o) v
   aside v none =
-      let t = total v in
-      let same : times_held v (put_at place slot o.slots) ≡ times_held v o.slots + bit-of v slot.held = omega (arith, t, none) in
-      ap (λ n. less_times n (o.lives v)) same ∙ sym (without-is slot.held o v)
+      let q = total v in
+      let count : elsewhere now v ≡ elsewhere o v + bit-of v put = omega (arith, q, none) in
+      ap (less_times (elsewhere now v)) (same-at v) ∙ (ap (λ n. less_times n (o.lives v)) count ∙ sym (without-is put o v))
 
-  -- the one that it held
-  taken : (x : ObjId) → displaced ≡ Some x → TakenOut d.types m.type_id.0 (without slot.held (in_hands o)) (in_hands (exchanged place slot o)) x
-  taken x e =
-      let s = a.stocked place x e in
-      let l = s.object in
+  -- the one that is
+  taken : (x : ObjId) → displaced ≡ Some x → (s : (l : Living) × (o.lives x.unit ≡ Some l) × (l.life ≡ x.life) × (l.type ≡ t)) → TakenOut d.types t (without put (in_hands o)) (in_hands now) x
+  taken x e s =
+      let l = s.0 in
       let v = x.unit in
       let one : bit-of v displaced ≡ 1 = ap (λ (y : Option ObjId). bit-of v y) e ∙ self in
-      let t = total v in
-      let most = most-put d o m.type_id.0 slot.held a held v l s.lives_so in
-      let k = a.kept v l s.lives_so in
-      let n = times_held v (put_at place slot o.slots) in
-      let T = times_held v o.slots + bit-of v slot.held in
+      let q = total v in
+      let most = most-put d o t put a held v l s.1 in
+      let k = a.kept v l s.1 in
+      let n = elsewhere now v in
+      let T = elsewhere o v + bit-of v put in
       let some = k.some in
-      let below : n < l.count = omega (arith, t, one, most) in
-      let between : without slot.held (in_hands o) v ≡ of_count (l.count - T) l = without-is slot.held o v ∙ (ap (less_times T) s.lives_so ∙ less-is T l some most) in
-      let left : l.count - n ≡ (l.count - T) + 1 = omega (arith, t, one, most) in
-      let typed : l.type ≡ m.type_id.0 = s.type_is ∙ ap (λ (y : MapDeclaration). y.type_id.0) (some-is s.slot m (sym s.found ∙ found)) in
+      let below : n < l.count = omega (arith, q, one, most) in
+      let between : without put (in_hands o) v ≡ of_count (l.count - T) l = without-is put o v ∙ (ap (less_times T) s.1 ∙ less-is T l some most) in
+      let left : l.count - n ≡ (l.count - T) + 1 = omega (arith, q, one, most) in
       let object : Living = record l { count = l.count - n } in
-      let now : in_hands (exchanged place slot o) v ≡ Some object = ap (less_times n) s.lives_so ∙ handed-back n l below in
+      let after : in_hands now v ≡ Some object = ap (less_times n) (same-at v ∙ s.1) ∙ handed-back n l below in
       record {
         object = object;
-        life_is = s.life_is;
-        type_is = typed;
-        made = record { declared = k.made.declared; of_class = subst (λ i. OfClass d.types i l.class k.made.declared) typed k.made.of_class; fields = k.made.fields; few = k.made.few };
+        life_is = s.2;
+        type_is = s.3;
+        made = record { declared = k.made.declared; of_class = subst (λ i. OfClass d.types i l.class k.made.declared) s.3 k.made.of_class; fields = k.made.fields; few = k.made.few };
         count_is = left ∙ ap (λ c. c + 1) (sym (ap count_in between ∙ count-of (l.count - T) l));
         some = λ y f. positive l (l.count - T) y (sym between ∙ f);
         same = λ y f. alike l (l.count - n) (l.count - T) y (sym between ∙ f) left;
         single = λ f. (let only = k.single f in omega (arith, only, below));
-        now_is = fun_ext (λ w. at w object now);
+        now_is = fun_ext (λ w. at w object after);
       }
     where
       self : bit-of x.unit (Some x) ≡ 1
@@ -418,43 +452,80 @@ module _ (d : Declared) (o : Objects) (place : ℕ) (slot : Slot) (a : AreStocke
       other : (w : ℕ) → eqb x.unit w ≡ false → bit-of w displaced ≡ 0
       other w f = ap (λ (y : Option ObjId). bit-of w y) e ∙ rw f refl
 
-      at : (w : ℕ) (object : Living) → in_hands (exchanged place slot o) x.unit ≡ Some object → in_hands (exchanged place slot o) w ≡ with_life x.unit (Some object) (without slot.held (in_hands o)) w
-      at w object now = elim (eqb_tells x.unit w) [
-        | inl z ↦ rw z.0 (ap (in_hands (exchanged place slot o)) (sym z.1) ∙ now)
+      at : (w : ℕ) (object : Living) → in_hands now x.unit ≡ Some object → in_hands now w ≡ with_life x.unit (Some object) (without put (in_hands o)) w
+      at w object after = elim (eqb_tells x.unit w) [
+        | inl z ↦ rw z.0 (ap (in_hands now) (sym z.1) ∙ after)
         | inr z ↦ rw z.0 (aside w (other w z.0))
       ]
 
   -- what names hold then
-  pub hands-exchanged : TakesOut d.types m.type_id.0 (without slot.held (in_hands o)) (in_hands (exchanged place slot o)) displaced
-  hands-exchanged = by displaced refl
+  pub hands-moved : TakesOut d.types t (without put (in_hands o)) (in_hands now) displaced
+  hands-moved = by displaced refl there
     where
-      by : (y : Option ObjId) → displaced ≡ y → TakesOut d.types m.type_id.0 (without slot.held (in_hands o)) (in_hands (exchanged place slot o)) y
-      by None e = fun_ext (λ v. aside v (ap (λ (y : Option ObjId). bit-of v y) e))
-      by (Some x) e = taken x e
+      by : (y : Option ObjId) → displaced ≡ y → IsThere t o.lives y → TakesOut d.types t (without put (in_hands o)) (in_hands now) y
+      by None e h = fun_ext (λ v. aside v (ap (λ (y : Option ObjId). bit-of v y) e))
+      by (Some x) e h = taken x e h
+
+  -- each object has so many references elsewhere then
+  pub kept-moved : (u : ℕ) (l : Living) → now.lives u ≡ Some l → IsKept d.types (elsewhere now u) l
+  kept-moved u l e =
+      let f : o.lives u ≡ Some l = sym (same-at u) ∙ e in
+      let k = a.kept u l f in
+      let q = total u in
+      let most = most-put d o t put a held u l f in
+      record { made = k.made; some = k.some; most = omega (arith, q, most); single = k.single }
+
+-- what is put lives so
+pub put-there : (d : Declared) (o : Objects) (t : ℕ) (z : ObjId) → AreStocked d o → IsToPut t (in_hands o) (Some z) → IsThere t o.lives (Some z)
+put-there d o t z a h =
+    let g = handed d o a z.unit _ h.1.is in
+    (g.object, g.lives_so, ap (λ (y : Living). y.life) (sym g.is), ap (λ (y : Living). y.type) (sym g.is) ∙ h.2)
+
+-- ---- an exchange
+
+-- the slots once one was exchanged
+abbrev pub exchanged : (place : ℕ) → Slot → Objects → Objects
+exchanged place slot o = record o { slots = put_at place slot o.slots }
+
+module _ (d : Declared) (o : Objects) (place : ℕ) (slot : Slot) (a : AreStocked d o) (lt : place < length o.slots) (m : MapDeclaration) (found : slice_get d.maps place ≡ Some m) (held : IsToPut m.type_id.0 (in_hands o) slot.held) where
+  -- what the slot held
+  abbrev pub displaced : Option ObjId
+  displaced = (slot_at place o.slots).slot.held
+
+  total-exchanged : (v : ℕ) → elsewhere (exchanged place slot o) v + bit-of v displaced ≡ elsewhere o v + bit-of v slot.held
+  total-exchanged v = (let t = times-put v place slot o.slots lt in omega (arith, t))
+
+  displaced-there : IsThere m.type_id.0 o.lives displaced
+  displaced-there = by displaced refl
+    where
+      by : (y : Option ObjId) → displaced ≡ y → IsThere m.type_id.0 o.lives y
+      by None e = tt
+      by (Some x) e = (let s = a.stocked place x e in (s.object, s.lives_so, s.life_is, s.type_is ∙ ap (λ (y : MapDeclaration). y.type_id.0) (some-is s.slot m (sym s.found ∙ found))))
+
+  -- what names hold then
+  pub hands-exchanged : TakesOut d.types m.type_id.0 (without slot.held (in_hands o)) (in_hands (exchanged place slot o)) displaced
+  hands-exchanged = hands-moved d o (exchanged place slot o) a refl m.type_id.0 slot.held displaced total-exchanged held displaced-there
 
   -- and what slots hold
   pub stocked-exchanged : AreStocked d (exchanged place slot o)
   stocked-exchanged = record {
     names = names-stay place slot o.slots ∙ a.names;
-    kept = λ u l e.
-        let k = a.kept u l e in
-        let most = most-put d o m.type_id.0 slot.held a held u l e in
-        let t = total u in
-        record { made = k.made; some = k.some; most = omega (arith, t, most); single = k.single };
+    graphs = a.graphs;
+    kinds = a.kinds;
+    kept = kept-moved d o (exchanged place slot o) a refl m.type_id.0 slot.held displaced total-exchanged held displaced-there;
     stocked = λ q x e. elim (eqb_tells place q) [
       | inl z ↦ subst (λ j. IsStocked d.maps o.lives j x) z.1 (put-stocked slot.held held x (sym (ap (λ (n : Named). n.slot.held) (get_or-set_same o.slots place _ _ lt)) ∙ subst (λ j. (slot_at j (put_at place slot o.slots)).slot.held ≡ Some x) (sym z.1) e))
       | inr z ↦ a.stocked q x (sym (ap (λ (n : Named). n.slot.held) (get_or-set_other o.slots place q _ _ (λ f. z.1 (sym f)))) ∙ e)
     ];
+    items = a.items;
   }
     where
       put-stocked : (y : Option ObjId) → IsToPut m.type_id.0 (in_hands o) y → (x : ObjId) → y ≡ Some x → IsStocked d.maps o.lives place x
       put-stocked None h x e = cc
       put-stocked (Some z) h x e =
           let same : z ≡ x = some-is z x e in
-          subst (λ w. IsStocked d.maps o.lives place w) same (
-          let g = handed d o a z.unit _ h.1.is in
-          record { slot = m; found = found; object = g.object; lives_so = g.lives_so; life_is = ap (λ (y : Living). y.life) (sym g.is); type_is = ap (λ (y : Living). y.type) (sym g.is) ∙ h.2 }
-          )
+          let g = put-there d o m.type_id.0 z a h in
+          subst (λ w. IsStocked d.maps o.lives place w) same (record { slot = m; found = found; object = g.0; lives_so = g.1; life_is = g.2; type_is = g.3 })
 
 -- what is put lives
 pub put-lives : (d : Declared) (o : Objects) (t : ℕ) (put : Option ObjId) → AreStocked d o → IsToPut t (in_hands o) put → PutLives o.lives put
@@ -488,4 +559,4 @@ slot-name d o place m a f = (there-of place o.slots d.maps m a.names f).1
 
 -- names hold nothing of what doesn't live
 pub no-hands : (o : Objects) (u : ℕ) → o.lives u ≡ None → in_hands o u ≡ None
-no-hands o u e = ap (less_times (times_held u o.slots)) e ∙ less-none (times_held u o.slots)
+no-hands o u e = ap (less_times (elsewhere o u)) e ∙ less-none (elsewhere o u)

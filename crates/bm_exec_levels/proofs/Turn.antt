@@ -14,7 +14,7 @@ use Rattle.bm_law_scenario.proofs.GoneBack.{done-back}
 use Rattle.bm_law_scenario.proofs.Words.{word-append}
 use Rattle.bm_plan.specs.Position.{AboutTo, Position, StandsAt, level_in, names_in}
 use Rattle.bm_plan.proofs.Positions.{returns-here}
-use Rattle.bm_exec_levels.specs.AtProcessor.{HasPhrase, IsAt, IsDue, log_of}
+use Rattle.bm_exec_levels.specs.AtProcessor.{HasPhrase, IsAt, IsDue, lock_of, log_of}
 use Rattle.bm_exec_levels.specs.Growing.{tells-inner}
 use Rattle.bm_exec_levels.specs.Calling.{counts-plain}
 use Rattle.bm_exec_levels.specs.Here.{position_of}
@@ -78,7 +78,7 @@ module _ {W : Type 0} (knows : Knows W) where
           deep = omega (arith, long, more, above, deep);
         };
         tells = told-more T T (log_of m) (log_of b) due.level (entry.Handler x.name) (λ es h. tells-inner s known es due.level (entry.Handler x.name) tt h) a d.tells;
-        counts = counts-plain m.calls due.level (entry.Handler x.name) (log_of m) (log_of b) refl a d.counts;
+        counts = counts-plain m.calls (lock_of p m) due.level (entry.Handler x.name) (log_of m) (log_of b) refl a d.counts;
         ready = ready-turned p m b same (omega (arith, long, more, all, n)) (omega (arith, v, room)) (omega (arith, w, room')) f d.ready;
       }
 
@@ -121,7 +121,7 @@ module _ {W : Type 0} (knows : Knows W) where
           deep = omega (arith, long', deep);
         };
         tells = told-more P T (log_of m) (log_of b) due.level (entry.Back x.name) (λ es h. tells-back s known es due.level x.name h.0 h.1) a said;
-        counts = counts-plain m.calls due.level (entry.Back x.name) (log_of m) (log_of b) refl a g.counts;
+        counts = counts-plain m.calls (lock_of p m) due.level (entry.Back x.name) (log_of m) (log_of b) refl a g.counts;
         ready = ready-turned p m b same (omega (arith, long, long', more, all, n)) (omega (arith, v, room)) (omega (arith, w, room')) h g.ready;
       }
 

@@ -11,8 +11,7 @@ use Rattle.bm_grace.specs.Calls.{moved}
 use Rattle.bm_grace.specs.Known.{Known, Objects, side}
 use Rattle.bm_law_scenario.specs.Handlers.{HandlersDone}
 use Rattle.bm_law_scenario.specs.Declared.{declared_in}
-use Rattle.bm_law_order.specs.Calls.{is_call}
-use Rattle.bm_exec_levels.specs.Calling.{counts-plain}
+use Rattle.bm_exec_levels.specs.Calling.{counts-plain, is_marked}
 use Rattle.bm_exec_levels.specs.Slotted.{AreStocked}
 use Rattle.bm_grace.specs.declared.step.StepKind.{StepKind}
 use Rattle.bm_law.specs.Begun.{for_domain}
@@ -26,7 +25,7 @@ use Rattle.bm_law_scenario.specs.SectionWords.{word_next}
 use Rattle.bm_law_scenario.proofs.GoneBack.{done-grow}
 use Rattle.bm_law_scenario.proofs.Words.{word-append}
 use Rattle.bm_plan.specs.Position.{StandsAt}
-use Rattle.bm_exec_levels.specs.AtProcessor.{CameAt, IsAt, log_of, tests_of}
+use Rattle.bm_exec_levels.specs.AtProcessor.{CameAt, IsAt, lock_of, log_of, tests_of}
 use Rattle.bm_exec_levels.specs.Here.{Running}
 use Rattle.bm_exec_levels.specs.Logged.{Tells}
 use Rattle.bm_exec_levels.specs.Ready.{known_of, left_of, word_of}
@@ -42,7 +41,7 @@ use Rattle.bm_grace.specs.declared.grace.Knows.{Ghosts as Knows}
 pub record NamesWord (d : Domain) (w : ℕ) (e : Entry) : Type 0 where
   pub kind : kind_of e ≡ standing.Stays
   pub no_back : (name : List ℕ) → e ≡ entry.Back name → ⊥
-  pub no_call : is_call e ≡ false
+  pub no_call : is_marked e ≡ false
   pub next : word_next d w e ≡ w + 1
   pub next_other : (o : Domain) (v : ℕ) → (o ≡ d → ⊥) → word_next o v e ≡ v
 
@@ -125,7 +124,7 @@ module _ {W : Type 0} (knows : Knows W) where
       subst F (sym same) (record {
         at = subst R (sym proc) (stands-say l n.grace.processor p.scenario.now m.handlers.planned m.running.items (log_of m) (log_of k) e names.kind a s.at);
         tells = told-more (Tells p.scenario.now n) (Tells p.scenario.now (known_of knows k)) (log_of m) (log_of k) l e (λ es t. tells-moved kind knows.tells d p.scenario.now n (known_of knows k) es l e q names t) a s.tells;
-        counts = counts-plain m.calls l e (log_of m) (log_of k) names.no_call a s.counts;
+        counts = counts-plain m.calls (lock_of p m) l e (log_of m) (log_of k) names.no_call a s.counts;
         ready = record {
           fits = s.ready.fits;
           here = pr ∙ (s.ready.here ∙ sym proc);

@@ -1,5 +1,5 @@
 -- What stands behind the passes and the begins of a tied log: why each poll had nothing to do, and for what each period began.
-use Rattle.std.specs.Prelude.{◌≡◌, ◌≤◌, ◌+◌, ℕ, Bool, false, true, List, [], ◌∷◌, ◌++◌, Some}
+use Rattle.std.specs.Prelude.{◌≡◌, ◌⊎◌, ◌≤◌, ◌+◌, ℕ, Bool, false, true, List, [], ◌∷◌, ◌++◌, None, Some, slice_get}
 use Rattle.std.proofs.Common.{◌∙◌, ap, refl, sym}
 use Rattle.bm_journal.specs.declared.ids.Domain.{Domain}
 use Rattle.bm_journal.specs.declared.period.Period.{Period}
@@ -10,10 +10,11 @@ use Rattle.bm_law.specs.Spans.{AllFrom}
 use Rattle.bm_law.specs.State.{State, opening}
 use Rattle.bm_law.proofs.Folds.{after-append}
 use Rattle.bm_law_order.specs.Act.{Act}
-use Rattle.bm_law_order.specs.Calls.{calls_in, tag_after}
+use Rattle.bm_law_order.specs.Calls.{calls_in, closes, lock_in, tag_after}
 use Rattle.bm_law_order.specs.Act as act
 use Rattle.bm_law_order.specs.Chunk.{Chunk, is_judged}
 use Rattle.bm_law_order.specs.Chunk as chunk
+use Rattle.bm_law_order.specs.Graphs.{Effect, Refuses, effect_of, graph_names_in}
 use Rattle.bm_law_order.specs.Tie.{Tied, whatever}
 use Rattle.bm_grace.specs.Known.{side}
 use Rattle.bm_work.specs.Rested.{Fails, GoesFrom, IsIdle}
@@ -33,6 +34,15 @@ pub record IsDue (p : ℕ) (d : Domain) (n : ℕ) (log : Log) : Type 0 where
   pub awaited : SomeWaits p d stamp log
   pub below : n ≤ stamp
 
+-- Processor p may call the list or tree of this name: its log holds the lock, or it is the closing's, in which nobody holds one.
+abbrev pub MayCall : (p : ℕ) → (graph : List ℕ) → Log → Type 0
+MayCall p graph log = (lock_in log ≡ Some graph) ⊎ ((p ≡ 0) × (closes log ≡ true) × (lock_in log ≡ None))
+
+-- a refused push names the list or tree that has the object, which is one of these
+abbrev pub OwnerIs : List (List ℕ) → Effect → (owner : List ℕ) → Type 0
+OwnerIs names (Refuses id place) owner = slice_get names place ≡ Some owner
+OwnerIs names _ owner = Unit {0}
+
 -- a period's begin and end leave the batches as they are
 pub waits-begun : (q l i : ℕ) (d : Domain) (x n : ℕ) (log : Log) → WaitsIn q i d x (log ++ (l, entry.Begin d n) ∷ []) → WaitsIn q i d x log
 waits-begun q l i d x n log w = ap (λ (s : State ℕ). stamp_of d (s.rows i).deferred) (sym (after-append (opening q) log ((l, entry.Begin d n) ∷ []))) ∙ w
@@ -45,15 +55,19 @@ module _ {W : Type 0} (knows : Knows W) where
   abbrev pub home : W → ℕ
   home w = (knows.known w).grace.processor
 
-  -- one side came to be another by these acts, and is the same processor's
+  -- the names of its maps
+  abbrev pub names_of : W → List (List ℕ)
+  names_of w = graph_names_in (knows.known w).objects.graphs
+
+  -- one side came to be another by these acts, and is the same processor's, with the same maps
   abbrev pub DoesHere : List Act → W → W → Type 0
-  DoesHere acts a b = knows.does acts a b × (home b ≡ home a)
+  DoesHere acts a b = knows.does acts a b × (home b ≡ home a) × (names_of b ≡ names_of a)
 
   pub here-same : (a : W) → DoesHere [] a a
-  here-same a = (knows.does_same a, refl)
+  here-same a = (knows.does_same a, refl, refl)
 
   pub here-join : (es fs : List Act) (a b c : W) → DoesHere es a b → DoesHere fs b c → DoesHere (es ++ fs) a c
-  here-join es fs a b c x y = (knows.does_join es fs a b c x.0 y.0, y.1 ∙ x.1)
+  here-join es fs a b c x y = (knows.does_join es fs a b c x.0 y.0, y.1 ∙ x.1, y.2 ∙ x.2)
 
   -- a tie without the processor
   pub tied-bare : (judge : ℕ → Log → Chunk → Type 0) (since : Log) (start : W) (l : ℕ) (done : List Act) (es : List Entry) (log : Log) (w : W) → Tied judge DoesHere since start l done es log w → Tied judge knows.does since start l done es log w
@@ -86,7 +100,8 @@ module _ {W : Type 0} (knows : Knows W) where
     pub log_is : log ≡ before ++ added
 
   -- A chunk of level l is judged so by the log before it, since a time: a pass stands after a poll that was idle, a period that
-  -- begins was due, a life is made with the values that the level asks for, an exchange has the tag of the next call of the log, a batch of the first stage goes away directly after its pass, and units go back of which nobody tells what they wait
+  -- begins was due, a life is made with the values that the level asks for, an exchange and a call on a list or tree have the tag of the next call of the log, a lock is taken
+  -- where none is held and given back where it is, a list or tree is called under its lock or in the closing, a batch of the first stage goes away directly after its pass, and units go back of which nobody tells what they wait
   -- for where the closing has begun, and are never sent.
   abbrev pub polled : (closing : Bool) (since : Log) (start : W) → ℕ → Log → Chunk → Type 0
   polled closing since start l log (chunk.Passing c d x n) = WasIdle since start l c d x log
@@ -95,6 +110,9 @@ module _ {W : Type 0} (knows : Knows W) where
   polled closing since start l log (chunk.Releasing c to us stamp seen) = GoesFrom (home start) l c stamp seen log
   polled closing since start l log (chunk.Making u life type values seal) = AsksFor l values log
   polled closing since start l log (chunk.Exchanging name put was by tag) = tag ≡ tag_after (home start) (calls_in log)
+  polled closing since start l log (chunk.Locking graph) = (l ≡ 0) × (lock_in log ≡ None)
+  polled closing since start l log (chunk.Unlocking graph) = (l ≡ 0) × (lock_in log ≡ Some graph)
+  polled closing since start l log (chunk.Calling graph position call owner tag) = (l ≡ 0) × MayCall (home start) graph log × OwnerIs (names_of start) (effect_of call) owner × (tag ≡ tag_after (home start) (calls_in log))
   polled closing since start l log (chunk.Returning c us) = closing ≡ true
   polled closing since start l log (chunk.Sending c to us) = ⊥
   polled closing since start l log _ = Unit {0}
@@ -107,6 +125,9 @@ module _ {W : Type 0} (knows : Knows W) where
   unpolled closing since start l log (chunk.Releasing c to us stamp seen) e = absurd (cc)
   unpolled closing since start l log (chunk.Making u life type values seal) e = absurd (cc)
   unpolled closing since start l log (chunk.Exchanging name put was by tag) e = absurd (cc)
+  unpolled closing since start l log (chunk.Locking graph) e = absurd (cc)
+  unpolled closing since start l log (chunk.Unlocking graph) e = absurd (cc)
+  unpolled closing since start l log (chunk.Calling graph position call owner tag) e = absurd (cc)
   unpolled closing since start l log (chunk.Returning c us) e = absurd (cc)
   unpolled closing since start l log (chunk.Sending c to us) e = absurd (cc)
   unpolled closing since start l log _ e = tt
@@ -119,6 +140,9 @@ module _ {W : Type 0} (knows : Knows W) where
   later since start l log (chunk.Releasing c to us stamp seen) j = j
   later since start l log (chunk.Making u life type values seal) j = j
   later since start l log (chunk.Exchanging name put was by tag) j = j
+  later since start l log (chunk.Locking graph) j = j
+  later since start l log (chunk.Unlocking graph) j = j
+  later since start l log (chunk.Calling graph position call owner tag) j = j
   later since start l log (chunk.Returning c us) j = refl
   later since start l log (chunk.Sending c to us) j = j
   later since start l log _ j = tt

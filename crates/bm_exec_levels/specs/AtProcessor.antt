@@ -1,14 +1,15 @@
 -- Where the code of a processor is, and what handlers leave as it was. (This project's own.)
 use Rattle.std.specs.Prelude.{◌≡◌, ◌≤◌, ◌<◌, ◌+◌, ◌*◌, ◌%◌, ◌^◌, ◌∷◌, ◌++◌, [], ℕ, List, Option, Some, IfSome, length, reverse, slice_get}
+use Rattle.std.specs.Option.{option_map}
 use Rattle.bm_journal.specs.declared.ids.Domain.{Domain}
 use Rattle.bm_journal.specs.declared.ids.Domain.TheVariants.{Plain, Tracing}
 use Rattle.bm_journal.specs.declared.entry.Entry.TheVariants as entry
 use Rattle.bm_journal.specs.Recording.{Kept as Recorded}
+use Rattle.bm_lang.specs.declared.scenario.MapId.{MapId}
 use Rattle.bm_lang.specs.declared.scenario.Script.{Script}
 use Rattle.bm_lang.specs.declared.scenario.ScriptKind.TheVariants as kind
 use Rattle.bm_lang.specs.Limits.{script_cost}
 use Rattle.bm_law.specs.Lists.{Log}
-use Rattle.bm_law_order.specs.Calls.{calls_in}
 use Rattle.bm_law.specs.Spans.{own_entries}
 use Rattle.bm_law.specs.State.{State, seen}
 use Rattle.bm_cache.specs.Shown.{shown}
@@ -22,10 +23,12 @@ use Rattle.bm_due.specs.declared.planned.Due.{Due}
 use Rattle.bm_work.specs.DeskTests.{tests_by}
 use Rattle.bm_work.specs.Goes.{GoesOn}
 use Rattle.bm_plan.specs.Position.{Position, StandsAt, level_in, names_in}
+use Rattle.bm_exec_levels.specs.Calling.{Reckons, lock_name}
 use Rattle.bm_exec_levels.specs.Here.{Running, position_of}
 use Rattle.bm_exec_levels.specs.Logged.{Tells}
 use Rattle.bm_grace.specs.Known.{Lives}
-use Rattle.bm_exec_levels.specs.Slotted.{in_hands}
+use Rattle.bm_exec.specs.Guarded.{Guarded, Shelved}
+use Rattle.bm_exec_levels.specs.Slotted.{in_hands, items_in}
 use Rattle.bm_exec_levels.specs.Ready.{IsReady, asked_of, known_of, left_of, word_of}
 use Rattle.bm_exec_levels.specs.declared.processor.Processor.{Processor}
 use Rattle.bm_exec_levels.specs.declared.program.Program.{Program}
@@ -38,6 +41,10 @@ log_of m = m.caches.recorder.told
 -- what stands in its lists and hands
 abbrev pub lists_of : {W : Type 0} → Processor W → State ℕ
 lists_of m = seen number_of (shown m.caches)
+
+-- the name of the list or tree whose lock it holds, if any
+abbrev pub lock_of : {W : Type 0} → Program → Processor W → Option (List ℕ)
+lock_of p m = lock_name p.scenario.now.maps m.locked
 
 -- what the script of a handler may ask for: three objects, calls and works for each statement that it runs at most
 abbrev pub due_cost : Program → Due → ℕ
@@ -56,18 +63,18 @@ module _ {W : Type 0} (knows : Knows W) where
   abbrev pub tests_of : Processor W → Tests
   tests_of m = tests_by (knows.rights m.side)
 
-  -- Code of level l runs on it, and is there in its log, whose calls are counted; and planned handlers can run.
+  -- Code of level l runs on it, and is there in its log, whose calls are counted and whose lock is known; and planned handlers can run.
   pub record IsAt (P : Position → Log → Type 0) (l : ℕ) (p : Program) (m : Processor W) : Type 0 where
     pub at : Running P l (known_of knows m).grace.processor p.scenario.now m.handlers.planned m.running.items (log_of m)
     pub tells : IfSome (log_of m) (Tells p.scenario.now (known_of knows m))
-    pub counts : IfSome (log_of m) (λ es. calls_in es ≡ m.calls)
+    pub counts : IfSome (log_of m) (Reckons m.calls (lock_of p m))
     pub ready : IsReady knows p m
 
   -- A handler is due before a step of code of level l, and begins with the entry that stands next.
   pub record IsDue (l : ℕ) (p : Program) (due : Due) (m : Processor W) : Type 0 where
     pub begins : IfSome (log_of m) (λ es. (name : List ℕ) → slice_get (names_in p.scenario.now.scripts) due.script.0 ≡ Some name → StandsAt (position_of (known_of knows m).grace.processor p.scenario.now m.handlers.planned (m.running.items ++ due ∷ [])) (es ++ (due.level, entry.Handler name) ∷ []))
     pub tells : IfSome (log_of m) (Tells p.scenario.now (known_of knows m))
-    pub counts : IfSome (log_of m) (λ es. calls_in es ≡ m.calls)
+    pub counts : IfSome (log_of m) (Reckons m.calls (lock_of p m))
     pub level : level_in (reverse m.running.items) ≡ l
     pub deep : length m.running.items ≤ l
     pub above : l + 1 ≤ due.level
@@ -86,11 +93,12 @@ module _ {W : Type 0} (knows : Knows W) where
     pub asks : asked_of knows p.scenario.now b + due_cost p due ≤ asked_of knows p.scenario.now a
     pub words : word_of knows Plain b + 2 * length (left_of b) + 2 ≤ word_of knows Plain a + 2 * length (left_of a)
 
-  -- What code and its handlers leave as it was: the handlers that run, and that a section is open or none. With those that
+  -- What code and its handlers leave as it was: the lock that is held, the handlers that run, and that a section is open or none. With those that
   -- haven't run they ask for at most so many more objects and works, and name at most so many more words. Inside a section no
   -- other one begins.
   pub record Stays (asks words : ℕ) (p : Program) (a b : Processor W) : Type 0 where
     pub settled : b.settled ≡ a.settled
+    pub locked : b.locked ≡ a.locked
     pub running : b.running.items ≡ a.running.items
     pub tables : length b.tables.items ≡ length a.tables.items
     pub inside : b.inside ≡ a.inside
@@ -102,12 +110,25 @@ module _ {W : Type 0} (knows : Knows W) where
     pub processors : (known_of knows b).grace.processors ≡ (known_of knows a).grace.processors
     pub processor : (known_of knows b).grace.processor ≡ (known_of knows a).grace.processor
 
-  -- names hold the same references to the same objects; what slots hold may be another
+  -- the objects to which names hold references; and those that are in lists and trees, by unit
   abbrev pub lives_of : Processor W → Lives
   lives_of m = in_hands (known_of knows m).objects
 
+  abbrev pub items_of : Processor W → ℕ → Option Shelved
+  items_of m = items_in (known_of knows m).objects
+
+  -- lists and trees are as they were, and so is what is in them
+  pub record SameItems (a b : Processor W) : Type 0 where
+    pub graphs : (known_of knows b).objects.graphs ≡ (known_of knows a).objects.graphs
+    pub items : items_of b ≡ items_of a
+
+  -- names hold the same references to the same objects, and lists and trees are as they were; what slots hold may be another
   abbrev pub SameLives : Processor W → Processor W → Type 0
-  SameLives a b = lives_of b ≡ lives_of a
+  SameLives a b = (lives_of b ≡ lives_of a) × SameItems a b
+
+  -- the lock that it holds, and what is in lists and trees
+  abbrev pub guarded_of : Processor W → Guarded
+  guarded_of m = record { lock = option_map (λ (g : MapId). g.0) m.locked; within = items_of m }
 
   -- its caches are as calls of level l need them
   abbrev pub FineAt : ℕ → Processor W → Type 0

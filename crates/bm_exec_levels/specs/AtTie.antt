@@ -11,7 +11,10 @@ use Rattle.bm_law_order.specs.Quiet.{is_quiet}
 use Rattle.bm_law.specs.Phrases.{given}
 use Rattle.bm_page.specs.declared.units.Seal.{Seal}
 use Rattle.bm_law_order.specs.Act.{Act}
-use Rattle.bm_law_order.specs.Calls.{calls_in, tag_after}
+use Rattle.bm_graph.specs.Entries.{call_entry}
+use Rattle.bm_journal.specs.declared.past.PastCall.{PastCall}
+use Rattle.bm_law_order.specs.Calls.{calls_in, lock_in, tag_after}
+use Rattle.bm_law_order.specs.Graphs.{effect_of}
 use Rattle.bm_journal.specs.declared.ids.ObjId.{ObjId}
 use Rattle.bm_journal.specs.declared.ids.Tag.{Tag}
 use Rattle.bm_law_order.specs.Act as act
@@ -27,7 +30,7 @@ use Rattle.bm_law.specs.Spans.{Records, own_entries}
 use Rattle.bm_law.proofs.Spans.{own-append}
 use Rattle.bm_law_order.proofs.Ties.{law-closed, law-done, law-quiet, law-said, law-stepped, tie-judged, tie-level}
 use Rattle.bm_exec_levels.specs.Asked.{AsksFor, asked_after, asked_over}
-use Rattle.bm_exec_levels.specs.AtPolls.{DoesHere, here-join, here-same, home, polled, unpolled}
+use Rattle.bm_exec_levels.specs.AtPolls.{DoesHere, MayCall, OwnerIs, here-join, here-same, home, names_of, polled, unpolled}
 use Rattle.bm_exec_levels.specs.AtProcessor.{log_of, tests_of}
 use Rattle.bm_exec_levels.specs.Freeing.{free_entry}
 use Rattle.bm_exec_levels.specs.Hosting.{with_caches, with_side}
@@ -237,6 +240,67 @@ module _ {W : Type 0} (knows : Knows W) where
               let same : a.log ≡ before = append_cancel_right a.log before ((l, entry.Xchg name put was from) ∷ []) (sym a.more ∙ some-log log (before ++ (l, entry.Xchg name put was from) ∷ []) q) in
               let counted : calls_in a.log ≡ m.calls = (let F : Option Log → Type 0 = λ o. IfSome o (λ es. calls_in es ≡ m.calls) in subst F a.told counts) in
               is ∙ (ap (λ p. tag_after p m.calls) t.done_is.1 ∙ ap (tag_after (home knows start)) (sym counted ∙ ap calls_in same))
+
+  -- the entry of a chunk that its log before it judges, by acts that the side did
+  judged-one : (since : Log) (start : W) (l : ℕ) (done : List Act) (e : Entry) (c : Chunk) (m k : Processor W) → acts_of c ≡ done → entries_of c ≡ e ∷ [] → Appends (log_of m) l e (log_of k) → IfSome (log_of m) (λ es. polled knows false since start l es c) → OwesAt since start l done (e ∷ []) k → TiedAt since start k
+  judged-one since start l done e c m k acts entries a j o = go (log_of k) a o
+    where
+      go : (now : Option Log) → Appends (log_of m) l e now → TiedBy (polled knows false since start) (DoesHere knows) since start l done (e ∷ []) now k.side → TiedBy (polled knows false since start) (DoesHere knows) since start 0 [] [] now k.side
+      go None a t = tt
+      go (Some log) a t = by-level since start l 0 (Some log) k.side (as-judged false since start l done (e ∷ []) (Some log) k.side c acts entries judge t)
+        where
+          judge : (before : Log) → Some log ≡ Some (before ++ (l, e) ∷ []) → polled knows false since start l before c
+          judge before q =
+              let same : a.log ≡ before = append_cancel_right a.log before ((l, e) ∷ []) (sym a.more ∙ some-log log (before ++ (l, e) ∷ []) q) in
+              let F : Option Log → Type 0 = λ o. IfSome o (λ es. polled knows false since start l es c) in
+              subst (λ es. polled knows false since start l es c) same (subst F a.told j)
+
+  -- whose side it was when the tie began
+  pub home-since : (since : Log) (start : W) (l : ℕ) (done : List Act) (es : List Entry) (log : Log) (w : W) → Tied (polled knows false since start) (DoesHere knows) since start l done es log w → home knows w ≡ home knows start
+  home-since since start l done es log w t = t.done_is.1
+
+  -- a list or tree was called: it may be, and its call is the next one of the log
+  pub tied-called : (since : Log) (start : W) (l : ℕ) (graph : List ℕ) (position : ℕ) (call : PastCall) (owner : List ℕ) (tag : Tag) (m k : Processor W) → l ≡ 0 → Appends (log_of m) l (call_entry graph position owner call) (log_of k) → IfSome (log_of m) (λ es. calls_in es ≡ m.calls) → IfSome (log_of m) (MayCall (home knows k.side) graph) → OwnerIs (names_of knows k.side) (effect_of call) owner → tag ≡ tag_after (home knows k.side) m.calls →
+      OwesAt since start l (act.Calls graph position call tag ∷ []) (call_entry graph position owner call ∷ []) k → TiedAt since start k
+  tied-called since start l graph position call owner tag m k base a counts may owns is o =
+      go (log_of m) (log_of k) a counts may o
+    where
+      c : Chunk
+      c = chunk.Calling graph position call owner tag
+
+      e : Entry
+      e = call_entry graph position owner call
+
+      done : List Act
+      done = act.Calls graph position call tag ∷ []
+
+      go : (was now : Option Log) → Appends was l e now → IfSome was (λ es. calls_in es ≡ m.calls) → IfSome was (MayCall (home knows k.side) graph) → TiedBy (polled knows false since start) (DoesHere knows) since start l done (e ∷ []) now k.side → TiedBy (polled knows false since start) (DoesHere knows) since start 0 [] [] now k.side
+      go was None a counts may t = tt
+      go was (Some log) a counts may t =
+          by-level since start l 0 (Some log) k.side (as-judged false since start l done (e ∷ []) (Some log) k.side c refl refl judge t)
+        where
+          judge : (before : Log) → Some log ≡ Some (before ++ (l, e) ∷ []) → polled knows false since start l before c
+          judge before q =
+              let here : home knows k.side ≡ home knows start = t.done_is.1 in
+              let same : a.log ≡ before = append_cancel_right a.log before ((l, e) ∷ []) (sym a.more ∙ some-log log (before ++ (l, e) ∷ []) q) in
+              let counted : calls_in a.log ≡ m.calls = (let F : Option Log → Type 0 = λ o. IfSome o (λ es. calls_in es ≡ m.calls) in subst F a.told counts) in
+              let allowed : MayCall (home knows k.side) graph a.log = (let F : Option Log → Type 0 = λ o. IfSome o (MayCall (home knows k.side) graph) in subst F a.told may) in
+              (base, subst (λ p. MayCall p graph before) here (subst (MayCall (home knows k.side) graph) same allowed), subst (λ (ns : List (List ℕ)). OwnerIs ns (effect_of call) owner) t.done_is.2 owns, is ∙ (ap (λ p. tag_after p m.calls) here ∙ ap (tag_after (home knows start)) (sym counted ∙ ap calls_in same)))
+
+  -- a lock was taken, or given back
+  pub tied-locked : (since : Log) (start : W) (l : ℕ) (graph : List ℕ) (m k : Processor W) → l ≡ 0 → Appends (log_of m) l (entry.Lock graph) (log_of k) → IfSome (log_of m) (λ es. lock_in es ≡ None) → OwesAt since start l [] (entry.Lock graph ∷ []) k → TiedAt since start k
+  tied-locked since start l graph m k base a free o = judged-one since start l [] (entry.Lock graph) (chunk.Locking graph) m k refl refl a (each (log_of m) free) o
+    where
+      each : (x : Option Log) → IfSome x (λ es. lock_in es ≡ None) → IfSome x (λ es. polled knows false since start l es (chunk.Locking graph))
+      each None h = tt
+      each (Some es) h = (base, h)
+
+  pub tied-unlocked : (since : Log) (start : W) (l : ℕ) (graph : List ℕ) (m k : Processor W) → l ≡ 0 → Appends (log_of m) l (entry.Unlock graph) (log_of k) → IfSome (log_of m) (λ es. lock_in es ≡ Some graph) → OwesAt since start l [] (entry.Unlock graph ∷ []) k → TiedAt since start k
+  tied-unlocked since start l graph m k base a held o = judged-one since start l [] (entry.Unlock graph) (chunk.Unlocking graph) m k refl refl a (each (log_of m) held) o
+    where
+      each : (x : Option Log) → IfSome x (λ es. lock_in es ≡ Some graph) → IfSome x (λ es. polled knows false since start l es (chunk.Unlocking graph))
+      each None h = tt
+      each (Some es) h = (base, h)
 
   -- a reference was given up, behind its drop and the reply that others are left
   pub tied-given-up : (since : Log) (start : W) (l u life seen : ℕ) (m k : Processor W) → OwesAt since start l [] (entry.Drop u life ∷ []) m → DoesHere knows (act.GivesUp u life seen ∷ []) m.side k.side → Appends (log_of m) l (entry.Still seen) (log_of k) → TiedAt since start k

@@ -8,11 +8,12 @@ use Rattle.bm_journal.specs.Recording.{Appends, Kept as Recorded}
 use Rattle.bm_due.specs.Standing as standing
 use Rattle.bm_due.specs.Standing.{kind_of}
 use Rattle.bm_grace.specs.Known.{Known, Objects}
+use Rattle.bm_law_order.specs.Graphs.{graph_names_in}
 use Rattle.bm_law_scenario.specs.Handlers.{HandlersDone}
 use Rattle.bm_law_scenario.specs.Declared.{declared_in}
-use Rattle.bm_law_order.specs.Calls.{calls_in, is_call}
-use Rattle.bm_exec_levels.specs.Calling.{counts-plain, no-call-free, no-call-given, no-call-reply, no-call-step}
-use Rattle.bm_exec_levels.specs.Slotted.{AreStocked}
+use Rattle.bm_exec_levels.specs.Calling.{Reckons, counts-plain, is_marked, no-call-free, no-call-given, no-call-reply, no-call-step}
+use Rattle.bm_exec_levels.specs.Slotted.{AreStocked, in_hands, items_in}
+use Rattle.bm_lang.specs.declared.scenario.MapId.{MapId}
 use Rattle.bm_lang.specs.declared.scenario.Parts.{Parts}
 use Rattle.bm_law.specs.Lists.{Log}
 use Rattle.bm_law.specs.Phrases.{given}
@@ -20,7 +21,7 @@ use Rattle.bm_cache.specs.Steps.{is_free, is_reply, is_step}
 use Rattle.bm_cache.specs.declared.caches.Caches.{Caches}
 use Rattle.bm_work.specs.Goes.{Alike, GoesOn}
 use Rattle.bm_plan.specs.Position.{AskedAt, Position, StandsAt}
-use Rattle.bm_exec_levels.specs.AtProcessor.{IsAt, Stays, log_of}
+use Rattle.bm_exec_levels.specs.AtProcessor.{IsAt, SameItems, SameLives, Stays, lock_of, log_of}
 use Rattle.bm_exec_levels.specs.Growing.{inner-free, inner-given, inner-reply, inner-step, IsInner, tells-inner}
 use Rattle.bm_exec_levels.specs.Here.{Running}
 use Rattle.bm_exec_levels.specs.Logged.{Tells}
@@ -79,7 +80,7 @@ module _ {W : Type 0} (knows : Knows W) where
       record {
         at = running-same P l _ _ _ _ _ _ e s.at;
         tells = subst F (sym e) s.tells;
-        counts = (let G : Option Log → Type 0 = λ o. IfSome o (λ es. calls_in es ≡ m.calls) in subst G (sym e) s.counts);
+        counts = (let G : Option Log → Type 0 = λ o. IfSome o (Reckons m.calls (lock_of p m)) in subst G (sym e) s.counts);
         ready = ready-caches p m c same s.ready;
       }
 
@@ -91,18 +92,18 @@ module _ {W : Type 0} (knows : Knows W) where
       record {
         at = stands-step l _ _ _ _ _ _ e i a s.at;
         tells = told-more T T (log_of m) c.recorder.told l e (λ es h. tells-inner p.scenario.now k es l e (inner-step e i) h) a s.tells;
-        counts = counts-plain m.calls l e (log_of m) c.recorder.told (no-call-step e i) a s.counts;
+        counts = counts-plain m.calls (lock_of p m) l e (log_of m) c.recorder.told (no-call-step e i) a s.counts;
         ready = ready-caches p m c same s.ready;
       }
 
   -- an entry that is no step and no call
-  pub at-say : (l : ℕ) (p : Program) (m : Processor W) (c : Caches Recorded) (e : Entry) → kind_of e ≡ standing.Stays → IsInner e → is_call e ≡ false → c.processor ≡ m.caches.processor → Appends (log_of m) l e c.recorder.told → IsAt knows StandsAt l p m → IsAt knows StandsAt l p (with_caches m c)
+  pub at-say : (l : ℕ) (p : Program) (m : Processor W) (c : Caches Recorded) (e : Entry) → kind_of e ≡ standing.Stays → IsInner e → is_marked e ≡ false → c.processor ≡ m.caches.processor → Appends (log_of m) l e c.recorder.told → IsAt knows StandsAt l p m → IsAt knows StandsAt l p (with_caches m c)
   at-say l p m c e k i none same a s =
       let n : Known = known_of knows m in
       record {
         at = stands-say l _ _ _ _ _ _ e k a s.at;
         tells = told-more (Tells p.scenario.now n) (Tells p.scenario.now n) (log_of m) c.recorder.told l e (λ es h. tells-inner p.scenario.now n es l e i h) a s.tells;
-        counts = counts-plain m.calls l e (log_of m) c.recorder.told none a s.counts;
+        counts = counts-plain m.calls (lock_of p m) l e (log_of m) c.recorder.told none a s.counts;
         ready = ready-caches p m c same s.ready;
       }
 
@@ -118,6 +119,7 @@ module _ {W : Type 0} (knows : Knows W) where
   pub stays-caches : (p : Program) (m : Processor W) (c : Caches Recorded) → Stays knows 0 0 p m (with_caches m c)
   stays-caches p m c = record {
     settled = refl;
+    locked = refl;
     running = refl;
     tables = refl;
     inside = refl;
@@ -178,6 +180,7 @@ module _ {W : Type 0} (knows : Knows W) where
       let n = same-word Plain m w a in
       record {
         settled = refl;
+        locked = refl;
         running = refl;
         tables = refl;
         inside = refl;
@@ -196,6 +199,7 @@ module _ {W : Type 0} (knows : Knows W) where
   pub stays-join : (i j k n : ℕ) (p : Program) (a b c : Processor W) → Stays knows i j p a b → Stays knows k n p b c → Stays knows (i + k) (j + n) p a c
   stays-join i j k n p a b c x y = record {
     settled = y.settled ∙ x.settled;
+    locked = y.locked ∙ x.locked;
     running = y.running ∙ x.running;
     tables = y.tables ∙ x.tables;
     inside = y.inside ∙ x.inside;
@@ -210,3 +214,40 @@ module _ {W : Type 0} (knows : Knows W) where
 
   pub stays-joined : (p q : Program) (a b c : Processor W) → q ≡ p → Stays knows 0 0 p a b → Stays knows 0 0 q b c → Stays knows 0 0 p a c
   stays-joined p q a b c e x y = (let F : Program → Type 0 = λ r. Stays knows 0 0 r b c in stays-join 0 0 0 0 p a b c x (subst F e y))
+
+  -- the lock is said of apart
+  pub stays-locked : (k : Option MapId) (i j : ℕ) (p : Program) (a b : Processor W) → Stays knows i j p a b → Stays knows i j p (record a { locked = k }) (record b { locked = k })
+  stays-locked k i j p a b x = record {
+    settled = x.settled;
+    locked = refl;
+    running = x.running;
+    tables = x.tables;
+    inside = x.inside;
+    asks_most = x.asks_most;
+    words_most = x.words_most;
+    parity = x.parity;
+    inner = x.inner;
+    tracing = x.tracing;
+    processors = x.processors;
+    processor = x.processor;
+  }
+
+  -- ---- what names hold, and what is in lists and trees
+
+  pub items-joined : (a b c : Processor W) → SameItems knows a b → SameItems knows b c → SameItems knows a c
+  items-joined a b c x y = record { graphs = y.graphs ∙ x.graphs; items = y.items ∙ x.items }
+
+  pub lives-same : (m : Processor W) → SameLives knows m m
+  lives-same m = (refl, record { graphs = refl; items = refl })
+
+  pub lives-cached : (m : Processor W) (c : Caches Recorded) → SameLives knows m (with_caches m c)
+  lives-cached m c = (refl, record { graphs = refl; items = refl })
+
+  pub lives-joined : (a b c : Processor W) → SameLives knows a b → SameLives knows b c → SameLives knows a c
+  lives-joined a b c x y = (y.0 ∙ x.0, items-joined a b c x.1 y.1)
+
+  pub lives-sided : (m : Processor W) (w : W) → Alike (known_of knows m) (knows.known w) → SameLives knows m (with_side m w)
+  lives-sided m w a = (ap in_hands a.objects, record { graphs = ap (λ (o : Objects). o.graphs) a.objects; items = ap items_in a.objects })
+
+  pub names-sided : (m : Processor W) (w : W) → Alike (known_of knows m) (knows.known w) → graph_names_in (knows.known w).objects.graphs ≡ graph_names_in (known_of knows m).objects.graphs
+  names-sided m w a = ap (λ (o : Objects). graph_names_in o.graphs) a.objects

@@ -13,7 +13,7 @@ ghost use Rattle.bm_law_scenario.specs.Declared.{IsSlot};
 ghost use Rattle.bm_world.specs.Lives.{asked_once};
 ghost use Rattle.bm_exec.specs.Living.{Acquired, Created, Disposed, Exchanged, GivenUp, HasRead, HasType, IsMade, IsToPut, LetGo, LivesAs, count_in, type_in, values_in};
 ghost use Rattle.bm_exec_levels.specs.Calling.{is_object_call};
-ghost use Rattle.bm_exec_levels.specs.AtProcessor.{Between, FineAt, IsAt, SameLives, lists_of, lives_of, log_of, tests_of};
+ghost use Rattle.bm_exec_levels.specs.AtProcessor.{Between, FineAt, IsAt, SameItems, SameLives, lists_of, lives_of, log_of, tests_of};
 ghost use Rattle.bm_exec_levels.specs.AtTie.{FreesAt, GaveAt, OwesAt, TiedAt};
 ghost use Rattle.bm_exec_levels.specs.Freeing.{FreeRest, free_entry};
 ghost use Rattle.bm_exec_levels.specs.Ready.{asked_of, known_of, left_of};
@@ -106,8 +106,8 @@ fn release<'s, W: Lives, B: Since<W>, L: Rank>(
     } = at;
 }
 
-// A call of the code of a level is counted, and its entry recorded. It takes no memory but the recorder's.
-fn call<'s, W: Lives, B: Since<W>, L: Rank>(
+/// A call of the code of a level is counted, and its entry recorded. It takes no memory but the recorder's.
+pub(crate) fn call<'s, W: Lives, B: Since<W>, L: Rank>(
     own: &mut Processor<W>,
     program: &'s Program<'s>,
     entry: Entry,
@@ -119,6 +119,7 @@ fn call<'s, W: Lives, B: Since<W>, L: Rank>(
     ensures said { Appends (log_of own.old) L.number entry (log_of own.new) }
     ensures known { known_of W.Knows own.new ≡ asked_once (known_of W.Knows own.old) }
     ensures shown { shown own.new.caches ≡ shown own.old.caches }
+    ensures locked { own.new.locked ≡ own.old.locked }
     ensures at { IsAt W.Knows StandsAt L.number program.now own.new }
     ensures owes { (done : List Act) → OwesAt W.Knows B.since B.start L.number done [] own.old →
         OwesAt W.Knows B.since B.start L.number done (entry ∷ []) own.new }
@@ -146,6 +147,7 @@ pub(crate) fn make<'s, W: Lives, B: Since<W>, L: Rank>(
     requires made { IsMade program.now.scenario.now.types class type_id.0 values }
     ensures created { Created L.number class type_id.0 name values (log_of own.old) (log_of own.new)
         (lives_of W.Knows own.old) (lives_of W.Knows own.new) result }
+    ensures items { SameItems W.Knows own.old own.new }
     ensures at { IsAt W.Knows StandsAt L.number program.now own.new }
     ensures tied { TiedAt W.Knows B.since B.start own.new }
     ensures between { Between W.Knows 2 0 L.number program.now own.old own.new }
@@ -174,6 +176,7 @@ pub(crate) fn acquire<'s, W: Lives, B: Since<W>, L: Rank>(
     ensures acquired { Acquired L.number object (log_of own.old) (log_of own.new)
         (lives_of W.Knows own.old) (lives_of W.Knows own.new) }
     ensures lists { lists_of own.new ≡ lists_of own.old }
+    ensures items { SameItems W.Knows own.old own.new }
     ensures at { IsAt W.Knows StandsAt L.number program.now own.new }
     ensures tied { TiedAt W.Knows B.since B.start own.new }
     ensures between { Between W.Knows 2 0 L.number program.now own.old own.new }
@@ -228,6 +231,7 @@ pub fn exchange<'s, W: Lives, B: Since<W>, L: Rank>(
         Exchanged L.number program.now.scenario.now.types m.type_id.0 name put
         (log_of own.old) (log_of own.new) (lives_of W.Knows own.old) (lives_of W.Knows own.new) result }
     ensures lists { lists_of own.new ≡ lists_of own.old }
+    ensures items { SameItems W.Knows own.old own.new }
     ensures at { IsAt W.Knows StandsAt L.number program.now own.new }
     ensures tied { TiedAt W.Knows B.since B.start own.new }
     ensures between { Between W.Knows 1 0 L.number program.now own.old own.new }
@@ -255,6 +259,7 @@ fn give_up_other<'s, W: Lives, B: Since<W>, L: Rank>(
     requires others { 1 < count_in ((known_of W.Knows own.old).objects.lives object.unit) }
     ensures given_up { GivenUp L.number object (log_of own.old) (log_of own.new)
         (lives_of W.Knows own.old) (lives_of W.Knows own.new) }
+    ensures items { SameItems W.Knows own.old own.new }
     ensures at { IsAt W.Knows StandsAt L.number program.now own.new }
     ensures tied { TiedAt W.Knows B.since B.start own.new }
     ensures between { Between W.Knows 1 0 L.number program.now own.old own.new }
@@ -281,6 +286,7 @@ fn end_object<'s, W: Lives, B: Since<W>, L: Rank>(
     ensures disposed { (c : ℕ) → LivesAs (lives_of W.Knows own.old) c object.unit object.life →
         Disposed L.number counted c object (lists_of own.old) (log_of own.old) (log_of own.new)
         (lives_of W.Knows own.old) (lives_of W.Knows own.new) }
+    ensures items { SameItems W.Knows own.old own.new }
     ensures at { IsAt W.Knows StandsAt L.number program.now own.new }
     ensures tied { TiedAt W.Knows B.since B.start own.new }
     ensures between { Between W.Knows 1 0 L.number program.now own.old own.new }
@@ -308,6 +314,7 @@ pub fn give_up<'s, W: Lives, B: Since<W>, L: Rank>(
     ensures disposed { (c : ℕ) → LivesAs (lives_of W.Knows own.old) c object.unit object.life →
         LetGo L.number counted c object (lists_of own.old) (log_of own.old) (log_of own.new)
         (lives_of W.Knows own.old) (lives_of W.Knows own.new) }
+    ensures items { SameItems W.Knows own.old own.new }
     ensures at { IsAt W.Knows StandsAt L.number program.now own.new }
     ensures tied { TiedAt W.Knows B.since B.start own.new }
     ensures between { Between W.Knows 1 0 L.number program.now own.old own.new }

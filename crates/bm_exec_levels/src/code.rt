@@ -1,10 +1,12 @@
 //! The machine on which handlers run.
 
 use crate::calls::{acquire, exchange, give_up, make, read_field};
+use crate::graphs::{first_item, give_lock_back, look, pop, put, remove, take_lock};
 use crate::host::At;
 use crate::ranks::Rank;
 use bm_class::Class;
 use bm_exec::Machine;
+use bm_graph::{End, Way};
 use bm_journal::{Entry, ObjId, Values};
 use bm_lang::{MapId, TypeId};
 use bm_word::{Name, NoMemory};
@@ -16,7 +18,7 @@ impl<'a, 's, W: Lives, B: Since<W>, L: Rank> Machine for At<'a, 's, W, B, L> {
     ghost use Rattle.bm_plan.specs.Position.{StandsAt};
     ghost use Rattle.bm_law_scenario.specs.Declared.{declared_in};
     ghost use Rattle.bm_exec_levels.specs.declared.program.Program.{Program as ProgramValue};
-    ghost use Rattle.bm_exec_levels.specs.AtProcessor.{FineAt, IsAt, lists_of, lives_of, log_of};
+    ghost use Rattle.bm_exec_levels.specs.AtProcessor.{FineAt, IsAt, guarded_of, lists_of, lives_of, log_of};
     ghost use Rattle.bm_exec_levels.specs.AtTie.{TiedAt};
     ghost use Rattle.bm_exec_levels.specs.Ready.{asked_of, known_of};
     ghost use Rattle.bm_exec_levels.specs.RunsOn.{RunsOn, runs-joined, runs-same};
@@ -32,6 +34,8 @@ impl<'a, 's, W: Lives, B: Since<W>, L: Rank> Machine for At<'a, 's, W, B, L> {
     ghost declared = { λ m. declared_in m.program.now.scenario.now };
 
     ghost lives = { λ m. lives_of W.Knows m.own.now };
+
+    ghost guarded = { λ m. guarded_of W.Knows m.own.now };
 
     // A handler runs in a plain section from its begin to its end.
     ghost around = { λ m. record { whole = true; begun = None } };
@@ -70,6 +74,40 @@ impl<'a, 's, W: Lives, B: Since<W>, L: Rank> Machine for At<'a, 's, W, B, L> {
 
     fn exchange(&mut self, slot: MapId, name: Name, put: Option<ObjId>) -> Option<ObjId> {
         exchange::<W, B, L>(self.own, self.program, slot, name, put)
+    }
+
+    fn lock(&mut self, graph: MapId, name: Name) {
+        take_lock::<W, B, L>(self.own, self.program, graph, name);
+    }
+
+    fn unlock(&mut self, graph: MapId, name: Name) {
+        give_lock_back::<W, B, L>(self.own, self.program, graph, name);
+    }
+
+    fn push(
+        &mut self,
+        graph: MapId,
+        name: Name,
+        way: Way,
+        object: ObjId,
+    ) -> Result<bool, NoMemory> {
+        put::<W, B, L>(self.own, self.program, graph, name, way, object)
+    }
+
+    fn pop(&mut self, graph: MapId, name: Name, end: End) -> Result<Option<ObjId>, NoMemory> {
+        pop::<W, B, L>(self.own, self.program, graph, name, end)
+    }
+
+    fn first(&mut self, graph: MapId, name: Name) -> Result<Option<ObjId>, NoMemory> {
+        first_item::<W, B, L>(self.own, self.program, graph, name)
+    }
+
+    fn remove(&mut self, graph: MapId, name: Name, object: ObjId) -> Result<(), NoMemory> {
+        remove::<W, B, L>(self.own, self.program, graph, name, object)
+    }
+
+    fn look(&mut self, object: ObjId, place: u8) {
+        look::<W, B, L>(self.own, self.program, object, place);
     }
 
     fn is_inside(&self) -> bool {

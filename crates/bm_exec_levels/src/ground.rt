@@ -1,6 +1,6 @@
 //! The machine of ordinary code.
 
-ghost use Rattle.std.specs.Prelude.{◌≤◌, ◌+◌, ◌<◌, ◌^◌, [], OnOk, length};
+ghost use Rattle.std.specs.Prelude.{◌≡◌, ◌≤◌, ◌+◌, ◌<◌, ◌^◌, [], OnOk, length};
 ghost use Rattle.bm_law_work.specs.Grown.{GrewBy};
 ghost use Rattle.bm_exec.specs.Lists.{Behind};
 ghost use Rattle.bm_law_scenario.specs.Works.{UntilDown, WorkBehind};
@@ -12,6 +12,7 @@ ghost use Rattle.bm_exec_levels.specs.Sound.{Sound};
 
 use crate::behind::{until_down, work_behind};
 use crate::calls::{acquire, exchange, give_up, make, read_field};
+use crate::graphs::{first_item, give_lock_back, look, pop, put, remove, take_lock};
 use crate::host::At;
 use crate::processor::Processor;
 use crate::program::Program;
@@ -19,6 +20,7 @@ use crate::ranks::Ordinary;
 use crate::sections::{enter_section, leave_section};
 use bm_class::Class;
 use bm_exec::Machine;
+use bm_graph::{End, Way};
 use bm_journal::{Domain, Entry, Level, ObjId, Values};
 use bm_lang::{MapId, TypeId};
 use bm_word::{Name, NoMemory};
@@ -55,6 +57,7 @@ fn settle_statement<'s, W: Lives, B: Since<W>>(
     ensures grew { OnOk result (GrewBy (UntilDown classes.now) (lists_of own.old) (log_of own.old) (log_of own.new)) }
     ensures down { OnOk result (Behind (Some classes.now) (lists_of own.new) []) }
     ensures lives { OnOk result (SameLives W.Knows own.old own.new) }
+    ensures locked { OnOk result (own.new.locked ≡ own.old.locked) }
     ensures asked { OnOk result (asked_of W.Knows program.now.scenario.now own.new ≤ asked_of W.Knows program.now.scenario.now own.old + 1) }
     ensures statements { OnOk result (Statements W.Knows own.old own.new) }
     ensures sound { OnOk result (Sound W.Knows program.now own.new) }
@@ -94,6 +97,7 @@ pub fn settle_script<'s, W: Lives, B: Since<W>>(
     ensures lives { OnOk result (SameLives W.Knows own.old own.new) }
     ensures asked { OnOk result (asked_of W.Knows program.now.scenario.now own.new ≤ asked_of W.Knows program.now.scenario.now own.old + 1) }
     ensures statements { OnOk result (Statements W.Knows own.old own.new) }
+    ensures locked { OnOk result (own.new.locked ≡ own.old.locked) }
     ensures sound { OnOk result (Sound W.Knows program.now own.new) }
     ensures tied { OnOk result (TiedAt W.Knows B.since B.start own.new) }
 {
@@ -121,7 +125,7 @@ impl<'a, 's, W: Lives, B: Since<W>> Machine for Ground<'a, 's, W, B> {
     ghost use Rattle.bm_exec_levels.specs.declared.program.Program.{Program as ProgramValue};
     ghost use Rattle.bm_exec.specs.Lists.{behind_of};
     ghost use Rattle.bm_law_scenario.specs.Declared.{declared_in};
-    ghost use Rattle.bm_exec_levels.specs.AtProcessor.{lists_of, lives_of, log_of};
+    ghost use Rattle.bm_exec_levels.specs.AtProcessor.{guarded_of, lists_of, lives_of, log_of};
     ghost use Rattle.bm_exec_levels.specs.AtTie.{TiedAt};
     ghost use Rattle.bm_exec_levels.specs.Ordinary.{Scripted, around_of, words_of};
     ghost use Rattle.bm_exec_levels.specs.Stated.{scripted-joined, scripted-same};
@@ -139,6 +143,8 @@ impl<'a, 's, W: Lives, B: Since<W>> Machine for Ground<'a, 's, W, B> {
     ghost declared = { λ m. declared_in m.program.now.scenario.now };
 
     ghost lives = { λ m. lives_of W.Knows m.own.now };
+
+    ghost guarded = { λ m. guarded_of W.Knows m.own.now };
 
     ghost around = { λ m. around_of W.Knows m.within m.own.now };
 
@@ -176,6 +182,40 @@ impl<'a, 's, W: Lives, B: Since<W>> Machine for Ground<'a, 's, W, B> {
 
     fn exchange(&mut self, slot: MapId, name: Name, put: Option<ObjId>) -> Option<ObjId> {
         exchange::<W, B, Ordinary>(self.own, self.program, slot, name, put)
+    }
+
+    fn lock(&mut self, graph: MapId, name: Name) {
+        take_lock::<W, B, Ordinary>(self.own, self.program, graph, name);
+    }
+
+    fn unlock(&mut self, graph: MapId, name: Name) {
+        give_lock_back::<W, B, Ordinary>(self.own, self.program, graph, name);
+    }
+
+    fn push(
+        &mut self,
+        graph: MapId,
+        name: Name,
+        way: Way,
+        object: ObjId,
+    ) -> Result<bool, NoMemory> {
+        put::<W, B, Ordinary>(self.own, self.program, graph, name, way, object)
+    }
+
+    fn pop(&mut self, graph: MapId, name: Name, end: End) -> Result<Option<ObjId>, NoMemory> {
+        pop::<W, B, Ordinary>(self.own, self.program, graph, name, end)
+    }
+
+    fn first(&mut self, graph: MapId, name: Name) -> Result<Option<ObjId>, NoMemory> {
+        first_item::<W, B, Ordinary>(self.own, self.program, graph, name)
+    }
+
+    fn remove(&mut self, graph: MapId, name: Name, object: ObjId) -> Result<(), NoMemory> {
+        remove::<W, B, Ordinary>(self.own, self.program, graph, name, object)
+    }
+
+    fn look(&mut self, object: ObjId, place: u8) {
+        look::<W, B, Ordinary>(self.own, self.program, object, place);
     }
 
     fn is_inside(&self) -> bool {

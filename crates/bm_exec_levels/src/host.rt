@@ -25,7 +25,7 @@ impl<'a, 's, W: Lives, B: Since<W>, L: Rank> Host<Keep> for At<'a, 's, W, B, L> 
     ghost use Rattle.bm_work.specs.Still.{goes-still};
     ghost use Rattle.bm_plan.specs.Position.{AskedAt, StandsAt};
     ghost use Rattle.bm_exec_levels.specs.AtProcessor.{IsAt, SameLives, Stays, tests_of};
-    ghost use Rattle.bm_exec_levels.specs.Hosting.{at-freed, at-gave, at-said, at-same, at-stepped, goes-joined, stays-caches, stays-joined, stays-same, with_caches};
+    ghost use Rattle.bm_exec_levels.specs.Hosting.{at-freed, at-gave, at-said, at-same, at-stepped, goes-joined, lives-cached, lives-joined, lives-same, stays-caches, stays-joined, stays-same, with_caches};
     ghost use Rattle.bm_cache.specs.Steps.{is_reply, is_step};
     ghost use Rattle.bm_law_order.specs.Quiet.{is_quiet};
     ghost use Rattle.std.proofs.lemmas.Bool.{and_parts};
@@ -72,11 +72,11 @@ impl<'a, 's, W: Lives, B: Since<W>, L: Rank> Host<Keep> for At<'a, 's, W, B, L> 
 
     ghost sound_freed = { λ h c e u f i p a s. (at-freed W.Knows L.number h.program.now h.own.now c e u.number u.home i p a s.0, tied-freed W.Knows B.since B.start L.number h.own.now c e u f i a s.1) };
 
-    ghost keeps_back = { λ h c. (stays-caches W.Knows h.program.now h.own.now c, refl, goes-still (known_of W.Knows h.own.now) (known_of W.Knows h.own.now) refl, refl) };
+    ghost keeps_back = { λ h c. (stays-caches W.Knows h.program.now h.own.now c, lives-cached W.Knows h.own.now c, goes-still (known_of W.Knows h.own.now) (known_of W.Knows h.own.now) refl, refl) };
 
-    ghost keeps_same = { λ h. (stays-same W.Knows h.program.now h.own.now, refl, goes-still (known_of W.Knows h.own.now) (known_of W.Knows h.own.now) refl, refl) };
+    ghost keeps_same = { λ h. (stays-same W.Knows h.program.now h.own.now, lives-same W.Knows h.own.now, goes-still (known_of W.Knows h.own.now) (known_of W.Knows h.own.now) refl, refl) };
 
-    ghost keeps_join = { λ a b c x y. (stays-joined W.Knows a.program.now b.program.now a.own.now b.own.now c.own.now x.3 x.0 y.0, y.1 ∙ x.1, goes-joined (known_of W.Knows a.own.now) (known_of W.Knows b.own.now) (known_of W.Knows c.own.now) x.2 y.2, y.3 ∙ x.3) };
+    ghost keeps_join = { λ a b c x y. (stays-joined W.Knows a.program.now b.program.now a.own.now b.own.now c.own.now x.3 x.0 y.0, lives-joined W.Knows a.own.now b.own.now c.own.now x.1 y.1, goes-joined (known_of W.Knows a.own.now) (known_of W.Knows b.own.now) (known_of W.Knows c.own.now) x.2 y.2, y.3 ∙ x.3) };
 
     fn caches(&mut self) -> &mut Caches<Keep> {
         let own = &mut *self.own;
@@ -106,8 +106,9 @@ impl<'a, 's, W: Lives, B: Since<W>, L: Rank> Desk<Keep> for At<'a, 's, W, B, L> 
     ghost use Rattle.bm_exec_levels.specs.AtRests.{RestedBy, RestsBy, goes-in, law-kept, law-passed, law-released, law-rested_done, rests-begun, rests-looked, rests-missed, rests-read, rests-tied, rests-whole, waits-in};
     ghost use Rattle.bm_law_order.specs.Act as act;
     ghost use Rattle.std.specs.Prelude.{◌∷◌};
-    ghost use Rattle.bm_exec_levels.specs.Slotted.{in_hands};
-    ghost use Rattle.bm_exec_levels.specs.Hosting.{at-said, at-sided, at-stepped, stays-joined, stays-sided, with_caches, with_side};
+    ghost use Rattle.bm_grace.specs.Known.{Objects};
+    ghost use Rattle.bm_law_order.specs.Graphs.{graph_names_in};
+    ghost use Rattle.bm_exec_levels.specs.Hosting.{at-said, at-sided, at-stepped, lives-joined, lives-sided, names-sided, stays-joined, stays-sided, with_caches, with_side};
 
     type W = W;
 
@@ -142,7 +143,7 @@ impl<'a, 's, W: Lives, B: Since<W>, L: Rank> Desk<Keep> for At<'a, 's, W, B, L> 
 
     ghost pending_apart = { λ h w. refl };
 
-    ghost stays_apart = { λ h w a. (stays-sided W.Knows h.program.now h.own.now w a, ap in_hands a.objects, refl) };
+    ghost stays_apart = { λ h w a. (stays-sided W.Knows h.program.now h.own.now w a, lives-sided W.Knows h.own.now w a, refl) };
 
     ghost tests_are = { λ h. refl };
 
@@ -152,13 +153,13 @@ impl<'a, 's, W: Lives, B: Since<W>, L: Rank> Desk<Keep> for At<'a, 's, W, B, L> 
 
     ghost keeps_stays = { λ a b k. (k.0, k.1, k.3) };
 
-    ghost stays_join = { λ a b c x y. (stays-joined W.Knows a.program.now b.program.now a.own.now b.own.now c.own.now x.2 x.0 y.0, y.1 ∙ x.1, y.2 ∙ x.2) };
+    ghost stays_join = { λ a b c x y. (stays-joined W.Knows a.program.now b.program.now a.own.now b.own.now c.own.now x.2 x.0 y.0, lives-joined W.Knows a.own.now b.own.now c.own.now x.1 y.1, y.2 ∙ x.2) };
 
     ghost owes_open = { λ h s. (s.0, tied-open W.Knows B.since B.start L.number h.own.now s.1) };
 
     ghost owes_shut = { λ h o. (o.0, tied-shut W.Knows B.since B.start L.number h.own.now o.1) };
 
-    ghost owes_done = { λ h w done more es a d o. (at-sided W.Knows StandsAt L.number h.program.now h.own.now w a o.0, owes-did W.Knows B.since B.start L.number done more es h.own.now w (d, a.processor) o.1) };
+    ghost owes_done = { λ h w done more es a d o. (at-sided W.Knows StandsAt L.number h.program.now h.own.now w a o.0, owes-did W.Knows B.since B.start L.number done more es h.own.now w (d, a.processor, ap (λ (x : Objects). graph_names_in x.graphs) a.objects) o.1) };
 
     ghost owes_said = { λ h c done es e i p a o. (at-said W.Knows L.number h.program.now h.own.now c e i p a o.0, owes-said W.Knows B.since B.start L.number done es e h.own.now c a o.1) };
 
@@ -166,7 +167,7 @@ impl<'a, 's, W: Lives, B: Since<W>, L: Rank> Desk<Keep> for At<'a, 's, W, B, L> 
 
     ghost asked_open = { λ h s. (s.0, tied-open W.Knows B.since B.start L.number h.own.now s.1) };
 
-    ghost asked_done = { λ h w done more a d o. (at-sided W.Knows AskedAt L.number h.program.now h.own.now w a o.0, owes-did W.Knows B.since B.start L.number done more [] h.own.now w (d, a.processor) o.1) };
+    ghost asked_done = { λ h w done more a d o. (at-sided W.Knows AskedAt L.number h.program.now h.own.now w a o.0, owes-did W.Knows B.since B.start L.number done more [] h.own.now w (d, a.processor, ap (λ (x : Objects). graph_names_in x.graphs) a.objects) o.1) };
 
     ghost asked_closed = { λ h done x o. (o.0, tied-closed W.Knows B.since B.start L.number done [] h.own.now x o.1) };
 
@@ -190,7 +191,7 @@ impl<'a, 's, W: Lives, B: Since<W>, L: Rank> Desk<Keep> for At<'a, 's, W, B, L> 
 
     ghost rested_kept = { λ a b d x k m s r. (s.0, law-kept W.Knows false B.since B.start L.number d x (log_of a.own.now) (log_of b.own.now) a.own.now.side b.own.now.side m (tied-open W.Knows B.since B.start L.number b.own.now s.1) r.1) };
 
-    ghost rested_done = { λ h w d x done more a m r. (at-sided W.Knows AskedAt L.number h.program.now h.own.now w a r.0, law-rested_done W.Knows false B.since B.start L.number d x done more (log_of h.own.now) h.own.now.side w (m, a.processor) r.1) };
+    ghost rested_done = { λ h w d x done more a m r. (at-sided W.Knows AskedAt L.number h.program.now h.own.now w a r.0, law-rested_done W.Knows false B.since B.start L.number d x done more (log_of h.own.now) h.own.now.side w (m, a.processor, names-sided W.Knows h.own.now w a) r.1) };
 
     ghost rested_passed = { λ h c i d x n b p a r. (at-stepped W.Knows L.number h.program.now h.own.now c (entry.Pass i d n) refl p a r.0, tied-shut W.Knows B.since B.start L.number (with_caches h.own.now c) (law-passed W.Knows false B.since B.start L.number i d x n (log_of h.own.now) c.recorder.told h.own.now.side (waits-in _ i d x _ h.own.now.caches r.0.ready.here (b tt)) a r.1)) };
 }

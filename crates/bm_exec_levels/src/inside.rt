@@ -34,7 +34,9 @@ fn run_code<'s, W: Lives, B: Since<W>, L: Rank>(
     requires at { IsAt W.Knows StandsAt L.number program.now own.old }
     requires tied { TiedAt W.Knows B.since B.start own.old }
     requires fine { FineAt W.Knows L.number own.old }
+    requires above { 0 < L.number }
     requires found { (i : ℕ) × (slice_get program.now.scenario.now.scripts i ≡ Some script.now) }
+    requires handles { script.now.kind ≡ kind.Handler }
     requires asks { asked_of W.Knows program.now.scenario.now own.old + 3 * script_cost (Some script.now) < 2 ^ 22 }
     requires bound { BindsAll program.now.scenario.now.scripts table.old }
     ensures ran { RanScript (declared_of program.now.types) L.number true None (lists_of own.old) script.now (log_of own.old) (log_of own.new) }
@@ -70,6 +72,7 @@ pub(crate) fn run_inside<'s, W: Lives, B: Since<W>, L: Rank>(
     requires at { IsAt W.Knows StandsAt L.number program.now own.old }
     requires tied { TiedAt W.Knows B.since B.start own.old }
     requires fine { FineAt W.Knows L.number own.old }
+    requires above { 0 < L.number }
     requires found { (i : ℕ) × (slice_get program.now.scenario.now.scripts i ≡ Some script.now) }
     requires handles { script.now.kind ≡ kind.Handler }
     requires asks { asked_of W.Knows program.now.scenario.now own.old + 3 * script_cost (Some script.now) < 2 ^ 22 }

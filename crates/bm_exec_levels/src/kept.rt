@@ -1,6 +1,6 @@
 //! What a processor keeps between its turns.
 
-ghost use Rattle.std.specs.Prelude.{◌≡◌, ◌≤◌, ◌<◌, [], All, IfErr, IfOk, false, length, vec_capacity};
+ghost use Rattle.std.specs.Prelude.{◌≡◌, ◌≤◌, ◌<◌, [], All, IfErr, IfOk, None, false, length, vec_capacity};
 ghost use Rattle.bm_due.specs.Due.{planned_for};
 ghost use Rattle.bm_exec_levels.specs.Ready.{BindsAll};
 
@@ -8,7 +8,7 @@ use bm_cache::Caches;
 use bm_due::Due;
 use bm_exec::NameTable;
 use bm_journal::Keep;
-use bm_lang::{Scenario, Script};
+use bm_lang::{MapId, Scenario, Script};
 use bm_plan::Handlers;
 use bm_word::NoMemory;
 use std::alloc::Global;
@@ -24,6 +24,8 @@ pub struct Kept {
     pub calls: u32,
     /// Whether it is in a plain section.
     pub inside: bool,
+    /// The list or tree whose lock it holds.
+    pub locked: Option<MapId>,
     /// The handlers that haven't run.
     pub handlers: Handlers,
     /// The handlers that run, the innermost last. There is room for one of each level.
@@ -82,7 +84,7 @@ impl Kept {
         processor: u8,
         caches: Caches<Keep>,
     ) -> Result<Kept, Caches<Keep>>
-        ensures fresh { IfOk result (λ kept. kept ≡ record kept { alloc = alloc; caches = caches; settled = 0; calls = 0; inside = false }) }
+        ensures fresh { IfOk result (λ kept. kept ≡ record kept { alloc = alloc; caches = caches; settled = 0; calls = 0; inside = false; locked = None }) }
         ensures planned { IfOk result (λ kept. kept.handlers.planned ≡ record { left = planned_for processor scenario.now; ended = false }) }
         ensures scripts { IfOk result (λ kept. kept.handlers.scripts ≡ length scenario.now.scripts) }
         ensures running { IfOk result (λ kept. kept.running.items ≡ []) }
@@ -105,6 +107,7 @@ impl Kept {
                     settled: 0,
                     calls: 0,
                     inside: false,
+                    locked: None,
                     handlers,
                     running,
                     tables,
@@ -122,6 +125,7 @@ impl Kept {
             settled: _,
             calls: _,
             inside: _,
+            locked: _,
             handlers: _,
             running: _,
             tables: _,

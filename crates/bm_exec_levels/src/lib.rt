@@ -7,7 +7,8 @@
 //!   desk, and what statements run on. Before each step its point asks which handler is due, and runs it whole.
 //! - `Ground` is ordinary code with `Deferred` work after its statements: `until_down` after each statement, `settle_script` and
 //!   `work_behind` after a script. `enter_section` and `leave_section` are the sections of scripts.
-//! - `exchange` and `give_up` are calls of a level for what a slot holds: the closing of a run empties the slots by them.
+//! - `exchange` and `give_up` are calls of a level for what a slot holds, `pop`, `first_item` and `remove` those for lists and trees: the closing
+//!   of a run empties the maps by them. A list or tree is called under its lock, or in the closing.
 //! - `Program` is what is run, `Since` the time since which a processor is tied to its log.
 //!
 //! `bm_run` opens a processor, runs scripts on it, and closes it.
@@ -23,6 +24,7 @@ mod behind;
 mod calls;
 mod code;
 mod flags;
+mod graphs;
 mod ground;
 mod handlers;
 mod host;
@@ -37,6 +39,7 @@ mod sections;
 pub use behind::{until_down, work_behind};
 pub use bm_world::Since;
 pub use calls::{exchange, give_up};
+pub use graphs::{first_item, pop, remove};
 pub use ground::{Deferred, Ground, settle_script};
 pub use host::At;
 pub use kept::Kept;

@@ -7,6 +7,7 @@ use bm_cache::Caches;
 use bm_due::Due;
 use bm_exec::NameTable;
 use bm_journal::Keep;
+use bm_lang::MapId;
 use bm_plan::Handlers;
 use std::alloc::Global;
 
@@ -22,6 +23,8 @@ pub struct Processor<W> {
     pub calls: u32,
     /// Whether it is in a plain section.
     pub inside: bool,
+    /// The list or tree whose lock it holds.
+    pub locked: Option<MapId>,
     /// The handlers that haven't run.
     pub handlers: Handlers,
     /// The handlers that run, the innermost last. There is room for one of each level.
@@ -40,6 +43,7 @@ impl<W> Processor<W> {
           settled = kept.settled;
           calls = kept.calls;
           inside = kept.inside;
+          locked = kept.locked;
           handlers = kept.handlers;
           running = kept.running;
           tables = kept.tables;
@@ -51,6 +55,7 @@ impl<W> Processor<W> {
             settled,
             calls,
             inside,
+            locked,
             handlers,
             running,
             tables,
@@ -62,6 +67,7 @@ impl<W> Processor<W> {
             settled,
             calls,
             inside,
+            locked,
             handlers,
             running,
             tables,
@@ -76,6 +82,7 @@ impl<W> Processor<W> {
           settled = self.settled;
           calls = self.calls;
           inside = self.inside;
+          locked = self.locked;
           handlers = self.handlers;
           running = self.running;
           tables = self.tables;
@@ -89,6 +96,7 @@ impl<W> Processor<W> {
             settled,
             calls,
             inside,
+            locked,
             handlers,
             running,
             tables,
@@ -100,6 +108,7 @@ impl<W> Processor<W> {
                 settled,
                 calls,
                 inside,
+                locked,
                 handlers,
                 running,
                 tables,

@@ -2,6 +2,7 @@
 use Rattle.std.specs.Prelude.{ℕ, Option, None, List, []}
 use Rattle.bm_journal.specs.declared.ids.Domain.{Domain}
 use Rattle.bm_journal.specs.declared.ids.Domain.TheVariants.{Plain, Tracing}
+use Rattle.bm_law_order.specs.Graphs.{NamedGraph}
 use Rattle.bm_law_order.specs.Slots.{Named}
 use Rattle.bm_grace.specs.declared.step.TableStep.{TableStep}
 
@@ -40,13 +41,14 @@ pub record Living : Type 0 where
 abbrev pub Lives : Type 0
 Lives = ℕ → Option Living
 
--- The objects that live on a side, how many lives each unit has begun, how many calls for objects were counted there, and its slots with
--- what they hold. No call on grace periods, parcels or the stock changes them.
+-- The objects that live on a side, how many lives each unit has begun, how many calls for objects were counted there, its slots with what they hold,
+-- and its lists and trees. No call on grace periods, parcels or the stock changes them.
 pub record Objects : Type 0 where
   pub lives : Lives
   pub begun : ℕ → ℕ
   pub asked : ℕ
   pub slots : List Named
+  pub graphs : List NamedGraph
 
 -- all of it
 pub record Known : Type 0 where
@@ -63,7 +65,7 @@ side Tracing known = known.grace.tracing
 
 -- where none lives or has lived, and none was asked for
 abbrev pub no_objects : Objects
-no_objects = record { lives = λ n. None; begun = λ n. 0; asked = 0; slots = [] }
+no_objects = record { lives = λ n. None; begun = λ n. 0; asked = 0; slots = []; graphs = [] }
 
 -- of what has no part in grace periods
 abbrev pub no_side : Side

@@ -8,3 +8,5 @@ pub mod Sound
 pub mod Spending
 pub mod Shelved
 pub mod Worked
+pub mod Ways
+pub mod Entries

@@ -34,6 +34,7 @@ mod plain_shelf;
 mod record;
 mod shelf;
 mod tree;
+mod ways;
 mod worked;
 
 pub use call::GraphCall;
@@ -43,4 +44,5 @@ pub use list::List;
 pub use plain_shelf::PlainShelf;
 pub use shelf::{Shelf, Visit};
 pub use tree::Tree;
+pub use ways::{End, Way};
 pub use worked::{worked_lists, worked_trees};

@@ -196,3 +196,13 @@ impl<T> List<T> {
         items.destroy_empty();
     }
 }
+
+impl<T: Drop> List<T> {
+    /// Gives a list's history, and ends the list and the items that it holds.
+    pub fn into_history(self) -> Vec<Past>
+        ensures { result.items ≡ self.history }
+    {
+        let List { items: _, history } = self;
+        history
+    }
+}

@@ -213,3 +213,17 @@ impl<T> Tree<T> {
         rows.give_up(spender);
     }
 }
+
+impl<T: Drop> Tree<T> {
+    /// Gives a tree's history, and ends the tree and the items that it holds.
+    pub fn into_history(self) -> Vec<Past>
+        ensures { result.items ≡ self.history }
+    {
+        let Tree {
+            rows: _,
+            index: _,
+            history,
+        } = self;
+        history
+    }
+}

@@ -33,13 +33,13 @@ one-left : {A : Type 0} (P : A → Type 0) (xs ys : List A) → OneOf P xs → O
 one-left P [] ys h = absurd h
 one-left P (x ∷ xs) ys h = elim h [ inl p ↦ inl p | inr more ↦ inr (one-left P xs ys more) ]
 
-one-recorded : (x : GraphCall) (tag : Tag) (histories : List ℕ → List Past) (P : Past → Type 0) (name : List ℕ) → OneOf P (histories name) → OneOf P (recorded x tag histories name)
+one-recorded : (x : GraphCall) (tag : Tag) (histories : List ℕ → List Past) (P : Past → Type 0) (name : List ℕ) → OneOf P (histories name) → OneOf P (recorded x.graph (entry_of x tag) histories name)
 one-recorded x tag histories P name h = elim (cases_Bool (bytes_eq x.graph name)) [
   | inl y ↦ rw y (one-left P (histories name) (entry_of x tag ∷ []) h)
   | inr n ↦ rw n h
 ]
 
-fits-recorded : (names : List (List ℕ)) (x : GraphCall) (tag : Tag) (histories : List ℕ → List Past) (place : ℕ) (before : List Past) (f : Effect) → RefusalFits names histories place before f → RefusalFits names (recorded x tag histories) place before f
+fits-recorded : (names : List (List ℕ)) (x : GraphCall) (tag : Tag) (histories : List ℕ → List Past) (place : ℕ) (before : List Past) (f : Effect) → RefusalFits names histories place before f → RefusalFits names (recorded x.graph (entry_of x tag) histories) place before f
 fits-recorded names x tag histories place before (Refuses id owner) h = record { own = h.own; only = h.only; put = one-recorded x tag histories (PutsIn id) (get_or names owner []) h.put }
 fits-recorded names x tag histories place before _ h = tt
 
@@ -101,18 +101,18 @@ record AreRefused (names : List (List ℕ)) (s : Shelves) : Type 0 where
   pub standing : AreStanding names s.histories s.within
   pub law : RefusalLaw names s.histories
 
-call-law : (names : List (List ℕ)) (x : GraphCall) (tag : Tag) (histories : List ℕ → List Past) (within : ℕ → Option Standing) → place_of names x.graph < length names → EffectFits (place_of names x.graph) (effect_of x.call) within → AreStanding names histories within → RefusalLaw names histories → RefusalLaw names (recorded x tag histories)
+call-law : (names : List (List ℕ)) (x : GraphCall) (tag : Tag) (histories : List ℕ → List Past) (within : ℕ → Option Standing) → place_of names x.graph < length names → EffectFits (place_of names x.graph) (effect_of x.call) within → AreStanding names histories within → RefusalLaw names histories → RefusalLaw names (recorded x.graph (entry_of x tag) histories)
 call-law names x tag histories within lt fits standing law name =
-    let old = each-so (RefusalFits names histories (place_of names name)) (RefusalFits names (recorded x tag histories) (place_of names name)) (λ b f. fits-recorded names x tag histories (place_of names name) b f) [] (histories name) (law name) in
+    let old = each-so (RefusalFits names histories (place_of names name)) (RefusalFits names (recorded x.graph (entry_of x tag) histories) (place_of names name)) (λ b f. fits-recorded names x tag histories (place_of names name) b f) [] (histories name) (law name) in
     elim (cases_Bool (bytes_eq x.graph name)) [
       | inl y ↦
           (let same : x.graph ≡ name = (bytes_eq-Decides x.graph name).0 y in
           let here : RefusalFits names histories (place_of names x.graph) (histories x.graph) (effect_of x.call) = call-refusal names x.graph (effect_of x.call) histories within lt fits standing in
           let now : RefusalFits names histories (place_of names name) (histories name) (effect_of x.call) = subst (λ n. RefusalFits names histories (place_of names n) (histories n) (effect_of x.call)) same here in
           let new = fits-recorded names x tag histories (place_of names name) (histories name) (effect_of x.call) now in
-          let all : EachAfter (RefusalFits names (recorded x tag histories) (place_of names name)) [] (histories name ++ entry_of x tag ∷ []) = each-more (RefusalFits names (recorded x tag histories) (place_of names name)) [] (histories name) (entry_of x tag) old new in
-          subst (λ b. EachAfter (RefusalFits names (recorded x tag histories) (place_of names name)) [] (if b then histories name ++ entry_of x tag ∷ [] else histories name)) (sym y) all)
-      | inr n ↦ subst (λ b. EachAfter (RefusalFits names (recorded x tag histories) (place_of names name)) [] (if b then histories name ++ entry_of x tag ∷ [] else histories name)) (sym n) old
+          let all : EachAfter (RefusalFits names (recorded x.graph (entry_of x tag) histories) (place_of names name)) [] (histories name ++ entry_of x tag ∷ []) = each-more (RefusalFits names (recorded x.graph (entry_of x tag) histories) (place_of names name)) [] (histories name) (entry_of x tag) old new in
+          subst (λ b. EachAfter (RefusalFits names (recorded x.graph (entry_of x tag) histories) (place_of names name)) [] (if b then histories name ++ entry_of x tag ∷ [] else histories name)) (sym y) all)
+      | inr n ↦ subst (λ b. EachAfter (RefusalFits names (recorded x.graph (entry_of x tag) histories) (place_of names name)) [] (if b then histories name ++ entry_of x tag ∷ [] else histories name)) (sym n) old
     ]
 
 called-refused : (names : List (List ℕ)) (p l : ℕ) (e : Entry) (x : Option GraphCall) (tag : Tag) (s : Shelves) → CallFits names p l x tag s → AreRefused names s → AreRefused names (called names x tag (guarded_after p e s))

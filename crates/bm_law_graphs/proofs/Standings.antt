@@ -139,7 +139,7 @@ moved-known names g u x (Takes id) within known h e = elim (eqb_tells u id.unit)
 moved-known names g u x _ within known h e = h e
 
 pub call-standing : (names : List (List ℕ)) (x : GraphCall) (tag : Tag) (histories : List ℕ → List Past) (within : ℕ → Option Standing) → place_of names x.graph < length names → EffectFits (place_of names x.graph) (effect_of x.call) within → AreStanding names histories within →
-    AreStanding names (recorded x tag histories) (moved (place_of names x.graph) (effect_of x.call) within)
+    AreStanding names (recorded x.graph (entry_of x tag) histories) (moved (place_of names x.graph) (effect_of x.call) within)
 call-standing names x tag histories within declared fits h = record {
   stand = λ name id lt. elim (cases_Bool (bytes_eq x.graph name)) [
     | inl y ↦

@@ -1,18 +1,13 @@
 -- Calls on lists and trees, as logs name them, and what they do to the object that they name. (The calls are those of
 -- kernel/bpf/helpers.c: bpf_list_push_front_impl and bpf_list_push_back_impl, bpf_list_pop_front and bpf_list_pop_back,
 -- bpf_rbtree_add_impl, bpf_rbtree_first and bpf_rbtree_remove. Positions and names are this project's own.)
-use Rattle.std.specs.Prelude.{ℕ, ◌+◌, if◌then◌else◌, Option, Some, None, List, [], ◌∷◌}
-use Rattle.std.specs.Str.{bytes_eq}
+use Rattle.std.specs.Prelude.{ℕ, Option, Some, None, List, [], ◌∷◌}
 use Rattle.bm_journal.specs.declared.ids.ObjId.{ObjId}
 use Rattle.bm_journal.specs.declared.entry.Entry.{Entry}
 use Rattle.bm_journal.specs.declared.entry.Entry.TheVariants as entry
 use Rattle.bm_journal.specs.declared.past.PastCall.{PastCall}
 use Rattle.bm_journal.specs.declared.past.PastCall.TheVariants as past
-
--- a name's place among the names of maps; their number where it isn't there
-abbrev pub place_of : List (List ℕ) → List ℕ → ℕ
-place_of [] name = 0
-place_of (n ∷ ns) name = if bytes_eq n name then 0 else place_of ns name + 1
+pub use Rattle.bm_law_order.specs.Graphs.{Effect, Looks, Puts, Refuses, Takes, effect_of, place_of}
 
 -- What a log says of a call on a list or tree: which one, the call's position in its history, and what it did.
 pub record GraphCall : Type 0 where
@@ -45,23 +40,3 @@ graph_call names key (entry.PopBack name item pos) = on name pos (found past.Pop
 graph_call names key (entry.First name item pos) = on name pos (found past.First past.FirstNone item)
 graph_call names key (entry.Remove name u life pos) = on name pos (past.Remove (object u life))
 graph_call names key _ = None
-
--- What a call does to an object: it puts it in, takes it out, or is refused since the object is in a list or tree already, with the
--- place of that one; or it looks, or finds none.
-pub data Effect : Type 0 where
-  Puts : ObjId → Effect
-  Takes : ObjId → Effect
-  Refuses : ObjId → ℕ → Effect
-  Looks : Effect
-
-abbrev pub effect_of : PastCall → Effect
-effect_of (past.PushFront id) = Puts id
-effect_of (past.PushBack id) = Puts id
-effect_of (past.Add id key) = Puts id
-effect_of (past.PushFrontAlready id owner) = Refuses id owner
-effect_of (past.PushBackAlready id owner) = Refuses id owner
-effect_of (past.AddAlready id key owner) = Refuses id owner
-effect_of (past.PopFront id) = Takes id
-effect_of (past.PopBack id) = Takes id
-effect_of (past.Remove id) = Takes id
-effect_of _ = Looks

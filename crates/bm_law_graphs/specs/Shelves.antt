@@ -8,16 +8,10 @@ use Rattle.bm_journal.specs.declared.ids.Tag.{Tag}
 use Rattle.bm_journal.specs.declared.entry.Entry.{Entry}
 use Rattle.bm_journal.specs.declared.entry.Entry.TheVariants as entry
 use Rattle.bm_journal.specs.declared.past.Past.{Past}
-use Rattle.bm_graph.specs.Objects.{list_object, tree_object}
-use Rattle.bm_graph.specs.Replay.{replay}
+pub use Rattle.bm_law_order.specs.Graphs.{EffectFits, Replays, Standing, moved, recorded}
 use Rattle.bm_law_order.specs.Orders.{AllFit, Order}
 use Rattle.bm_law_objects.specs.Objects.{Asked, Made, Objects, first_objects, objects_after, tag_after}
 use Rattle.bm_law_graphs.specs.Calls.{Effect, GraphCall, Looks, Puts, Refuses, Takes, effect_of, graph_call, place_of}
-
--- Where an object stands: the life that its unit has, and the list or tree, by its place among the names of maps.
-pub record Standing : Type 0 where
-  pub life : ℕ
-  pub place : ℕ
 
 -- By name the history of a list or tree so far; by unit where the object in it stands, if it is in a list or tree; by name the processor
 -- that holds the lock, if any; and whether processor 0 has begun the closing.
@@ -30,26 +24,14 @@ pub record Shelves : Type 0 where
 abbrev pub first_shelves : Shelves
 first_shelves = record { histories = λ name. []; within = λ u. None; holders = λ name. None; closing = false }
 
--- Each reply of a history is right, of a list or of a tree.
-abbrev pub Replays : List Past → Type 0
-Replays history = (is_some (replay list_object history) || is_some (replay tree_object history)) ≡ true
-
 -- ---- what an entry of processor p makes of them
 
 abbrev pub entry_of : GraphCall → Tag → Past
 entry_of x tag = record { tag = tag; call = x.call }
 
-abbrev pub recorded : GraphCall → Tag → (List ℕ → List Past) → List ℕ → List Past
-recorded x tag histories other = if bytes_eq x.graph other then histories other ++ entry_of x tag ∷ [] else histories other
-
-abbrev pub moved : (place : ℕ) → Effect → (ℕ → Option Standing) → ℕ → Option Standing
-moved place (Puts id) within u = if eqb u id.unit then Some (record { life = id.life; place = place }) else within u
-moved place (Takes id) within u = if eqb u id.unit then None else within u
-moved place _ within u = within u
-
 abbrev pub called : List (List ℕ) → Option GraphCall → Tag → Shelves → Shelves
 called names None tag s = s
-called names (Some x) tag s = record s { histories = recorded x tag s.histories; within = moved (place_of names x.graph) (effect_of x.call) s.within }
+called names (Some x) tag s = record s { histories = recorded x.graph (entry_of x tag) s.histories; within = moved (place_of names x.graph) (effect_of x.call) s.within }
 
 abbrev pub with_holder : List ℕ → Option ℕ → (List ℕ → Option ℕ) → List ℕ → Option ℕ
 with_holder name holder holders other = if bytes_eq name other then holder else holders other
@@ -97,13 +79,6 @@ pub record IsClosing (p : ℕ) (graph : List ℕ) (s : Shelves) : Type 0 where
   pub first : p ≡ 0
   pub closing : s.closing ≡ true
   pub free : s.holders graph ≡ None
-
--- What is put in stands in no list or tree; what is taken stands in this one; and a refused push names the one in which it stands.
-abbrev pub EffectFits : (place : ℕ) → Effect → (ℕ → Option Standing) → Type 0
-EffectFits place (Puts id) within = within id.unit ≡ None
-EffectFits place (Takes id) within = within id.unit ≡ Some (record { life = id.life; place = place })
-EffectFits place (Refuses id owner) within = within id.unit ≡ Some (record { life = id.life; place = owner })
-EffectFits place Looks within = Unit {0}
 
 -- A call on a list or tree that there is, at level 0 under its lock or in the closing; its position is the number of calls on it before, its
 -- reply is right after these, and what it does to its object fits where that stands.

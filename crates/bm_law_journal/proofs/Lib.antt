@@ -4,3 +4,4 @@ pub mod Shared
 pub mod Ungraphed
 pub mod Owned
 pub mod HandedOver
+pub mod Visited

@@ -1,6 +1,5 @@
 -- When a journal is lawful for a scenario, and when it is laid: what the program promises of the journals that it prints. One field a law;
--- behind each stands the file that states it. The last four laws of `Lawful`, and the last three of `Laid`, speak of forms that don't run
--- so far, but for replies to `drop`, and for units that are given. (This project's own: journals are.)
+-- behind each stands the file that states it. (This project's own: journals are.)
 use Rattle.std.specs.Prelude.{◌≡◌, ℕ, if◌then◌else◌, List, [], ◌∷◌, Option, None, Some}
 use Rattle.std.specs.Str.{bytes_eq}
 use Rattle.bm_journal.specs.declared.journal.Journal.{Journal}

@@ -10,7 +10,7 @@ use Rattle.bm_law.specs.Lists.{Leaves, Log, after, brought, next}
 use Rattle.bm_law.specs.Null.{Asked, Nothing, NullLaw, RepliesFit, all_apart, is_apart}
 use Rattle.bm_law.specs.Spans.{own_entries}
 use Rattle.bm_law.specs.State.{State, opening}
-use Rattle.bm_law.proofs.Null.{apart-answers, pops-fit, replies-append}
+use Rattle.bm_law.proofs.Null.{pops-fit, replies-append}
 use Rattle.bm_law.proofs.Spans.{own-append}
 use Rattle.bm_law_work.specs.Parts.{Part, Nothing as Nothing_part, Stand, Then}
 use Rattle.bm_law_work.proofs.Each.{AllOf}

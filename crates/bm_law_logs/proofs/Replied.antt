@@ -12,6 +12,9 @@ use Rattle.bm_law_work.proofs.Each.{AllOf}
 use Rattle.bm_law_scenario.specs.Declared.{Declared, declared_in}
 use Rattle.bm_law_scenario.specs.Calls.{Allocates}
 use Rattle.bm_law_scenario.proofs.Freed.{either-free}
+use Rattle.bm_graph.specs.Entries.{call_entry}
+use Rattle.bm_journal.specs.declared.past.PastCall.{PastCall}
+use Rattle.bm_journal.specs.declared.past.PastCall.TheVariants as past
 use Rattle.bm_law_scenario.proofs.RunsAll.{Closed}
 use Rattle.bm_law_logs.specs.Owed.{AllReplied}
 use Rattle.bm_law_scenario.specs.WorkEntries.{IsOfWork}
@@ -35,6 +38,10 @@ phrase-of c own (Some o) x = inl (o.0, o.1, x.0, x.1, x.2, x.3)
 new : (name values : List ℕ) (c : ℕ) (own : List Entry) (reply : Option (ℕ × ℕ)) → Allocates c own reply → AllReplied (entry.New name values ∷ own)
 new name values c own reply a = let h = alloc-answers c own (phrase-of c own reply a) in record { replies = (refl, h.0); owed = h.1 }
 
+call-apart : (graph : List ℕ) (position : ℕ) (owner : List ℕ) (call : PastCall) → AllReplied (call_entry graph position owner call ∷ [])
+call-apart graph position owner (past.PushFront id) = apart (entry.PushFront graph id.unit id.life position ∷ []) refl
+call-apart graph position owner call = apart (call_entry graph position owner call ∷ []) refl
+
 closed : (d : Declared) → Closed d AllReplied
 closed d = record {
   none = record { replies = tt; owed = refl };
@@ -45,6 +52,9 @@ closed d = record {
   acquired = λ y x names part after r. subst AllReplied (sym r.part_is) (apart (entry.Acquire r.unit r.life r.seen ∷ []) refl);
   read = λ x field names part after r. subst AllReplied (sym r.part_is) (apart (entry.Get r.unit r.life r.place r.value ∷ []) refl);
   exchanged = λ y slot given names part after r. subst AllReplied (sym r.part_is) (apart (entry.Xchg r.declared.name r.put r.was r.by ∷ []) refl);
+  locks = λ graph. apart (entry.Lock graph ∷ []) refl;
+  unlocks = λ graph. apart (entry.Unlock graph ∷ []) refl;
+  calls = λ graph position owner call. call-apart graph position owner call;
   enters = λ w. apart (entry.In Plain w ∷ []) refl;
   leaves = λ w. apart (entry.Out Plain w ∷ []) refl;
   yields = apart (entry.Yield ∷ []) refl;

@@ -22,6 +22,7 @@ use Rattle.bm_law_scenario.specs.Opened.{opened_classes}
 use Rattle.bm_law_scenario.proofs.EachLevel.{AllAbove, above-map, handlers-above}
 use Rattle.bm_law_scenario.proofs.OfCall.{of-calls}
 use Rattle.bm_law_lives.specs.StampLaw.{ReturnsFit}
+use Rattle.bm_graph.specs.Entries.{call_entry}
 use Rattle.bm_law_scenario.specs.WorkEntries.{KeepsBatch}
 use Rattle.bm_law_logs.proofs.Batches.{ReturnsBy, Stood, keeps-say, nothing-at, returns-laws, then-at}
 use Rattle.bm_law_scenario.proofs.FrontLaws.{Fronted, front-law}
@@ -67,9 +68,13 @@ front-by s =
         acquired = λ y x names after. says (λ own. RunsAcquire s.types y x names own after) (λ own h. of-map IsOfStatement KeepsBatch call-keeps own (calls.acquired y x names own after h));
         read = λ x field names after. says (λ own. RunsGet s.types x field names own after) (λ own h. of-map IsOfStatement KeepsBatch call-keeps own (calls.read x field names own after h));
         exchanged = λ y slot given names after. says (λ own. RunsExchange s.maps y slot given names own after) (λ own h. of-map IsOfStatement KeepsBatch call-keeps own (calls.exchanged y slot given names own after h));
+        locks = λ graph. stands (entry.Lock graph ∷ []) (tt, tt);
+        unlocks = λ graph. stands (entry.Unlock graph ∷ []) (tt, tt);
+        calls = λ graph position owner call. stands (call_entry graph position owner call ∷ []) (of-map IsOfStatement KeepsBatch call-keeps (call_entry graph position owner call ∷ []) (calls.calls graph position owner call));
         enters = λ w. stands (entry.In Plain w ∷ []) (tt, tt);
         leaves = λ w. stands (entry.Out Plain w ∷ []) (tt, tt);
         yields = stands (entry.Yield ∷ []) (tt, tt);
+        silent = stands [] tt;
       };
       fills = λ pool. says (AreFills (opened_classes s.types) pool) (λ own h. fills-keep (opened_classes s.types) pool own h);
       begins = λ d name w. stands (entry.Script name ∷ entry.In d w ∷ []) (tt, (tt, tt));

@@ -1,5 +1,5 @@
 -- Entries of a front send parcels of opened classes alone, and sweep nothing.
-use Rattle.std.proofs.Common.{◌≡◌, ℕ, true, List, sym, subst}
+use Rattle.std.proofs.Common.{[], ◌∷◌, ◌≡◌, ℕ, true, List, sym, subst}
 use Rattle.bm_journal.specs.declared.entry.Entry.{Entry}
 use Rattle.bm_journal.specs.declared.entry.Entry.TheVariants as entry
 use Rattle.bm_lang.specs.declared.scenario.Parts.{Parts}
@@ -12,6 +12,7 @@ use Rattle.bm_law_scenario.specs.WorkEntries.{IsOfWork}
 use Rattle.bm_law_scenario.proofs.FrontLaws.{Written}
 use Rattle.bm_law_scenario.proofs.OfCall.{of-calls}
 use Rattle.bm_law_scenario.proofs.OfWork.{work-writes}
+use Rattle.bm_graph.specs.Entries.{call_entry}
 use Rattle.bm_law_scenario.proofs.PartLaws.{among}
 use Rattle.bm_law_logs.proofs.QuietEntries.{IsQuiet}
 
@@ -53,6 +54,9 @@ front-sends s =
         acquired = λ y x names part after r. of-map IsOfStatement (SendsOf cs) (call-sends cs) part (calls.acquired y x names part after r);
         read = λ x field names part after r. of-map IsOfStatement (SendsOf cs) (call-sends cs) part (calls.read x field names part after r);
         exchanged = λ y slot given names part after r. of-map IsOfStatement (SendsOf cs) (call-sends cs) part (calls.exchanged y slot given names part after r);
+        locks = λ graph. (tt, tt);
+        unlocks = λ graph. (tt, tt);
+        calls = λ graph position owner call. of-map IsOfStatement (SendsOf cs) (call-sends cs) (call_entry graph position owner call ∷ []) (calls.calls graph position owner call);
         enters = λ w. (tt, tt);
         leaves = λ w. (tt, tt);
         yields = (tt, tt);

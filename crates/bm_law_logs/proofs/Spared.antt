@@ -16,6 +16,9 @@ use Rattle.bm_law_work.specs.WorkPhrases.{Work}
 use Rattle.bm_law_work.proofs.Each.{AllOf}
 use Rattle.bm_law_scenario.specs.Declared.{Declared, declared_in}
 use Rattle.bm_law_scenario.specs.Opened.{OfClass, is_class, object_size, opened_classes, uses_class}
+use Rattle.bm_graph.specs.Entries.{call_entry}
+use Rattle.bm_journal.specs.declared.past.PastCall.{PastCall}
+use Rattle.bm_journal.specs.declared.past.PastCall.TheVariants as past
 use Rattle.bm_law_scenario.proofs.RunsAll.{Closed}
 use Rattle.bm_law_scenario.proofs.Spares.{AllSpare, Spares, other-row, spare-alloc, spare-delay, spare-free, spare-join}
 use Rattle.bm_law_scenario.proofs.PartLaws.{among}
@@ -109,6 +112,10 @@ all-work-spare : (k c : ℕ) (es : List Entry) → k ≢ c → AllOf (IsOfWork c
 all-work-spare k c [] ne h = tt
 all-work-spare k c (e ∷ es) ne h = (work-spares k c e ne h.0, all-work-spare k c es ne h.1)
 
+call-spares : (c : ℕ) (graph : List ℕ) (position : ℕ) (owner : List ℕ) (call : PastCall) → Spares c (call_entry graph position owner call)
+call-spares c graph position owner (past.PushFront id) = λ l us s. refl
+call-spares c graph position owner _ = λ l us s. refl
+
 closed : (d : Declared) (c : ℕ) → list_any (uses_class c) d.types ≡ false → Closed d (AllSpare c)
 closed d c e = record {
   none = tt;
@@ -119,6 +126,9 @@ closed d c e = record {
   acquired = λ y x names part after r. subst (AllSpare c) (sym r.part_is) (λ l us s. refl, tt);
   read = λ x field names part after r. subst (AllSpare c) (sym r.part_is) (λ l us s. refl, tt);
   exchanged = λ y slot given names part after r. subst (AllSpare c) (sym r.part_is) (λ l us s. refl, tt);
+  locks = λ graph. (λ l us s. refl, tt);
+  unlocks = λ graph. (λ l us s. refl, tt);
+  calls = λ graph position owner call. (call-spares c graph position owner call, tt);
   enters = λ w. (λ l us s. refl, tt);
   leaves = λ w. (λ l us s. refl, tt);
   yields = (λ l us s. refl, tt);

@@ -9,3 +9,4 @@ pub mod WaitsJoin
 pub mod Waited
 pub mod MadeJoin
 pub mod SlotsJoin
+pub mod GraphsJoin

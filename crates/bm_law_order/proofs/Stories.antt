@@ -10,6 +10,8 @@ use Rattle.bm_journal.specs.declared.ids.Domain.TheVariants.{Plain, Tracing}
 use Rattle.bm_journal.specs.declared.period.Period.{Period}
 use Rattle.bm_journal.specs.declared.entry.Entry.{Entry}
 use Rattle.bm_journal.specs.declared.entry.Entry.TheVariants as entry
+use Rattle.bm_journal.specs.declared.past.PastCall.{PastCall}
+use Rattle.bm_journal.specs.declared.past.PastCall.TheVariants as past
 use Rattle.bm_law.specs.Inboxes.{oldest}
 use Rattle.bm_law.specs.Phrases.{given}
 use Rattle.bm_law_order.specs.ByDomain.{ByDomain, of, with_of}
@@ -20,6 +22,7 @@ use Rattle.bm_law_order.specs.Parcels.{Boxes, EndsWith, on_box}
 use Rattle.bm_law_order.specs.Shared.{Shared, Fits, found, shared_after}
 use Rattle.bm_law_order.specs.Orders.{Leads, by}
 use Rattle.bm_page.specs.declared.units.Seal.{Seal}
+use Rattle.bm_graph.specs.Entries.{call_entry}
 use Rattle.bm_law_order.specs.Act.{Act, units_of}
 use Rattle.bm_law_order.specs.Act as act
 use Rattle.bm_law_order.specs.Acts.{ActsFit, CanEnd, IsOnly, LooksAt, act_after, acts_over, looked}
@@ -328,6 +331,15 @@ whole-comes p l n ws period s f h =
       steady = ends-steady p period s2 (begins-steady p d n ws s h f.1.0);
     }
 
+-- a call on a list or tree touches nothing of it
+call-fits : (p l : ℕ) (graph : List ℕ) (position : ℕ) (owner : List ℕ) (call : PastCall) (s : Shared) → Fits p l (call_entry graph position owner call) s
+call-fits p l graph position owner (past.PushFront id) s = record { words = tt; numbers = tt; looks = tt; lives = tt; pages = tt; boxes = tt }
+call-fits p l graph position owner _ s = record { words = tt; numbers = tt; looks = tt; lives = tt; pages = tt; boxes = tt }
+
+call-after : (p l : ℕ) (graph : List ℕ) (position : ℕ) (owner : List ℕ) (call : PastCall) (s : Shared) → shared_after p l (call_entry graph position owner call) s ≡ s
+call-after p l graph position owner (past.PushFront id) s = refl
+call-after p l graph position owner _ s = refl
+
 finishing-comes : (p l : ℕ) (ws : List ℕ) (period : Period) (s : Shared) → ActsFit p (acts_of (chunk.Finishing ws period)) s → Steady s → Comes p l (chunk.Finishing ws period) s
 finishing-comes p l ws period s f h =
     let d = period.domain in
@@ -440,6 +452,18 @@ comes p l (chunk.Finding u life place value) s f h = record {
 }
 comes p l (chunk.Exchanging name put was from tag) s f h = record {
   leads = record { fit = (record { words = tt; numbers = tt; looks = tt; lives = tt; pages = tt; boxes = tt }, tt); now_is = refl };
+  steady = h;
+}
+comes p l (chunk.Locking graph) s f h = record {
+  leads = record { fit = (record { words = tt; numbers = tt; looks = tt; lives = tt; pages = tt; boxes = tt }, tt); now_is = refl };
+  steady = h;
+}
+comes p l (chunk.Unlocking graph) s f h = record {
+  leads = record { fit = (record { words = tt; numbers = tt; looks = tt; lives = tt; pages = tt; boxes = tt }, tt); now_is = refl };
+  steady = h;
+}
+comes p l (chunk.Calling graph position call owner tag) s f h = record {
+  leads = record { fit = (call-fits p l graph position owner call (plainly s), tt); now_is = call-after p l graph position owner call (plainly s) };
   steady = h;
 }
 comes p l (chunk.GivingUp u life seen) s f h = record {

@@ -7,8 +7,11 @@ use Rattle.std.proofs.lemmas.List.Elements.{All-head, All-tail}
 use mathlib.Core.Path.{fun_ext}
 use Rattle.bm_journal.specs.declared.entry.Entry.{Entry}
 use Rattle.bm_journal.specs.declared.entry.Entry.TheVariants as entry
+use Rattle.bm_journal.specs.declared.past.PastCall.{PastCall}
+use Rattle.bm_journal.specs.declared.past.PastCall.TheVariants as past
 use Rattle.bm_law.specs.Lists.{Log}
 use Rattle.bm_page.specs.declared.units.Seal.{Seal}
+use Rattle.bm_graph.specs.Entries.{call_entry}
 use Rattle.bm_law_order.specs.Act.{Act}
 use Rattle.bm_law_order.specs.Act as act
 use Rattle.bm_law_order.specs.Chunk.{Chunk, acts_of, entries_of, seal_told}
@@ -96,6 +99,11 @@ receives-keep c (us ∷ parcels) w now h = receives-keep c parcels h.0 now h.1.1
 nothing-said : (p : ℕ) (m : Waiting) (now : ℕ → Wait) → now ≡ m.waits → Goes p [] m now
 nothing-said p m now n = record { fit = tt; now_is = sym n }
 
+-- a call on a list or tree says nothing of what units wait for
+call-leaves : (p l : ℕ) (graph : List ℕ) (position : ℕ) (owner : List ℕ) (call : PastCall) (m : Waiting) → Leaves p l (call_entry graph position owner call) m
+call-leaves p l graph position owner (past.PushFront id) m = record { fits = tt; stays = refl }
+call-leaves p l graph position owner _ m = record { fits = tt; stays = refl }
+
 -- behind the entries of a chunk units wait for what its acts say
 chunk-goes : (p l : ℕ) (c : Chunk) (m : Waiting) (now : ℕ → Wait) → WaitLeads (acts_of c) m.waits now → ReleaseFits p l c m → Goes p (at_level l (entries_of c)) m now
 chunk-goes p l (chunk.Quiet e q) m now h r = one-goes p l e m now (quiet-leaves p l e m q) h
@@ -115,6 +123,9 @@ chunk-goes p l (chunk.Making u life type values seal) m now h r = sealed-fits p 
 chunk-goes p l (chunk.Acquiring u life seen) m now h r = one-goes p l (entry.Acquire u life seen) m now (record { fits = tt; stays = refl }) (h.1.1 ∙ h.1.0)
 chunk-goes p l (chunk.Finding u life place value) m now h r = one-goes p l (entry.Get u life place value) m now (record { fits = tt; stays = refl }) (h.1.1 ∙ h.1.0)
 chunk-goes p l (chunk.Exchanging name put was from tag) m now h r = one-goes p l (entry.Xchg name put was from) m now (record { fits = tt; stays = refl }) (h.1.1 ∙ h.1.0)
+chunk-goes p l (chunk.Locking graph) m now h r = one-goes p l (entry.Lock graph) m now (record { fits = tt; stays = refl }) h
+chunk-goes p l (chunk.Unlocking graph) m now h r = one-goes p l (entry.Unlock graph) m now (record { fits = tt; stays = refl }) h
+chunk-goes p l (chunk.Calling graph position call owner tag) m now h r = one-goes p l (call_entry graph position owner call) m now (call-leaves p l graph position owner call m) (h.1.1 ∙ h.1.0)
 chunk-goes p l (chunk.GivingUp u life seen) m now h r = record { fit = (tt, (tt, tt)); now_is = sym (h.1.1 ∙ h.1.0) }
 chunk-goes p l (chunk.Ending u life home delayed) m now h r = ending-goes p l u life home delayed m now (h.1.1 ∙ h.1.0)
 chunk-goes p l (chunk.Entering d w) m now h r = one-goes p l (entry.In d w) m now (record { fits = tt; stays = refl }) (h.1.1 ∙ h.1.0)

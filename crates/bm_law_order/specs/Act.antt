@@ -3,6 +3,7 @@ use Rattle.std.specs.Prelude.{ℕ, Bool, List, Option, map}
 use Rattle.bm_journal.specs.declared.ids.ObjId.{ObjId}
 use Rattle.bm_journal.specs.declared.ids.Tag.{Tag}
 use Rattle.bm_journal.specs.declared.ids.Domain.{Domain}
+use Rattle.bm_journal.specs.declared.past.PastCall.{PastCall}
 use Rattle.bm_journal.specs.declared.period.Period.{Period}
 use Rattle.bm_page.specs.UnitState.{UnitState}
 use Rattle.bm_page.specs.declared.units.Seal.{Seal}
@@ -27,6 +28,7 @@ sealed us = map (λ u. let s : Sealed = record { unit = u.number; seal = u.seal 
 -- who knows what the units wait for. Where nobody does, they are sent or returned. A life is made as an object of a type, by its number among those declared, with
 -- the values of its fields, of which a read finds one, by its place; and a reference to it is acquired, or given up where others are left: each names how many there were.
 -- What a slot holds is exchanged by a call, which a tag names: with what is put there, what was there, and the call that had put that.
+-- A list or tree is called, with the call's position in its history and the tag that names it.
 pub data Act : Type 0 where
   Enters : Domain → (word : ℕ) → Act
   Leaves : Domain → (word : ℕ) → Act
@@ -47,5 +49,6 @@ pub data Act : Type 0 where
   Acquires : (unit life seen : ℕ) → Act
   Finds : (unit life place value : ℕ) → Act
   Exchanges : (name : List ℕ) (put was : Option ObjId) (by : Option Tag) (tag : Tag) → Act
+  Calls : (graph : List ℕ) (position : ℕ) (call : PastCall) (tag : Tag) → Act
   GivesUp : (unit life seen : ℕ) → Act
   Ends : (unit life home : ℕ) (delayed : Bool) → Act

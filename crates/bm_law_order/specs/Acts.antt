@@ -1,6 +1,9 @@
 -- What acts of a processor need of what all share, and make of it: each is one step of the model.
-use Rattle.std.specs.Prelude.{◌≡◌, ◌≢◌, ◌<◌, ◌+◌, ◌-◌, ℕ, Some, None, List, [], ◌∷◌, ◌++◌, drop, reverse}
+use Rattle.std.specs.Prelude.{◌≡◌, ◌≢◌, ◌<◌, ◌+◌, ◌-◌, ℕ, Option, Some, None, List, [], ◌∷◌, ◌++◌, drop, reverse}
 use Rattle.bm_journal.specs.declared.ids.Domain.{Domain}
+use Rattle.bm_journal.specs.declared.ids.ObjId.{ObjId}
+use Rattle.bm_journal.specs.declared.past.PastCall.{PastCall}
+use Rattle.bm_journal.specs.declared.past.PastCall.TheVariants as past
 use Rattle.bm_journal.specs.declared.period.Period.{Period}
 use Rattle.bm_law.specs.Inboxes.{oldest}
 use Rattle.bm_law_order.specs.ByDomain.{of, with_of}
@@ -60,6 +63,16 @@ pub record IsOnly (u life home : ℕ) (s : Shared) : Type 0 where
   pub holds : s.lives.holds u ≡ Some (record { maker = home; count = 1 })
   pub now_is : life ≡ s.lives.begun u
 
+-- the object that is to be put into a list or tree, if one is
+abbrev pub pushed_by : PastCall → Option ObjId
+pushed_by (past.PushFront id) = Some id
+pushed_by (past.PushBack id) = Some id
+pushed_by (past.Add id key) = Some id
+pushed_by (past.PushFrontAlready id owner) = Some id
+pushed_by (past.PushBackAlready id owner) = Some id
+pushed_by (past.AddAlready id key owner) = Some id
+pushed_by _ = None
+
 -- what an act of processor p needs
 abbrev pub ActFits : ℕ → Act → Shared → Type 0
 ActFits p (act.Enters d w) s = IsNextWord p 1 w (of d s.words)
@@ -81,6 +94,7 @@ ActFits p (act.Makes u life type values seal) s = IsGiven u life s.lives
 ActFits p (act.Acquires u life seen) s = Has u life seen s.lives
 ActFits p (act.Finds u life place value) s = IsAlive u life s.lives
 ActFits p (act.Exchanges name put was by tag) s = IfAlive put s.lives
+ActFits p (act.Calls graph position call tag) s = IfAlive (pushed_by call) s.lives
 ActFits p (act.GivesUp u life seen) s = Has u life seen s.lives × (1 < seen)
 ActFits p (act.Ends u life home delayed) s = IsOnly u life home s
 

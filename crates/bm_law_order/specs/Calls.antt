@@ -1,5 +1,5 @@
--- The calls of a log, and the tag by which one is named. (This project's own: journals are.)
-use Rattle.std.specs.Prelude.{ℕ, ◌+◌, Bool, true, false, if◌then◌else◌, List, [], ◌∷◌}
+-- The calls of a log, the tag by which one is named, and the lock that a log holds. (This project's own: journals are.)
+use Rattle.std.specs.Prelude.{ℕ, ◌+◌, Bool, true, false, ◌||◌, if◌then◌else◌, List, [], ◌∷◌, None, Option, Some}
 use Rattle.bm_journal.specs.declared.ids.Tag.{Tag}
 use Rattle.bm_journal.specs.declared.entry.Entry.{Entry}
 use Rattle.bm_journal.specs.declared.entry.Entry.TheVariants as entry
@@ -38,3 +38,25 @@ calls_in log = calls_over 0 log
 -- the call of processor p that has n calls of its log before it: serials begin with 1
 abbrev pub tag_after : (p n : ℕ) → Tag
 tag_after p n = record { processor = p; serial = n + 1 }
+
+-- the list or tree whose lock a log holds at its end, if any
+abbrev pub lock_after : Option (List ℕ) → Entry → Option (List ℕ)
+lock_after held (entry.Lock name) = Some name
+lock_after held (entry.Unlock name) = None
+lock_after held _ = held
+
+abbrev pub lock_over : Option (List ℕ) → Log → Option (List ℕ)
+lock_over held [] = held
+lock_over held (e ∷ es) = lock_over (lock_after held e.1) es
+
+abbrev pub lock_in : Log → Option (List ℕ)
+lock_in log = lock_over None log
+
+-- whether a log has the begin of the closing
+abbrev pub is_close : Entry → Bool
+is_close entry.Close = true
+is_close _ = false
+
+abbrev pub closes : Log → Bool
+closes [] = false
+closes (e ∷ es) = is_close e.1 || closes es

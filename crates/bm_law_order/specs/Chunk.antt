@@ -4,10 +4,12 @@ use Rattle.std.specs.List.{concat}
 use Rattle.bm_journal.specs.declared.ids.Domain.{Domain}
 use Rattle.bm_journal.specs.declared.ids.ObjId.{ObjId}
 use Rattle.bm_journal.specs.declared.ids.Tag.{Tag}
+use Rattle.bm_journal.specs.declared.past.PastCall.{PastCall}
 use Rattle.bm_journal.specs.declared.period.Period.{Period}
 use Rattle.bm_journal.specs.declared.units.Units.TheVariants.{Whole}
 use Rattle.bm_journal.specs.declared.entry.Entry.{Entry}
 use Rattle.bm_journal.specs.declared.entry.Entry.TheVariants as entry
+use Rattle.bm_graph.specs.Entries.{call_entry}
 use Rattle.bm_law.specs.Pages.{prefill}
 use Rattle.bm_page.specs.declared.units.Seal.{Seal}
 use Rattle.bm_law.specs.Phrases.{given}
@@ -43,6 +45,9 @@ pub data Chunk : Type 0 where
   Acquiring : (unit life seen : ℕ) → Chunk
   Finding : (unit life place value : ℕ) → Chunk
   Exchanging : (name : List ℕ) (put was : Option ObjId) (by : Option Tag) (tag : Tag) → Chunk
+  Locking : (graph : List ℕ) → Chunk
+  Unlocking : (graph : List ℕ) → Chunk
+  Calling : (graph : List ℕ) (position : ℕ) (call : PastCall) (owner : List ℕ) (tag : Tag) → Chunk
   GivingUp : (unit life seen : ℕ) → Chunk
   Ending : (unit life home : ℕ) → (delayed : Bool) → Chunk
 
@@ -77,6 +82,9 @@ acts_of (Making u life type values seal) = act.Makes u life type values seal ∷
 acts_of (Acquiring u life seen) = act.Acquires u life seen ∷ []
 acts_of (Finding u life place value) = act.Finds u life place value ∷ []
 acts_of (Exchanging name put was by tag) = act.Exchanges name put was by tag ∷ []
+acts_of (Locking graph) = []
+acts_of (Unlocking graph) = []
+acts_of (Calling graph position call owner tag) = act.Calls graph position call tag ∷ []
 acts_of (GivingUp u life seen) = act.GivesUp u life seen ∷ []
 acts_of (Ending u life home delayed) = act.Ends u life home delayed ∷ []
 
@@ -102,11 +110,14 @@ entries_of (Making u life type values seal) = given u life (seal_told seal) ∷ 
 entries_of (Acquiring u life seen) = entry.Acquire u life seen ∷ []
 entries_of (Finding u life place value) = entry.Get u life place value ∷ []
 entries_of (Exchanging name put was by tag) = entry.Xchg name put was by ∷ []
+entries_of (Locking graph) = entry.Lock graph ∷ []
+entries_of (Unlocking graph) = entry.Unlock graph ∷ []
+entries_of (Calling graph position call owner tag) = call_entry graph position owner call ∷ []
 entries_of (GivingUp u life seen) = entry.Drop u life ∷ entry.Still seen ∷ []
 entries_of (Ending u life home delayed) = entry.Drop u life ∷ entry.Last ∷ (if delayed then entry.Delay u home else entry.Free u home) ∷ []
 entries_of _ = []
 
--- What a pass, a period that begins, a given unit, an exchange, the end of a life and a batch that goes away say is judged by the log before them, and
+-- What a pass, a period that begins, a given unit, an exchange, a lock, a call on a list or tree, the end of a life and a batch that goes away say is judged by the log before them, and
 -- so is what is sent or returned where nobody tells what it waits for; what other chunks say, by themselves.
 abbrev pub is_judged : Chunk → Bool
 is_judged (Passing c d x n) = true
@@ -114,6 +125,9 @@ is_judged (Beginning d n ws) = true
 is_judged (WholePeriod n ws p) = true
 is_judged (Making u life type values seal) = true
 is_judged (Exchanging name put was by tag) = true
+is_judged (Locking graph) = true
+is_judged (Unlocking graph) = true
+is_judged (Calling graph position call owner tag) = true
 is_judged (Ending u life home delayed) = true
 is_judged (Releasing c to us stamp seen) = true
 is_judged (Returning c us) = true

@@ -20,3 +20,4 @@ pub mod Seals
 pub mod Made
 pub mod Calls
 pub mod Slots
+pub mod Graphs

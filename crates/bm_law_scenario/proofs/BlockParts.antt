@@ -8,17 +8,21 @@ use Rattle.bm_lang.specs.declared.scenario.Action.TheBlock.{hidden-the_row-State
 use Rattle.bm_lang.specs.declared.scenario.Block.{Block, roll-Block, rolls-Block', Row_of-Statement, end_of-Statement, more_of-Statement, items-the_row-Statement, items_hidden-the_row-Statement-0}
 use Rattle.bm_lang.specs.declared.scenario.Statement.{Statement}
 use Rattle.bm_law_work.specs.Parts.{Part}
-use Rattle.bm_law_scenario.specs.Declared.{Declared}
-use Rattle.bm_law_scenario.specs.Runs.{Run, Leaving, Done, Followed, RunsAction, RunsBlock, RunsRow}
+use Rattle.bm_law_scenario.specs.Declared.{Declared, under}
+use Rattle.bm_law_scenario.specs.Runs.{Run, Leaving, Done, Followed, RunsAction, RunsBlock, RunsRow, lock_after, unlocked}
 
 -- statements, one after the other
 abbrev pub RunsList : Declared → ℕ → Part → List Statement → Run
 RunsList d l behind [] = Done
-RunsList d l behind (s ∷ ss) = Followed (Followed (RunsAction d l true behind s.action) (Leaving behind)) (RunsList d l behind ss)
+RunsList d l behind (s ∷ ss) =
+    let lock = lock_after d.lock s.action in
+    Followed (Followed (RunsAction d l true behind s.action) (Leaving (unlocked lock behind))) (RunsList (under lock d) l behind ss)
 
 row-runs : (d : Declared) (l : ℕ) (behind : Part) (n : Count) (row : Row_of-Statement n) → RunsRow d l true behind row ≡ RunsList d l behind (items-the_row-Statement n row)
 row-runs d l behind _ end_of-Statement = refl
-row-runs d l behind _ (more_of-Statement line action rest) = ap (Followed (Followed (RunsAction d l true behind action) (Leaving behind))) (row-runs d l behind _ rest)
+row-runs d l behind _ (more_of-Statement line action rest) =
+    let lock = lock_after d.lock action in
+    ap (Followed (Followed (RunsAction d l true behind action) (Leaving (unlocked lock behind)))) (row-runs (under lock d) l behind _ rest)
 
 pub block-parts : (d : Declared) (l : ℕ) (behind : Part) (v : Vec Statement) (end : ℕ) → RunsBlock d l true behind (roll-Block (record { statements = v; end_line = end })) ≡ RunsList d l behind v.items
 block-parts d l behind v end =

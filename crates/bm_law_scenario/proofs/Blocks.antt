@@ -7,17 +7,18 @@ use Rattle.bm_lang.specs.declared.scenario.Action.TheOpen.{Block-F}
 use Rattle.bm_lang.specs.declared.scenario.Action.TheBlock.{hidden-the_row-Statement-0}
 use Rattle.bm_lang.specs.declared.scenario.Block.{Block, roll-Block, rolls-Block', Row_of-Statement, end_of-Statement, more_of-Statement, items-the_row-Statement, items_hidden-the_row-Statement-0}
 use Rattle.bm_lang.specs.declared.scenario.Statement.{Statement}
-use Rattle.bm_law_scenario.specs.Declared.{Declared}
+use Rattle.bm_law_scenario.specs.Declared.{Declared, under}
+use Rattle.bm_law_scenario.specs.Runs.{lock_after}
 use Rattle.bm_law_scenario.proofs.OwnRuns.{Run, Done, Then, RunsAction, RunsBlock, RunsRow}
 
 -- statements, one after the other, in a plain section or in none
 abbrev pub RunsListIn : Declared → (inside : Bool) → List Statement → Run
 RunsListIn d i [] = Done
-RunsListIn d i (s ∷ ss) = Then (RunsAction d i s.action) (RunsListIn d i ss)
+RunsListIn d i (s ∷ ss) = Then (RunsAction d i s.action) (RunsListIn (under (lock_after d.lock s.action) d) i ss)
 
 row-runs : (d : Declared) (i : Bool) (n : Count) (row : Row_of-Statement n) → RunsRow d i row ≡ RunsListIn d i (items-the_row-Statement n row)
 row-runs d i _ end_of-Statement = refl
-row-runs d i _ (more_of-Statement line action rest) = ap (Then (RunsAction d i action)) (row-runs d i _ rest)
+row-runs d i _ (more_of-Statement line action rest) = ap (Then (RunsAction d i action)) (row-runs (under (lock_after d.lock action) d) i _ rest)
 
 pub block-runs-in : (d : Declared) (i : Bool) (v : Vec Statement) (end : ℕ) → RunsBlock d i (roll-Block (record { statements = v; end_line = end })) ≡ RunsListIn d i v.items
 block-runs-in d i v end =

@@ -7,6 +7,9 @@ use Rattle.bm_journal.specs.declared.ids.Domain.TheVariants.{Plain, Tracing}
 use Rattle.bm_journal.specs.declared.units.Units.TheVariants.{Whole}
 use Rattle.bm_journal.specs.declared.entry.Entry.{Entry}
 use Rattle.bm_journal.specs.declared.entry.Entry.TheVariants as entry
+use Rattle.bm_journal.specs.declared.past.PastCall.{PastCall}
+use Rattle.bm_journal.specs.declared.past.PastCall.TheVariants as past
+use Rattle.bm_graph.specs.Entries.{call_entry}
 use Rattle.bm_lang.specs.declared.scenario.RunLine.{RunLine}
 use Rattle.bm_lang.specs.declared.scenario.Parts.{Parts}
 use Rattle.bm_lang.specs.declared.scenario.Script.{Script}
@@ -119,6 +122,10 @@ calm-delay : (c u home : ℕ) (batch : Bool) (own : List Entry) → DelayPhrase 
 calm-delay c u home batch own (inl x) = subst AllCalm (sym x.1) (calm (entry.Delay u home) (λ p s b. tt) (λ p b. refl) (λ d. refl), (calm (entry.Enter c 1) (λ p s b. tt) (λ p b. refl) (λ d. refl), (calm (entry.Delayed c u) (λ p s b. tt) (λ p b. refl) (λ d. refl), (calm (entry.Leave c x.0) (λ p s b. tt) (λ p b. refl) (λ d. refl), calm-unless batch c))))
 calm-delay c u home batch own (inr x) = subst AllCalm (sym x.5) (calm (entry.Delay u home) (λ p s b. tt) (λ p b. refl) (λ d. refl), (calm (entry.Enter c x.0) (λ p s b. tt) (λ p b. refl) (λ d. refl), calm-join (overtaken_delayed c x.1) (entry.LookDelayed c x.2 ∷ entry.PutDelayed c u ∷ entry.Leave c x.3 ∷ raise_unless batch c) (calm-delayed c x.1) (calm (entry.LookDelayed c x.2) (λ p s b. tt) (λ p b. refl) (λ d. refl), (calm (entry.PutDelayed c u) (λ p s b. tt) (λ p b. refl) (λ d. refl), (calm (entry.Leave c x.3) (λ p s b. tt) (λ p b. refl) (λ d. refl), calm-unless batch c)))))
 
+calm-graph_call : (graph : List ℕ) (position : ℕ) (owner : List ℕ) (call : PastCall) → Calm (call_entry graph position owner call)
+calm-graph_call graph position owner (past.PushFront id) = calm (entry.PushFront graph id.unit id.life position) (λ p s b. tt) (λ p b. refl) (λ d. refl)
+calm-graph_call graph position owner call = calm (call_entry graph position owner call) (λ p s b. tt) (λ p b. refl) (λ d. refl)
+
 calm-closed : (d : Declared) → Closed d AllCalm
 calm-closed d = record {
   none = tt;
@@ -129,6 +136,9 @@ calm-closed d = record {
   acquired = λ y x names part after r. subst AllCalm (sym r.part_is) (calm (entry.Acquire r.unit r.life r.seen) (λ p s b. tt) (λ p b. refl) (λ d. refl), tt);
   read = λ x field names part after r. subst AllCalm (sym r.part_is) (calm (entry.Get r.unit r.life r.place r.value) (λ p s b. tt) (λ p b. refl) (λ d. refl), tt);
   exchanged = λ y slot given names part after r. subst AllCalm (sym r.part_is) (calm (entry.Xchg r.declared.name r.put r.was r.by) (λ p s b. tt) (λ p b. refl) (λ d. refl), tt);
+  locks = λ graph. (calm (entry.Lock graph) (λ p s b. tt) (λ p b. refl) (λ d. refl), tt);
+  unlocks = λ graph. (calm (entry.Unlock graph) (λ p s b. tt) (λ p b. refl) (λ d. refl), tt);
+  calls = λ graph position owner call. (calm-graph_call graph position owner call, tt);
   enters = λ w. (calm (entry.In Plain w) (λ p s b. tt) (λ p b. refl) (λ d. refl), tt);
   leaves = λ w. (calm (entry.Out Plain w) (λ p s b. tt) (λ p b. refl) (λ d. refl), tt);
   yields = (calm entry.Yield (λ p s b. tt) (λ p b. refl) (λ d. refl), tt);

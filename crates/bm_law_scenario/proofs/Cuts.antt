@@ -1,5 +1,12 @@
 -- Two cuts of one list.
-use Rattle.std.proofs.Common.{◌≡◌, ◌⊎◌, inl, inr, List, [], ◌∷◌, ◌++◌, refl, sym, ap, ◌∙◌}
+use Rattle.std.proofs.Common.{◌≡◌, ◌⊎◌, inl, inr, ℕ, true, false, eqb, List, [], ◌∷◌, ◌++◌, refl, sym, ap, ◌∙◌}
+use Rattle.std.proofs.lemmas.Bool.Decides.{eqb_tells}
+use Rattle.bm_journal.specs.declared.entry.Entry.{Entry}
+use Rattle.bm_law.specs.Lists.{Log}
+use Rattle.bm_law.specs.Spans.{own_entries}
+use Rattle.bm_law.specs.State.{State}
+use Rattle.bm_law_work.specs.Parts.{Stand, Then}
+use Rattle.bm_law_work.proofs.Parts.{from-zero}
 
 -- what stands behind the front of the same list
 pub tail-of : {A : Type 0} {x y : A} {v w : List A} → x ∷ v ≡ y ∷ w → v ≡ w
@@ -50,3 +57,34 @@ cuts (a ∷ v) w (a' ∷ v') w' x y e = elim (cuts v w v' w' x y (tail-of e)) [
   | inl k ↦ inl (record { front = ap (λ z. z ∷ v) (head-of e) ∙ ap (λ z. a' ∷ z) k.front; at = k.at; rest = k.rest })
   | inr k ↦ inr k
 ]
+
+-- ---- a part of a log, cut behind its first entry of ordinary code
+
+record First (e : Entry) (own : List Entry) (part : Log) : Type 0 where
+  one : Log
+  two : Log
+  part_is : part ≡ one ++ two
+  first : own_entries 0 one ≡ e ∷ []
+  rest : own_entries 0 two ≡ own
+
+own-here : (x : ℕ × Entry) (v : Log) → eqb x.0 0 ≡ true → own_entries 0 (x ∷ v) ≡ x.1 ∷ own_entries 0 v
+own-here x v e = rw e refl
+
+own-aside : (x : ℕ × Entry) (v : Log) → eqb x.0 0 ≡ false → own_entries 0 (x ∷ v) ≡ own_entries 0 v
+own-aside x v e = rw e refl
+
+first-cut : (e : Entry) (own : List Entry) (part : Log) → own_entries 0 part ≡ e ∷ own → First e own part
+first-cut e own [] q = absurd (cc)
+first-cut e own (x ∷ xs) q = elim (eqb_tells x.0 0) [
+  | inl y ↦
+      let whole : x.1 ∷ own_entries 0 xs ≡ e ∷ own = sym (own-here x xs y.0) ∙ q in
+      record { one = x ∷ []; two = xs; part_is = refl; first = own-here x [] y.0 ∙ ap (λ z. z ∷ []) (head-of whole); rest = tail-of whole }
+  | inr y ↦
+      let h = first-cut e own xs (sym (own-aside x xs y.0) ∙ q) in
+      record { one = x ∷ h.one; two = h.two; part_is = ap (λ z. x ∷ z) h.part_is; first = own-aside x h.one y.0 ∙ h.first; rest = h.rest }
+]
+
+pub stand-cut : (e : Entry) (own : List Entry) (s : State ℕ) (part : Log) → Stand 0 (e ∷ own) s part → Then (Stand 0 (e ∷ [])) (Stand 0 own) s part
+stand-cut e own s part h =
+    let cut = first-cut e own part h.own_is in
+    record { one = cut.one; two = cut.two; part_is = cut.part_is; is_first = record { from = from-zero cut.one; own_is = cut.first }; is_second = record { from = from-zero cut.two; own_is = cut.rest } }

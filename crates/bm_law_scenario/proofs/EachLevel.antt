@@ -4,6 +4,7 @@ use Rattle.bm_journal.specs.declared.ids.Domain.TheVariants.{Plain}
 use Rattle.bm_journal.specs.declared.entry.Entry.{Entry}
 use Rattle.bm_journal.specs.declared.entry.Entry.TheVariants as entry
 use Rattle.bm_lang.specs.declared.scenario.Parts.{Parts}
+use Rattle.bm_graph.specs.Entries.{call_entry}
 use Rattle.bm_law.specs.Lists.{Log}
 use Rattle.bm_law.specs.Spans.{own_entries}
 use Rattle.bm_due.specs.Standing.{HandlersStand}
@@ -63,6 +64,9 @@ of-handlers s =
         acquired = λ y x names part after r. of-map IsOfStatement IsOfHandler call-handler part (k.acquired y x names part after r);
         read = λ x field names part after r. of-map IsOfStatement IsOfHandler call-handler part (k.read x field names part after r);
         exchanged = λ y slot given names part after r. of-map IsOfStatement IsOfHandler call-handler part (k.exchanged y slot given names part after r);
+        locks = λ graph. (tt, tt);
+        unlocks = λ graph. (tt, tt);
+        calls = λ graph position owner call. of-map IsOfStatement IsOfHandler call-handler (call_entry graph position owner call ∷ []) (k.calls graph position owner call);
         enters = λ w. (tt, tt);
         leaves = λ w. (tt, tt);
         yields = (tt, tt);

@@ -7,7 +7,10 @@ use Rattle.bm_lang.specs.declared.scenario.TypeDeclaration.{TypeDeclaration}
 use Rattle.bm_law.specs.Phrases.{DelayPhrase, FreePhrase}
 use Rattle.bm_law.specs.State.{State}
 use Rattle.bm_law_scenario.specs.Held.{Names}
-use Rattle.bm_law_scenario.specs.Calls.{Frees, RunsDrop, RunsGivingUp, any_batch, batch_in}
+use Rattle.bm_lang.specs.declared.scenario.MapId.{MapId}
+use Rattle.bm_graph.specs.declared.ways.Way.{Way}
+use Rattle.bm_law_scenario.specs.Calls.{Frees, RunsDrop, RunsGivingUp, RunsPutting, RunsRefused, any_batch, batch_in}
+use Rattle.bm_law_scenario.specs.Declared.{Declared}
 
 -- what is known of batches needn't be
 pub loosened : (types : List TypeDeclaration) (x : List ℕ) (known : ℕ → Bool → Type 0) (names after : Names) (own : List Entry) → RunsDrop types x known names own after → RunsDrop types x any_batch names own after
@@ -31,6 +34,27 @@ loosened types x known names after own h = record {
 pub loosely : (types : List TypeDeclaration) (x : List ℕ) (known : ℕ → Bool → Type 0) (names after : Names) (own : List Entry) → RunsGivingUp types x known names own after → RunsGivingUp types x any_batch names own after
 loosely types x known names after own (inl h) = inl h
 loosely types x known names after own (inr h) = inr (loosened types x known names after own h)
+
+-- a refused push, by what is known of how its reference is given up
+pub refused-by : (d : Declared) (way : Way) (g : MapId) (x : List ℕ) (known other : ℕ → Bool → Type 0) (names after : Names) (own : List Entry) (h : RunsRefused d way g x known names own after) → RunsGivingUp d.types x other names h.own after → RunsRefused d way g x other names own after
+refused-by d way g x known other names after own h k = record {
+  locked = h.locked;
+  declared = h.declared;
+  is_graph = h.is_graph;
+  id = h.id;
+  held = h.held;
+  position = h.position;
+  owner = h.owner;
+  owning = h.owning;
+  is_owner = h.is_owner;
+  own = h.own;
+  part_is = h.part_is;
+  gives_up = k;
+}
+
+pub putting-loosely : (d : Declared) (way : Way) (g : MapId) (x : List ℕ) (known : ℕ → Bool → Type 0) (names after : Names) (own : List Entry) → RunsPutting d way g x known names own after → RunsPutting d way g x any_batch names own after
+putting-loosely d way g x known names after own (inl h) = inl h
+putting-loosely d way g x known names after own (inr h) = inr (refused-by d way g x known any_batch names after own h (loosely d.types x known names after h.own h.gives_up))
 
 -- and where it is known it may be said
 pub tightened : (types : List TypeDeclaration) (x : List ℕ) (known : ℕ → Bool → Type 0) (names after : Names) (own : List Entry) (h : RunsDrop types x any_batch names own after) → known h.class h.batch → RunsDrop types x known names own after

@@ -11,6 +11,7 @@ use Rattle.bm_lang.specs.declared.scenario.Script.{Script}
 use Rattle.bm_page.specs.Stock.{Stock, fetched}
 use Rattle.bm_law_work.specs.Parts.{Part, Nothing, Say, Stand, Then}
 use Rattle.bm_law_work.specs.WorkPhrases.{Work}
+use Rattle.bm_graph.specs.Entries.{call_entry}
 use Rattle.bm_law_scenario.specs.Fills.{AreFills, numbers_of, prefill}
 use Rattle.bm_law_scenario.specs.Calls.{RunsAcquire, RunsExchange, RunsGet, RunsDrop, RunsNew, RunsStill, any_batch}
 use Rattle.bm_law_scenario.specs.Declared.{declared_in}
@@ -88,9 +89,13 @@ module _ (s : Parts) (P : List Entry → Type 0) (k : Written s P) where
           acquired = λ y x names after. has-say P (λ own. RunsAcquire s.types y x names own after) (λ own h. k.closed.acquired y x names own after h);
           read = λ x field names after. has-say P (λ own. RunsGet s.types x field names own after) (λ own h. k.closed.read x field names own after h);
           exchanged = λ y slot given names after. has-say P (λ own. RunsExchange s.maps y slot given names own after) (λ own h. k.closed.exchanged y slot given names own after h);
+          locks = λ graph. has-stand P (entry.Lock graph ∷ []) (k.closed.locks graph);
+          unlocks = λ graph. has-stand P (entry.Unlock graph ∷ []) (k.closed.unlocks graph);
+          calls = λ graph position owner call. has-stand P (call_entry graph position owner call ∷ []) (k.closed.calls graph position owner call);
           enters = λ w. has-stand P (entry.In Plain w ∷ []) (k.closed.enters w);
           leaves = λ w. has-stand P (entry.Out Plain w ∷ []) (k.closed.leaves w);
           yields = has-stand P (entry.Yield ∷ []) k.closed.yields;
+          silent = has-stand P [] k.closed.none;
         };
         fills = λ pool. has-say P (AreFills classes pool) (λ own h. fills-have classes pool own (λ c e. e) h);
         begins = λ d name w. has-stand P (entry.Script name ∷ entry.In d w ∷ []) (k.begins d name w);

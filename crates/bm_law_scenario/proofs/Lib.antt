@@ -19,6 +19,9 @@ pub mod WorkedShared
 pub mod CountedObject
 pub mod HandedOver
 pub mod WrongSlots
+pub mod ListRuns
+pub mod VisitedLog
+pub mod WrongLists
 pub mod ThreeCalls
 pub mod Wrong
 pub mod WrongScripts

@@ -4,6 +4,9 @@ use Rattle.bm_class.specs.Sizes.{size_of_class}
 use Rattle.bm_class.specs.Watermarks.{low_of_size, high_of_size}
 use Rattle.bm_journal.specs.declared.entry.Entry.{Entry}
 use Rattle.bm_journal.specs.declared.entry.Entry.TheVariants as entry
+use Rattle.bm_journal.specs.declared.past.PastCall.{PastCall}
+use Rattle.bm_journal.specs.declared.past.PastCall.TheVariants as past
+use Rattle.bm_graph.specs.Entries.{call_entry}
 use Rattle.bm_law.specs.Phrases.{given, raise_below, overtaken, overtaken_delayed, raise_unless, DelayPhrase, FreePhrase}
 use Rattle.bm_law_work.proofs.Each.{AllOf, of-append}
 use Rattle.bm_law_scenario.specs.CallEntries.{IsOfStatement}
@@ -48,6 +51,11 @@ of-delay : (c u home : ℕ) (batch : Bool) (own : List Entry) → DelayPhrase c 
 of-delay c u home batch own (inl x) = subst OfCalls (sym x.1) (tt, (tt, (tt, (tt, of-unless batch c))))
 of-delay c u home batch own (inr x) = subst OfCalls (sym x.5) (tt, (tt, of-append IsOfStatement (overtaken_delayed c x.1) (entry.LookDelayed c x.2 ∷ entry.PutDelayed c u ∷ entry.Leave c x.3 ∷ raise_unless batch c) (of-overtaken_delayed c x.1) (tt, (tt, (tt, of-unless batch c)))))
 
+-- a call on a list or tree
+pub of-graph_call : (graph : List ℕ) (position : ℕ) (owner : List ℕ) (call : PastCall) → IsOfStatement (call_entry graph position owner call)
+of-graph_call graph position owner (past.PushFront id) = tt
+of-graph_call graph position owner _ = tt
+
 pub of-calls : (d : Declared) → Closed d OfCalls
 of-calls d = record {
   none = tt;
@@ -58,6 +66,9 @@ of-calls d = record {
   acquired = λ y x names part after r. subst OfCalls (sym r.part_is) (tt, tt);
   read = λ x field names part after r. subst OfCalls (sym r.part_is) (tt, tt);
   exchanged = λ y slot given names part after r. subst OfCalls (sym r.part_is) (tt, tt);
+  locks = λ graph. (tt, tt);
+  unlocks = λ graph. (tt, tt);
+  calls = λ graph position owner call. (of-graph_call graph position owner call, tt);
   enters = λ w. (tt, tt);
   leaves = λ w. (tt, tt);
   yields = (tt, tt);

@@ -1,4 +1,4 @@
--- What the caches of the least class begin with, computed.
+-- What caches begin with, computed.
 use Rattle.std.proofs.Common.{◌≡◌, [], ◌∷◌, refl}
 use Rattle.bm_class.specs.Sizes.{size_of_class}
 use Rattle.bm_page.specs.Stock.{fetched, given, is_stock_of, least_below, next_unit, unit_given}
@@ -18,3 +18,8 @@ next-four = refl
 pub no-page : numbers_of (fetched 0 (prefill 0) (fresh_stock 0)).units ≡ []
 unfolding size_of_class fetched given is_stock_of least_below next_unit unit_given
 no-page = refl
+
+-- the first four units of 64 bytes, where there is one page
+pub first-jobs : numbers_of (fetched 2 (prefill 2) (fresh_stock 1)).units ≡ 0 ∷ 1 ∷ 2 ∷ 3 ∷ []
+unfolding size_of_class fetched given is_stock_of least_below next_unit unit_given
+first-jobs = refl

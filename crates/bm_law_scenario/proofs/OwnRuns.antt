@@ -6,9 +6,12 @@ use Rattle.bm_journal.specs.declared.entry.Entry.{Entry}
 use Rattle.bm_journal.specs.declared.entry.Entry.TheVariants as entry
 use Rattle.bm_lang.specs.declared.scenario.Action.{Action, New, Drop, Acquire, Get, Exchange, If', Repeat, Section, Lock, Unlock, Yield, PushFront, PushBack, PopFront, PopBack, Add, First, Remove, Held-Action-If-2, None', Some'}
 use Rattle.bm_lang.specs.declared.scenario.Block.{Block, Block', Row_of-Statement, end_of-Statement, more_of-Statement}
-use Rattle.bm_law_scenario.specs.Declared.{Declared}
-use Rattle.bm_law_scenario.specs.Held.{Held, Nothing, Null, Object, Names}
-use Rattle.bm_law_scenario.specs.Calls.{RunsAcquire, RunsExchange, RunsGet, RunsGivingUp, RunsNew, any_batch}
+use Rattle.bm_graph.specs.declared.ways.End.TheVariants as end_
+use Rattle.bm_graph.specs.declared.ways.Way.TheVariants as way
+use Rattle.bm_law_scenario.specs.Declared.{Declared, under}
+use Rattle.bm_law_scenario.specs.Held.{Held, Nothing, Null, Object, Soft, Names}
+use Rattle.bm_law_scenario.specs.Calls.{RunsAcquire, RunsExchange, RunsFirst, RunsGet, RunsGivingUp, RunsLock, RunsNew, RunsPop, RunsPutting, RunsRemove, RunsUnlock, any_batch}
+use Rattle.bm_law_scenario.specs.Runs.{lock_after}
 
 -- from these names, this part of a log, to those names
 abbrev pub Run : Type 1
@@ -37,6 +40,7 @@ abbrev pub Chosen : Held → Run → Run → Run
 Chosen Nothing first other = λ names part after. ⊥
 Chosen Null first other = other
 Chosen (Object t u life) first other = first
+Chosen (Soft t g u life) first other = first
 
 -- these entries, and the names hold what they held
 abbrev pub Leaving : List Entry → Run
@@ -47,7 +51,7 @@ abbrev pub Within : Bool → Run → Run
 Within true block = block
 Within false block = λ names part after. (w : ℕ) × Then (Leaving (entry.In Plain w ∷ [])) (Then block (Leaving (entry.Out Plain (w + 1) ∷ []))) names part after
 
--- The statements that run so far, in a plain section or in none. No journal has any of the others.
+-- The statements, in a plain section or in none, and under a lock or under none.
 abbrev mutual
   pub RunsAction : Declared → (inside : Bool) → Action → Run
   RunsAction d i (New x t values) = RunsNew d.types x t values
@@ -59,15 +63,15 @@ abbrev mutual
   RunsAction d i Yield = Leaving (entry.Yield ∷ [])
   RunsAction d i (Get x field) = RunsGet d.types x field
   RunsAction d i (Exchange y slot x) = RunsExchange d.maps y slot x
-  RunsAction d i (Lock graph) = λ names part after. ⊥
-  RunsAction d i Unlock = λ names part after. ⊥
-  RunsAction d i (PushFront list x) = λ names part after. ⊥
-  RunsAction d i (PushBack list x) = λ names part after. ⊥
-  RunsAction d i (PopFront x list) = λ names part after. ⊥
-  RunsAction d i (PopBack x list) = λ names part after. ⊥
-  RunsAction d i (Add tree x) = λ names part after. ⊥
-  RunsAction d i (First x tree) = λ names part after. ⊥
-  RunsAction d i (Remove y tree x) = λ names part after. ⊥
+  RunsAction d i (Lock graph) = RunsLock d graph
+  RunsAction d i Unlock = RunsUnlock d
+  RunsAction d i (PushFront list x) = RunsPutting d way.Front list x any_batch
+  RunsAction d i (PushBack list x) = RunsPutting d way.Back list x any_batch
+  RunsAction d i (PopFront x list) = RunsPop d end_.Front list x
+  RunsAction d i (PopBack x list) = RunsPop d end_.Back list x
+  RunsAction d i (Add tree x) = RunsPutting d way.Ordered tree x any_batch
+  RunsAction d i (First x tree) = RunsFirst d tree x
+  RunsAction d i (Remove y tree x) = RunsRemove d tree y x
 
   -- an absent `else` is an empty block
   pub RunsElse : Declared → (inside : Bool) → Held-Action-If-2 → Run
@@ -80,4 +84,4 @@ abbrev mutual
   -- statements, one after the other
   pub RunsRow : Declared → (inside : Bool) → {m : _} → Row_of-Statement m → Run
   RunsRow d i end_of-Statement = Done
-  RunsRow d i (more_of-Statement line action rest) = Then (RunsAction d i action) (RunsRow d i rest)
+  RunsRow d i (more_of-Statement line action rest) = Then (RunsAction d i action) (RunsRow (under (lock_after d.lock action) d) i rest)

@@ -1,6 +1,6 @@
 -- Where no deferred work runs, the entries of its level that a run leaves are a run by entries, and entries of a run by entries
 -- are a run.
-use Rattle.std.proofs.Common.{◌≡◌, ℕ, zero, suc, Bool, true, false, List, [], ◌∷◌, ◌++◌, refl, sym, ap, subst, ◌∙◌, append-nil, inl, inr}
+use Rattle.std.proofs.Common.{◌≡◌, ℕ, zero, suc, Bool, true, false, List, [], ◌∷◌, ◌++◌, Option, Some, None, refl, sym, ap, subst, ◌∙◌, append-nil, inl, inr}
 use Rattle.bm_journal.specs.declared.entry.Entry.{Entry}
 use Rattle.bm_journal.specs.declared.entry.Entry.TheVariants as entry
 use Rattle.bm_lang.specs.declared.scenario.Action.{Action, New, Drop, Acquire, Get, Exchange, If', Repeat, Section, Lock, Unlock, Yield, PushFront, PushBack, PopFront, PopBack, Add, First, Remove, Held-Action-If-2, None', Some'}
@@ -13,11 +13,15 @@ use Rattle.bm_law.proofs.Spans.{from-append, own-append}
 use Rattle.bm_law.proofs.Alone.{level-append, level-from, level-own}
 use Rattle.bm_law_work.specs.Parts.{Stand, Then}
 use Rattle.bm_law_work.specs.Parts as part
-use Rattle.bm_law_scenario.specs.Declared.{Declared}
-use Rattle.bm_law_scenario.specs.Held.{Held, Nothing, Null, Object, Names}
-use Rattle.bm_law_scenario.specs.Calls.{RunsAcquire, RunsExchange, RunsGet, RunsGivingUp, RunsNew, any_batch, batch_in}
-use Rattle.bm_law_scenario.specs.Runs.{Run, Leaving, Done, Followed, Times, Calls, Chosen, Within, RunsAction, RunsAlone, RunsElse, RunsBlock, RunsRow}
-use Rattle.bm_law_scenario.proofs.Freed.{NoCounts, loosely, no-count, uncounted}
+use Rattle.bm_lang.specs.declared.scenario.MapId.{MapId}
+use Rattle.bm_graph.specs.declared.ways.End.TheVariants as end_
+use Rattle.bm_graph.specs.declared.ways.Way.TheVariants as way
+use Rattle.bm_graph.specs.declared.ways.Way.{Way}
+use Rattle.bm_law_scenario.specs.Declared.{Declared, under}
+use Rattle.bm_law_scenario.specs.Held.{Held, Nothing, Null, Object, Soft, Names}
+use Rattle.bm_law_scenario.specs.Calls.{RunsAcquire, RunsExchange, RunsFirst, RunsGet, RunsGivingUp, RunsLock, RunsNew, RunsPop, RunsPutting, RunsRemove, RunsUnlock, any_batch, batch_in}
+use Rattle.bm_law_scenario.specs.Runs.{Run, Leaving, Done, Followed, Times, Calls, Chosen, Within, RunsAction, RunsAlone, RunsElse, RunsBlock, RunsRow, lock_after, unlocked}
+use Rattle.bm_law_scenario.proofs.Freed.{NoCounts, loosely, no-count, putting-loosely, refused-by, uncounted}
 use Rattle.bm_law_scenario.proofs.OwnRuns as own
 
 -- Each part of a run is of level l and above, and its entries of that level are a run by entries; and such entries alone are a
@@ -50,6 +54,16 @@ drop-same : (l : ℕ) (d : Declared) (x : List ℕ) → Same d l (λ names after
 drop-same l d x = record {
   owned = λ names after s log h. (h.2.from, subst (λ es. RunsGivingUp d.types x any_batch names es after) (sym h.2.own_is) (loosely d.types x (batch_in s) names after h.0 h.1));
   told = λ loose names after s es h. (es, told-drop d x s names after es loose h, record { from = level-from l es; own_is = level-own l es });
+}
+
+told-put : (d : Declared) (lock : Option MapId) (way : Way) (g : MapId) (x : List ℕ) (s : State ℕ) (names after : Names) (own : List Entry) → NoCounts d.types → RunsPutting (under lock d) way g x any_batch names own after → RunsPutting (under lock d) way g x (batch_in s) names own after
+told-put d lock way g x s names after own loose (inl h) = inl h
+told-put d lock way g x s names after own loose (inr h) = inr (refused-by (under lock d) way g x any_batch (batch_in s) names after own h (told-drop d x s names after h.own loose h.gives_up))
+
+put-same : (l : ℕ) (d : Declared) (lock : Option MapId) (way : Way) (g : MapId) (x : List ℕ) → Same d l (λ names after s. Calls l (RunsPutting (under lock d) way g x (batch_in s)) names after s) (RunsPutting (under lock d) way g x any_batch)
+put-same l d lock way g x = record {
+  owned = λ names after s log h. (h.2.from, subst (λ es. RunsPutting (under lock d) way g x any_batch names es after) (sym h.2.own_is) (putting-loosely (under lock d) way g x (batch_in s) names after h.0 h.1));
+  told = λ loose names after s es h. (es, told-put d lock way g x s names after es loose h, record { from = level-from l es; own_is = level-own l es });
 }
 
 followed-same : (d : Declared) (l : ℕ) (R R' : Run) (Q Q' : own.Run) → Same d l R Q → Same d l R' Q' → Same d l (Followed R R') (own.Then Q Q')
@@ -101,6 +115,11 @@ bare-same d l R Q a = record {
   );
 }
 
+-- .. whether a lock is held there or not
+unlocked-same : (d : Declared) (l : ℕ) (lock : Option MapId) (R : Run) (Q : own.Run) → Same d l R Q → Same d l (Followed R (Leaving (unlocked lock part.Nothing))) Q
+unlocked-same d l None R Q a = bare-same d l R Q a
+unlocked-same d l (Some g) R Q a = bare-same d l R Q a
+
 times-same : (d : Declared) (l : ℕ) (R : Run) (Q : own.Run) (n : ℕ) → Same d l R Q → Same d l (Times R n) (own.Times Q n)
 times-same d l R Q zero a = done-same d l
 times-same d l R Q (suc n) a = followed-same d l R (Times R n) Q (own.Times Q n) a (times-same d l R Q n a)
@@ -109,6 +128,7 @@ chosen-same : (d : Declared) (l : ℕ) (F O : Run) (G P : own.Run) → Same d l 
 chosen-same d l F O G P a b Nothing = none-same d l
 chosen-same d l F O G P a b Null = b
 chosen-same d l F O G P a b (Object t u n) = a
+chosen-same d l F O G P a b (Soft t g u n) = a
 
 if-same : (d : Declared) (l : ℕ) (F O : Run) (G P : own.Run) (x : List ℕ) → Same d l F G → Same d l O P → Same d l (λ names. Chosen (names x) F O names) (λ names. own.Chosen (names x) G P names)
 if-same d l F O G P x a b = record {
@@ -175,38 +195,43 @@ within-same d l R Q false a = record {
 }
 
 mutual
-  action-same : (l : ℕ) (d : Declared) (i : Bool) (a : Action) → Same d l (RunsAction d l i part.Nothing a) (own.RunsAction d i a)
-  action-same l d i (New x t values) = calls-same d l (RunsNew d.types x t values)
-  action-same l d i (Drop x) = drop-same l d x
-  action-same l d i (Acquire y x) = calls-same d l (RunsAcquire d.types y x)
-  action-same l d i (If' x body otherwise) = if-same d l (RunsBlock d l i part.Nothing body) (RunsElse d l i part.Nothing otherwise) (own.RunsBlock d i body) (own.RunsElse d i otherwise) x (block-same l d i body) (else-same l d i otherwise)
-  action-same l d i (Repeat n body) = times-same d l (RunsBlock d l i part.Nothing body) (own.RunsBlock d i body) n (block-same l d i body)
-  action-same l d i (Section body) = within-same d l (RunsBlock d l true part.Nothing body) (own.RunsBlock d true body) i (block-same l d true body)
-  action-same l d i (Get x field) = calls-same d l (RunsGet d.types x field)
-  action-same l d i (Exchange y slot x) = calls-same d l (RunsExchange d.maps y slot x)
-  action-same l d i (Lock graph) = none-same d l
-  action-same l d i Unlock = none-same d l
-  action-same l d i Yield = stand-same d l (entry.Yield ∷ [])
-  action-same l d i (PushFront list x) = none-same d l
-  action-same l d i (PushBack list x) = none-same d l
-  action-same l d i (PopFront x list) = none-same d l
-  action-same l d i (PopBack x list) = none-same d l
-  action-same l d i (Add tree x) = none-same d l
-  action-same l d i (First x tree) = none-same d l
-  action-same l d i (Remove y tree x) = none-same d l
+  action-same : (l : ℕ) (d : Declared) (lock : Option MapId) (i : Bool) (a : Action) → Same d l (RunsAction (under lock d) l i part.Nothing a) (own.RunsAction (under lock d) i a)
+  action-same l d lock i (New x t values) = calls-same d l (RunsNew d.types x t values)
+  action-same l d lock i (Drop x) = drop-same l d x
+  action-same l d lock i (Acquire y x) = calls-same d l (RunsAcquire d.types y x)
+  action-same l d lock i (If' x body otherwise) = if-same d l (RunsBlock (under lock d) l i part.Nothing body) (RunsElse (under lock d) l i part.Nothing otherwise) (own.RunsBlock (under lock d) i body) (own.RunsElse (under lock d) i otherwise) x (under-same l d lock i body) (else-same l d lock i otherwise)
+  action-same l d lock i (Repeat n body) = times-same d l (RunsBlock (under lock d) l i part.Nothing body) (own.RunsBlock (under lock d) i body) n (under-same l d lock i body)
+  action-same l d lock i (Section body) = within-same d l (RunsBlock (under lock d) l true part.Nothing body) (own.RunsBlock (under lock d) true body) i (under-same l d lock true body)
+  action-same l d lock i (Get x field) = calls-same d l (RunsGet d.types x field)
+  action-same l d lock i (Exchange y slot x) = calls-same d l (RunsExchange d.maps y slot x)
+  action-same l d lock i (Lock graph) = calls-same d l (RunsLock (under lock d) graph)
+  action-same l d lock i Unlock = calls-same d l (RunsUnlock (under lock d))
+  action-same l d lock i Yield = stand-same d l (entry.Yield ∷ [])
+  action-same l d lock i (PushFront list x) = put-same l d lock way.Front list x
+  action-same l d lock i (PushBack list x) = put-same l d lock way.Back list x
+  action-same l d lock i (PopFront x list) = calls-same d l (RunsPop (under lock d) end_.Front list x)
+  action-same l d lock i (PopBack x list) = calls-same d l (RunsPop (under lock d) end_.Back list x)
+  action-same l d lock i (Add tree x) = put-same l d lock way.Ordered tree x
+  action-same l d lock i (First x tree) = calls-same d l (RunsFirst (under lock d) tree x)
+  action-same l d lock i (Remove y tree x) = calls-same d l (RunsRemove (under lock d) tree y x)
 
-  else-same : (l : ℕ) (d : Declared) (i : Bool) (o : Held-Action-If-2) → Same d l (RunsElse d l i part.Nothing o) (own.RunsElse d i o)
-  else-same l d i None' = done-same d l
-  else-same l d i (Some' body) = block-same l d i body
+  else-same : (l : ℕ) (d : Declared) (lock : Option MapId) (i : Bool) (o : Held-Action-If-2) → Same d l (RunsElse (under lock d) l i part.Nothing o) (own.RunsElse (under lock d) i o)
+  else-same l d lock i None' = done-same d l
+  else-same l d lock i (Some' body) = under-same l d lock i body
 
-  pub block-same : (l : ℕ) (d : Declared) (i : Bool) (b : Block) → Same d l (RunsBlock d l i part.Nothing b) (own.RunsBlock d i b)
-  block-same l d i (Block' shape row end_line) = row-same l d i row
+  under-same : (l : ℕ) (d : Declared) (lock : Option MapId) (i : Bool) (b : Block) → Same d l (RunsBlock (under lock d) l i part.Nothing b) (own.RunsBlock (under lock d) i b)
+  under-same l d lock i (Block' shape row end_line) = row-same l d lock i row
 
-  row-same : (l : ℕ) (d : Declared) (i : Bool) {m : _} (row : Row_of-Statement m) → Same d l (RunsRow d l i part.Nothing row) (own.RunsRow d i row)
-  row-same l d i end_of-Statement = done-same d l
-  row-same l d i (more_of-Statement line action rest) =
-      followed-same d l (Followed (RunsAction d l i part.Nothing action) (Leaving part.Nothing)) (RunsRow d l i part.Nothing rest) (own.RunsAction d i action) (own.RunsRow d i rest)
-      (bare-same d l (RunsAction d l i part.Nothing action) (own.RunsAction d i action) (action-same l d i action)) (row-same l d i rest)
+  row-same : (l : ℕ) (d : Declared) (lock : Option MapId) (i : Bool) {m : _} (row : Row_of-Statement m) → Same d l (RunsRow (under lock d) l i part.Nothing row) (own.RunsRow (under lock d) i row)
+  row-same l d lock i end_of-Statement = done-same d l
+  row-same l d lock i (more_of-Statement line action rest) =
+      let left : Option MapId = lock_after lock action in
+      followed-same d l (Followed (RunsAction (under lock d) l i part.Nothing action) (Leaving (unlocked left part.Nothing))) (RunsRow (under left d) l i part.Nothing rest) (own.RunsAction (under lock d) i action) (own.RunsRow (under left d) i rest)
+      (unlocked-same d l left (RunsAction (under lock d) l i part.Nothing action) (own.RunsAction (under lock d) i action) (action-same l d lock i action)) (row-same l d left i rest)
+
+-- whatever lock is held around it
+pub block-same : (l : ℕ) (d : Declared) (i : Bool) (b : Block) → Same d l (RunsBlock d l i part.Nothing b) (own.RunsBlock d i b)
+block-same l d i b = under-same l d d.lock i b
 
 -- the same of a block that stands alone
 pub alone-owned : (d : Declared) (b : Block) (names last : Names) (es : List Entry) → RunsAlone d b names es last → own.RunsBlock d true b names es last

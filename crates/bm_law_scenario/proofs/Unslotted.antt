@@ -36,5 +36,5 @@ bare-closing d p classes log s part none h =
 
 -- where no map is declared
 pub no-maps : (p : ℕ) (d : Declared) → d.maps ≡ [] → Empties p d ≡ Nothing
-no-maps zero d e = ap (λ ms. Empties 0 (record { types = d.types; maps = ms })) e
+no-maps zero d e = ap (λ ms. Empties 0 (record { types = d.types; maps = ms; lock = d.lock })) e
 no-maps (suc p) d e = refl

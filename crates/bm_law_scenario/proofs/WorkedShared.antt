@@ -2,9 +2,10 @@
 use Rattle.std.specs.Prelude.{◌≡◌, ◌<◌, ℕ, zero, suc, true, List, [], ◌∷◌, Some, false, slice_get}
 use Rattle.std.specs.Str.{bytes_eq}
 use Rattle.std.proofs.lemmas.Slice.Eq.{bytes_eq-Decides}
-use Rattle.std.proofs.Common.{◌∙◌, ap, arith, refl, sym}
+use Rattle.std.proofs.Common.{◌∙◌, ap, arith, inl, inr, refl, sym}
 use Rattle.std.proofs.lemmas.Bool.{false≢true}
 use Rattle.bm_journal.specs.declared.entry.Entry.TheVariants as entry
+use Rattle.bm_lang.specs.declared.scenario.MapId.{MapId}
 use Rattle.bm_lang.specs.declared.scenario.TypeDeclaration.{TypeDeclaration}
 use Rattle.bm_lang.specs.declared.scenario.TypeId.{TypeId}
 use Rattle.bm_law_scenario.specs.Calls.{IsCounted, RunsAcquire, RunsGet, RunsStill}
@@ -90,7 +91,7 @@ reads-first = record {
   type = item_id;
   unit = 3;
   life = 1;
-  held = refl;
+  held = inl refl;
   place = 0;
   of_type = record { declared = record item { line = 5 }; found = refl; named = refl };
   value = 7;
@@ -121,5 +122,8 @@ reads_other-wrong h =
 held-not : (t : TypeId) (u n : ℕ) → held.Nothing ≡ Object t u n → ⊥
 held-not t u n e = cc
 
+soft-not : (t : TypeId) (g : MapId) (u n : ℕ) → held.Nothing ≡ held.Soft t g u n → ⊥
+soft-not t g u n e = cc
+
 pub reads_none-wrong : RunsGet types y_name a_field holding_three (reads 0) holding_three → ⊥
-reads_none-wrong h = held-not h.type h.unit h.life h.held
+reads_none-wrong h = elim h.held [ inl e ↦ held-not h.type h.unit h.life e | inr e ↦ soft-not h.type e.0 h.unit h.life e.1 ]

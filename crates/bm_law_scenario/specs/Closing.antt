@@ -13,6 +13,7 @@ use Rattle.bm_journal.specs.declared.entry.Entry.TheVariants as entry
 use Rattle.bm_lang.specs.declared.scenario.MapDeclaration.{MapDeclaration}
 use Rattle.bm_lang.specs.declared.scenario.MapKind.{MapKind}
 use Rattle.bm_lang.specs.declared.scenario.MapKind.TheVariants.{Slot}
+use Rattle.bm_lang.specs.declared.scenario.MapKind.TheVariants as kind
 use Rattle.bm_lang.specs.declared.scenario.TypeDeclaration.{TypeDeclaration}
 use Rattle.bm_lang.specs.declared.scenario.TypeId.{TypeId}
 use Rattle.bm_law.specs.State.{seven_lists}
@@ -42,10 +43,25 @@ EmptiesSlot types slot s part =
     (was : Option ObjId) × (by : Option Tag)
     × Then (Stand 0 (entry.Xchg slot.name None was by ∷ [])) (GivesBack types slot.type_id was) s part
 
--- a map is emptied; lists and trees, none of which runs so far, leave nothing
+-- a list is popped from the front n times, what it gave is given up each time, and then it is empty
+abbrev pub EmptiesList : List TypeDeclaration → MapDeclaration → ℕ → Part
+EmptiesList types list zero s part = (position : ℕ) × Stand 0 (entry.PopFront list.name None position ∷ []) s part
+EmptiesList types list (suc n) s part =
+    (o : ObjId) × (position : ℕ)
+    × Then (Stand 0 (entry.PopFront list.name (Some o) position ∷ [])) (Then (GivesBack types list.type_id (Some o)) (EmptiesList types list n)) s part
+
+-- so is a tree: its first object is taken out each time
+abbrev pub EmptiesTree : List TypeDeclaration → MapDeclaration → ℕ → Part
+EmptiesTree types tree zero s part = (position : ℕ) × Stand 0 (entry.First tree.name None position ∷ []) s part
+EmptiesTree types tree (suc n) s part =
+    (o : ObjId) × (seen taken : ℕ)
+    × Then (Stand 0 (entry.First tree.name (Some o) seen ∷ entry.Remove tree.name o.unit o.life taken ∷ [])) (Then (GivesBack types tree.type_id (Some o)) (EmptiesTree types tree n)) s part
+
+-- A map is emptied. (bpf_list_head_free and bpf_rb_root_free in kernel/bpf/helpers.c.)
 abbrev pub EmptiesMap : List TypeDeclaration → MapKind → MapDeclaration → Part
 EmptiesMap types Slot m = EmptiesSlot types m
-EmptiesMap types _ m = Nothing
+EmptiesMap types kind.List m = λ s part. (n : ℕ) × EmptiesList types m n s part
+EmptiesMap types kind.Tree m = λ s part. (n : ℕ) × EmptiesTree types m n s part
 
 -- one map after the other, in the order of their declarations
 abbrev pub EmptiesMaps : List TypeDeclaration → List MapDeclaration → Part

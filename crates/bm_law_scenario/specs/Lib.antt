@@ -25,3 +25,5 @@ pub mod WrongShort
 pub mod WorkedHandlers
 pub mod WorkedSections
 pub mod WorkedSlots
+pub mod WorkedLists
+pub mod WorkedVisit

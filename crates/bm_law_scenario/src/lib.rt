@@ -22,6 +22,7 @@ mod deferred;
 mod drops;
 mod handlers;
 mod interrupted;
+mod lists;
 mod openings;
 mod references;
 mod sections;
@@ -33,6 +34,7 @@ pub use deferred::{worked_deferred, worked_flags, worked_parcels, worked_periods
 pub use drops::worked_drops;
 pub use handlers::{handlers_law, unplanned_law};
 pub use interrupted::{worked_handlers, wrong_handlers, wrong_words};
+pub use lists::{worked_lists, worked_visit, wrong_lists};
 pub use openings::worked_openings;
 pub use references::{worked_reads, worked_references};
 pub use sections::{worked_sections, wrong_sections};

@@ -210,7 +210,7 @@ module _ (g : Program) (p : ℕ) (own : Kept) (world : LivingState) (seat : Seat
       sym leaves.lists
 
   outside : IsOutside (works_for s) m
-  outside = record { down = down-when s.deferred (opened_classes s.types) (lists_of m) o.lowered; words = λ d. ap (λ k. k % 2) (o.words d) }
+  outside = record { down = down-when s.deferred (opened_classes s.types) (lists_of m) o.lowered; words = λ d. ap (λ k. k % 2) (o.words d); unlocked = o.locked }
 
   running : IsRunning s p m r
   running = record {

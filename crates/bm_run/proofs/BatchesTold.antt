@@ -31,6 +31,9 @@ use Rattle.bm_law_scenario.proofs.Levels.{levels}
 use Rattle.bm_law_scenario.proofs.OfCall.{of-calls}
 use Rattle.bm_law_scenario.proofs.OfWork.{work-writes}
 use Rattle.bm_law_scenario.proofs.RunsAll.{Closed}
+use Rattle.bm_graph.specs.Entries.{call_entry}
+use Rattle.bm_journal.specs.declared.past.PastCall.{PastCall}
+use Rattle.bm_journal.specs.declared.past.PastCall.TheVariants as past
 use Rattle.bm_law_order.specs.Act.{Act}
 use Rattle.bm_law_order.specs.Chunk.{Chunk, acts_of, entries_of}
 use Rattle.bm_law_order.specs.Chunk as chunk
@@ -67,10 +70,15 @@ given-answered : (l u life type : ℕ) (values : List ℕ) (seal : Option Seal) 
 given-answered l u life type values None rest h = (tt, h)
 given-answered l u life type values (Some s) rest h = (tt, h)
 
+called-answered : (l : ℕ) (graph : List ℕ) (position : ℕ) (owner : List ℕ) (call : PastCall) (rest : Log) → AreAnswered rest → AreAnswered ((l, call_entry graph position owner call) ∷ rest)
+called-answered l graph position owner (past.PushFront id) rest h = (tt, h)
+called-answered l graph position owner _ rest h = (tt, h)
+
 -- the lines of a chunk end no drop without its answers
 chunk-answered : (l : ℕ) (c : Chunk) (rest : Log) → AreAnswered rest → AreAnswered (at_level l (entries_of c) ++ rest)
 chunk-answered l (chunk.Quiet e q) rest h = (quiet-answered l e rest q, h)
 chunk-answered l (chunk.Making u life type values seal) rest h = given-answered l u life type values seal rest h
+chunk-answered l (chunk.Calling graph position call owner tag) rest h = called-answered l graph position owner call rest h
 chunk-answered l (chunk.GivingUp u life seen) rest h = ((refl, tt), (tt, h))
 chunk-answered l (chunk.Ending u life home true) rest h = ((refl, tt), ((refl, tt), (tt, h)))
 chunk-answered l (chunk.Ending u life home false) rest h = ((refl, tt), ((refl, tt), (tt, h)))
@@ -200,6 +208,10 @@ delay-within c u home batch own (inr x) =
     let rest = entry.LookDelayed c x.2 ∷ entry.PutDelayed c u ∷ entry.Leave c x.3 ∷ raise_unless batch c in
     subst ArePutWithin (sym x.5) (overtaken-puts c u x.1 rest refl, (tt, within-append (overtaken_delayed c x.1) rest (overtaken-delayed-within c x.1) (tt, (tt, (tt, unless-within batch c)))))
 
+call-within : (graph : List ℕ) (position : ℕ) (owner : List ℕ) (call : PastCall) → ArePutWithin (call_entry graph position owner call ∷ [])
+call-within graph position owner (past.PushFront id) = (tt, tt)
+call-within graph position owner _ = (tt, tt)
+
 closed-within : (d : Declared) → Closed d ArePutWithin
 closed-within d = record {
   none = tt;
@@ -210,6 +222,9 @@ closed-within d = record {
   acquired = λ y x names part after r. subst ArePutWithin (sym r.part_is) (tt, tt);
   read = λ x field names part after r. subst ArePutWithin (sym r.part_is) (tt, tt);
   exchanged = λ y slot given names part after r. subst ArePutWithin (sym r.part_is) (tt, tt);
+  locks = λ graph. (tt, tt);
+  unlocks = λ graph. (tt, tt);
+  calls = λ graph position owner call. call-within graph position owner call;
   enters = λ w. (tt, tt);
   leaves = λ w. (tt, tt);
   yields = (tt, tt);
@@ -263,6 +278,10 @@ made-batches : (p l u life type : ℕ) (values : List ℕ) (seal : Option Seal) 
 made-batches p l u life type values None m = (tt, tt)
 made-batches p l u life type values (Some x) m = (tt, tt)
 
+called-batches : (p l : ℕ) (graph : List ℕ) (position : ℕ) (owner : List ℕ) (call : PastCall) (m : Waiting) → Batches p ((l, call_entry graph position owner call) ∷ []) m
+called-batches p l graph position owner (past.PushFront id) m = (tt, tt)
+called-batches p l graph position owner _ m = (tt, tt)
+
 go-split : (es fs : List Act) (a c : ℕ → Wait) → WaitLeads (es ++ fs) a c → (b : ℕ → Wait) × (WaitLeads es a b × WaitLeads fs b c)
 go-split [] fs a c h = (a, (refl, h))
 go-split (e ∷ es) fs a c h = let r = go-split es fs h.0 c h.1.1 in (r.0, ((h.0, (h.1.0, r.1.0)), r.1.1))
@@ -297,6 +316,7 @@ module _ (p : ℕ) (since : Log) (start : LivingState) (own : start.side.grace.p
   chunk-batches l o (chunk.FindingNone c) now w j send low = tt
   chunk-batches l o (chunk.WholePeriod n ws q) now w j send low = (tt, (tt, tt))
   chunk-batches l o (chunk.Making u life type values seal) now w j send low = made-batches p l u life type values seal (left_by o)
+  chunk-batches l o (chunk.Calling graph position call owner tag) now w j send low = called-batches p l graph position owner call (left_by o)
   chunk-batches l o (chunk.GivingUp u life seen) now w j send low = (tt, (tt, tt))
   chunk-batches l o (chunk.Ending u life home true) now w j send low = (tt, (tt, (tt, tt)))
   chunk-batches l o (chunk.Ending u life home false) now w j send low = (tt, (tt, (tt, tt)))
@@ -368,6 +388,9 @@ unswept s =
         acquired = λ y x names part after r. of-map IsOfStatement IsUnswept statement-unswept part (k.acquired y x names part after r);
         read = λ x field names part after r. of-map IsOfStatement IsUnswept statement-unswept part (k.read x field names part after r);
         exchanged = λ y slot given names part after r. of-map IsOfStatement IsUnswept statement-unswept part (k.exchanged y slot given names part after r);
+        locks = λ graph. (tt, tt);
+        unlocks = λ graph. (tt, tt);
+        calls = λ graph position owner call. of-map IsOfStatement IsUnswept statement-unswept (call_entry graph position owner call ∷ []) (k.calls graph position owner call);
         enters = λ w. (tt, tt);
         leaves = λ w. (tt, tt);
         yields = (tt, tt);

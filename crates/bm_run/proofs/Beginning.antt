@@ -14,7 +14,7 @@ use Rattle.bm_law_scenario.specs.Runs.{RunsBlock}
 use Rattle.bm_cache.specs.Shown.{shown}
 use Rattle.bm_cache.specs.Tokens.{Token, number_of}
 use Rattle.bm_grace.specs.Calls.{entered, left, moved}
-use Rattle.bm_grace.specs.Known.{Known, Lives, side}
+use Rattle.bm_grace.specs.Known.{Known, Lives, Objects, side}
 use Rattle.bm_grace.specs.declared.step.StepKind.{StepKind}
 use Rattle.bm_grace.specs.declared.step.StepKind.TheVariants.{Enter, Leave}
 use Rattle.bm_world.specs.LivingState.{LivingState}
@@ -32,7 +32,7 @@ use Rattle.bm_exec_levels.specs.Sound.{Sound}
 use Rattle.bm_exec_levels.specs.declared.processor.Processor.{Processor}
 use Rattle.bm_exec_levels.specs.declared.program.Program.{Program}
 use Rattle.bm_exec_levels.proofs.Words.{moved-here}
-use Rattle.bm_exec_levels.specs.Slotted.{in_hands}
+use Rattle.bm_exec_levels.specs.Slotted.{in_hands, items_in}
 use Rattle.bm_run.specs.Lines.{BehindScript, Wrote}
 use Rattle.bm_run.specs.Turns.{HasBegun, HasEnded, around_in, blocks_of, domain_of, held_by, outermost}
 use Rattle.bm_run.specs.declared.turns.Begun.{Begun}
@@ -60,6 +60,7 @@ objects-of kind Tracing k = refl
 pub has-begun : (p : Program) (m m1 : Processor LivingState) (b : Begun) (w : Option (List ℕ)) →
     declared_of p.types ≡ declared_in p.scenario.now →
     m.inside ≡ false →
+    m.locked ≡ None →
     ((d : Domain) → word_of knows_living d m % 2 ≡ 0) →
     (i : ℕ) × (slice_get p.scenario.now.scripts i ≡ Some b.script.now) →
     Behind w (lists_of m) [] →
@@ -68,12 +69,12 @@ pub has-begun : (p : Program) (m m1 : Processor LivingState) (b : Begun) (w : Op
     m1 ≡ record m { caches = m1.caches; side = m1.side; inside = m1.inside } →
     shown m1.caches ≡ shown m.caches →
     Wrote (Stand 0 (entry.Script b.script.now.name ∷ entry.In (domain_of b) (word_of knows_living (domain_of b) m + 1) ∷ [])) m m1 →
-    IsAtStart (declared_of p.types) b.script.now.body b.activation.names (blocks_of b) →
+    IsAtStart (declared_of p.types) b.script.now.kind b.script.now.body b.activation.names (blocks_of b) →
     HasBegun p.scenario.now w b.script.now m m1 b
-has-begun p m m1 b w types out even found down known within same lists wrote start0 =
+has-begun p m m1 b w types out unlocked even found down known within same lists wrote start0 =
     let s = p.scenario.now in
     let d : Domain = domain_of b in
-    let start : IsAtStart (declared_in s) b.script.now.body b.activation.names (blocks_of b) = subst (λ (d : Declared). IsAtStart d b.script.now.body b.activation.names (blocks_of b)) types start0 in
+    let start : IsAtStart (declared_in s) b.script.now.kind b.script.now.body b.activation.names (blocks_of b) = subst (λ (d : Declared). IsAtStart d b.script.now.kind b.script.now.body b.activation.names (blocks_of b)) types start0 in
     let inside : m1.inside ≡ starts_inside b.script.now = starts-is d m.inside m1.inside out within in
     let word : word_of knows_living d m1 ≡ word_of knows_living d m + 1 = ap (λ (x : Known). (side d x).word) known ∙ moved-here Enter false d _ in
     let around : around_in m1 b ≡ outermost b = around-outermost (starts_inside b.script.now) m1 inside in
@@ -86,11 +87,12 @@ has-begun p m m1 b w types out even found down known within same lists wrote sta
       wrote = subst (λ k. Wrote (Stand 0 (entry.Script b.script.now.name ∷ entry.In d k ∷ [])) m m1) (sym word) wrote;
       stands = record {
         found = found;
-        can = start.can (around_in m1 b) w (lists_of m1) (in_hands (known_of knows_living m1).objects) quiet;
+        can = start.can 0 (around_in m1 b) w (lists_of m1) (in_hands (known_of knows_living m1).objects) (λ handles. refl) quiet;
         sections = subst (λ z. Sectioned (outermost b) z (blocks_of b)) (sym around) (start.sections (outermost b));
         within = λ h. inside ∙ h;
         inside = odd-begun d (word_of knows_living d m) (word_of knows_living d m1) (even d) word;
         apart = apart-of d m m1 known (even Tracing);
+        unlocked = ap (λ (x : Processor LivingState). x.locked) same ∙ unlocked;
       };
       runs = λ l part x.
           let block : RunsBlock (declared_in s) 0 (is_inside (around_in m1 b)) (Behind w) b.script.now.body no_names x.0 l part = start.runs 0 (around_in m1 b) w x.0 l part x.1 in
@@ -135,6 +137,7 @@ pub has-ended : (p : Program) (m m1 m2 : Processor LivingState) (script : Script
     word_of knows_living (section_of script.kind) m % 2 ≡ 1 →
     m.inside ≡ starts_inside script →
     (section_of script.kind ≡ Plain → word_of knows_living Tracing m % 2 ≡ 0) →
+    m.locked ≡ None →
     known_of knows_living m1 ≡ left false (section_of script.kind) (known_of knows_living m) →
     m1.inside ≡ for_domain Plain (section_of script.kind) false m.inside →
     m1 ≡ record m { caches = m1.caches; side = m1.side; inside = m1.inside } →
@@ -144,11 +147,12 @@ pub has-ended : (p : Program) (m m1 m2 : Processor LivingState) (script : Script
     SameLives knows_living m1 m2 →
     asked_of knows_living p.scenario.now m2 ≤ asked_of knows_living p.scenario.now m1 + 1 →
     Statements knows_living m1 m2 →
+    m2.locked ≡ m1.locked →
     HasEnded p.scenario.now w script m m2
-has-ended p m m1 m2 script w sa sb odd outer apart known within same stop behind down lives asked st =
+has-ended p m m1 m2 script w sa sb odd outer apart unlocked known within same stop behind down lives asked st locked =
     let s = p.scenario.now in
     let d : Domain = section_of script.kind in
-    let alive : in_hands (known_of knows_living m1).objects ≡ in_hands (known_of knows_living m).objects = ap (λ (x : Known). in_hands x.objects) known ∙ ap in_hands (objects-of Leave d (known_of knows_living m)) in
+    let objects : (known_of knows_living m1).objects ≡ (known_of knows_living m).objects = ap (λ (x : Known). x.objects) known ∙ objects-of Leave d (known_of knows_living m) in
     let asks = asks-left d s m m1 known same within outer in
     let worked = asks-worked s m1 m2 asked st in
     let tracing = tracing-moved Leave d m m1 known in
@@ -156,7 +160,7 @@ has-ended p m m1 m2 script w sa sb odd outer apart known within same stop behind
     let out = outside-after d m m1 known odd apart (plain-out d m.inside (word_of knows_living Plain m) sa.at.ready.inside outer) in
     record {
       wrote = wrote-then (Stand 0 (entry.Out d (word_of knows_living d m + 1) ∷ entry.Done script.name ∷ [])) (BehindScript w) p m m1 m2 sa sb stop behind;
-      outside = record { down = down; words = λ e. st.parity e ∙ out e };
-      lives = lives ∙ alive;
+      outside = record { down = down; words = λ e. st.parity e ∙ out e; unlocked = locked ∙ (ap (λ (x : Processor LivingState). x.locked) same ∙ unlocked) };
+      lives = (lives.0 ∙ ap in_hands objects, record { graphs = lives.1.graphs ∙ ap (λ (o : Objects). o.graphs) objects; items = lives.1.items ∙ ap items_in objects });
       used = omega (arith, asks, worked, tracing, kept);
     }

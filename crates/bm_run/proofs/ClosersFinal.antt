@@ -60,6 +60,10 @@ use Rattle.bm_world.specs.ToldLiving.{knows_living, told_living}
 use Rattle.bm_run.specs.Closers.{AllDone, IsAmong, OwnAfter}
 use Rattle.bm_run.specs.ClosersCrew.{all-done}
 use Rattle.bm_run.proofs.ClosersBegin.{KeptThen, StoppedAt, begun-stretch, begun-tells, front-is, get-map, given_by, gives-at, kept-then, kept_by, many-now, some-processors, stopped-at, stopped-ended, stopped-owns}
+use Rattle.bm_run.proofs.OrderEntries.{AllHave, have-all, have-append, no-log, order-has, order-uncalled, part-any}
+use Rattle.bm_run.proofs.Uncalled.{above-uncalled, front-none}
+use Rattle.bm_law_graphs.specs.Uncalled.{CallsNone}
+use Rattle.bm_law_order.specs.Graphs.{standing_from}
 use Rattle.bm_run.proofs.EmptiedSlots.{AllPutNone, along-append, emptied, hands-all, split-at, split-puts}
 use Rattle.bm_run.proofs.GivenLaws.{given-progress, given-puts, given-sends}
 use Rattle.bm_run.proofs.SeatAfter.{leaves-here}
@@ -420,6 +424,25 @@ module _ (g : Program) (turns : List ℕ) (seats : List Seat) (world : LivingSta
         let none = emptied s.types s.maps (after (seen number_of (shown kept.caches)) here.one) here.two (over owned_after (by 0 here.one) x) here.is_second both.1 puts.1 slots i m e in
         ap (λ (f : Contents). (f m.name).held) (sym began.so_far.so_far.slots ∙ ap (λ (y : Owned). y.objects.slots) (order ∙ parts)) ∙ none
 
+    -- nothing is in lists and trees, since no script called one
+    log-uncalled : (p : ℕ) → p < n → AllHave CallsNone (get_or b.logs p [])
+    log-uncalled p lt =
+        let h = (stopped-at g turns seats world b stopped p lt).stopped in
+        let front : Log = opening_log s p ++ h.scripts in
+        let of_front : AllHave CallsNone front = have-all CallsNone front (front-none s slots p (opening p) front (front-is s p h.scripts h.are_scripts)) (above-uncalled s slots p front h.stands h.done) in
+        subst (AllHave CallsNone) (sym h.log_is) (have-append CallsNone front ((0, entry.Ended) ∷ []) of_front (tt, tt))
+
+    any-uncalled : (p : ℕ) → AllHave CallsNone (get_or b.logs p [])
+    any-uncalled p = elim (cases_lt p (length b.logs)) [
+      | inl lt ↦ log-uncalled p (subst (λ k. p < k) b.so_far.many lt)
+      | inr le ↦ subst (AllHave CallsNone) (sym (no-log p b.logs le)) tt
+    ]
+
+    bare : (u : ℕ) → standing_from 0 now.graphs u ≡ None
+    bare u =
+        let none = order-uncalled made (order-has CallsNone made (λ p. subst (AllHave CallsNone) (sym (part-any b.logs made b.so_far.order_of p)) (any-uncalled p))) in
+        ap (λ gs. standing_from 0 gs u) begins.graphs ∙ b.so_far.so_far.bare none u
+
     none-lives : (u : ℕ) → in_hands (known_living world).objects u ≡ None
     none-lives u = by (in_hands (known_living world).objects u) refl
       where
@@ -514,7 +537,7 @@ module _ (g : Program) (turns : List ℕ) (seats : List Seat) (world : LivingSta
       logs = λ p lt. is-final p lt;
       world = sweeps.now;
       so_far = so-far;
-      lives = λ u. ap (λ (o : Objects). o.lives u) objects-are ∙ (sym (hands-all (known_living now).objects s.maps begins.sound.at.ready.stocked.names apart emptied-slots u) ∙ (ap (λ (f : Lives). f u) begins.hands ∙ none-lives u));
+      lives = λ u. ap (λ (o : Objects). o.lives u) objects-are ∙ (sym (hands-all (known_living now).objects s.maps begins.sound.at.ready.stocked.names apart emptied-slots bare u) ∙ (ap (λ (f : Lives). f u) begins.hands ∙ none-lives u));
       inboxes = inboxes;
       idle = idle;
     }

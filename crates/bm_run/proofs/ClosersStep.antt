@@ -195,6 +195,7 @@ begun-by g kept start old m k later now log l opened closes side_is told first s
       sound = subst (Sound knows_living g) back sound;
       tied = subst (λ (w : LivingState). T (log ++ (note ++ more.added)) w) (sym side_is) (subst (λ (z : Log). T z k.side) is here);
       asks = subst F back (omega (arith, most, asked));
-      hands = ap (λ (w : LivingState). in_hands (known_living w).objects) side_is ∙ (lives ∙ ap (λ (w : LivingState). in_hands (known_living w).objects) was);
+      hands = ap (λ (w : LivingState). in_hands (known_living w).objects) side_is ∙ (lives.0 ∙ ap (λ (w : LivingState). in_hands (known_living w).objects) was);
+      graphs = ap (λ (w : LivingState). w.graphs) side_is ∙ (lives.1.graphs ∙ ap (λ (w : LivingState). w.graphs) was);
       parity = λ d. ap (λ (w : LivingState). (side d (known_living w)).word % 2) side_is ∙ (stays.parity d ∙ ap (λ (w : LivingState). (side d (known_living w)).word % 2) was);
     }

@@ -25,7 +25,7 @@ use Rattle.bm_law_scenario.proofs.Freed.{knows-batch}
 use Rattle.bm_world.specs.LivingState.{LivingState}
 use Rattle.bm_world.specs.ToldLiving.{knows_living}
 use Rattle.bm_exec.specs.Living.{Exchanged, HasType, LetGo, Lives, Living, LivesAs, TakenOut, count_in, less_of, let_go, one_less, type_in, with_life}
-use Rattle.bm_exec_levels.specs.AtProcessor.{Between, FineAt, SameLives, lists_of, lives_of, log_of}
+use Rattle.bm_exec_levels.specs.AtProcessor.{Between, FineAt, lists_of, lives_of, log_of}
 use Rattle.bm_exec_levels.specs.declared.processor.Processor.{Processor}
 use Rattle.bm_exec_levels.specs.declared.program.Program.{Program}
 
@@ -143,7 +143,7 @@ module _ (p : Program) (a b : Processor LivingState) (types : List TypeDeclarati
         exchanged-with c (Some o) got (given-back types m.type_id o (lists_of b) (log_of b) (log_of c) (lives_of knows_living b) (lives_of knows_living c) k declared of
         (subst (λ d. LetGo 0 d k o (lists_of b) (log_of b) (log_of c) (lives_of knows_living b) (lives_of knows_living c)) is let-go-now))
 
-    pub emptied-lives : SameLives knows_living a c
+    pub emptied-lives : lives_of knows_living c ≡ lives_of knows_living a
     emptied-lives = let-go-less counted got.takes.object.class o (lists_of b) (log_of b) (log_of c) (lives_of knows_living b) (lives_of knows_living c) let-go-now ∙ let-go-again types m.type_id.0 (lives_of knows_living a) (lives_of knows_living b) o got.takes
 
 -- ---- one map after the other

@@ -14,6 +14,7 @@ use Rattle.bm_law.specs.Lists.{Log, after}
 use Rattle.bm_law.specs.State.{State}
 use Rattle.bm_law.proofs.Alone.{at-own}
 use Rattle.bm_law_order.specs.Calls.{tag_after}
+use Rattle.bm_law_order.specs.Graphs.{standing_from}
 use Rattle.bm_law_order.specs.Orders.{Order, by, over}
 use Rattle.bm_law_order.specs.Slots.{Contents, Named, Slot, named_in}
 use Rattle.bm_law_order.proofs.Along.{by-append, over-append}
@@ -22,7 +23,7 @@ use Rattle.bm_law_scenario.specs.Closing.{EmptiesMap, EmptiesMaps}
 use Rattle.bm_grace.specs.Known.{Objects}
 use Rattle.bm_world.specs.Contents.{are_apart, names_in, slot_at}
 use Rattle.bm_world.proofs.NamedLemmas.{named-there}
-use Rattle.bm_exec_levels.specs.Slotted.{in_hands, is_of, less_times, times_held}
+use Rattle.bm_exec_levels.specs.Slotted.{as_item, elsewhere, in_hands, is_of, less_times, times_held}
 use Rattle.bm_run.specs.Emptied.{AreSlots}
 
 -- ---- along a log
@@ -111,9 +112,13 @@ none-times : (u : ℕ) (ss : List Named) → ((place : ℕ) → (slot_at place s
 none-times u [] h = refl
 none-times u (s ∷ ss) h = rw (ap (is_of u) (h 0)) (none-times u ss (λ place. h (suc place)))
 
--- Where the slots of all declared maps hold nothing by their names, names hold all references.
-pub hands-all : (o : Objects) (maps : List MapDeclaration) → names_in o.slots ≡ map (λ (m : MapDeclaration). m.name) maps → are_apart (map (λ (m : MapDeclaration). m.name) maps) ≡ true → ((i : ℕ) (m : MapDeclaration) → slice_get maps i ≡ Some m → (named_in o.slots m.name).held ≡ None) → (u : ℕ) → in_hands o u ≡ o.lives u
-hands-all o maps names apart none u = ap (λ k. less_times k (o.lives u)) (none-times u o.slots at-place)
+-- Where the slots of all declared maps hold nothing by their names, and nothing is in lists and trees, names hold all references.
+pub hands-all : (o : Objects) (maps : List MapDeclaration) → names_in o.slots ≡ map (λ (m : MapDeclaration). m.name) maps → are_apart (map (λ (m : MapDeclaration). m.name) maps) ≡ true → ((i : ℕ) (m : MapDeclaration) → slice_get maps i ≡ Some m → (named_in o.slots m.name).held ≡ None) → ((u : ℕ) → standing_from 0 o.graphs u ≡ None) → (u : ℕ) → in_hands o u ≡ o.lives u
+hands-all o maps names apart none bare u =
+    let held = none-times u o.slots at-place in
+    let items : as_item (standing_from 0 o.graphs u) ≡ 0 = ap as_item (bare u) in
+    let all : elsewhere o u ≡ 0 = omega (arith, held, items) in
+    ap (λ k. less_times k (o.lives u)) all
   where
     at-place : (place : ℕ) → (slot_at place o.slots).slot.held ≡ None
     at-place place = elim (cases_lt place (length o.slots)) [

@@ -1,6 +1,6 @@
 -- The logs of a run and their whole order keep the laws of journals.
 use Rattle.std.specs.Prelude.{None, Option, Some, get_or, length, nat_eq}
-use Rattle.std.proofs.Common.{◌≡◌, ◌≢◌, ◌<◌, ◌≤◌, ◌+◌, ℕ, zero, suc, Bool, true, false, List, [], ◌∷◌, ◌++◌, arith, refl, sym, ◌∙◌, ap, subst, append_assoc, eq-eqb, inl, inr}
+use Rattle.std.proofs.Common.{◌≡◌, ◌<◌, ◌+◌, ℕ, zero, suc, Bool, true, false, List, [], ◌∷◌, ◌++◌, arith, refl, sym, ◌∙◌, ap, subst, append_assoc, inl, inr}
 use Rattle.std.proofs.lemmas.Bool.{cases_lt}
 use Rattle.std.proofs.lemmas.Bool.Decides.{eqb_tells}
 use Rattle.bm_journal.specs.declared.ids.Domain.{Domain}
@@ -16,7 +16,7 @@ use Rattle.bm_law.proofs.Spans.{own-append}
 use Rattle.bm_law_laid.specs.OrderOf.{AllBelow, IsOrderOf}
 use Rattle.bm_law_lives.specs.Together.{EachLog, LogsFrom}
 use Rattle.bm_law_order.specs.ByDomain.{of}
-use Rattle.bm_law_order.specs.Orders.{AllFit, IsLaid, Order, by, over, part_of, shared_over}
+use Rattle.bm_law_order.specs.Orders.{AllFit, IsLaid, Order, by, over, shared_over}
 use Rattle.bm_law_order.specs.Parcels.{BoxesFit, boxes_after}
 use Rattle.bm_law_laid.proofs.Parts.{boxes-fit}
 use Rattle.bm_law_logs.specs.LeavesParcels.{no_boxes}
@@ -31,13 +31,14 @@ use Rattle.bm_law_scenario.specs.Closing.{EndsOne, in_progress}
 use Rattle.bm_law_scenario.specs.Opened.{opened_classes}
 use Rattle.bm_law_scenario.specs.Parcels.{ParcelLaw, sends_alone}
 use Rattle.bm_law_scenario.specs.Grammar.{lines_of, stock_for}
-use Rattle.bm_law_scenario.proofs.EachLevel.{AllAbove, above-map, handlers-above}
+use Rattle.bm_law_scenario.proofs.EachLevel.{above-map, handlers-above}
 use Rattle.bm_law_places.specs.Placed.{IsPlaced}
 use Rattle.bm_law_places.specs.World.{AllFound, SweepsInbox, World, outset, world_after, world_over}
 use Rattle.bm_law_places.proofs.Standing.{all-placed, shared-of}
 use Rattle.bm_law_seals.specs.Answered.{AreAnswered, ArePut}
 use Rattle.bm_law_seals.specs.Batches.{BatchFits, GivesNoMore, SweepsLast, WaitsInBatches}
 use Rattle.bm_run.specs.Between.{AllClosed, GivesFirst, all_openings}
+use Rattle.bm_run.specs.Emptied.{AreSlots}
 use Rattle.bm_run.specs.InTurns.{one_by_one}
 use Rattle.bm_run.specs.Seated.{opening_lists, opening_log}
 use Rattle.bm_law_graphs.specs.Uncalled.{CallNone, CallsNone}
@@ -57,6 +58,7 @@ use Rattle.bm_run.proofs.FinalOrder.{closing_order, final_order, whole-is}
 use Rattle.bm_run.proofs.OwnParcels.{AllSendApart, IsUnsent, OrderUnsent, one-sends-apart, own-parcels, unsent-apart}
 use Rattle.bm_run.proofs.PiecesKnown.{IsFill, opening-own}
 use Rattle.bm_run.proofs.SealsTold.{LowSend}
+use Rattle.bm_run.proofs.OrderEntries.{AllHave, OrderHas, have-all, no-log, order-has, order-uncalled, part-any}
 use Rattle.bm_run.proofs.Uncalled.{above-uncalled}
 use Rattle.bm_run.proofs.Unsent.{scripts-unsent}
 
@@ -76,25 +78,6 @@ found-inbox : (o : Order) (w : World) → AllFound o w → AllFit world_after Sw
 found-inbox [] w h = tt
 found-inbox (e ∷ o) w h = (h.0.inbox, found-inbox o (world_after e.processor e.level e.entry w) h.1)
 
--- no entry is of a processor above those that there are
-none-above : (n p : ℕ) (o : Order) → n ≤ p → AllBelow n o → part_of p o ≡ []
-none-above n p [] le h = refl
-none-above n p (e ∷ o) le h = elim (eqb_tells e.processor p) [
-  | inl y ↦ absurd (let lt = h.0 in let same = y.1 in omega (arith, lt, le, same))
-  | inr y ↦ rw y.0 (none-above n p o le h.1)
-]
-
-no-log : (p : ℕ) (logs : List Log) → length logs ≤ p → get_or logs p [] ≡ []
-no-log p [] le = refl
-no-log zero (log ∷ logs) le = absurd (omega (arith, le))
-no-log (suc p) (log ∷ logs) le = no-log p logs (omega (arith, le))
-
-part-any : (logs : List Log) (o : Order) → IsOrderOf logs o → (p : ℕ) → part_of p o ≡ get_or logs p []
-part-any logs o h p = elim (cases_lt p (length logs)) [
-  | inl lt ↦ h.parts p lt
-  | inr le ↦ none-above (length logs) p o le h.below ∙ sym (no-log p logs le)
-]
-
 -- ---- stretches one after the other
 
 -- a log that is late: of ordinary code, which has ended
@@ -112,48 +95,11 @@ each-batches k (log ∷ logs) m h =
     fit-append waiting_after BatchFits (by k log) (one_by_one (k + 1) logs) m (late-batches k log m (h 0 (omega arith)).0 (h 0 (omega arith)).1)
     (each-batches (k + 1) logs (over waiting_after (by k log) m) (λ p lt. h (suc p) (omega (arith, lt))))
 
--- ---- entries of logs and of their order
-
-abbrev AllHave : (Entry → Type 0) → Log → Type 0
-AllHave I [] = Unit {0}
-AllHave I (e ∷ log) = I e.1 × AllHave I log
-
-zero-or : (l : ℕ) → l ≢ 0 → 0 < l
-zero-or zero h = absurd (h refl)
-zero-or (suc l) h = omega arith
-
--- what ordinary code has and what stands above it
-have-all : (I : Entry → Type 0) (log : Log) → AllOf I (own_entries 0 log) → AllAbove I log → AllHave I log
-have-all I [] own above = tt
-have-all I (e ∷ es) own above = elim (eqb_tells e.0 0) [
-  | inl y ↦ (let h : I e.1 × AllOf I (own_entries 0 es) = rw y.0 at own in (h.0, have-all I es h.1 above.1))
-  | inr y ↦ (above.0 (zero-or e.0 y.1), have-all I es (rw y.0 at own) above.1)
-]
-
-abbrev OrderHas : (Entry → Type 0) → Order → Type 0
-OrderHas I [] = Unit {0}
-OrderHas I (e ∷ o) = I e.entry × OrderHas I o
-
-order-has : (I : Entry → Type 0) (o : Order) → ((p : ℕ) → AllHave I (part_of p o)) → OrderHas I o
-order-has I [] h = tt
-order-has I (e ∷ o) h = (first (h e.processor), order-has I o (λ p. rest p (h p)))
-  where
-    first : AllHave I (part_of e.processor (e ∷ o)) → I e.entry
-    first k = (let own : I e.entry × AllHave I (part_of e.processor o) = rw (eq-eqb e.processor e.processor refl) at k in own.0)
-
-    rest : (p : ℕ) → AllHave I (part_of p (e ∷ o)) → AllHave I (part_of p o)
-    rest p k = elim (eqb_tells e.processor p) [
-      | inl y ↦ (let own : I e.entry × AllHave I (part_of p o) = rw y.0 at k in own.1)
-      | inr y ↦ rw y.0 at k
-    ]
+-- ---- entries of the order
 
 order-unsent : (o : Order) → OrderHas IsUnsent o → OrderUnsent o
 order-unsent [] h = tt
 order-unsent (e ∷ o) h = (h.0, order-unsent o h.1)
-
-order-uncalled : (o : Order) → OrderHas CallsNone o → CallNone o
-order-uncalled [] h = tt
-order-uncalled (e ∷ o) h = (h.0, order-uncalled o h.1)
 
 -- ---- a closed run
 
@@ -290,21 +236,21 @@ module _ (s : Parts) (turns : List ℕ) (finals : List Log) (h : AllClosed s tur
 
   -- ---- lists and trees
 
-  final-uncalled : (p : ℕ) → p < n → AllHave CallsNone (get_or finals p [])
-  final-uncalled p lt =
+  final-uncalled : AreSlots s.maps → (p : ℕ) → p < n → AllHave CallsNone (get_or finals p [])
+  final-uncalled slots p lt =
       let f = h.logs p lt in
       let log = get_or finals p [] in
-      have-all CallsNone log (given-log-uncalled s p f.lists log (opening_log s p ++ f.scripts) (get_or h.given p []) (late_of p) (final-parts p lt) (final-front s p _ _ _ _ f) f.given_is (late-own p lt)) (above-uncalled s p log f.stands f.done)
+      have-all CallsNone log (given-log-uncalled s slots p f.lists log (opening_log s p ++ f.scripts) (get_or h.given p []) (late_of p) (final-parts p lt) (final-front s p _ _ _ _ f) f.given_is (late-own p lt)) (above-uncalled s slots p log f.stands f.done)
 
-  uncalled-any : (p : ℕ) → AllHave CallsNone (get_or finals p [])
-  uncalled-any p = elim (cases_lt p (length finals)) [
-    | inl lt ↦ final-uncalled p (subst (λ k. p < k) h.so_far.many lt)
+  uncalled-any : AreSlots s.maps → (p : ℕ) → AllHave CallsNone (get_or finals p [])
+  uncalled-any slots p = elim (cases_lt p (length finals)) [
+    | inl lt ↦ final-uncalled slots p (subst (λ k. p < k) h.so_far.many lt)
     | inr le ↦ subst (AllHave CallsNone) (sym (no-log p finals le)) tt
   ]
 
-  -- no list or tree is called
-  pub uncalled-is : CallNone (whole turns finals)
-  uncalled-is = order-uncalled (whole turns finals) (order-has CallsNone (whole turns finals) (λ p. subst (AllHave CallsNone) (sym (part-any finals (whole turns finals) order-is p)) (uncalled-any p)))
+  -- no list or tree is called, where all maps are slots
+  pub uncalled-is : AreSlots s.maps → CallNone (whole turns finals)
+  uncalled-is slots = order-uncalled (whole turns finals) (order-has CallsNone (whole turns finals) (λ p. subst (AllHave CallsNone) (sym (part-any finals (whole turns finals) order-is p)) (uncalled-any slots p)))
 
   -- no unit is alive at last
   pub none-alive : (u : ℕ) → (shared_over (whole turns finals) (fresh n s.pages)).lives.holds u ≡ None

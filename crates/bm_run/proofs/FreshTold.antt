@@ -31,6 +31,7 @@ use Rattle.bm_world.specs.LivingState.{LivingState, begun_at}
 use Rattle.bm_world.specs.Slots.{AllEmpty, object_at, values_of}
 use Rattle.bm_world.specs.declared.slots.Object.{Object}
 use Rattle.bm_world.proofs.SlotLemmas.{no-object}
+use Rattle.bm_law_order.specs.Graphs.{GraphsLead, Shelf, shelf_of}
 use Rattle.bm_law_order.specs.Made.{Fields, MadeLead}
 use Rattle.bm_world.specs.Standings.{standing_at, told_standing, waits_told}
 use Rattle.bm_world.specs.declared.standing.Standing.{Standing}
@@ -117,36 +118,43 @@ fill-exchanged : (cs : List ℕ) (pool : Stock) (w : Contents) → SlotsLead (de
 fill-exchanged [] pool w = refl
 fill-exchanged (c ∷ cs) pool w = (w, (refl, fill-exchanged cs (fetched c (prefill c) pool).pool w))
 
-fill-does : (n q : ℕ) (cs : List ℕ) (before pool : Stock) (slots : List (Option Object)) (begun : List ℕ) (standings : List Standing) (maps : List MapDeclaration) → pool ≡ (filling cs before).pool → AllEmpty slots → ((u : ℕ) → begun_at begun u ≡ 0) → ((u : ℕ) → standing_at standings u ≡ Nothing) →
-    LivingDoes (deeds (fill_story cs before)) (fresh_world n q before) (living_side n q pool slots begun standings maps)
-fill-does n q cs before pool slots begun standings maps same e z stands = record {
+-- no list or tree is called
+fill-called : (names : List (List ℕ)) (cs : List ℕ) (pool : Stock) (w : Shelf) → GraphsLead names (deeds (fill_story cs pool)) w w
+fill-called names [] pool w = refl
+fill-called names (c ∷ cs) pool w = (w, (refl, fill-called names cs (fetched c (prefill c) pool).pool w))
+
+fill-does : (n q : ℕ) (cs : List ℕ) (before pool : Stock) (slots : List (Option Object)) (begun : List ℕ) (standings : List Standing) → pool ≡ (filling cs before).pool → AllEmpty slots → ((u : ℕ) → begun_at begun u ≡ 0) → ((u : ℕ) → standing_at standings u ≡ Nothing) →
+    LivingDoes (deeds (fill_story cs before)) (fresh_world n q before) (living_side n q pool slots begun standings [])
+fill-does n q cs before pool slots begun standings same e z stands = record {
   waits = subst (λ w. WaitLeads (deeds (fill_story cs before)) (waits_told []) w) (fun_ext (λ u. ap told_standing (no-standing u ∙ sym (stands u)))) (fill-waits cs before (waits_told []));
   made = subst (MadeLead (deeds (fill_story cs before)) (λ u. [])) (fun_ext (λ u. ap values_of (sym (no-object (object_at slots u) (e u))))) (subst (λ w. MadeLead (deeds (fill_story cs before)) w (λ u. [])) (fun_ext (λ u. ap values_of (sym (no-object (object_at [] u) (no-slots u))))) (fill-made cs before (λ u. [])));
-  exchanged = subst (SlotsLead (deeds (fill_story cs before)) (named_in [])) (sym (named-empty maps)) (fill-exchanged cs before (λ name. empty_slot));
+  exchanged = subst (SlotsLead (deeds (fill_story cs before)) (named_in [])) (sym (named-empty [])) (fill-exchanged cs before (λ name. empty_slot));
+  called = fill-called [] cs before (shelf_of []);
+  named = refl;
   asked = omega arith;
   keeps = λ u s. stands u ∙ sym (no-standing u);
   did = λ p s.
       let first = fresh-told n q 0 before [] [] [] [] no-slots no-lives in
       let start : Shared = record (fresh n 0) { pool = bare_pool before } in
       let lead = fill-leads p cs before start refl in
-      let now = fresh-told n q 0 pool slots begun standings maps e z ∙ ap (λ x. let y : Shared = record (fresh n 0) { pool = bare_pool x } in y) same in
+      let now = fresh-told n q 0 pool slots begun standings [] e z ∙ ap (λ x. let y : Shared = record (fresh n 0) { pool = bare_pool x } in y) same in
       record {
-        leads = subst (λ x. ActsLead p (deeds (fill_story cs before)) x (told_living (living_side n q pool slots begun standings maps))) (sym first) (subst (ActsLead p (deeds (fill_story cs before)) start) (sym now) lead);
+        leads = subst (λ x. ActsLead p (deeds (fill_story cs before)) x (told_living (living_side n q pool slots begun standings []))) (sym first) (subst (ActsLead p (deeds (fill_story cs before)) start) (sym now) lead);
         stays = record { post_is = s.post_is; grace_is = s.grace_is; agree = s.agree; turn = s.turn; most = s.most; boxes = s.boxes; plain_words = s.plain_words; tracing_words = s.tracing_words };
         others = λ d q ne. refl;
       };
 }
 
 -- The fills of a processor's opening are tied since the stock before them.
-pub fills-tied : (n q : ℕ) (cs : List ℕ) (before pool : Stock) (slots : List (Option Object)) (begun : List ℕ) (standings : List Standing) (maps : List MapDeclaration) → pool ≡ (filling cs before).pool → AllEmpty slots → ((u : ℕ) → begun_at begun u ≡ 0) → ((u : ℕ) → standing_at standings u ≡ Nothing) →
-    Tied (polled knows_living false [] (fresh_world n q before)) (DoesHere knows_living) [] (fresh_world n q before) 0 [] [] (fill_log (filling cs before).fills) (living_side n q pool slots begun standings maps)
-fills-tied n q cs before pool slots begun standings maps same e z stands =
+pub fills-tied : (n q : ℕ) (cs : List ℕ) (before pool : Stock) (slots : List (Option Object)) (begun : List ℕ) (standings : List Standing) → pool ≡ (filling cs before).pool → AllEmpty slots → ((u : ℕ) → begun_at begun u ≡ 0) → ((u : ℕ) → standing_at standings u ≡ Nothing) →
+    Tied (polled knows_living false [] (fresh_world n q before)) (DoesHere knows_living) [] (fresh_world n q before) 0 [] [] (fill_log (filling cs before).fills) (living_side n q pool slots begun standings [])
+fills-tied n q cs before pool slots begun standings same e z stands =
     let story = fill_story cs before in
     let start = fresh_world n q before in
-    let world : LivingState = living_side n q pool slots begun standings maps in
+    let world : LivingState = living_side n q pool slots begun standings [] in
     record {
       story = story;
       judged = fill-judged start [] cs before;
       log_is = sym (fill-lines cs before) ∙ sym (append-nil (lines story));
-      done_is = (subst (λ as'. LivingDoes as' start world) (sym (append-nil (deeds story))) (fill-does n q cs before pool slots begun standings maps same e z stands), refl);
+      done_is = (subst (λ as'. LivingDoes as' start world) (sym (append-nil (deeds story))) (fill-does n q cs before pool slots begun standings same e z stands), refl, refl);
     }

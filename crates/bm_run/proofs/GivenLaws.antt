@@ -11,7 +11,7 @@ use Rattle.bm_journal.specs.declared.entry.Entry.{Entry}
 use Rattle.bm_journal.specs.declared.entry.Entry.TheVariants as entry
 use Rattle.bm_lang.specs.declared.scenario.MapDeclaration.{MapDeclaration}
 use Rattle.bm_lang.specs.declared.scenario.MapKind.{MapKind}
-use Rattle.bm_lang.specs.declared.scenario.MapKind.TheVariants.{Slot}
+use Rattle.bm_lang.specs.declared.scenario.MapKind.TheVariants as kind
 use Rattle.bm_lang.specs.declared.scenario.Parts.{Parts}
 use Rattle.bm_lang.specs.declared.scenario.TypeId.{TypeId}
 use Rattle.bm_law.specs.Alone.{AllAt, at_level}
@@ -25,11 +25,10 @@ use Rattle.bm_law_order.specs.Orders.{AllFit, by}
 use Rattle.bm_law_order.specs.Seals.{GivesNo, GivesNone, Waiting, waiting_after}
 use Rattle.bm_law_seals.specs.Answered.{PutsDelayed}
 use Rattle.bm_law_seals.specs.Batches.{BatchFits}
-use Rattle.bm_law_graphs.specs.Uncalled.{CallsNone}
-use Rattle.bm_law_work.specs.Parts.{Stand}
+use Rattle.bm_law_work.specs.Parts.{Stand, Then}
 use Rattle.bm_law_work.proofs.Each.{AllOf, of-append, of-map}
 use Rattle.bm_law_scenario.specs.Calls.{RunsDrop, RunsGivingUp, RunsStill, any_batch, batch_in}
-use Rattle.bm_law_scenario.specs.Closing.{Empties, EmptiesMap, EmptiesMaps, EmptiesSlot, GivesBack, close_of, in_progress}
+use Rattle.bm_law_scenario.specs.Closing.{Empties, EmptiesList, EmptiesMap, EmptiesMaps, EmptiesSlot, EmptiesTree, GivesBack, close_of, in_progress}
 use Rattle.bm_law_scenario.specs.Declared.{Declared, declared_in}
 use Rattle.bm_law_scenario.specs.Held.{Names, Object, no_names, with_name}
 use Rattle.bm_law_scenario.specs.Opened.{uses_class}
@@ -47,12 +46,16 @@ use Rattle.bm_run.proofs.PiecesKnown.{IsEarly}
 
 -- ---- laws of what it adds
 
--- A property of stretches that joins, and that each way to give up a reference has, each exchange with null, and the begin of the closing.
+-- A property of stretches that joins, and that each way to give up a reference has, each exchange with null, each pop of a list from the front, each
+-- look at a tree and each removal, and the begin of the closing.
 pub record GivesUp (d : Declared) (P : List Entry → Type 0) : Type 0 where
   pub joins : Joins P
   pub still : (x : List ℕ) (names : Names) (part : List Entry) (after : Names) → RunsStill d.types x names part after → P part
   pub dropped : (x : List ℕ) (names : Names) (part : List Entry) (after : Names) → RunsDrop d.types x any_batch names part after → P part
   pub exchanged : (slot : List ℕ) (was : Option ObjId) (by : Option Tag) → P (entry.Xchg slot None was by ∷ [])
+  pub popped : (list : List ℕ) (item : Option ObjId) (position : ℕ) → P (entry.PopFront list item position ∷ [])
+  pub looked : (tree : List ℕ) (item : Option ObjId) (position : ℕ) → P (entry.First tree item position ∷ [])
+  pub removed : (tree : List ℕ) (u life position : ℕ) → P (entry.Remove tree u life position ∷ [])
   pub closes : P (entry.Close ∷ [])
 
 module _ (d : Declared) (P : List Entry → Type 0) (k : GivesUp d P) where
@@ -74,9 +77,26 @@ module _ (d : Declared) (P : List Entry → Type 0) (k : GivesUp d P) where
       let exchange : List Entry = entry.Xchg m.name None h.0 h.1 ∷ [] in
       laws.both (Stand 0 exchange) (GivesBack d.types m.type_id h.0) (has-stand P exchange (k.exchanged m.name h.0 h.1)) (back-has m.type_id h.0) s part h.2
 
+  list-has : (m : MapDeclaration) (n : ℕ) → Has P (EmptiesList d.types m n)
+  list-has m zero s part h = has-stand P (entry.PopFront m.name None h.0 ∷ []) (k.popped m.name None h.0) s part h.1
+  list-has m (suc n) s part h =
+      let pop : List Entry = entry.PopFront m.name (Some h.0) h.1 ∷ [] in
+      laws.both (Stand 0 pop) (Then (GivesBack d.types m.type_id (Some h.0)) (EmptiesList d.types m n)) (has-stand P pop (k.popped m.name (Some h.0) h.1))
+      (laws.both (GivesBack d.types m.type_id (Some h.0)) (EmptiesList d.types m n) (back-has m.type_id (Some h.0)) (list-has m n)) s part h.2
+
+  tree-has : (m : MapDeclaration) (n : ℕ) → Has P (EmptiesTree d.types m n)
+  tree-has m zero s part h = has-stand P (entry.First m.name None h.0 ∷ []) (k.looked m.name None h.0) s part h.1
+  tree-has m (suc n) s part h =
+      let first : List Entry = entry.First m.name (Some h.0) h.1 ∷ [] in
+      let remove : List Entry = entry.Remove m.name h.0.unit h.0.life h.2 ∷ [] in
+      laws.both (Stand 0 (first ++ remove)) (Then (GivesBack d.types m.type_id (Some h.0)) (EmptiesTree d.types m n))
+      (has-stand P (first ++ remove) (k.joins.join first remove (k.looked m.name (Some h.0) h.1) (k.removed m.name h.0.unit h.0.life h.2)))
+      (laws.both (GivesBack d.types m.type_id (Some h.0)) (EmptiesTree d.types m n) (back-has m.type_id (Some h.0)) (tree-has m n)) s part h.3
+
   map-has : (kind : MapKind) (m : MapDeclaration) → Has P (EmptiesMap d.types kind m)
-  map-has Slot m = slot-has m
-  map-has _ m = laws.nothing
+  map-has kind.Slot m = slot-has m
+  map-has kind.List m = λ s part h. list-has m h.0 s part h.1
+  map-has kind.Tree m = λ s part h. tree-has m h.0 s part h.1
 
   maps-have : (ms : List MapDeclaration) → Has P (EmptiesMaps d.types ms)
   maps-have [] = laws.nothing
@@ -117,6 +137,9 @@ IsListing _ = ⊥
 abbrev pub IsGivingUp : Entry → Type 0
 IsGivingUp entry.Close = Unit {0}
 IsGivingUp (entry.Xchg name put was by) = put ≡ None
+IsGivingUp (entry.PopFront name item position) = Unit {0}
+IsGivingUp (entry.First name item position) = Unit {0}
+IsGivingUp (entry.Remove name u life position) = Unit {0}
 IsGivingUp (entry.Drop u life) = Unit {0}
 IsGivingUp (entry.Still k) = Unit {0}
 IsGivingUp entry.Last = Unit {0}
@@ -127,6 +150,9 @@ IsGivingUp e = IsListing e
 listing-gives : (e : Entry) → IsListing e → IsGivingUp e
 listing-gives entry.Close h = tt
 listing-gives (entry.Xchg name put was by) h = absurd h
+listing-gives (entry.PopFront name item position) h = tt
+listing-gives (entry.First name item position) h = tt
+listing-gives (entry.Remove name u life position) h = tt
 listing-gives (entry.Drop u life) h = tt
 listing-gives (entry.Still k) h = tt
 listing-gives entry.Last h = tt
@@ -202,6 +228,9 @@ gives d = record {
   still = λ x names part after r. subst (AllOf IsGivingUp) (sym r.part_is) (tt, (tt, tt));
   dropped = λ x names part after r. subst (AllOf IsGivingUp) (sym r.part_is) (tt, (tt, either-free (AllOf IsGivingUp) r.declared.counted r.class r.unit r.home r.batch r.own (freed-gives r.class r.unit r.home r.own) (delayed-gives r.class r.unit r.home r.batch r.own) r.frees));
   exchanged = λ slot was by. (refl, tt);
+  popped = λ list item position. (tt, tt);
+  looked = λ tree item position. (tt, tt);
+  removed = λ tree u life position. (tt, tt);
   closes = (tt, tt);
 }
 
@@ -215,21 +244,6 @@ gives-early : (e : Entry) → IsGivingUp e → IsEarly e
 gives-early (entry.Finish period) h = absurd h
 gives-early (entry.Sweep c us) h = absurd h
 gives-early _ h = tt
-
-gives-uncalled : (e : Entry) → IsGivingUp e → CallsNone e
-gives-uncalled (entry.Lock name) h = absurd h
-gives-uncalled (entry.Unlock name) h = absurd h
-gives-uncalled (entry.PushFront name u life pos) h = absurd h
-gives-uncalled (entry.PushBack name u life pos) h = absurd h
-gives-uncalled (entry.Add name u life pos) h = absurd h
-gives-uncalled (entry.PushFrontAlready name u life owner pos) h = absurd h
-gives-uncalled (entry.PushBackAlready name u life owner pos) h = absurd h
-gives-uncalled (entry.AddAlready name u life owner pos) h = absurd h
-gives-uncalled (entry.PopFront name item pos) h = absurd h
-gives-uncalled (entry.PopBack name item pos) h = absurd h
-gives-uncalled (entry.First name item pos) h = absurd h
-gives-uncalled (entry.Remove name u life pos) h = absurd h
-gives-uncalled _ h = tt
 
 gives-unsent : (e : Entry) → IsGivingUp e → IsUnsent e
 gives-unsent (entry.Send c to us) h = absurd h
@@ -295,10 +309,6 @@ module _ (d : Declared) (p : ℕ) (t : State ℕ) (given : Log) (h : GivesFirst 
   pub given-early : AllOf IsEarly (own_entries 0 given)
   given-early = of-map IsGivingUp IsEarly gives-early (own_entries 0 given) (given-gives d p t given h)
 
-  -- it calls no list or tree
-  pub given-uncalled : AllOf CallsNone (own_entries 0 given)
-  given-uncalled = of-map IsGivingUp CallsNone gives-uncalled (own_entries 0 given) (given-gives d p t given h)
-
   -- it sends nothing
   pub given-unsent : AllOf IsUnsent (own_entries 0 given)
   given-unsent = of-map IsGivingUp IsUnsent gives-unsent (own_entries 0 given) (given-gives d p t given h)
@@ -341,6 +351,9 @@ spares s c e =
       still = k.still;
       dropped = k.dropped;
       exchanged = λ slot was by. (λ l us z. refl, tt);
+      popped = λ list item position. (λ l us z. refl, tt);
+      looked = λ tree item position. (λ l us z. refl, tt);
+      removed = λ tree u life position. (λ l us z. refl, tt);
       closes = (λ l us z. refl, tt);
     }
 

@@ -30,9 +30,11 @@ use Rattle.bm_law_scenario.proofs.GoneBack.{done-grow}
 use Rattle.bm_law_seals.specs.Answered.{ArePut, IsPut, PutsDelayed}
 use Rattle.bm_exec_levels.specs.Growing.{no-back}
 use Rattle.bm_run.specs.Between.{GivesFirst}
+use Rattle.bm_run.specs.Emptied.{AreSlots}
 use Rattle.bm_run.proofs.BatchesTold.{log-puts}
 use Rattle.bm_run.proofs.Closes.{IsLate}
-use Rattle.bm_run.proofs.GivenLaws.{GivesUp, IsListing, delayed, freed, given-has, given-uncalled}
+use Rattle.bm_run.proofs.GivenLaws.{GivesUp, IsListing, delayed, freed, given-has}
+use Rattle.bm_run.proofs.SlotRuns.{given-uncalled}
 use Rattle.bm_run.proofs.Uncalled.{ordinary-uncalled}
 
 -- ---- lists and trees
@@ -46,15 +48,15 @@ back-of I [] w h = h
 back-of I (e ∷ v) w h = back-of I v w h.1
 
 -- So it is of ordinary code: of the front of a log, of its end, of what the closing gives up, and of what is late.
-pub given-log-uncalled : (s : Parts) (p : ℕ) (t : State ℕ) (log front given late : Log) → log ≡ (front ++ (0, entry.Ended) ∷ given) ++ late → Front s p (opening p) front → GivesFirst (declared_in s) p t given → AllOf IsLate (own_entries 0 late) → AllOf CallsNone (own_entries 0 log)
-given-log-uncalled s p t log front given late parts is_front h late_own =
+pub given-log-uncalled : (s : Parts) → AreSlots s.maps → (p : ℕ) (t : State ℕ) (log front given late : Log) → log ≡ (front ++ (0, entry.Ended) ∷ given) ++ late → Front s p (opening p) front → GivesFirst (declared_in s) p t given → AllOf IsLate (own_entries 0 late) → AllOf CallsNone (own_entries 0 log)
+given-log-uncalled s slots p t log front given late parts is_front h late_own =
     let bare : Log = at_level 0 (entry.Ended ∷ close_of p) in
-    let whole : AllOf CallsNone (own_entries 0 ((front ++ bare) ++ late)) = ordinary-uncalled s p ((front ++ bare) ++ late) front bare late refl is_front (level-own 0 (entry.Ended ∷ close_of p)) late_own in
+    let whole : AllOf CallsNone (own_entries 0 ((front ++ bare) ++ late)) = ordinary-uncalled s slots p ((front ++ bare) ++ late) front bare late refl is_front (level-own 0 (entry.Ended ∷ close_of p)) late_own in
     let apart : AllOf CallsNone (own_entries 0 (front ++ bare) ++ own_entries 0 late) = subst (AllOf CallsNone) (own-append 0 (front ++ bare) late) whole in
     let first : AllOf CallsNone (own_entries 0 front ++ own_entries 0 bare) = subst (AllOf CallsNone) (own-append 0 front bare) (front-of CallsNone (own_entries 0 (front ++ bare)) (own_entries 0 late) apart) in
     let of_front : AllOf CallsNone (own_entries 0 front) = front-of CallsNone (own_entries 0 front) (own_entries 0 bare) first in
     let of_late : AllOf CallsNone (own_entries 0 late) = back-of CallsNone (own_entries 0 (front ++ bare)) (own_entries 0 late) apart in
-    let of_ended : AllOf CallsNone (own_entries 0 ((0, entry.Ended) ∷ given)) = (tt, given-uncalled (declared_in s) p t given h) in
+    let of_ended : AllOf CallsNone (own_entries 0 ((0, entry.Ended) ∷ given)) = (tt, given-uncalled (declared_in s) slots p t given h) in
     let early : Log = front ++ (0, entry.Ended) ∷ given in
     let of_early : AllOf CallsNone (own_entries 0 early) = subst (AllOf CallsNone) (sym (own-append 0 front ((0, entry.Ended) ∷ given))) (of-append CallsNone (own_entries 0 front) (own_entries 0 ((0, entry.Ended) ∷ given)) of_front of_ended) in
     subst (λ z. AllOf CallsNone (own_entries 0 z)) (sym parts) (subst (AllOf CallsNone) (sym (own-append 0 early late)) (of-append CallsNone (own_entries 0 early) (own_entries 0 late) of_early of_late))
@@ -85,6 +87,9 @@ puts-before d = record {
   still = λ x names part after r. subst PutsBefore (sym r.part_is) (λ rest k. (tt, (tt, k)));
   dropped = λ x names part after r. subst PutsBefore (sym r.part_is) (λ rest k. (tt, (tt, either-free PutsBefore r.declared.counted r.class r.unit r.home r.batch r.own (free-puts r.class r.unit r.home r.own) (delay-puts r.class r.unit r.home r.batch r.own) r.frees rest k)));
   exchanged = λ slot was by. (λ rest k. (tt, k));
+  popped = λ list item position. (λ rest k. (tt, k));
+  looked = λ tree item position. (λ rest k. (tt, k));
+  removed = λ tree u life position. (λ rest k. (tt, k));
   closes = λ rest k. (tt, k);
 }
 

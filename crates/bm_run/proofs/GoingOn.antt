@@ -190,7 +190,7 @@ advanced-ended s w p before mid now b r sa sb sc o word h e d =
           grew-join (RunsOn s w before b) rest (Then (RunsOn s w before b) rest) n (lists_of before) (lists_of now) (log_of before) (log_of now) final (λ one two i j. record { one = one; two = two; part_is = refl; is_first = i; is_second = j }) here last whole x;
       ordinary = both;
       can = record { stands = e.outside; declared = d };
-      owns = λ base x. e.lives ∙ h.owns base x;
+      owns = λ base x. e.lives.0 ∙ h.owns base x;
       used = (let u = h.used in let v = e.used in omega (arith, u, v));
     }
 

@@ -21,10 +21,20 @@ use Rattle.bm_law.specs.Phrases.{DelayPhrase, FreePhrase, given, overtaken, over
 use Rattle.bm_law.specs.Spans.{own_entries}
 use Rattle.bm_law_work.proofs.Each.{AllOf, of-append}
 use Rattle.bm_due.specs.Standing.{HandlersStand}
-use Rattle.bm_law_scenario.specs.Declared.{Declared, declared_in}
-use Rattle.bm_law_scenario.specs.Calls.{Allocates}
+use Rattle.bm_graph.specs.Calls.{first_call}
+use Rattle.bm_graph.specs.Entries.{call_entry}
+use Rattle.bm_graph.specs.Ways.{pop_call, push_call, refused_push}
+use Rattle.bm_graph.specs.declared.ways.End.TheVariants as end_
+use Rattle.bm_graph.specs.declared.ways.Way.{Way}
+use Rattle.bm_graph.specs.declared.ways.Way.TheVariants as way
+use Rattle.bm_journal.specs.declared.past.PastCall.{PastCall}
+use Rattle.bm_journal.specs.declared.past.PastCall.TheVariants as past
+use Rattle.bm_lang.specs.declared.scenario.MapId.{MapId}
+use Rattle.bm_law_scenario.specs.Declared.{Declared, declared_in, under}
+use Rattle.bm_law_scenario.specs.Calls.{Allocates, RunsGivingUp, RunsPutting, any_batch}
+use Rattle.bm_law_scenario.specs.Runs.{lock_after}
 use Rattle.bm_law_scenario.specs.Handlers.{AreHandlers, HandlerPhrase, HandlersDone, enclosed, more, none}
-use Rattle.bm_law_scenario.specs.Held.{Held, Names, Nothing, Null, Object}
+use Rattle.bm_law_scenario.specs.Held.{Held, Names, Nothing, Null, Object, Soft}
 use Rattle.bm_law_scenario.specs.Held as held
 use Rattle.bm_law_scenario.specs.SectionWords.{is_outside}
 use Rattle.bm_law_scenario.proofs.EachLevel.{AllAbove, each-above}
@@ -148,61 +158,78 @@ delay-unyielding c u home batch own (inr x) =
     (tt, (tt, of-append IsInTurn (overtaken_delayed c x.1) (entry.LookDelayed c x.2 ∷ entry.PutDelayed c u ∷ entry.Leave c x.3 ∷ raise_unless batch c) (delayed-unyielding c x.1) (tt, (tt, (tt, unless-unyielding batch c)))))
 
 -- of statements without a `yield`
-module _ (d : Declared) where
-  chosen-unyielding : (v : Held) (first second : Names → List Entry → Names → Type 0) (names : Names) (part : List Entry) (last : Names) → (first names part last → AllUnyielding part) → (second names part last → AllUnyielding part) → Chosen v first second names part last → AllUnyielding part
-  chosen-unyielding Nothing first second names part last f g r = absurd r
-  chosen-unyielding Null first second names part last f g r = g r
-  chosen-unyielding (Object t u n) first second names part last f g r = f r
+chosen-unyielding : (v : Held) (first second : Names → List Entry → Names → Type 0) (names : Names) (part : List Entry) (last : Names) → (first names part last → AllUnyielding part) → (second names part last → AllUnyielding part) → Chosen v first second names part last → AllUnyielding part
+chosen-unyielding Nothing first second names part last f g r = absurd r
+chosen-unyielding Null first second names part last f g r = g r
+chosen-unyielding (Object t u n) first second names part last f g r = f r
+chosen-unyielding (Soft t graph u n) first second names part last f g r = f r
 
-  times-unyielding : (run : Names → List Entry → Names → Type 0) (n : ℕ) (names : Names) (part : List Entry) (last : Names) → ((a : Names) (p : List Entry) (b : Names) → run a p b → AllUnyielding p) → Times run n names part last → AllUnyielding part
-  times-unyielding run zero names part last f r = subst AllUnyielding (sym r.0) tt
-  times-unyielding run (suc n) names part last f r =
-      subst AllUnyielding (sym r.part_is) (of-append IsInTurn r.one r.two (f names r.one r.middle r.first_runs) (times-unyielding run n r.middle r.two last f r.second_runs))
+times-unyielding : (run : Names → List Entry → Names → Type 0) (n : ℕ) (names : Names) (part : List Entry) (last : Names) → ((a : Names) (p : List Entry) (b : Names) → run a p b → AllUnyielding p) → Times run n names part last → AllUnyielding part
+times-unyielding run zero names part last f r = subst AllUnyielding (sym r.0) tt
+times-unyielding run (suc n) names part last f r =
+    subst AllUnyielding (sym r.part_is) (of-append IsInTurn r.one r.two (f names r.one r.middle r.first_runs) (times-unyielding run n r.middle r.two last f r.second_runs))
 
-  within-unyielding : (i : Bool) (run : Names → List Entry → Names → Type 0) (names : Names) (part : List Entry) (last : Names) → ((a : Names) (p : List Entry) (b : Names) → run a p b → AllUnyielding p) → Within i run names part last → AllUnyielding part
-  within-unyielding true run names part last f r = f names part last r
-  within-unyielding false run names part last f r =
-      let t = r.1.second_runs in
-      let begin : AllUnyielding r.1.one = subst AllUnyielding (sym r.1.first_runs.0) (tt, tt) in
-      let end : AllUnyielding t.two = subst AllUnyielding (sym t.second_runs.0) (tt, tt) in
-      subst AllUnyielding (sym r.1.part_is) (of-append IsInTurn r.1.one r.1.two begin (subst AllUnyielding (sym t.part_is) (of-append IsInTurn t.one t.two (f r.1.middle t.one t.middle t.first_runs) end)))
+within-unyielding : (i : Bool) (run : Names → List Entry → Names → Type 0) (names : Names) (part : List Entry) (last : Names) → ((a : Names) (p : List Entry) (b : Names) → run a p b → AllUnyielding p) → Within i run names part last → AllUnyielding part
+within-unyielding true run names part last f r = f names part last r
+within-unyielding false run names part last f r =
+    let t = r.1.second_runs in
+    let begin : AllUnyielding r.1.one = subst AllUnyielding (sym r.1.first_runs.0) (tt, tt) in
+    let end : AllUnyielding t.two = subst AllUnyielding (sym t.second_runs.0) (tt, tt) in
+    subst AllUnyielding (sym r.1.part_is) (of-append IsInTurn r.1.one r.1.two begin (subst AllUnyielding (sym t.part_is) (of-append IsInTurn t.one t.two (f r.1.middle t.one t.middle t.first_runs) end)))
 
-  mutual
-    action-unyielding : (i : Bool) (a : Action) → NeverYields a → (names : Names) (part : List Entry) (last : Names) → RunsAction d i a names part last → AllUnyielding part
-    action-unyielding i (New x t values) h names part last r = subst AllUnyielding (sym r.part_is) (tt, alloc-unyielding r.class r.own r.reply r.allocates)
-    action-unyielding i (Drop x) h names part last (inl r) = subst AllUnyielding (sym r.part_is) (tt, (tt, tt))
-    action-unyielding i (Drop x) h names part last (inr r) =
-        subst AllUnyielding (sym r.part_is)
-        (tt, (tt, either-free AllUnyielding r.declared.counted r.class r.unit r.home r.batch r.own (free-unyielding r.class r.unit r.home r.own) (delay-unyielding r.class r.unit r.home r.batch r.own) r.frees))
-    action-unyielding i (If' x body otherwise) h names part last r =
-        chosen-unyielding (names x) (RunsBlock d i body) (RunsElse d i otherwise) names part last (block-unyielding i body h.0 names part last) (else-unyielding i otherwise h.1 names part last) r
-    action-unyielding i (Repeat n body) h names part last r = times-unyielding (RunsBlock d i body) n names part last (block-unyielding i body h) r
-    action-unyielding i (Section body) h names part last r = within-unyielding i (RunsBlock d true body) names part last (block-unyielding true body h) r
-    action-unyielding i Yield h names part last r = absurd h
-    action-unyielding i (Acquire y x) h names part last r = subst AllUnyielding (sym r.part_is) (tt, tt)
-    action-unyielding i (Get x field) h names part last r = subst AllUnyielding (sym r.part_is) (tt, tt)
-    action-unyielding i (Exchange y slot x) h names part last r = subst AllUnyielding (sym r.part_is) (tt, tt)
-    action-unyielding i (Lock graph) h names part last r = absurd r
-    action-unyielding i Unlock h names part last r = absurd r
-    action-unyielding i (PushFront list x) h names part last r = absurd r
-    action-unyielding i (PushBack list x) h names part last r = absurd r
-    action-unyielding i (PopFront x list) h names part last r = absurd r
-    action-unyielding i (PopBack x list) h names part last r = absurd r
-    action-unyielding i (Add tree x) h names part last r = absurd r
-    action-unyielding i (First x tree) h names part last r = absurd r
-    action-unyielding i (Remove y tree x) h names part last r = absurd r
+-- a reference that is given up, the last or another one
+given-up-unyielding : (d : Declared) (x : List ℕ) (names : Names) (part : List Entry) (last : Names) → RunsGivingUp d.types x any_batch names part last → AllUnyielding part
+given-up-unyielding d x names part last (inl r) = subst AllUnyielding (sym r.part_is) (tt, (tt, tt))
+given-up-unyielding d x names part last (inr r) =
+    subst AllUnyielding (sym r.part_is)
+    (tt, (tt, either-free AllUnyielding r.declared.counted r.class r.unit r.home r.batch r.own (free-unyielding r.class r.unit r.home r.own) (delay-unyielding r.class r.unit r.home r.batch r.own) r.frees))
 
-    else-unyielding : (i : Bool) (o : Held-Action-If-2) → ElseNeverYields o → (names : Names) (part : List Entry) (last : Names) → RunsElse d i o names part last → AllUnyielding part
-    else-unyielding i None' h names part last r = subst AllUnyielding (sym r.0) tt
-    else-unyielding i (Some' body) h names part last r = block-unyielding i body h names part last r
+-- calls on lists and trees
+call-unyielding : (graph : List ℕ) (position : ℕ) (owner : List ℕ) (call : PastCall) → IsInTurn (call_entry graph position owner call)
+call-unyielding graph position owner (past.PushFront id) = tt
+call-unyielding graph position owner _ = tt
 
-    block-unyielding : (i : Bool) (b : Block) → BlockNeverYields b → (names : Names) (part : List Entry) (last : Names) → RunsBlock d i b names part last → AllUnyielding part
-    block-unyielding i (Block' shape row end_line) h names part last r = row-unyielding i row h names part last r
+put-unyielding : (d : Declared) (way : Way) (g : MapId) (x : List ℕ) (names : Names) (part : List Entry) (last : Names) → RunsPutting d way g x any_batch names part last → AllUnyielding part
+put-unyielding d way g x names part last (inl r) = subst AllUnyielding (sym r.part_is) (call-unyielding r.declared.name r.position [] (push_call way r.id 0), tt)
+put-unyielding d way g x names part last (inr r) =
+    subst AllUnyielding (sym r.part_is) (call-unyielding r.declared.name r.position r.owning.name (refused_push way r.id 0 r.owner), given-up-unyielding d x names r.own last r.gives_up)
 
-    row-unyielding : (i : Bool) {m : _} (row : Row_of-Statement m) → RowNeverYields row → (names : Names) (part : List Entry) (last : Names) → RunsRow d i row names part last → AllUnyielding part
-    row-unyielding i end_of-Statement h names part last r = subst AllUnyielding (sym r.0) tt
-    row-unyielding i (more_of-Statement line action rest) h names part last r =
-        subst AllUnyielding (sym r.part_is) (of-append IsInTurn r.one r.two (action-unyielding i action h.0 names r.one r.middle r.first_runs) (row-unyielding i rest h.1 r.middle r.two last r.second_runs))
+mutual
+  action-unyielding : (d : Declared) (i : Bool) (a : Action) → NeverYields a → (names : Names) (part : List Entry) (last : Names) → RunsAction d i a names part last → AllUnyielding part
+  action-unyielding d i (New x t values) h names part last r = subst AllUnyielding (sym r.part_is) (tt, alloc-unyielding r.class r.own r.reply r.allocates)
+  action-unyielding d i (Drop x) h names part last r = given-up-unyielding d x names part last r
+  action-unyielding d i (If' x body otherwise) h names part last r =
+      chosen-unyielding (names x) (RunsBlock d i body) (RunsElse d i otherwise) names part last (block-unyielding d i body h.0 names part last) (else-unyielding d i otherwise h.1 names part last) r
+  action-unyielding d i (Repeat n body) h names part last r = times-unyielding (RunsBlock d i body) n names part last (block-unyielding d i body h) r
+  action-unyielding d i (Section body) h names part last r = within-unyielding i (RunsBlock d true body) names part last (block-unyielding d true body h) r
+  action-unyielding d i Yield h names part last r = absurd h
+  action-unyielding d i (Acquire y x) h names part last r = subst AllUnyielding (sym r.part_is) (tt, tt)
+  action-unyielding d i (Get x field) h names part last r = subst AllUnyielding (sym r.part_is) (tt, tt)
+  action-unyielding d i (Exchange y slot x) h names part last r = subst AllUnyielding (sym r.part_is) (tt, tt)
+  action-unyielding d i (Lock graph) h names part last r = subst AllUnyielding (sym r.part_is) (tt, tt)
+  action-unyielding d i Unlock h names part last r = subst AllUnyielding (sym r.part_is) (tt, tt)
+  action-unyielding d i (PushFront list x) h names part last r = put-unyielding d way.Front list x names part last r
+  action-unyielding d i (PushBack list x) h names part last r = put-unyielding d way.Back list x names part last r
+  action-unyielding d i (PopFront x list) h names part last r = subst AllUnyielding (sym r.part_is) (call-unyielding r.declared.name r.position [] (pop_call end_.Front r.item), tt)
+  action-unyielding d i (PopBack x list) h names part last r = subst AllUnyielding (sym r.part_is) (call-unyielding r.declared.name r.position [] (pop_call end_.Back r.item), tt)
+  action-unyielding d i (Add tree x) h names part last r = put-unyielding d way.Ordered tree x names part last r
+  action-unyielding d i (First x tree) h names part last r = subst AllUnyielding (sym r.part_is) (call-unyielding r.declared.name r.position [] (first_call r.item), tt)
+  action-unyielding d i (Remove y tree x) h names part last r = elim r.1 [
+    | inl t ↦ subst AllUnyielding (sym t.part_is) (call-unyielding t.declared.name t.position [] (past.Remove t.id), tt)
+    | inr t ↦ subst AllUnyielding (sym t.part_is) tt
+  ]
+
+  else-unyielding : (d : Declared) (i : Bool) (o : Held-Action-If-2) → ElseNeverYields o → (names : Names) (part : List Entry) (last : Names) → RunsElse d i o names part last → AllUnyielding part
+  else-unyielding d i None' h names part last r = subst AllUnyielding (sym r.0) tt
+  else-unyielding d i (Some' body) h names part last r = block-unyielding d i body h names part last r
+
+  block-unyielding : (d : Declared) (i : Bool) (b : Block) → BlockNeverYields b → (names : Names) (part : List Entry) (last : Names) → RunsBlock d i b names part last → AllUnyielding part
+  block-unyielding d i (Block' shape row end_line) h names part last r = row-unyielding d i row h names part last r
+
+  row-unyielding : (d : Declared) (i : Bool) {m : _} (row : Row_of-Statement m) → RowNeverYields row → (names : Names) (part : List Entry) (last : Names) → RunsRow d i row names part last → AllUnyielding part
+  row-unyielding d i end_of-Statement h names part last r = subst AllUnyielding (sym r.0) tt
+  row-unyielding d i (more_of-Statement line action rest) h names part last r =
+      subst AllUnyielding (sym r.part_is) (of-append IsInTurn r.one r.two (action-unyielding d i action h.0 names r.one r.middle r.first_runs) (row-unyielding (under (lock_after d.lock action) d) i rest h.1 r.middle r.two last r.second_runs))
 
 -- ---- handlers
 

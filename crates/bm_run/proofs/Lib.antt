@@ -26,6 +26,9 @@ pub mod StampsBound
 pub mod PollsTold
 pub mod OwnedTold
 pub mod SlotsTold
+pub mod SlotRuns
+pub mod OrderEntries
+pub mod BareTold
 pub mod SealsTold
 pub mod BatchesTold
 pub mod Nesting

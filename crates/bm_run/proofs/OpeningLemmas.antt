@@ -1,5 +1,5 @@
 -- A processor after its opening.
-use Rattle.std.proofs.Common.{◌≡◌, ◌≢◌, ◌≤◌, ◌<◌, ℕ, suc, zero, Bool, true, false, not, if◌then◌else◌, List, [], ◌∷◌, ◌++◌, length, get_or, map, refl, sym, ap, subst, ◌∙◌, Option, Some, None, arith, eq-eqb, eqb, ne_eqb, nat_lt, is_some, inl, inr, replicate}
+use Rattle.std.proofs.Common.{◌≡◌, ◌≢◌, ◌≤◌, ◌<◌, ◌+◌, ℕ, suc, zero, Bool, true, false, not, if◌then◌else◌, List, [], ◌∷◌, ◌++◌, length, get_or, map, refl, sym, ap, subst, ◌∙◌, Option, Some, None, arith, eq-eqb, eqb, ne_eqb, nat_lt, is_some, inl, inr, replicate}
 use Rattle.std.specs.List.{All, AllPairs}
 use Rattle.std.proofs.lemmas.Bool.{and_from, and_parts, cases_eq, ltb-true}
 use Rattle.std.proofs.lemmas.Bool.Decides.{nat_tests}
@@ -38,14 +38,16 @@ use Rattle.bm_cache.specs.Tests.{Reusable, Tests}
 use Rattle.bm_cache.specs.Tokens.{Token, number_of}
 use Rattle.bm_work.specs.Dated.{Dated, DatedRow}
 use Rattle.bm_work.specs.DeskTests.{tests_by}
-use Rattle.bm_law_scenario.specs.Declared.{Declared}
+use Rattle.bm_law_scenario.specs.Declared.{Declared, graph_kind}
+use Rattle.bm_law_order.specs.Graphs.{Standing as Stood, graph_names_in, standing_from}
 use Rattle.bm_law_scenario.specs.Fills.{prefill}
 use Rattle.bm_law_order.specs.Slots.{Slot, empty_slot, named_in}
 use Rattle.bm_world.specs.Contents.{names_in, slot_at}
+use Rattle.bm_world.specs.Graphs.{AreBare}
 use Rattle.bm_exec.specs.Living.{one_less}
-use Rattle.bm_exec_levels.specs.Slotted.{AreStocked, in_hands, less_times, times_held}
+use Rattle.bm_exec_levels.specs.Slotted.{AreKinds, AreStocked, elsewhere, in_hands, less_times}
 use Rattle.bm_run.specs.Filling.{filling, units_in, IsUnborn, NeverLived}
-use Rattle.bm_run.specs.Opened.{ascends, empty_slots, fresh_side}
+use Rattle.bm_run.specs.Opened.{ascends, empty_graphs, empty_slots, fresh_side, is_tree_kind}
 use Rattle.bm_run.specs.Openings.{AreNew}
 
 pub ascending : (cs : List ℕ) (pool : Stock) → ascends cs ≡ true → Ascending (filling cs pool).fills
@@ -105,13 +107,14 @@ unlived post h e = record {
 
 -- the world of processor p of n with nothing alive, and the slots of these maps
 abbrev pub living_side : (n p : ℕ) → Stock → List (Option Object) → List ℕ → List Standing → List MapDeclaration → LivingState
-living_side n p pool slots begun standings maps = record { side = fresh_side n p pool; slots = slots; begun = begun; standings = standings; asked = 0; contents = empty_slots maps }
+living_side n p pool slots begun standings maps = record { side = fresh_side n p pool; slots = slots; begun = begun; standings = standings; asked = 0; contents = empty_slots maps; graphs = empty_graphs maps }
 
-pub side-is : (n p : ℕ) (world : LivingState) (pool : Stock) (maps : List MapDeclaration) → world.side ≡ fresh_side n p pool → world.asked ≡ 0 → world.contents ≡ empty_slots maps → world ≡ living_side n p pool world.slots world.begun world.standings maps
-side-is n p world pool maps e z c =
-    ap (λ s. let w : LivingState = record { side = s; slots = world.slots; begun = world.begun; standings = world.standings; asked = world.asked; contents = world.contents } in w) e ∙
-    (ap (λ a. let w : LivingState = record { side = fresh_side n p pool; slots = world.slots; begun = world.begun; standings = world.standings; asked = a; contents = world.contents } in w) z ∙
-    ap (λ x. let w : LivingState = record { side = fresh_side n p pool; slots = world.slots; begun = world.begun; standings = world.standings; asked = 0; contents = x } in w) c)
+pub side-is : (n p : ℕ) (world : LivingState) (pool : Stock) (maps : List MapDeclaration) → world.side ≡ fresh_side n p pool → world.asked ≡ 0 → world.contents ≡ empty_slots maps → world.graphs ≡ empty_graphs maps → world ≡ living_side n p pool world.slots world.begun world.standings maps
+side-is n p world pool maps e z c g =
+    ap (λ s. let w : LivingState = record { side = s; slots = world.slots; begun = world.begun; standings = world.standings; asked = world.asked; contents = world.contents; graphs = world.graphs } in w) e ∙
+    (ap (λ a. let w : LivingState = record { side = fresh_side n p pool; slots = world.slots; begun = world.begun; standings = world.standings; asked = a; contents = world.contents; graphs = world.graphs } in w) z ∙
+    (ap (λ x. let w : LivingState = record { side = fresh_side n p pool; slots = world.slots; begun = world.begun; standings = world.standings; asked = 0; contents = x; graphs = world.graphs } in w) c ∙
+    ap (λ x. let w : LivingState = record { side = fresh_side n p pool; slots = world.slots; begun = world.begun; standings = world.standings; asked = 0; contents = empty_slots maps; graphs = x } in w) g))
 
 -- ---- slots that hold nothing
 
@@ -137,17 +140,49 @@ pub names-empty : (maps : List MapDeclaration) → names_in (empty_slots maps) �
 names-empty [] = refl
 names-empty (m ∷ ms) = ap (λ ns. m.name ∷ ns) (names-empty ms)
 
--- nothing lives, and nothing is in the slots
-pub stocked-empty : (d : Declared) (o : Objects) → o.slots ≡ empty_slots d.maps → ((u : ℕ) → o.lives u ≡ None) → AreStocked d o
-stocked-empty d o e none = record {
+-- ---- lists and trees in which nothing is
+
+pub graph-names-empty : (maps : List MapDeclaration) → graph_names_in (empty_graphs maps) ≡ map (λ (m : MapDeclaration). m.name) maps
+graph-names-empty [] = refl
+graph-names-empty (m ∷ ms) = ap (λ ns. m.name ∷ ns) (graph-names-empty ms)
+
+pub bare-empty : (maps : List MapDeclaration) → AreBare (empty_graphs maps)
+bare-empty [] i d lt = absurd (omega arith)
+bare-empty (m ∷ ms) zero d lt = refl
+bare-empty (m ∷ ms) (suc i) d lt = bare-empty ms i d (omega arith)
+
+-- no object stands in one
+pub none-within : (maps : List MapDeclaration) (place u : ℕ) → standing_from place (empty_graphs maps) u ≡ None
+none-within [] place u = refl
+none-within (m ∷ ms) place u = none-within ms (place + 1) u
+
+-- a map that is declared as a tree is one, and one that is declared as a list is none
+kind-told : (is_tree : Bool) → is_tree_kind (graph_kind is_tree) ≡ is_tree
+kind-told true = refl
+kind-told false = refl
+
+kinds-empty : (maps : List MapDeclaration) → AreKinds maps (empty_graphs maps)
+kinds-empty [] place m b found is = absurd (let z : ◌≡◌ {A = Option MapDeclaration} None (Some m) = found in cc)
+kinds-empty (x ∷ xs) zero m b found is =
+    let same : ◌≡◌ {A = Option MapDeclaration} (Some x) (Some m) = found in
+    let e : x ≡ m = cc in
+    ap (λ (y : MapDeclaration). is_tree_kind y.kind) e ∙ (ap is_tree_kind is ∙ kind-told b)
+kinds-empty (x ∷ xs) (suc place) m b found is = kinds-empty xs place m b found is
+
+-- nothing lives, and nothing is in the slots, lists and trees
+pub stocked-empty : (d : Declared) (o : Objects) → o.slots ≡ empty_slots d.maps → o.graphs ≡ empty_graphs d.maps → ((u : ℕ) → o.lives u ≡ None) → AreStocked d o
+stocked-empty d o e g none = record {
   names = ap names_in e ∙ names-empty d.maps;
+  graphs = ap graph_names_in g ∙ graph-names-empty d.maps;
+  kinds = subst (AreKinds d.maps) (sym g) (kinds-empty d.maps);
+  items = λ u s h. absurd (let z : ◌≡◌ {A = Option Stood} None (Some s) = sym (ap (λ gs. standing_from 0 gs u) g ∙ none-within d.maps 0 u) ∙ h in cc);
   kept = λ u object h. absurd (let z : ◌≡◌ {A = Option Living} None (Some object) = sym (none u) ∙ h in cc);
   stocked = λ place x h. absurd (let z : ◌≡◌ {A = Option ObjId} None (Some x) = sym (ap (λ ss. (slot_at place ss).slot.held) e ∙ at-empty d.maps place) ∙ h in cc);
 }
 
 -- .. so no name holds a reference
 pub no-hands : (o : Objects) (u : ℕ) → o.lives u ≡ None → in_hands o u ≡ None
-no-hands o u e = ap (less_times (times_held u o.slots)) e ∙ less (times_held u o.slots)
+no-hands o u e = ap (less_times (elsewhere o u)) e ∙ less (elsewhere o u)
   where
     less : (k : ℕ) → less_times k None ≡ None
     less zero = refl

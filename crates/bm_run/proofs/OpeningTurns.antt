@@ -13,6 +13,7 @@ use Rattle.bm_law.specs.State.{State, opening}
 use Rattle.bm_law_scenario.specs.Fills.{fresh_stock, opening_stock}
 use Rattle.bm_law_scenario.proofs.EachLevel.{AllAbove}
 use Rattle.bm_law_order.specs.Bare.{bare_pool}
+use Rattle.bm_law_order.specs.Graphs.{standing_from}
 use Rattle.bm_law_order.specs.Orders.{AllFit, AllShared, Leads, Order, by, over, part_of}
 use Rattle.bm_law_order.specs.Seals.{nobody_waits, waiting_after}
 use Rattle.bm_law_order.specs.Shared.{Shared, fresh}
@@ -44,7 +45,7 @@ use Rattle.bm_run.proofs.AddedParts.{part-added, part-kept}
 use Rattle.bm_run.proofs.BatchesTold.{LowStamp, unswept-append, unswept-by}
 use Rattle.bm_run.proofs.Bounds.{within}
 use Rattle.bm_run.proofs.FreshTold.{fills-tied, first-told, fresh-told, no-lives, no-slots, no-standing}
-use Rattle.bm_run.proofs.OpeningLemmas.{living_side, named-empty}
+use Rattle.bm_run.proofs.OpeningLemmas.{living_side, named-empty, none-within}
 use Rattle.bm_run.proofs.Opens.{filling-leaves, opens}
 use Rattle.bm_run.proofs.SealsTold.{LowSend}
 use Rattle.bm_run.proofs.SweepsTake.{unswept-take}
@@ -130,7 +131,7 @@ record OpenedSoFar (n pages : ℕ) (o : Order) (world : LivingState) : Type 0 wh
 -- so it is before the first opening
 none-opened : (n pages : ℕ) → OpenedSoFar n pages [] (fresh_world n 0 (fresh_stock pages))
 none-opened n pages = record {
-  so_far = fresh-so-far n pages (fresh_world n 0 (fresh_stock pages)) (first-told n 0 pages) refl;
+  so_far = fresh-so-far n pages (fresh_world n 0 (fresh_stock pages)) (first-told n 0 pages) refl refl;
   sealed = record { waits = fun_ext (λ u. ap told_standing (sym (no-standing u))); sealed = tt };
   batches = tt;
 }
@@ -147,7 +148,7 @@ opened-so-far n pages classes (suc p) few most =
     let start : LivingState = fresh_world n p before in
     let now : LivingState = fresh_world n p pool in
     let h = opened-so-far n pages classes p (omega (arith, few)) most in
-    let tied = fills-tied n p classes before pool [] [] [] [] (sym (filling-leaves classes before)) no-slots no-lives no-standing in
+    let tied = fills-tied n p classes before pool [] [] [] (sym (filling-leaves classes before)) no-slots no-lives no-standing in
     let own = fresh-is-side n p before (omega (arith, few)) most in
     let part = part-unopened classes pages p p (omega arith) in
     let sealed = sealed-at p o (fresh_world n 0 before) h.sealed in
@@ -160,13 +161,14 @@ opened-so-far n pages classes (suc p) few most =
     }
 
 -- What is so far is so of a world that tells the same.
-so-far-told : (n pages : ℕ) (o : Order) (a b : LivingState) → told_living a ≡ told_living b → named_in b.contents ≡ named_in a.contents → fields_told a ≡ fields_told b → SoFar n pages o a → SoFar n pages o b
-so-far-told n pages o a b e c f h = record {
+so-far-told : (n pages : ℕ) (o : Order) (a b : LivingState) → told_living a ≡ told_living b → named_in b.contents ≡ named_in a.contents → fields_told a ≡ fields_told b → ((u : ℕ) → standing_from 0 b.graphs u ≡ standing_from 0 a.graphs u) → SoFar n pages o a → SoFar n pages o b
+so-far-told n pages o a b e c f g h = record {
   leads = subst (λ s. Leads o (fresh n pages) (plainly s)) e h.leads;
   steady = subst Steady e h.steady;
   polled = h.polled;
   owned = h.owned;
   slots = h.slots ∙ sym c;
+  bare = λ none u. g u ∙ h.bare none u;
   made = λ u.
       subst (λ (g : Fields). MadeAs ((told_living b).lives.holds u) ((told_living b).lives.begun u) (g u) ((over owned_after o nothing_owned).objects.made u)) f
       (subst (λ (s : Shared). MadeAs (s.lives.holds u) (s.lives.begun u) (fields_told a u) ((over owned_after o nothing_owned).objects.made u)) e (h.made u));
@@ -204,7 +206,7 @@ all-open p classes kept pool slots begun standings fits fine limits many filled 
           let x = filled.each i own f in
           opens n i p (filling_of classes s.pages i) pool slots begun standings own lt most fits fine (within s i lt limits) x.filled x.units filled.unborn empty none stands;
       side = fresh-is-side n 0 pool some most;
-      so_far = so-far-told n s.pages o first world same (named-empty maps) (fun_ext (λ u. ap values_of (no-object (object_at [] u) (no-slots u) ∙ sym (no-object (object_at slots u) (empty u))))) h.so_far;
+      so_far = so-far-told n s.pages o first world same (named-empty maps) (fun_ext (λ u. ap values_of (no-object (object_at [] u) (no-slots u) ∙ sym (no-object (object_at slots u) (empty u))))) (none-within maps 0) h.so_far;
       sealed = record {
         waits = h.sealed.waits ∙ fun_ext (λ u. ap told_standing (no-standing u ∙ sym (stands u)));
         sealed = h.sealed.sealed;

@@ -124,12 +124,13 @@ opens n i p f pool slots begun standings kept lt most fits fine limits k new bor
       tables = k.tables;
       room_tables = k.room_tables;
       inside = k.inside;
+      locked = k.locked;
       home = o.processor;
       processor = refl;
       words = no-words n i pool slots begun standings maps;
       asked = none-asked;
       calls = k.calls;
-      stocked = stocked-empty (declared_in s) (known_living world).objects refl (none-live slots empty);
+      stocked = stocked-empty (declared_in s) (known_living world).objects refl refl (none-live slots empty);
       begun = none;
       lives = none-live slots empty;
     } in
@@ -153,4 +154,5 @@ opens n i p f pool slots begun standings kept lt most fits fine limits k new bor
       planned = left-is s i m fresh;
       running = k.running;
       inside = k.inside;
+      locked = k.locked;
     }

@@ -10,6 +10,9 @@ use Rattle.bm_law.specs.Phrases.{given}
 use Rattle.bm_law.specs.Spans.{own_entries}
 use Rattle.bm_law.proofs.Spans.{own-append}
 use Rattle.bm_page.specs.declared.units.Seal.{Seal}
+use Rattle.bm_graph.specs.Entries.{call_entry}
+use Rattle.bm_journal.specs.declared.past.PastCall.{PastCall}
+use Rattle.bm_journal.specs.declared.past.PastCall.TheVariants as past
 use Rattle.bm_law_order.specs.Act.{Act}
 use Rattle.bm_law_order.specs.Act as act
 use Rattle.bm_law_order.specs.Acts.{ActsFit, acts_over}
@@ -211,6 +214,11 @@ module _ (p : ℕ) where
         value_is = ap (λ (vs : List ℕ). slice_get vs place) m.2 ∙ found;
       }) refl n h
 
+  -- a call on a list or tree says nothing of objects that live, or of slots
+  calling : (l : ℕ) (graph : List ℕ) (position : ℕ) (owner : List ℕ) (call : PastCall) (x : Owned) (lives : Lives) (fields now : Fields) → now ≡ fields → Agree x.objects.made lives fields → Follows p ((l, call_entry graph position owner call) ∷ []) x lives now
+  calling l graph position owner (past.PushFront id) x lives fields now n h = plain-one l (entry.PushFront graph id.unit id.life position) x lives fields now tt refl n h
+  calling l graph position owner _ x lives fields now n h = plain-one l _ x lives fields now tt refl n h
+
   receives-keep : (c : ℕ) (parcels : List (List ℕ)) (w now : Fields) → MadeLead (map (act.Receives c) parcels ++ act.Receives c [] ∷ []) w now → now ≡ w
   receives-keep c [] w now h = h.1.1 ∙ h.1.0
   receives-keep c (us ∷ parcels) w now h = receives-keep c parcels h.0 now h.1.1 ∙ h.1.0
@@ -244,6 +252,9 @@ module _ (p : ℕ) where
       fit = (tt, (tt, (tt, tt)));
       agrees = λ v. subst (λ (g : Fields). MadeAs (if eqb v u then None else s.lives.holds v) (s.lives.begun v) (g v) (x.objects.made v)) (sym (m.1.1 ∙ m.1.0)) (ended-agrees u x.objects.made s.lives fields h v);
     }
+    chunk-owned l (chunk.Locking graph) x s fields now log e h a f m j z = plain-one l (entry.Lock graph) x s.lives fields now tt refl m h
+    chunk-owned l (chunk.Unlocking graph) x s fields now log e h a f m j z = plain-one l (entry.Unlock graph) x s.lives fields now tt refl m h
+    chunk-owned l (chunk.Calling graph position call owner tag) x s fields now log e h a f m j z = calling l graph position owner call x s.lives fields now (m.1.1 ∙ m.1.0.1) h
     chunk-owned l (chunk.Quiet e q) x s fields now log k h a f m j z = let o = quiet-one l e x q in plain-one l e x s.lives fields now o.0 o.1 m h
     chunk-owned l (chunk.Looking d ws) x s fields now log e h a f m j z = nothing-said x s.lives fields now (m.1.1 ∙ m.1.0) h
     chunk-owned l (chunk.Asking d y n) x s fields now log e h a f m j z = nothing-said x s.lives fields now (m.1.1 ∙ m.1.0) h

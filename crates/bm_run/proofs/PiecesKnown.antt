@@ -27,6 +27,7 @@ use Rattle.bm_law_scenario.specs.Grammar.{AreScripts, Front, section_of}
 use Rattle.bm_law_scenario.specs.WorkEntries.{IsOfWork}
 use Rattle.bm_law_scenario.proofs.EachLevel.{AllAbove, above-map}
 use Rattle.bm_law_scenario.proofs.FrontLaws.{Written, front-has}
+use Rattle.bm_graph.specs.Entries.{call_entry}
 use Rattle.bm_law_scenario.proofs.OfCall.{of-calls}
 use Rattle.bm_law_scenario.proofs.OfWork.{work-writes}
 use Rattle.bm_law_logs.specs.SweepsTold.{SweepsTold}
@@ -164,6 +165,9 @@ unended s =
         acquired = λ y x names part after r. of-map IsOfStatement IsUnended statement-unended part (k.acquired y x names part after r);
         read = λ x field names part after r. of-map IsOfStatement IsUnended statement-unended part (k.read x field names part after r);
         exchanged = λ y slot given names part after r. of-map IsOfStatement IsUnended statement-unended part (k.exchanged y slot given names part after r);
+        locks = λ graph. (tt, tt);
+        unlocks = λ graph. (tt, tt);
+        calls = λ graph position owner call. of-map IsOfStatement IsUnended statement-unended (call_entry graph position owner call ∷ []) (k.calls graph position owner call);
         enters = λ w. (tt, tt);
         leaves = λ w. (tt, tt);
         yields = (tt, tt);

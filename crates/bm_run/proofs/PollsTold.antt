@@ -13,6 +13,9 @@ use Rattle.bm_law.specs.Lists.{Log, after, stamp_of}
 use Rattle.bm_law.specs.Spans.{AllFrom}
 use Rattle.bm_law.specs.State.{State, opening}
 use Rattle.bm_page.specs.declared.units.Seal.{Seal}
+use Rattle.bm_graph.specs.Entries.{call_entry}
+use Rattle.bm_journal.specs.declared.past.PastCall.{PastCall}
+use Rattle.bm_journal.specs.declared.past.PastCall.TheVariants as past
 use Rattle.bm_law_order.specs.Act.{Act}
 use Rattle.bm_law_order.specs.Act as act
 use Rattle.bm_law_order.specs.Acts.{ActsFit, LooksAt, act_after, acts_over}
@@ -157,6 +160,10 @@ quiet-fits p l _ m q = tt
 
 abbrev FitsAt : ℕ → Log → Polling → Type 0
 FitsAt p log m = AllFit polling_after PollFits (by p log) m
+
+called-fits : (p l : ℕ) (graph : List ℕ) (position : ℕ) (owner : List ℕ) (call : PastCall) (m : Polling) → FitsAt p ((l, call_entry graph position owner call) ∷ []) m
+called-fits p l graph position owner (past.PushFront id) m = (tt, tt)
+called-fits p l graph position owner _ m = (tt, tt)
 
 made-fits : (p l u life type : ℕ) (values : List ℕ) (seal : Option Seal) (m : Polling) → FitsAt p (at_level l (entries_of (chunk.Making u life type values seal))) m
 made-fits p l u life type values None m = (tt, tt)
@@ -303,6 +310,9 @@ module _ (n pages p : ℕ) (o : Order) (since : Log) (start : LivingState) (lead
   chunk-fits closing l added (chunk.Acquiring u life seen) h = (tt, tt)
   chunk-fits closing l added (chunk.Finding u life place value) h = (tt, tt)
   chunk-fits closing l added (chunk.Exchanging name put was from tag) h = (tt, tt)
+  chunk-fits closing l added (chunk.Locking graph) h = (tt, tt)
+  chunk-fits closing l added (chunk.Unlocking graph) h = (tt, tt)
+  chunk-fits closing l added (chunk.Calling graph position call owner tag) h = called-fits p l graph position owner call (polls_at added)
   chunk-fits closing l added (chunk.GivingUp u life seen) h = (tt, (tt, tt))
   chunk-fits closing l added (chunk.Ending u life home true) h = (tt, (tt, (tt, tt)))
   chunk-fits closing l added (chunk.Ending u life home false) h = (tt, (tt, (tt, tt)))

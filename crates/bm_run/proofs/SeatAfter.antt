@@ -139,6 +139,7 @@ module _ (g : Program) (p : ℕ) (m n : Processor LivingState) (r r' : Remaining
         stands = subst (HandlersStand s p) front_is (stands-here g p h.last front first_last h.sound said.1);
         done = subst (HandlersDone s p) front_is (done-here g p h.last front first_last h.sound said.1);
         outside = λ d. subst (λ (x : LivingState). word_of knows_living d (let y : Processor LivingState = record h.last { side = x } in y) % 2 ≡ 0) (sym last-side) (outside.words d);
+        unlocked = ap (λ (x : Processor LivingState). x.locked) h.same ∙ outside.unlocked;
         ended = ap (λ (x : Plan). x.ended) h.planned;
         nothing = h.none;
       }
@@ -221,6 +222,7 @@ kept_of m = record {
   caches = m.caches;
   settled = m.settled;
   inside = m.inside;
+  locked = m.locked;
   handlers = m.handlers;
   running = m.running;
   tables = m.tables;

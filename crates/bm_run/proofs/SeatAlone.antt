@@ -57,13 +57,15 @@ module _ (kept : Kept) (a b : LivingState) (words : (d : Domain) → (side d (kn
   outside-same d h = ap (λ k. k % 2) (words d) ∙ h
 
   stands-same : (s : Parts) (w : Option (List ℕ)) (base : Lives) (o : Option Begun) → owned_by s base (in_hands (known_living b).objects) o → stands_in s w before o → stands_in s w now o
-  stands-same s w base None own h = record { down = h.down; words = λ d. outside-same d (h.words d) }
+  stands-same s w base None own h = record { down = h.down; words = λ d. outside-same d (h.words d); unlocked = h.unlocked }
   stands-same s w base (Some x) own h = record {
     found = h.found;
     can = record {
       holds = (base, own);
+      sees_nothing = h.can.sees_nothing;
       may = h.can.may;
       accepted = h.can.accepted;
+      unlocked = h.can.unlocked;
       sections = (h.can.sections.0, subst (λ (z : Around). Sectioned h.can.sections.0 z (blocks_of x)) (sym (around-same x)) h.can.sections.1);
       down = h.can.down;
     };
@@ -71,6 +73,7 @@ module _ (kept : Kept) (a b : LivingState) (words : (d : Domain) → (side d (kn
     within = h.within;
     inside = ap (λ k. k % 2) (words (domain_of x)) ∙ h.inside;
     apart = λ e. outside-same Tracing (h.apart e);
+    unlocked = h.unlocked;
   }
 
   runs-same : (s : Parts) (p : ℕ) (r : Remaining) (base : Lives) → owned_by s base (in_hands (known_living b).objects) r.begun → IsRunning s p before r → IsRunning s p now r
@@ -88,6 +91,7 @@ module _ (kept : Kept) (a b : LivingState) (words : (d : Domain) → (side d (kn
     stands = h.stands;
     done = h.done;
     outside = λ d. outside-same d (h.outside d);
+    unlocked = h.unlocked;
     ended = h.ended;
     nothing = h.nothing;
   }

@@ -6,7 +6,7 @@ use Rattle.std.proofs.lemmas.Bool.Decides.{Decides-eqb, eqb_tells, nat_tests}
 use Rattle.bm_lang.specs.declared.scenario.Parts.{Parts}
 use Rattle.bm_lang.specs.declared.scenario.TypeDeclaration.{TypeDeclaration}
 use Rattle.bm_lang.specs.declared.scenario.TypeId.{TypeId}
-use Rattle.bm_law_scenario.specs.Held.{Held, Names, Nothing, Null, Object}
+use Rattle.bm_law_scenario.specs.Held.{Held, Names, Nothing, Null, Object, Soft}
 use Rattle.bm_exec.specs.Living.{Adds, Holds, IsHeld, Living, Lives, Referring, count_in, refers}
 use Rattle.bm_run.specs.Between.{AddUp, owns, sum_below}
 use Rattle.bm_run.specs.Turns.{held_by, owned_by}
@@ -78,6 +78,7 @@ referring-some u (suc j) x names e r = (j, refl)
 refers-is : (u : ℕ) (v : Held) → refers u v ≡ true → (t : TypeId) × (n : ℕ) × (v ≡ Object t u n)
 refers-is u Nothing e = absurd (cc)
 refers-is u Null e = absurd (cc)
+refers-is u (Soft t g w life) e = absurd (cc)
 refers-is u (Object t w n) e = (t, n, ap (λ k. Object t k n) ((Decides-eqb w u).0 e))
 
 -- a processor's own references

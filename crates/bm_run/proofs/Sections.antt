@@ -22,7 +22,7 @@ use Rattle.bm_lang.specs.declared.scenario.Parts.{Parts}
 use Rattle.bm_plan.specs.Position.{StandsAt}
 use Rattle.bm_plan.specs.declared.handlers.Handlers.{Handlers}
 use Rattle.bm_plan.proofs.Positions.{ends-here}
-use Rattle.bm_exec_levels.specs.AtProcessor.{FineAt, log_of}
+use Rattle.bm_exec_levels.specs.AtProcessor.{FineAt, lock_of, log_of}
 use Rattle.bm_exec_levels.specs.Growing.{tells-inner}
 use Rattle.bm_exec_levels.specs.Here.{Running, position_of}
 use Rattle.bm_exec_levels.specs.Logged.{Tells}
@@ -89,7 +89,7 @@ ended-with p m c h e n same pr a fine s =
       at = record {
         at = subst (λ plan. Running StandsAt 0 k.grace.processor p.scenario.now plan m.running.items c.recorder.told) (sym e) (ended-at k.grace.processor p.scenario.now m.handlers.planned m.running.items (log_of m) c.recorder.told (runs-none p m s) a s.at.at);
         tells = told-more T T (log_of m) c.recorder.told 0 entry.Ended (λ es t. tells-inner p.scenario.now k es 0 entry.Ended tt t) a s.at.tells;
-        counts = counts-plain m.calls 0 entry.Ended (log_of m) c.recorder.told refl a s.at.counts;
+        counts = counts-plain m.calls (lock_of p m) 0 entry.Ended (log_of m) c.recorder.told refl a s.at.counts;
         ready = ready-ended p m c h e n pr s.at.ready;
       };
       fine = fine;

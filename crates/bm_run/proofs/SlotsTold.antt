@@ -6,6 +6,8 @@ use Rattle.std.proofs.lemmas.Bool.Decides.{eqb_tells}
 use Rattle.bm_journal.specs.declared.entry.Entry.{Entry}
 use Rattle.bm_journal.specs.declared.entry.Entry.TheVariants as entry
 use Rattle.bm_journal.specs.declared.ids.Tag.{Tag}
+use Rattle.bm_journal.specs.declared.past.PastCall.{PastCall}
+use Rattle.bm_journal.specs.declared.past.PastCall.TheVariants as past
 use Rattle.bm_law.specs.Lists.{Log}
 use Rattle.bm_page.specs.declared.units.Seal.{Seal}
 use Rattle.bm_law_order.specs.Act as act
@@ -101,6 +103,10 @@ module _ (p : ℕ) where
   given-slots l u life None type values x = refl
   given-slots l u life (Some z) type values x = refl
 
+  called-slots : (l : ℕ) (graph : List ℕ) (position : ℕ) (call : PastCall) (owner : List ℕ) (tag : Tag) (x : Owned) → SlotsBehind l (chunk.Calling graph position call owner tag) x ≡ x.objects.slots
+  called-slots l graph position (past.PushFront id) owner tag x = refl
+  called-slots l graph position _ owner tag x = refl
+
   receives-slots : (c : ℕ) (parcels : List (List ℕ)) (w now : Contents) → SlotsLead (map (act.Receives c) parcels ++ act.Receives c [] ∷ []) w now → now ≡ w
   receives-slots c [] w now h = h.1.1 ∙ h.1.0
   receives-slots c (us ∷ parcels) w now h = receives-slots c parcels h.0 now h.1.1 ∙ h.1.0
@@ -110,6 +116,9 @@ module _ (p : ℕ) where
       ap (λ (g : Tag). with_slot name (record { held = put; by = Some g }) x.objects.slots) (sym t)
       ∙ (ap (with_slot name (record { held = put; by = Some tag })) e ∙ sym (m.1.1 ∙ m.1.0.2))
   chunk-slots l (chunk.Making u life type values seal) x before now e t m = given-slots l u life seal type values x ∙ (e ∙ sym (m.1.1 ∙ m.1.0))
+  chunk-slots l (chunk.Locking graph) x before now e t m = e ∙ sym m
+  chunk-slots l (chunk.Unlocking graph) x before now e t m = e ∙ sym m
+  chunk-slots l (chunk.Calling graph position call owner tag) x before now e t m = called-slots l graph position call owner tag x ∙ (e ∙ sym (m.1.1 ∙ m.1.0))
   chunk-slots l (chunk.Finding u life place value) x before now e t m = e ∙ sym (m.1.1 ∙ m.1.0)
   chunk-slots l (chunk.Acquiring u life seen) x before now e t m = e ∙ sym (m.1.1 ∙ m.1.0)
   chunk-slots l (chunk.GivingUp u life seen) x before now e t m = e ∙ sym (m.1.1 ∙ m.1.0)

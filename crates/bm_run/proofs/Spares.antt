@@ -131,6 +131,9 @@ module _ (p q n : ℕ) (other : q ≢ p) where
   chunk-spares l (chunk.Acquiring u life seen) w s h f = (tt, tt)
   chunk-spares l (chunk.Finding u life place value) w s h f = (tt, tt)
   chunk-spares l (chunk.Exchanging name put was from tag) w s h f = (tt, tt)
+  chunk-spares l (chunk.Locking graph) w s h f = tt
+  chunk-spares l (chunk.Unlocking graph) w s h f = tt
+  chunk-spares l (chunk.Calling graph position call owner tag) w s h f = (tt, tt)
   chunk-spares l (chunk.GivingUp u life seen) w s h f = (tt, tt)
   chunk-spares l (chunk.Making u life type values seal) w s h f = (made-other w l u life seal s h f.0.lists, tt)
   chunk-spares l (chunk.Ending u life home delayed) w s h f = (lives-other w u f.0.shared.lives.has.held s h f.0.shared.lives.has.holds, tt)

@@ -11,7 +11,7 @@ use Rattle.bm_lang.specs.declared.scenario.Parts.{Parts}
 use Rattle.bm_lang.specs.declared.scenario.TypeDeclaration.{TypeDeclaration}
 use Rattle.bm_lang.specs.Fine.{HasConditions}
 use Rattle.bm_law.specs.Lists.{Log}
-use Rattle.bm_law_order.specs.Calls.{calls_in}
+use Rattle.bm_law_order.specs.Calls.{calls_in, lock_in}
 use Rattle.bm_law_scenario.specs.Declared.{declared_in}
 use Rattle.bm_exec_levels.specs.Slotted.{AreStocked}
 use Rattle.bm_cache.specs.Opening.{Fills, fill_log}
@@ -20,7 +20,8 @@ use Rattle.bm_due.specs.Plan.{Plan}
 use Rattle.bm_due.specs.declared.planned.Due.{Due}
 use Rattle.bm_plan.specs.Position.{StandsAt, names_in}
 use Rattle.bm_exec.specs.Runnable.{Classes}
-use Rattle.bm_exec_levels.specs.AtProcessor.{IsAt, log_of}
+use Rattle.bm_exec_levels.specs.AtProcessor.{IsAt, lock_of, log_of}
+use Rattle.bm_exec_levels.specs.Calling.{Reckons, lock_name}
 use Rattle.bm_exec_levels.specs.Here.{Running, position_of}
 use Rattle.bm_exec_levels.specs.Logged.{Tells}
 use Rattle.bm_exec_levels.specs.Ready.{BindsAll, IsHandlerLine, IsProgram, IsReady, known_of, left_cost, left_of, word_of}
@@ -43,6 +44,7 @@ pub record IsFresh (s : Parts) (i : ℕ) (m : Processor LivingState) : Type 0 wh
   pub tables : length m.tables.items ≡ 3
   pub room_tables : 3 ≤ vec_capacity m.tables
   pub inside : m.inside ≡ false
+  pub locked : m.locked ≡ None
   pub home : m.caches.processor ≡ i
   pub processor : (known_of knows_living m).grace.processor ≡ i
   pub words : (d : Domain) → word_of knows_living d m ≡ 0
@@ -90,16 +92,20 @@ ready p i m fits fine within f =
       stocked = f.stocked;
     }
 
--- fills are no calls
+-- fills are no calls, and take no lock
 fills-counted : (fs : Fills) → calls_in (fill_log fs) ≡ 0
 fills-counted [] = refl
 fills-counted (f ∷ fs) = fills-counted fs
+
+fills-unlocked : (fs : Fills) → lock_in (fill_log fs) ≡ None
+fills-unlocked [] = refl
+fills-unlocked (f ∷ fs) = fills-unlocked fs
 
 pub fresh-at : (p : Program) (i : ℕ) (m : Processor LivingState) (fs : Fills) → IsProgram p → HasConditions p.scenario.now → Within p.scenario.now i → IsFresh p.scenario.now i m → IfSome (log_of m) (λ es. es ≡ fill_log fs) → IsAt knows_living StandsAt 0 p m
 fresh-at p i m fs fits fine within f told = record {
   at = stands (known_of knows_living m).grace.processor i p.scenario.now m.handlers.planned m.running.items (log_of m) fs f.processor f.planned f.running told;
   tells = where-told (Tells p.scenario.now (known_of knows_living m)) (log_of m) (fill_log fs) told (tells-filled p.scenario.now (known_of knows_living m) fs f.words);
-  counts = where-told (λ es. calls_in es ≡ m.calls) (log_of m) (fill_log fs) told (fills-counted fs ∙ sym f.calls);
+  counts = where-told (Reckons m.calls (lock_of p m)) (log_of m) (fill_log fs) told (fills-counted fs ∙ sym f.calls, fills-unlocked fs ∙ sym (ap (lock_name p.scenario.now.maps) f.locked));
   ready = ready p i m fits fine within f;
 }
 

@@ -1,7 +1,9 @@
 -- What a script has run when it stops.
-use Rattle.std.proofs.Common.{◌≡◌, ℕ, Bool, List, Option, Some, None}
+use Rattle.std.proofs.Common.{◌≡◌, ℕ, Bool, List, Option, Some, None, refl}
+use Rattle.std.specs.Option.{option_map}
 use Rattle.bm_journal.specs.declared.ids.Domain.{Domain}
 use Rattle.bm_journal.specs.declared.ids.Domain.TheVariants.{Plain, Tracing}
+use Rattle.bm_lang.specs.declared.scenario.MapId.{MapId}
 use Rattle.bm_law.specs.Lists.{Log}
 use Rattle.bm_law.specs.State.{State}
 use Rattle.bm_law_work.specs.Grown.{GrewBy, GrewPart}
@@ -50,6 +52,13 @@ finishes-ran d z w s names names' before log None r = tt
 finishes-ran d z w s names names' before log (Some now) r =
     let g = r.grew in
     record { log = g.log; told = g.told; added = g.added; now_is = g.now_is; is_part = (names', g.is_part, r.owns_nothing) }
+
+-- ---- its lock
+
+-- where no place of a lock is told, none is held
+pub none-locked : (lock : Option MapId) → option_map (λ (g : MapId). g.0) lock ≡ None → lock ≡ None
+none-locked None e = refl
+none-locked (Some g) e = absurd (cc)
 
 -- ---- the word of its section
 

@@ -1,6 +1,7 @@
 -- What is so of the order of a run goes on by each turn: by what a processor's log adds while it is tied.
 use Rattle.std.proofs.Common.{◌≡◌, ◌<◌, ℕ, Bool, None, false, [], ◌∷◌, ◌++◌, refl, sym, ◌∙◌, ap, subst}
 use Rattle.bm_law.specs.Lists.{Log}
+use Rattle.bm_law_order.specs.Graphs.{standing_from}
 use Rattle.bm_law_order.specs.Orders.{AllFit, Order, by, part_of, shared_over}
 use Rattle.bm_law_order.specs.Seals.{nobody_waits, waiting_after}
 use Rattle.bm_law_order.specs.Shared.{Shared, fresh, shared_after}
@@ -15,6 +16,7 @@ use Rattle.bm_world.specs.Told.{IsSideOf}
 use Rattle.bm_world.specs.ToldLiving.{fields_told, knows_living, told_living}
 use Rattle.bm_exec_levels.specs.AtPolls.{DoesHere, polled, tied-bare}
 use Rattle.bm_run.specs.SoFar.{MadeAs, SealedSoFar, SoFar, TurnTaken, at_turn}
+use Rattle.bm_run.proofs.BareTold.{none-back, none-front, tied-bare-since}
 use Rattle.bm_run.proofs.BatchesTold.{LowStamp, tied-batches-since}
 use Rattle.bm_run.proofs.Laid.{fresh-leads, fresh-steady, tied-led-since}
 use Rattle.bm_run.proofs.OwnedTold.{tied-owned-since}
@@ -24,19 +26,20 @@ use Rattle.bm_run.proofs.SealsTold.{LowSend, tied-sealed-since}
 -- ---- between two turns
 
 -- so it is at the outset, of however many processors
-pub fresh-so-far : (n pages : ℕ) (world : LivingState) → told_living world ≡ fresh n pages → world.contents ≡ [] → SoFar n pages [] world
-fresh-so-far n pages world e c = record {
+pub fresh-so-far : (n pages : ℕ) (world : LivingState) → told_living world ≡ fresh n pages → world.contents ≡ [] → world.graphs ≡ [] → SoFar n pages [] world
+fresh-so-far n pages world e c g = record {
   leads = fresh-leads n pages world e;
   steady = subst Steady (sym e) (fresh-steady n pages);
   polled = tt;
   owned = tt;
   made = λ u. subst (λ (s : Shared). MadeAs (s.lives.holds u) (s.lives.begun u) (fields_told world u) None) (sym e) tt;
   slots = sym (ap named_in c);
+  bare = λ none u. ap (λ gs. standing_from 0 gs u) g;
 }
 
 -- whose side the world is, is no matter
 pub so-far-at : (n pages p : ℕ) (o : Order) (world : LivingState) → SoFar n pages o world → SoFar n pages o (at_turn p world)
-so-far-at n pages p o world h = record { leads = h.leads; steady = h.steady; polled = h.polled; owned = h.owned; made = h.made; slots = h.slots }
+so-far-at n pages p o world h = record { leads = h.leads; steady = h.steady; polled = h.polled; owned = h.owned; made = h.made; slots = h.slots; bare = h.bare }
 
 pub sealed-at : (p : ℕ) (o : Order) (world : LivingState) → SealedSoFar o world → SealedSoFar o (at_turn p world)
 sealed-at p o world h = record { waits = h.waits; sealed = h.sealed }
@@ -80,6 +83,9 @@ turn-taken closing n pages p o since log start now h own part t =
         owned = objects.0;
         made = objects.1.0;
         slots = objects.1.1;
+        bare = λ none u.
+            tied-bare-since (polled knows_living closing since start) p since r.added log start now r.log_is bare (none-back o (by p r.added) none) u
+            ∙ h.bare (none-front o (by p r.added) none) u;
       };
       stays = (bare.done_is.did p own).stays;
     }

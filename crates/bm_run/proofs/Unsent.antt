@@ -17,6 +17,7 @@ use Rattle.bm_law_scenario.specs.Held.{Names, no_names}
 use Rattle.bm_law_scenario.specs.Opened.{opened_classes}
 use Rattle.bm_law_scenario.specs.Runs.{RunsBlock}
 use Rattle.bm_law_scenario.specs.Works.{UntilDown, WorkBehind}
+use Rattle.bm_graph.specs.Entries.{call_entry}
 use Rattle.bm_law_scenario.proofs.BlockLaws.{Called, law-block}
 use Rattle.bm_law_scenario.proofs.OfCall.{of-calls}
 use Rattle.bm_law_scenario.proofs.PartLaws.{Has, Laws, has-laws, has-say, has-stand, law-as}
@@ -45,9 +46,13 @@ module _ (s : Parts) (off : s.deferred ≡ false) where
         acquired = λ y x names after. has-say (AllOf IsUnsent) (λ own. RunsAcquire s.types y x names own after) (λ own h. of-map IsOfStatement IsUnsent statement-unsent own (k.acquired y x names own after h));
         read = λ x field names after. has-say (AllOf IsUnsent) (λ own. RunsGet s.types x field names own after) (λ own h. of-map IsOfStatement IsUnsent statement-unsent own (k.read x field names own after h));
         exchanged = λ y slot given names after. has-say (AllOf IsUnsent) (λ own. RunsExchange s.maps y slot given names own after) (λ own h. of-map IsOfStatement IsUnsent statement-unsent own (k.exchanged y slot given names own after h));
+        locks = λ graph. has-stand (AllOf IsUnsent) (entry.Lock graph ∷ []) (tt, tt);
+        unlocks = λ graph. has-stand (AllOf IsUnsent) (entry.Unlock graph ∷ []) (tt, tt);
+        calls = λ graph position owner call. has-stand (AllOf IsUnsent) (call_entry graph position owner call ∷ []) (of-map IsOfStatement IsUnsent statement-unsent (call_entry graph position owner call ∷ []) (k.calls graph position owner call));
         enters = λ w. has-stand (AllOf IsUnsent) (entry.In Plain w ∷ []) (tt, tt);
         leaves = λ w. has-stand (AllOf IsUnsent) (entry.Out Plain w ∷ []) (tt, tt);
         yields = has-stand (AllOf IsUnsent) (entry.Yield ∷ []) (tt, tt);
+        silent = has-stand (AllOf IsUnsent) [] tt;
       }
 
   body : (x : Script) → Has (AllOf IsUnsent) (IsBody s x)

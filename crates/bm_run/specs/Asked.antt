@@ -14,6 +14,7 @@ in_its_turn k w = record {
   side = w;
   settled = k.settled;
   inside = k.inside;
+  locked = k.locked;
   handlers = k.handlers;
   running = k.running;
   tables = k.tables;

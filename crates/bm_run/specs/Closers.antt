@@ -222,7 +222,7 @@ held_of (c ∷ cs) g p = units_kept (slice_get g.places p) c ++ (units_waiting g
 
 -- ---- the begin and the end
 
--- Processor 0 has begun the closing, behind this log: it noted that, and emptied the maps of the program. Names hold what they held, it is in a
+-- Processor 0 has begun the closing, behind this log: it noted that, and emptied the maps of the program. Names hold what they held, lists and trees are as they were, it is in a
 -- section or in none as before, few more objects and works were asked for, and ordinary code could go on.
 pub record BeginsClosing (g : Program) (kept : Kept) (side : LivingState) (log : Log) (then : Kept) (now : LivingState) : Type 0 where
   pub added : Log
@@ -232,6 +232,7 @@ pub record BeginsClosing (g : Program) (kept : Kept) (side : LivingState) (log :
   pub tied : Tied (polled knows_living false log side) (DoesHere knows_living) log side 0 [] [] (log ++ added) now
   pub asks : asked_of knows_living g.scenario.now (in_its_turn then now) ≤ asked_of knows_living g.scenario.now (in_its_turn kept side) + 2 * length g.scenario.now.maps
   pub hands : in_hands (known_living now).objects ≡ in_hands (known_living side).objects
+  pub graphs : now.graphs ≡ side.graphs
   pub parity : (d : Domain) → (of_side d (known_living now)).word % 2 ≡ (of_side d (known_living side)).word % 2
 
 -- what its recorder tells, if it is there

@@ -18,6 +18,7 @@ use Rattle.bm_law_order.specs.Act.{Act, Sealed, units_of}
 use Rattle.bm_law_order.specs.Act as act
 use Rattle.bm_law_order.specs.Chunk.{Shows}
 use Rattle.bm_law_order.specs.Chunk as chunk
+use Rattle.bm_law_order.specs.Graphs.{GraphsLead, Shelf, graph_names_in, shelf_of}
 use Rattle.bm_law_order.specs.Slots.{Contents, SlotsLead, named_in}
 use Rattle.bm_law_order.specs.Made.{Fields, MadeLead}
 use Rattle.bm_law_order.specs.Quiet.{is_quiet}
@@ -114,7 +115,7 @@ ends-told since start done more es others (Some log) side s t = tie-first (polle
 
 -- the last number that was read is no matter
 unread : (acts : List Act) (d : Domain) (x m : ℕ) (a b : LivingState) → DoesHere knows_living (acts ++ act.Reads d x m ∷ []) a b → DoesHere knows_living acts a b
-unread acts d x m a b here = (did-before here.0, here.1)
+unread acts d x m a b here = (did-before here.0, here.1, here.2)
   where
     made-unread : (es : List Act) (p q : Fields) → MadeLead (es ++ act.Reads d x m ∷ []) p q → MadeLead es p q
     made-unread [] p q w = w.1.1 ∙ w.1.0
@@ -124,11 +125,17 @@ unread acts d x m a b here = (did-before here.0, here.1)
     slots-unread [] p q w = w.1.1 ∙ w.1.0
     slots-unread (e ∷ es) p q w = (w.0, (w.1.0, slots-unread es w.0 q w.1.1))
 
+    graphs-unread : (names : List (List ℕ)) (es : List Act) (p q : Shelf) → GraphsLead names (es ++ act.Reads d x m ∷ []) p q → GraphsLead names es p q
+    graphs-unread names [] p q w = w.1.1 ∙ w.1.0
+    graphs-unread names (e ∷ es) p q w = (w.0, (w.1.0, graphs-unread names es w.0 q w.1.1))
+
     did-before : LivingDoes (acts ++ act.Reads d x m ∷ []) a b → LivingDoes acts a b
     did-before did = record {
       waits = go-unread acts d x m (waits_told a.standings) (waits_told b.standings) did.waits;
       made = made-unread acts (fields_told a) (fields_told b) did.made;
       exchanged = slots-unread acts (named_in a.contents) (named_in b.contents) did.exchanged;
+      called = graphs-unread (graph_names_in a.graphs) acts (shelf_of a.graphs) (shelf_of b.graphs) did.called;
+      named = did.named;
       asked = did.asked;
       keeps = λ n s. did.keeps n (spare-append n acts (act.Reads d x m ∷ []) s (tt, tt));
       did = λ p s.

@@ -3,6 +3,9 @@ use Rattle.std.specs.Prelude.{◌≡◌, ◌+◌, ◌&&◌, ℕ, Bool, true, fal
 use Rattle.bm_world.specs.ToldLiving.{knows_living}
 use Rattle.bm_journal.specs.declared.ids.Domain.{Domain}
 use Rattle.bm_lang.specs.declared.scenario.MapDeclaration.{MapDeclaration}
+use Rattle.bm_lang.specs.declared.scenario.MapKind.{MapKind}
+use Rattle.bm_lang.specs.declared.scenario.MapKind.TheVariants as kind
+use Rattle.bm_law_order.specs.Graphs.{NamedGraph}
 use Rattle.bm_law_order.specs.Slots.{Named, empty_slot}
 use Rattle.bm_page.specs.Stock.{Stock}
 use Rattle.bm_grace.specs.Known.{side}
@@ -34,13 +37,26 @@ fresh_side n p pool = record {
   grace = record { processors = n; processor = p; plain = idle; tracing = idle };
 }
 
--- .. where no unit lives or has begun a life, none was asked for, and nothing is in a slot
+-- .. where no unit lives or has begun a life, none was asked for, and there is no slot, list or tree
 abbrev pub fresh_world : (processors p : ℕ) → Stock → LivingState
-fresh_world n p pool = record { side = fresh_side n p pool; slots = []; begun = []; standings = []; asked = 0; contents = [] }
+fresh_world n p pool = record { side = fresh_side n p pool; slots = []; begun = []; standings = []; asked = 0; contents = []; graphs = [] }
 
 -- the slots of these maps, which hold nothing
 abbrev pub empty_slots : List MapDeclaration → List Named
 empty_slots maps = map (λ (m : MapDeclaration). let s : Named = record { name = m.name; slot = empty_slot } in s) maps
+
+-- whether a map of this kind is a tree
+abbrev pub is_tree_kind : MapKind → Bool
+is_tree_kind kind.Slot = false
+is_tree_kind kind.List = false
+is_tree_kind kind.Tree = true
+
+-- the lists and trees of these maps, in which nothing is, and on which nobody has called; at the place of a slot stands an empty list
+abbrev pub empty_graph : MapDeclaration → NamedGraph
+empty_graph m = record { name = m.name; is_tree = is_tree_kind m.kind; history = []; nodes = [] }
+
+abbrev pub empty_graphs : List MapDeclaration → List NamedGraph
+empty_graphs maps = map empty_graph maps
 
 -- the world of one processor before its opening: all units are in stock
 abbrev pub outset : (pages : ℕ) → LivingState
@@ -48,7 +64,7 @@ outset pages = fresh_world 1 0 (fresh_stock pages)
 
 -- Processor i of n, whose caches were filled so: the log has a `fill` for each class, no flag is up, no object lives, no life began,
 -- none was asked for, no period is in progress, and no section was entered. No handler that the program plans for it has run, none
--- runs, and it is in no section. (bpf_mem_alloc_init and prefill_mem_cache in kernel/bpf/memalloc.c; objects, periods, sections and
+-- runs, it is in no section, and it holds no lock. (bpf_mem_alloc_init and prefill_mem_cache in kernel/bpf/memalloc.c; objects, periods, sections and
 -- planned handlers are this project's own.)
 pub record IsOpen (n i : ℕ) (p : Program) (f : Filling) (m : Processor LivingState) : Type 0 where
   pub sound : Sound knows_living p m
@@ -64,3 +80,4 @@ pub record IsOpen (n i : ℕ) (p : Program) (f : Filling) (m : Processor LivingS
   pub planned : left_of m ≡ planned_for i p.scenario.now
   pub running : m.running.items ≡ []
   pub inside : m.inside ≡ false
+  pub locked : m.locked ≡ None

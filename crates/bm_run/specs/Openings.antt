@@ -1,6 +1,6 @@
 -- Several processors that have opened, one after the other, out of one stock. (This project's own: in the kernel
 -- bpf_mem_alloc_init fills the caches of one processor after the other.)
-use Rattle.std.specs.Prelude.{◌≡◌, ◌≤◌, ◌++◌, ℕ, zero, suc, false, true, List, [], All, Some, length, slice_get, vec_capacity}
+use Rattle.std.specs.Prelude.{◌≡◌, ◌≤◌, ◌++◌, ℕ, zero, suc, false, true, List, [], All, None, Some, length, slice_get, vec_capacity}
 use Rattle.bm_journal.specs.Recording.{Kept as Recorded}
 use Rattle.bm_lang.specs.declared.scenario.Parts.{Parts}
 use Rattle.bm_page.specs.Stock.{Stock, stocked_at}
@@ -28,13 +28,14 @@ abbrev pub openings : (classes : List ℕ) (pages n : ℕ) → Order
 openings classes pages zero = []
 openings classes pages (suc p) = openings classes pages p ++ by p (fill_log (filling_of classes pages p).fills)
 
--- What processor p keeps once its caches were filled so: no work was asked for, its log has no call, it is in no section, none of the handlers that the
+-- What processor p keeps once its caches were filled so: no work was asked for, its log has no call, it is in no section and holds no lock, none of the handlers that the
 -- scenario plans for it has run, and there is the memory that they need.
 pub record IsFilled (s : Parts) (p : ℕ) (fs : Fills) (kept : Kept) : Type 0 where
   pub caches : Opened (λ (k : Recorded). k.told) (λ k. k.counted) p fs kept.caches
   pub settled : kept.settled ≡ 0
   pub calls : kept.calls ≡ 0
   pub inside : kept.inside ≡ false
+  pub locked : kept.locked ≡ None
   pub planned : kept.handlers.planned ≡ record { left = planned_for p s; ended = false }
   pub scripts : kept.handlers.scripts ≡ length s.scripts
   pub running : kept.running.items ≡ []

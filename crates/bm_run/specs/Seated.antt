@@ -45,7 +45,7 @@ pub record IsRunning (s : Parts) (p : ℕ) (m : Processor LivingState) (r : Rema
   pub can : CanRun s (works_for s) m r
 
 -- The scripts of processor p have ended, which is recorded: its log is its opening and they, in which each handler stood where it was
--- due and left its phrase. It is in no section, and no handler is due on it any more.
+-- due and left its phrase. It is in no section and holds no lock, and no handler is due on it any more.
 pub record HasStopped (s : Parts) (p : ℕ) (log : Log) (m : Processor LivingState) (r : Remaining) : Type 0 where
   pub scripts : Log
   pub log_is : log ≡ (opening_log s p ++ scripts) ++ (0, entry.Ended) ∷ []
@@ -54,6 +54,7 @@ pub record HasStopped (s : Parts) (p : ℕ) (log : Log) (m : Processor LivingSta
   pub stands : HandlersStand s p (opening_log s p ++ scripts)
   pub done : HandlersDone s p (opening_log s p ++ scripts)
   pub outside : (d : Domain) → word_of knows_living d m % 2 ≡ 0
+  pub unlocked : m.locked ≡ None
   pub ended : m.handlers.planned.ended ≡ true
   pub nothing : r.begun ≡ None
 

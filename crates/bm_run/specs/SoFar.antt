@@ -1,6 +1,8 @@
 -- What is so of the order of a run between two turns. (This project's own: the order and the turns are.)
 use Rattle.std.specs.Prelude.{◌≡◌, ℕ, ◌++◌, List, None, Option, Some}
 use Rattle.bm_law.specs.Lists.{Log}
+use Rattle.bm_law_graphs.specs.Uncalled.{CallNone}
+use Rattle.bm_law_order.specs.Graphs.{standing_from}
 use Rattle.bm_law_order.specs.Lives.{Life}
 use Rattle.bm_law_order.specs.Orders.{Leads, Order, by, over}
 use Rattle.bm_law_order.specs.Polls.{IsPolled}
@@ -28,7 +30,7 @@ IsMadeOf o world =
 -- The entries so far, of so many processors, each find what they need, and lead from the outset to what the world tells, which is
 -- steady; each period was begun for a batch that waits for it, and each pass ended a poll that had rested; and each unit was given where an
 -- object was asked for, each read found a value with which its object was made, each exchange found what the slot held, those that live were
--- made with what the world tells, and the slots hold what it tells.
+-- made with what the world tells, the slots hold what it tells, and where no entry calls a list or tree nothing is in one.
 pub record SoFar (processors pages : ℕ) (o : Order) (world : LivingState) : Type 0 where
   pub leads : Leads o (fresh processors pages) (plainly (told_living world))
   pub steady : Steady (told_living world)
@@ -36,6 +38,7 @@ pub record SoFar (processors pages : ℕ) (o : Order) (world : LivingState) : Ty
   pub owned : IsOwned o
   pub made : IsMadeOf o world
   pub slots : (over owned_after o nothing_owned).objects.slots ≡ named_in world.contents
+  pub bare : CallNone o → (u : ℕ) → standing_from 0 world.graphs u ≡ None
 
 -- So it is while nothing was swept: units wait for what the world tells, and each was given with what it had waited for.
 pub record SealedSoFar (o : Order) (world : LivingState) : Type 0 where

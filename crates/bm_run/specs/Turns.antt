@@ -65,19 +65,21 @@ abbrev pub outermost : Begun → Around
 outermost b = record { whole = starts_inside b.script.now; begun = None }
 
 -- A script stands on a processor so that it can go on, for the classes w of the deferred work behind its statements: it is one of the
--- scenario's, and the processor is in its section.
+-- scenario's, and the processor is in its section and holds no lock.
 pub record IsInScript (s : Parts) (w : Option (List ℕ)) (m : Processor LivingState) (b : Begun) : Type 0 where
   pub found : (i : ℕ) × (slice_get s.scripts i ≡ Some b.script.now)
-  pub can : CanGoOn (declared_in s) (around_in m b) w (lists_of m) (in_hands (known_of knows_living m).objects) b.activation.names (blocks_of b)
+  pub can : CanGoOn (declared_in s) 0 (around_in m b) w (lists_of m) (in_hands (known_of knows_living m).objects) b.activation.names (blocks_of b)
   pub sections : Sectioned (outermost b) (around_in m b) (blocks_of b)
   pub within : starts_inside b.script.now ≡ true → m.inside ≡ true
   pub inside : word_of knows_living (domain_of b) m % 2 ≡ 1
   pub apart : domain_of b ≡ Plain → word_of knows_living Tracing m % 2 ≡ 0
+  pub unlocked : m.locked ≡ None
 
--- On a processor no script has begun, it is in no section, and no work is left to run.
+-- On a processor no script has begun, it is in no section and holds no lock, and no work is left to run.
 pub record IsOutside (w : Option (List ℕ)) (m : Processor LivingState) : Type 0 where
   pub down : Behind w (lists_of m) []
   pub words : (d : Domain) → word_of knows_living d m % 2 ≡ 0
+  pub unlocked : m.locked ≡ None
 
 -- what the statements that are left of it run
 abbrev pub RunsBlocks : Parts → Option (List ℕ) → Around → Begun → Part
@@ -112,11 +114,12 @@ pub record WentOn (s : Parts) (w : Option (List ℕ)) (before now : Processor Li
   pub used : used_in s now + 3 * stack_cost (blocks_of b') ≤ used_in s before + 3 * stack_cost (blocks_of b)
   pub less : weight (blocks_of b') < weight (blocks_of b)
 
--- All its statements were run, and its names own nothing.
+-- All its statements were run, its names own nothing, and the processor holds no lock.
 pub record HasRun (s : Parts) (w : Option (List ℕ)) (before now : Processor LivingState) (b : Begun) : Type 0 where
   pub grew : GrewBy (RunsBlocks s w (around_in before b) b) (lists_of before) (log_of before) (log_of now)
   pub down : Behind w (lists_of now) []
   pub inside : now.inside ≡ starts_inside b.script.now
+  pub unlocked : now.locked ≡ None
   pub owns : (base : Lives) → Holds s.types base (in_hands (known_of knows_living before).objects) (held_by b) → in_hands (known_of knows_living now).objects ≡ base
   pub used : used_in s now ≤ used_in s before + 3 * stack_cost (blocks_of b)
 

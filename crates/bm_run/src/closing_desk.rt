@@ -9,6 +9,8 @@ ghost use Rattle.bm_cache.specs.Steps.{is_reply, is_step};
 ghost use Rattle.bm_work.specs.DeskTests.{tests_by};
 ghost use Rattle.bm_work.specs.Goes.{Alike};
 ghost use Rattle.bm_work.specs.Still.{alike-joined, alike-still, goes-still};
+ghost use Rattle.bm_grace.specs.Known.{Objects};
+ghost use Rattle.bm_law_order.specs.Graphs.{graph_names_in};
 ghost use Rattle.bm_law_order.specs.Quiet.{is_quiet};
 ghost use Rattle.bm_world.specs.LivingState.{known_living, rights_living};
 ghost use Rattle.bm_exec_levels.specs.AtRests.{RestedBy, RestsBy, goes-in, law-kept, law-passed, law-released, law-rested_done, rests-begun, rests-looked, rests-missed, rests-read, rests-tied, rests-whole, waits-in};
@@ -137,7 +139,7 @@ impl<B: Since<LivingSide>> Desk<Keep> for ClosingDesk<B> {
 
     ghost owes_shut = { λ h o. o };
 
-    ghost owes_done = { λ h w done more es a d o. (o.0 ∙ sym a.processor, ends-did B.since B.start done more es h.caches.recorder.told h.side w (d, a.processor) o.1) };
+    ghost owes_done = { λ h w done more es a d o. (o.0 ∙ sym a.processor, ends-did B.since B.start done more es h.caches.recorder.told h.side w (d, a.processor, ap (λ (x : Objects). graph_names_in x.graphs) a.objects) o.1) };
 
     ghost owes_said = { λ h c done es e i p a o. (p ∙ o.0, ends-said B.since B.start done es e h.caches.recorder.told c.recorder.told h.side a o.1) };
 
@@ -145,7 +147,7 @@ impl<B: Since<LivingSide>> Desk<Keep> for ClosingDesk<B> {
 
     ghost asked_open = { λ h s. s };
 
-    ghost asked_done = { λ h w done more a d o. (o.0 ∙ sym a.processor, ends-did B.since B.start done more [] h.caches.recorder.told h.side w (d, a.processor) o.1) };
+    ghost asked_done = { λ h w done more a d o. (o.0 ∙ sym a.processor, ends-did B.since B.start done more [] h.caches.recorder.told h.side w (d, a.processor, ap (λ (x : Objects). graph_names_in x.graphs) a.objects) o.1) };
 
     ghost asked_closed = { λ h done x o. (o.0, ends-closed B.since B.start done [] h.caches.recorder.told h.side x o.1) };
 
@@ -169,7 +171,7 @@ impl<B: Since<LivingSide>> Desk<Keep> for ClosingDesk<B> {
 
     ghost rested_kept = { λ a b d x k m s r. (s.0, law-kept knows_living true B.since B.start 0 d x a.caches.recorder.told b.caches.recorder.told a.side b.side m s.1 r.1) };
 
-    ghost rested_done = { λ h w d x done more a m r. (r.0 ∙ sym a.processor, law-rested_done knows_living true B.since B.start 0 d x done more h.caches.recorder.told h.side w (m, a.processor) r.1) };
+    ghost rested_done = { λ h w d x done more a m r. (r.0 ∙ sym a.processor, law-rested_done knows_living true B.since B.start 0 d x done more h.caches.recorder.told h.side w (m, a.processor, ap (λ (x : Objects). graph_names_in x.graphs) a.objects) r.1) };
 
     ghost rested_passed = { λ h c i d x n b p a r. (p ∙ r.0, law-passed knows_living true B.since B.start 0 i d x n h.caches.recorder.told c.recorder.told h.side (waits-in _ i d x _ h.caches r.0 (b tt)) a r.1) };
 }

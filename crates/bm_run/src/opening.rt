@@ -8,9 +8,10 @@ ghost use Rattle.bm_law_scenario.specs.Fills.{fresh_stock};
 ghost use Rattle.bm_exec_levels.specs.AtTie.{TiedAt};
 ghost use Rattle.bm_exec_levels.specs.Ready.{IsProgram};
 ghost use Rattle.bm_run.specs.Filling.{IsUnborn, filling, units_in};
-ghost use Rattle.bm_run.specs.Opened.{IsOpen, ascends, empty_slots, fresh_side, outset};
+ghost use Rattle.bm_run.specs.Opened.{IsOpen, ascends, empty_graphs, empty_slots, fresh_side, is_tree_kind, outset};
 ghost use Rattle.bm_run.specs.Openings.{AreFilled, AreNew, AreOpen, IsFilled};
 ghost use Rattle.bm_world.specs.Contents.{are_apart};
+ghost use Rattle.bm_world.specs.Graphs.{AreBare};
 ghost use Rattle.bm_world.specs.LivingState.{begun_at};
 ghost use Rattle.bm_world.specs.Slots.{AllEmpty};
 ghost use Rattle.bm_world.specs.Standings.{standing_at};
@@ -23,11 +24,11 @@ use bm_class::Class;
 use bm_exec_levels::{Kept, Processor, Program};
 use bm_grace::PlainGrace;
 use bm_journal::Keep;
-use bm_lang::{MapDeclaration, Scenario};
+use bm_lang::{MapDeclaration, MapKind, Scenario};
 use bm_page::Pool;
 use bm_post::PlainPost;
 use bm_word::NoMemory;
-use bm_world::{Contents, LivingSide, MapSlot, OneSide};
+use bm_world::{Contents, Graphs, LivingSide, MapGraph, MapSlot, OneSide};
 use std::alloc::Global;
 
 // The slots of these maps, which hold nothing. Want of memory is the only refusal.
@@ -46,28 +47,56 @@ fn empty_slots(alloc: Global, maps: &[MapDeclaration]) -> Result<Contents, NoMem
     Ok(Contents::create(slots))
 }
 
-// The side of processor 0, of so many, with this stock and these slots, on which nobody has done anything. Want of memory is the only
+// Whether a map of this kind is a tree.
+fn is_tree_kind(kind: MapKind) -> bool
+    ensures { result ≡ is_tree_kind kind }
+{
+    match kind {
+        MapKind::Slot | MapKind::List => false,
+        MapKind::Tree => true,
+    }
+}
+
+// The lists and trees of these maps, in which nothing is; at the place of a slot stands an empty list. Want of memory is the only
+// refusal.
+fn empty_graphs(alloc: Global, maps: &[MapDeclaration]) -> Result<Graphs, NoMemory>
+    requires apart { are_apart (map (λ (m : MapValue). m.name) maps.now) ≡ true }
+    requires few { length maps.now ≤ 256 }
+    ensures { IfOk result (λ graphs. graphs ≡ empty_graphs maps.now) }
+{
+    let mut graphs = Vec::new(alloc);
+    for declared in maps {
+        let is_tree = is_tree_kind(declared.kind);
+        graphs.push(MapGraph::new(alloc, declared.name.duplicate(), is_tree))?;
+    }
+    Ok(Graphs::create(graphs))
+}
+
+// The side of processor 0, of so many, with this stock, these slots, and these lists and trees, on which nobody has done anything. Want of memory is the only
 // refusal.
 fn open_side(
     alloc: Global,
     pool: Pool,
     processors: u8,
     contents: Contents,
+    graphs: Graphs,
 ) -> Result<LivingSide, NoMemory>
     requires some { 0 < processors }
     requires limit { processors ≤ 8 }
     requires unborn { IsUnborn pool.units }
+    requires bare { AreBare graphs }
     ensures side { IfOk result (λ world. world.side ≡ fresh_side processors 0 pool) }
     ensures slots { IfOk result (λ world. AllEmpty world.slots) }
     ensures begun { IfOk result (λ world. (n : ℕ) → begun_at world.begun n ≡ 0) }
     ensures standings { IfOk result (λ world. (n : ℕ) → standing_at world.standings n ≡ WaitsForNothing) }
     ensures asked { IfOk result (λ world. world.asked ≡ 0) }
     ensures contents { IfOk result (λ world. world.contents ≡ contents) }
+    ensures graphs { IfOk result (λ world. world.graphs ≡ graphs) }
 {
     match PlainPost::create(alloc, pool, processors) {
         Ok(post) => {
             let side = OneSide::new(post, PlainGrace::new(processors));
-            match LivingSide::create(alloc, side, contents) {
+            match LivingSide::create(alloc, side, contents, graphs) {
                 Ok(world) => Ok(world),
                 Err(side) => {
                     let (post, _grace) = side.into_parts();
@@ -161,7 +190,7 @@ fn open_each(
 /// What the processors of a scenario keep before their first turns, ascending, and the world that they share, which is the side of
 /// processor 0. They run this program, the types of the scenario each with its class, and open one after the other: each fills its
 /// caches of these classes, ascending, from the stock that those before it have left, and has all memory that the handlers need
-/// which are planned for it. The slots of its maps hold nothing. Want of memory is the only refusal. From `bpf_mem_alloc_init` of kernel/bpf/memalloc.c.
+/// which are planned for it. The slots, lists and trees of its maps hold nothing. Want of memory is the only refusal. From `bpf_mem_alloc_init` of kernel/bpf/memalloc.c.
 pub fn open_all(
     alloc: Global,
     scenario: &Scenario,
@@ -179,12 +208,13 @@ pub fn open_all(
     let parts = program.scenario;
     let processors = parts.processors as u8;
     let contents = empty_slots(alloc, parts.maps.as_slice())?;
+    let graphs = empty_graphs(alloc, parts.maps.as_slice())?;
     let mut pool = Pool::create(alloc, parts.pages as u16)?;
     let Ok(kept) = open_each(alloc, scenario, classes, processors, &mut pool) else {
         pool.give_up();
         return Err(NoMemory);
     };
-    match open_side(alloc, pool, processors, contents) {
+    match open_side(alloc, pool, processors, contents, graphs) {
         Ok(world) => Ok((kept, world)),
         Err(_) => {
             give_up_kept(kept);

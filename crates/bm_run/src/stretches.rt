@@ -14,10 +14,10 @@ ghost use Rattle.bm_due.specs.Standing.{Stays as StaysKind, kind_of};
 ghost use Rattle.bm_exec.specs.Lists.{Behind, behind_of};
 ghost use Rattle.bm_exec_levels.specs.AtProcessor.{FineAt, SameLives, lists_of, log_of};
 ghost use Rattle.bm_law.specs.Lists.{Log};
-ghost use Rattle.bm_law_order.specs.Calls.{is_call};
 ghost use Rattle.bm_law_order.specs.Quiet.{is_quiet};
 ghost use Rattle.bm_world.specs.LivingState.{LivingState};
 ghost use Rattle.bm_exec_levels.specs.AtTie.{TiedAt};
+ghost use Rattle.bm_exec_levels.specs.Calling.{is_marked};
 ghost use Rattle.bm_exec_levels.specs.Growing.{IsInner};
 ghost use Rattle.bm_exec_levels.specs.Ordinary.{Statements};
 ghost use Rattle.bm_exec_levels.specs.Ready.{asked_of, known_of, left_of, word_of};
@@ -43,7 +43,7 @@ pub(crate) fn note(own: &mut Processor<LivingSide>, entry: Entry)
     ensures same { own.new ≡ record own.old { caches = own.new.caches } }
     ensures fine { FineAt knows_living 0 own.new }
     ensures tied { IsTrue (is_quiet entry) → (since : Log) (start : LivingState) → TiedAt knows_living since start own.old → TiedAt knows_living since start own.new }
-    ensures sound { (p : ProgramValue) → kind_of entry ≡ StaysKind → is_call entry ≡ false → IsInner entry → Sound knows_living p own.old → Sound knows_living p own.new }
+    ensures sound { (p : ProgramValue) → kind_of entry ≡ StaysKind → is_marked entry ≡ false → IsInner entry → Sound knows_living p own.old → Sound knows_living p own.new }
 {
     own.caches.note(Level::ordinary(), entry);
 }
@@ -135,6 +135,7 @@ pub(crate) fn settle_behind<'s, B: Since<LivingSide>>(
     ensures lives { OnOk result (SameLives knows_living own.old own.new) }
     ensures asked { OnOk result (asked_of knows_living program.now.scenario.now own.new ≤ asked_of knows_living program.now.scenario.now own.old + 1) }
     ensures statements { OnOk result (Statements knows_living own.old own.new) }
+    ensures locked { OnOk result (own.new.locked ≡ own.old.locked) }
     ensures sound { OnOk result (Sound knows_living program.now own.new) }
     ensures tied { OnOk result (TiedAt knows_living B.since B.start own.new) }
 {

@@ -86,6 +86,7 @@ fn begin<'s>(
     requires sound { Sound knows_living program.now own.old }
     requires found { (i : ℕ) × (slice_get program.now.scenario.now.scripts i ≡ Some script.now) }
     requires outside { (d : DomainValue) → word_of knows_living d own.old % 2 ≡ 0 }
+    requires unlocked { own.old.locked ≡ None }
     requires room { used_in program.now.scenario.now own.old + 3 * block_cost script.now.body + 5 < 2 ^ 22 }
     ensures begun { IfOk result (λ begun. (w : Option (List ℕ)) → Behind w (lists_of own.old) []
         → HasBegun program.now.scenario.now w script.now own.old own.new begun) }
@@ -160,6 +161,7 @@ fn finish<'s, B: Since<LivingSide>>(
     requires inside { word_of knows_living (section_of script.now.kind) own.old % 2 ≡ 1 }
     requires outer { own.old.inside ≡ starts_inside script.now }
     requires apart { section_of script.now.kind ≡ Plain → word_of knows_living Tracing own.old % 2 ≡ 0 }
+    requires unlocked { own.old.locked ≡ None }
     requires room { used_in program.now.scenario.now own.old + 2 < 2 ^ 22 }
     ensures ended { OnOk result (HasEnded program.now.scenario.now (behind_of deferred.now.behind) script.now own.old own.new) }
     ensures yields { OnOk result (Unyielding 0 (log_of own.old) (log_of own.new)) }

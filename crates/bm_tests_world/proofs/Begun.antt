@@ -1,12 +1,14 @@
 -- An object that has just begun.
-use Rattle.std.proofs.Common.{◌≡◌, ◌∙◌, ◌+◌, ◌-◌, List, ℕ, Option, None, Some, true, eqb, eq-eqb, inl, inr, length, refl, sym, ap}
+use Rattle.std.proofs.Common.{◌≡◌, ◌∙◌, ◌+◌, ◌-◌, List, ℕ, Option, None, Some, true, eqb, eq-eqb, inl, inr, length, refl, subst, sym, ap}
 use Rattle.std.proofs.lemmas.Bool.Decides.{eqb_tells}
 use Rattle.bm_grace.specs.Known.{Known, Living}
 use Rattle.bm_journal.specs.declared.ids.ObjId.{ObjId}
 use Rattle.bm_journal.specs.declared.ids.Tag.{Tag}
+use Rattle.bm_law_order.specs.Graphs.{NamedGraph, standing_from}
 use Rattle.bm_page.specs.UnitState.{UnitState}
 use Rattle.bm_world.specs.Lives.{HasLife, count_in, life_acquired, life_begun, life_given_up, life_of_unit, slot_exchanged, with_references}
 use Rattle.bm_world.specs.LivingState.{LivingState, lives_of}
+use Rattle.bm_world.specs.declared.slots.Object.{Object}
 
 -- it lives, with one reference and its values
 pub begun-here : (type : ℕ) (values : List ℕ) (u : UnitState) (k now : Known) (o : ObjId)
@@ -21,7 +23,20 @@ pub begun-life : (type : ℕ) (values : List ℕ) (u : UnitState) (k now : Known
     → HasLife now.objects.lives o.unit o.life (life_of_unit type 1 values (record u { life = u.life + 1 }))
 begun-life type values u k now o is known = record { is = begun-here type values u k now o is known; life = sym (ap (λ (x : ObjId). x.life) is) }
 
--- .. and with one reference more
+-- it stands in no list or tree where it stood in none, and they are as they were
+pub same-alone : (n : ℕ) (k now : Known) → now.objects.graphs ≡ k.objects.graphs
+    → standing_from 0 k.objects.graphs n ≡ None → standing_from 0 now.objects.graphs n ≡ None
+same-alone n k now same alone = ap (λ (gs : List NamedGraph). standing_from 0 gs n) same ∙ alone
+
+-- .. and so it is once it has begun
+pub begun-alone : (type : ℕ) (values : List ℕ) (u : UnitState) (k now : Known) (o : ObjId)
+    → o ≡ record { unit = u.number; life = u.life + 1 } → now ≡ life_begun type values u k
+    → standing_from 0 k.objects.graphs u.number ≡ None → standing_from 0 now.objects.graphs o.unit ≡ None
+begun-alone type values u k now o is known alone =
+    let here : standing_from 0 k.objects.graphs o.unit ≡ None = ap (λ (x : ObjId). standing_from 0 k.objects.graphs x.unit) is ∙ alone in
+    same-alone o.unit k now (ap (λ (s : Known). s.objects.graphs) known) here
+
+-- it lives, with one reference more
 pub acquired-here : (n : ℕ) (k now : Known) (l : Living) → now ≡ life_acquired n k → k.objects.lives n ≡ Some l
     → now.objects.lives n ≡ Some (record l { count = count_in (k.objects.lives n) + 1 })
 acquired-here n k now l known was =
@@ -42,6 +57,10 @@ given-up-count n k now l known was =
 pub exchanged-here : (place : ℕ) (put : Option ObjId) (tag : Tag) (k now : Known) (o : ObjId) (l : Living)
     → now ≡ slot_exchanged place put tag k → HasLife k.objects.lives o.unit o.life l → HasLife now.objects.lives o.unit o.life l
 exchanged-here place put tag k now o l known was = record { is = ap (λ (s : Known). s.objects.lives o.unit) known ∙ was.is; life = was.life }
+
+-- .. and where the slots are as before
+pub kept-life : (before now : List (Option Object)) (o : ObjId) (l : Living) → now ≡ before → HasLife (lives_of before) o.unit o.life l → HasLife (lives_of now) o.unit o.life l
+kept-life before now o l same was = subst (λ (slots : List (Option Object)). HasLife (lives_of slots) o.unit o.life l) (sym same) was
 
 -- .. and once another unit, which didn't live, has begun a life
 pub lives-beside : (type : ℕ) (values : List ℕ) (u : UnitState) (k now : Known) (o : ObjId) (l : Living)

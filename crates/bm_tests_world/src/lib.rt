@@ -4,6 +4,8 @@
 #[cfg(test)]
 mod grace_tests;
 #[cfg(test)]
+mod graph_tests;
+#[cfg(test)]
 mod living_tests;
 #[cfg(test)]
 mod one_side_tests;

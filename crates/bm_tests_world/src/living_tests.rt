@@ -3,6 +3,7 @@
 ghost use Rattle.std.specs.Prelude.{◌≡◌, ◌∷◌, [], true};
 ghost use Rattle.bm_grace.specs.PlainState.{idle};
 ghost use Rattle.bm_post.specs.Rights.{IsSettled};
+ghost use Rattle.bm_world.specs.Graphs.{AreBare};
 ghost use Rattle.bm_world.specs.LivingState.{rights_living};
 
 use crate::pools::one_page;
@@ -12,13 +13,19 @@ use bm_grace::{Grace, PlainGrace};
 use bm_journal::{Domain, ObjId, Values};
 use bm_page::{Seal, Unit};
 use bm_post::{PlainPost, Post};
-use bm_world::{Contents, Lives, LivingSide, OneSide};
+use bm_world::{Contents, Graphs, Lives, LivingSide, OneSide};
 use std::process::Abort;
 
-/// The side of the one processor with these slots, where nothing lives and no object was asked for.
-pub(crate) fn living_side(rt: &(impl Abort + AllocGlobal), slots: Contents) -> LivingSide
+/// The side of the one processor with these slots, and with these lists and trees, where nothing lives and no object was asked for.
+pub(crate) fn living_side(
+    rt: &(impl Abort + AllocGlobal),
+    slots: Contents,
+    graphs: Graphs,
+) -> LivingSide
+    requires { AreBare graphs }
     ensures asked { result.asked ≡ 0 }
     ensures contents { result.contents ≡ slots }
+    ensures graphs { result.graphs ≡ graphs }
     ensures grace { result.side.grace ≡ record { processors = 1; processor = 0; plain = idle; tracing = idle } }
 {
     match PlainPost::create(rt.alloc(), one_page(rt), 1) {
@@ -26,6 +33,7 @@ pub(crate) fn living_side(rt: &(impl Abort + AllocGlobal), slots: Contents) -> L
             rt.alloc(),
             OneSide::new(post, PlainGrace::new(1)),
             slots,
+            graphs,
         ) {
             Ok(world) => world,
             Err(_side) => panic!(rt; "there is memory for what lives"),
@@ -34,8 +42,15 @@ pub(crate) fn living_side(rt: &(impl Abort + AllocGlobal), slots: Contents) -> L
     }
 }
 
+/// No lists and no trees.
+pub(crate) fn no_graphs(rt: &impl AllocGlobal) -> Graphs
+    ensures { result ≡ [] }
+{
+    Graphs::create(Vec::new(rt.alloc()))
+}
+
 /// No slots.
-fn no_slots(rt: &impl AllocGlobal) -> Contents {
+pub(crate) fn no_slots(rt: &impl AllocGlobal) -> Contents {
     Contents::create(Vec::new(rt.alloc()))
 }
 
@@ -52,6 +67,7 @@ pub(crate) fn fetch_one(
     ensures slots { world.new.slots ≡ world.old.slots }
     ensures asked { world.new.asked ≡ world.old.asked }
     ensures contents { world.new.contents ≡ world.old.contents }
+    ensures graphs { world.new.graphs ≡ world.old.graphs }
     ensures grace { world.new.side.grace ≡ world.old.side.grace }
 {
     let mut units = Vec::new(rt.alloc());
@@ -87,7 +103,7 @@ fn parcel_of(rt: &(impl Abort + AllocGlobal), unit: Unit) -> Vec<Unit>
 #[test]
 fn a_unit_lives_twice(rt: HostRuntime) {
     let class = Class::new(1).expect(&rt, "an index is a class");
-    let mut world = living_side(&rt, no_slots(&rt));
+    let mut world = living_side(&rt, no_slots(&rt), no_graphs(&rt));
     let unit = fetch_one(&rt, &mut world, class);
     assert_eq!(rt; unit.number(), 0);
     assert_eq!(rt; unit.life(), 0);
@@ -104,7 +120,7 @@ fn a_unit_lives_twice(rt: HostRuntime) {
     assert!(rt; second == ObjId { unit: 0, life: 2 });
     let last = world.end_life(second.unit, false);
     world.put_back(parcel_of(&rt, last));
-    let (side, slots, asked) = world.into_parts();
+    let (side, slots, asked, _graphs) = world.into_parts();
     assert_eq!(rt; asked, 3);
     slots.give_up();
     let (post, _grace) = side.into_parts();
@@ -117,6 +133,7 @@ fn receive_unit(rt: &(impl Abort + AllocGlobal), world: &mut LivingSide, class: 
     ensures settled { IsSettled (rights_living world.new) result }
     ensures home { result.home ≡ 0 }
     ensures asked { world.new.asked ≡ world.old.asked }
+    ensures graphs { world.new.graphs ≡ world.old.graphs }
     ensures processors { world.new.side.grace.processors ≡ world.old.side.grace.processors }
 {
     let mut units = world.receive(class).expect(rt, "a parcel waits");
@@ -130,7 +147,7 @@ fn receive_unit(rt: &(impl Abort + AllocGlobal), world: &mut LivingSide, class: 
 #[test]
 fn a_unit_waits_between_two_lives(rt: HostRuntime) {
     let class = Class::new(1).expect(&rt, "an index is a class");
-    let mut world = living_side(&rt, no_slots(&rt));
+    let mut world = living_side(&rt, no_slots(&rt), no_graphs(&rt));
     let unit = fetch_one(&rt, &mut world, class);
     let object = world.begin_life(unit, 0, fields(&rt, &[]));
     let mut ended = world.end_life(object.unit, true);
@@ -152,7 +169,7 @@ fn a_unit_waits_between_two_lives(rt: HostRuntime) {
     let last = world.end_life(second.unit, false);
     assert!(rt; last.seal() == None);
     world.put_back(parcel_of(&rt, last));
-    let (side, slots, asked) = world.into_parts();
+    let (side, slots, asked, _graphs) = world.into_parts();
     assert_eq!(rt; asked, 2);
     slots.give_up();
     let (post, _grace) = side.into_parts();
@@ -162,7 +179,7 @@ fn a_unit_waits_between_two_lives(rt: HostRuntime) {
 #[test]
 fn a_unit_has_two_references(rt: HostRuntime) {
     let class = Class::new(1).expect(&rt, "an index is a class");
-    let mut world = living_side(&rt, no_slots(&rt));
+    let mut world = living_side(&rt, no_slots(&rt), no_graphs(&rt));
     let unit = fetch_one(&rt, &mut world, class);
     let object = world.begin_life(unit, 0, fields(&rt, &[]));
     assert_eq!(rt; world.references(object.unit), 1);
@@ -172,7 +189,7 @@ fn a_unit_has_two_references(rt: HostRuntime) {
     assert_eq!(rt; world.references(object.unit), 1);
     let last = world.end_life(object.unit, true);
     last.give_up();
-    let (side, slots, asked) = world.into_parts();
+    let (side, slots, asked, _graphs) = world.into_parts();
     assert_eq!(rt; asked, 2);
     slots.give_up();
     let (post, _grace) = side.into_parts();
@@ -182,14 +199,14 @@ fn a_unit_has_two_references(rt: HostRuntime) {
 #[test]
 fn a_unit_has_fields(rt: HostRuntime) {
     let class = Class::new(1).expect(&rt, "an index is a class");
-    let mut world = living_side(&rt, no_slots(&rt));
+    let mut world = living_side(&rt, no_slots(&rt), no_graphs(&rt));
     let unit = fetch_one(&rt, &mut world, class);
     let object = world.begin_life(unit, 3, fields(&rt, &[7, 9]));
     assert_eq!(rt; world.read(object, 0), 7);
     assert_eq!(rt; world.read(object, 1), 9);
     let last = world.end_life(object.unit, false);
     last.give_up();
-    let (side, slots, _asked) = world.into_parts();
+    let (side, slots, _asked, _graphs) = world.into_parts();
     slots.give_up();
     let (post, _grace) = side.into_parts();
     post.give_up();

@@ -5,7 +5,7 @@ ghost use Rattle.bm_grace.specs.Known.{Living, Lives as LivesByNumber};
 ghost use Rattle.bm_world.specs.Lives.{HasLife, PutLives};
 ghost use Rattle.bm_world.specs.LivingState.{lives_of};
 
-use crate::living_tests::{fetch_one, fields, living_side};
+use crate::living_tests::{fetch_one, fields, living_side, no_graphs};
 use bm_class::Class;
 use bm_journal::{ObjId, Tag};
 use bm_word::Name;
@@ -158,7 +158,7 @@ const CASES: [Case; 7] = [
 #[test]
 fn two_slots_hold_two_objects(rt: HostRuntime) {
     let class = Class::new(1).expect(&rt, "an index is a class");
-    let mut world = living_side(&rt, two_slots(&rt));
+    let mut world = living_side(&rt, two_slots(&rt), no_graphs(&rt));
     let unit = fetch_one(&rt, &mut world, class);
     let first = world.begin_life(unit, 0, fields(&rt, &[]));
     let other = fetch_one(&rt, &mut world, class);
@@ -173,7 +173,7 @@ fn two_slots_hold_two_objects(rt: HostRuntime) {
 #[test]
 fn one_of_two_references_goes_through_a_slot(rt: HostRuntime) {
     let class = Class::new(1).expect(&rt, "an index is a class");
-    let mut world = living_side(&rt, two_slots(&rt));
+    let mut world = living_side(&rt, two_slots(&rt), no_graphs(&rt));
     let unit = fetch_one(&rt, &mut world, class);
     let object = world.begin_life(unit, 0, fields(&rt, &[]));
     assert_eq!(rt; world.acquire(object), 1);
@@ -204,7 +204,7 @@ fn one_of_two_references_goes_through_a_slot(rt: HostRuntime) {
     let last = world.end_life(object.unit, true);
     assert_eq!(rt; last.number(), object.unit);
     last.give_up();
-    let (side, slots, asked) = world.into_parts();
+    let (side, slots, asked, _graphs) = world.into_parts();
     assert_eq!(rt; asked, 2);
     slots.give_up();
     let (post, _grace) = side.into_parts();

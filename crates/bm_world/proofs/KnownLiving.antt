@@ -34,14 +34,14 @@ counts-set begun n x e = fun_ext (λ v. elim (eqb_tells n v) [
 -- a unit begins a life
 pub known-begun : (type : ℕ) (values : List ℕ) (u : UnitState) (w : LivingState) → object_at (set w.slots u.number (Some (new_object type values (next_life u)))) u.number ≡ Some (new_object type values (next_life u)) → begun_at (set w.begun u.number (u.life + 1)) u.number ≡ u.life + 1 → known_living (with_begun type values u w) ≡ life_begun type values u (known_living w)
 known-begun type values u w s b =
-    let K : Lives → (ℕ → ℕ) → Known = λ xs ys. record (known_of w.side) { objects = record { lives = xs; begun = ys; asked = w.asked + 1; slots = w.contents } } in
+    let K : Lives → (ℕ → ℕ) → Known = λ xs ys. record (known_of w.side) { objects = record { lives = xs; begun = ys; asked = w.asked + 1; slots = w.contents; graphs = w.graphs } } in
     ap (λ xs. K xs (begun_at (set w.begun u.number (u.life + 1)))) (lives-set w.slots u.number (Some (new_object type values (next_life u))) s)
     ∙ ap (K (with_life u.number (Some (life_of_unit type 1 values (next_life u))) (lives_of w.slots))) (counts-set w.begun u.number (u.life + 1) b)
 
 -- a life ends
 pub known-ended : (delayed : Bool) (n : ℕ) (w : LivingState) → object_at (set w.slots n None) n ≡ None → known_living (with_ended delayed n w) ≡ life_ended n (known_living w)
 known-ended delayed n w s =
-    let K : Lives → Known = λ xs. record (known_of w.side) { objects = record { lives = xs; begun = begun_at w.begun; asked = w.asked; slots = w.contents } } in
+    let K : Lives → Known = λ xs. record (known_of w.side) { objects = record { lives = xs; begun = begun_at w.begun; asked = w.asked; slots = w.contents; graphs = w.graphs } } in
     ap K (lives-set w.slots n None s)
 
 -- an object has another number of references
@@ -95,12 +95,12 @@ lives-recounted slots n count k lt e =
 
 pub known-acquired : (n : ℕ) (w : LivingState) → n < length w.slots → known_living (with_acquired n w) ≡ life_acquired n (known_living w)
 known-acquired n w lt =
-    let K : Lives → Known = λ xs. record (known_of w.side) { objects = record { lives = xs; begun = begun_at w.begun; asked = w.asked + 1; slots = w.contents } } in
+    let K : Lives → Known = λ xs. record (known_of w.side) { objects = record { lives = xs; begun = begun_at w.begun; asked = w.asked + 1; slots = w.contents; graphs = w.graphs } } in
     ap K (lives-recounted w.slots n (count_of (object_at w.slots n) + 1) (count_in (lives_of w.slots n) + 1) lt (ap (λ c. c + 1) (sym (count-told (object_at w.slots n)))))
 
 pub known-given-up : (n : ℕ) (w : LivingState) → n < length w.slots → known_living (with_given_up n w) ≡ life_given_up n (known_living w)
 known-given-up n w lt =
-    let K : Lives → Known = λ xs. record (known_of w.side) { objects = record { lives = xs; begun = begun_at w.begun; asked = w.asked; slots = w.contents } } in
+    let K : Lives → Known = λ xs. record (known_of w.side) { objects = record { lives = xs; begun = begun_at w.begun; asked = w.asked; slots = w.contents; graphs = w.graphs } } in
     ap K (lives-recounted w.slots n (count_of (object_at w.slots n) - 1) (count_in (lives_of w.slots n) - 1) lt (ap (λ c. c - 1) (sym (count-told (object_at w.slots n)))))
 
 -- ---- all other units

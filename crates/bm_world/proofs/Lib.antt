@@ -8,3 +8,8 @@ pub mod Did
 pub mod LivingDid
 pub mod KnownLiving
 pub mod NamedLemmas
+pub mod GraphNodes
+pub mod GraphLemmas
+pub mod GraphsDid
+pub mod Shelving
+pub mod LivingCalls

@@ -9,15 +9,17 @@ use Rattle.bm_law_order.specs.Act.{Act}
 use Rattle.bm_law_order.specs.Act as act
 use Rattle.bm_page.specs.UnitState.{UnitState}
 use Rattle.bm_grace.specs.PlainState.{domain_in}
-use Rattle.bm_law_order.specs.Acts.{ActFits, ActsLead, act_after, recounted}
+use Rattle.bm_law_order.specs.Acts.{ActFits, ActsLead, act_after, pushed_by, recounted}
+use Rattle.bm_law_order.specs.Graphs.{CalledBy, Calls, GraphsLead, NamedGraph, Shelf, graph_names_in, shelf_of}
 use Rattle.bm_law_order.specs.Lives.{Has, Life, Lives, counted}
-use Rattle.bm_law_order.specs.Made.{Fields, MadeBy, MadeLead, with_fields}
+use Rattle.bm_law_order.specs.Made.{Fields, IsKeyed, MadeBy, MadeLead, with_fields}
 use Rattle.bm_law_order.specs.Seals.{Goes, HasPassed, WaitLeads, WaitsBy, on_unit, seal_among, wait_after, waited_for}
 use Rattle.bm_law_order.specs.Seals as seals
 use Rattle.bm_law_order.specs.Shared.{Shared}
 use Rattle.bm_law_order.specs.Slots.{Contents, ExchangedBy, Named, Slot, SlotsLead, named_in, with_slot}
 use Rattle.bm_journal.specs.declared.ids.ObjId.{ObjId}
 use Rattle.bm_journal.specs.declared.ids.Tag.{Tag}
+use Rattle.bm_journal.specs.declared.past.PastCall.{PastCall}
 use Rattle.bm_page.specs.declared.units.Seal.{Seal}
 use Rattle.bm_law.specs.Stands.{times}
 use Rattle.bm_post.specs.Rights.{numbers}
@@ -44,9 +46,9 @@ use Rattle.bm_world.proofs.SlotLemmas.{no-object, object-other, object-same, val
 abbrev pub KeepWaits : List Act → Type 0
 KeepWaits acts = (w : ℕ → seals.Wait) → WaitLeads acts w w
 
--- .. and by which no life is made or read, and no slot's content is exchanged
+-- .. and by which no life is made or read, no slot's content is exchanged, and no list or tree is called
 abbrev pub KeepMade : List Act → Type 0
-KeepMade acts = ((w : Fields) → MadeLead acts w w) × ((w : Contents) → SlotsLead acts w w)
+KeepMade acts = ((w : Fields) → MadeLead acts w w) × ((w : Contents) → SlotsLead acts w w) × ((names : List (List ℕ)) (w : Shelf) → GraphsLead names acts w w)
 
 keep-slots : (acts : List Act) (a b : LivingState) → b.contents ≡ a.contents → ((w : Contents) → SlotsLead acts w w) → SlotsLead acts (named_in a.contents) (named_in b.contents)
 keep-slots acts a b same k = subst (λ (xs : List Named). SlotsLead acts (named_in a.contents) (named_in xs)) (sym same) (k (named_in a.contents))
@@ -55,12 +57,21 @@ keep-slots acts a b same k = subst (λ (xs : List Named). SlotsLead acts (named_
 none-exchanged : (x : Act) (a b : LivingState) → b.contents ≡ a.contents → ((w : Contents) → ExchangedBy x w w) → SlotsLead (x ∷ []) (named_in a.contents) (named_in b.contents)
 none-exchanged x a b same k = keep-slots (x ∷ []) a b same (λ w. (w, (k w, refl)))
 
+-- .. and so it is of lists and trees
+keep-graphs : (acts : List Act) (a b : LivingState) → b.graphs ≡ a.graphs → ((names : List (List ℕ)) (w : Shelf) → GraphsLead names acts w w) → GraphsLead (graph_names_in a.graphs) acts (shelf_of a.graphs) (shelf_of b.graphs)
+keep-graphs acts a b same k = subst (λ (gs : List NamedGraph). GraphsLead (graph_names_in a.graphs) acts (shelf_of a.graphs) (shelf_of gs)) (sym same) (k (graph_names_in a.graphs) (shelf_of a.graphs))
+
+none-called : (x : Act) (a b : LivingState) → b.graphs ≡ a.graphs → ((names : List (List ℕ)) (w : Shelf) → CalledBy names x w w) → GraphsLead (graph_names_in a.graphs) (x ∷ []) (shelf_of a.graphs) (shelf_of b.graphs)
+none-called x a b same k = keep-graphs (x ∷ []) a b same (λ names w. (w, (k names w, refl)))
+
 -- what the side did, where no unit began or ended a life
-pub lifts-so : (acts : List Act) (a b : LivingState) → b.contents ≡ a.contents → a.asked ≤ b.asked → b.slots ≡ a.slots → b.begun ≡ a.begun → WaitLeads acts (waits_told a.standings) (waits_told b.standings) → ((n : ℕ) → AllSpare n acts → standing_at b.standings n ≡ standing_at a.standings n) → KeepMade acts → SideDoes acts a.side b.side → LivingDoes acts a b
-lifts-so acts a b contents asked slots begun w k m d = let F : List (Option Object) → Fields = λ xs n. values_of (object_at xs n) in let same-fields : fields_told b ≡ fields_told a = ap F slots in record {
+pub lifts-so : (acts : List Act) (a b : LivingState) → b.contents ≡ a.contents → b.graphs ≡ a.graphs → a.asked ≤ b.asked → b.slots ≡ a.slots → b.begun ≡ a.begun → WaitLeads acts (waits_told a.standings) (waits_told b.standings) → ((n : ℕ) → AllSpare n acts → standing_at b.standings n ≡ standing_at a.standings n) → KeepMade acts → SideDoes acts a.side b.side → LivingDoes acts a b
+lifts-so acts a b contents graphs asked slots begun w k m d = let F : List (Option Object) → Fields = λ xs n. values_of (object_at xs n) in let same-fields : fields_told b ≡ fields_told a = ap F slots in record {
   waits = w;
   made = subst (MadeLead acts (fields_told a)) (sym same-fields) (m.0 (fields_told a));
   exchanged = keep-slots acts a b contents m.1;
+  called = keep-graphs acts a b graphs m.2;
+  named = ap graph_names_in graphs;
   asked = asked;
   keeps = k;
   did = λ p s.
@@ -70,12 +81,12 @@ lifts-so acts a b contents asked slots begun w k m d = let F : List (Option Obje
 }
 
 -- .. and none went away
-pub lifts : (acts : List Act) (a b : LivingState) → b.contents ≡ a.contents → a.asked ≤ b.asked → b.slots ≡ a.slots → b.begun ≡ a.begun → b.standings ≡ a.standings → KeepWaits acts → KeepMade acts → SideDoes acts a.side b.side → LivingDoes acts a b
-lifts acts a b contents asked slots begun standings k m d = lifts-so acts a b contents asked slots begun (subst (λ (ss : List Standing). WaitLeads acts (waits_told a.standings) (waits_told ss)) (sym standings) (k (waits_told a.standings))) (λ n s. ap (λ (ss : List Standing). standing_at ss n) standings) m d
+pub lifts : (acts : List Act) (a b : LivingState) → b.contents ≡ a.contents → b.graphs ≡ a.graphs → a.asked ≤ b.asked → b.slots ≡ a.slots → b.begun ≡ a.begun → b.standings ≡ a.standings → KeepWaits acts → KeepMade acts → SideDoes acts a.side b.side → LivingDoes acts a b
+lifts acts a b contents graphs asked slots begun standings k m d = lifts-so acts a b contents graphs asked slots begun (subst (λ (ss : List Standing). WaitLeads acts (waits_told a.standings) (waits_told ss)) (sym standings) (k (waits_told a.standings))) (λ n s. ap (λ (ss : List Standing). standing_at ss n) standings) m d
 
-pub lifts-ok : {A E : Type 0} (r : Result A E) (acts : List Act) (a b : LivingState) → b.contents ≡ a.contents → a.asked ≤ b.asked → b.slots ≡ a.slots → b.begun ≡ a.begun → OnOk r (WaitLeads acts (waits_told a.standings) (waits_told b.standings)) → OnOk r ((n : ℕ) → AllSpare n acts → standing_at b.standings n ≡ standing_at a.standings n) → KeepMade acts → OnOk r (SideDoes acts a.side b.side) → OnOk r (LivingDoes acts a b)
-lifts-ok (Ok x) acts a b contents asked slots begun w k m d = lifts-so acts a b contents asked slots begun w k m d
-lifts-ok (Err x) acts a b contents asked slots begun w k m d = tt
+pub lifts-ok : {A E : Type 0} (r : Result A E) (acts : List Act) (a b : LivingState) → b.contents ≡ a.contents → b.graphs ≡ a.graphs → a.asked ≤ b.asked → b.slots ≡ a.slots → b.begun ≡ a.begun → OnOk r (WaitLeads acts (waits_told a.standings) (waits_told b.standings)) → OnOk r ((n : ℕ) → AllSpare n acts → standing_at b.standings n ≡ standing_at a.standings n) → KeepMade acts → OnOk r (SideDoes acts a.side b.side) → OnOk r (LivingDoes acts a b)
+lifts-ok (Ok x) acts a b contents graphs asked slots begun w k m d = lifts-so acts a b contents graphs asked slots begun w k m d
+lifts-ok (Err x) acts a b contents graphs asked slots begun w k m d = tt
 
 pub on-ok : {A E P : Type 0} (r : Result A E) → P → OnOk r P
 on-ok (Ok x) p = p
@@ -85,8 +96,8 @@ on-ok (Err x) p = tt
 pub keep-one : (a : Act) → ((w : ℕ → seals.Wait) → WaitsBy a w w) → KeepWaits (a ∷ [])
 keep-one a h w = (w, (h w, refl))
 
-pub made-one : (a : Act) → ((w : Fields) → MadeBy a w w) → ((w : Contents) → ExchangedBy a w w) → KeepMade (a ∷ [])
-made-one a h k = (λ w. (w, (h w, refl)), λ w. (w, (k w, refl)))
+pub made-one : (a : Act) → ((w : Fields) → MadeBy a w w) → ((w : Contents) → ExchangedBy a w w) → ((names : List (List ℕ)) (w : Shelf) → CalledBy names a w w) → KeepMade (a ∷ [])
+made-one a h k g = (λ w. (w, (h w, refl)), λ w. (w, (k w, refl)), λ names w. (w, (g names w, refl)))
 
 -- standings that didn't change
 pub kept-none : (acts : List Act) (ss : List Standing) (n : ℕ) → AllSpare n acts → standing_at ss n ≡ standing_at ss n
@@ -155,6 +166,8 @@ does-make type values u a b e stands timed within-standings none next counts the
   waits = (waits_told b.standings, ((ap told_standing stands ∙ told-is u.seal, (passed-is a.side.grace.plain.number a.side.grace.tracing.number u.seal (subst (IsTimed a.side.grace.plain.number a.side.grace.tracing.number) stands timed), fun_ext (λ n. ap (λ (ss : List Standing). waits_told ss n) (ap (λ (w : LivingState). w.standings) e) ∙ told-set a.standings u.number n Nothing within-standings))), refl));
   made = (fields_told b, (fun_ext (λ m. ap (λ (w : LivingState). fields_told w m) e ∙ fields-set a.slots u.number (Some (new_object type values (next_life u))) m there), refl));
   exchanged = none-exchanged (act.Makes u.number (u.life + 1) type values u.seal) a b (ap (λ (w : LivingState). w.contents) e) (λ w. refl);
+  called = none-called (act.Makes u.number (u.life + 1) type values u.seal) a b (ap (λ (w : LivingState). w.graphs) e) (λ names w. refl);
+  named = ap (λ (w : LivingState). graph_names_in w.graphs) e;
   asked = (let z = ap (λ (w : LivingState). w.asked) e in omega (arith, z));
   keeps = λ n s. ap (λ (w : LivingState). standing_at w.standings n) e ∙ get_or-set_other a.standings u.number n Nothing Nothing s.0;
   did = λ p s. record {
@@ -184,6 +197,8 @@ does-end delayed n u a b e stands within-standings lives last there = record {
   waits = (waits_told b.standings, (fun_ext (λ m. ap (λ (ss : List Standing). waits_told ss m) (ap (λ (w : LivingState). w.standings) e) ∙ told-ended delayed m), refl));
   made = (fields_told b, (fun_ext (λ m. ap (λ (w : LivingState). fields_told w m) e ∙ fields-set a.slots n None m there), refl));
   exchanged = none-exchanged (act.Ends n u.life u.home delayed) a b (ap (λ (w : LivingState). w.contents) e) (λ w. refl);
+  called = none-called (act.Ends n u.life u.home delayed) a b (ap (λ (w : LivingState). w.graphs) e) (λ names w. refl);
+  named = ap (λ (w : LivingState). graph_names_in w.graphs) e;
   asked = (let z = ap (λ (w : LivingState). w.asked) e in omega (arith, z));
   keeps = λ m s. ap (λ (w : LivingState). standing_at w.standings m) e ∙ kept-ended delayed m s.0;
   did = λ p s. record {
@@ -216,11 +231,13 @@ does-end delayed n u a b e stands within-standings lives last there = record {
 -- ---- references
 
 -- an act by which there are so many references to the object that a unit is
-pub does-recount : (x : Act) (f : ℕ → ℕ) (n life count : ℕ) (a b : LivingState) → ((w : ℕ → seals.Wait) → WaitsBy x w w) → ((w : Fields) → MadeBy x w w) → ((m : ℕ) → AllSpare m (x ∷ [])) → ((p : ℕ) → Has n life (count_of (object_at a.slots n)) (lives_told a) → ActFits p x (told_living a)) → ((p : ℕ) → act_after p x (told_living a) ≡ told (recounted f n (lives_told a)) a.side) → b.side ≡ a.side → b.standings ≡ a.standings → b.begun ≡ a.begun → b.slots ≡ slots_counted n count a.slots → count ≡ f (count_of (object_at a.slots n)) → n < length a.slots → Has n life (count_of (object_at a.slots n)) (lives_told a) → b.contents ≡ a.contents → a.asked ≤ b.asked → ((w : Contents) → ExchangedBy x w w) → LivingDoes (x ∷ []) a b
-does-recount x f n life count a b waits made spares fits after side standings begun slots is lt has contents asked quiet = record {
+pub does-recount : (x : Act) (f : ℕ → ℕ) (n life count : ℕ) (a b : LivingState) → ((w : ℕ → seals.Wait) → WaitsBy x w w) → ((w : Fields) → MadeBy x w w) → ((m : ℕ) → AllSpare m (x ∷ [])) → ((p : ℕ) → Has n life (count_of (object_at a.slots n)) (lives_told a) → ActFits p x (told_living a)) → ((p : ℕ) → act_after p x (told_living a) ≡ told (recounted f n (lives_told a)) a.side) → b.side ≡ a.side → b.standings ≡ a.standings → b.begun ≡ a.begun → b.slots ≡ slots_counted n count a.slots → count ≡ f (count_of (object_at a.slots n)) → n < length a.slots → Has n life (count_of (object_at a.slots n)) (lives_told a) → b.contents ≡ a.contents → b.graphs ≡ a.graphs → a.asked ≤ b.asked → ((w : Contents) → ExchangedBy x w w) → ((names : List (List ℕ)) (w : Shelf) → CalledBy names x w w) → LivingDoes (x ∷ []) a b
+does-recount x f n life count a b waits made spares fits after side standings begun slots is lt has contents graphs asked quiet uncalled = record {
   waits = subst (λ (ss : List Standing). WaitLeads (x ∷ []) (waits_told a.standings) (waits_told ss)) (sym standings) (waits_told a.standings, (waits (waits_told a.standings), refl));
   made = subst (MadeLead (x ∷ []) (fields_told a)) (sym fields) (fields_told a, (made (fields_told a), refl));
   exchanged = none-exchanged x a b contents quiet;
+  called = none-called x a b graphs uncalled;
+  named = ap graph_names_in graphs;
   asked = asked;
   keeps = λ m s. ap (λ (ss : List Standing). standing_at ss m) standings;
   did = λ p s. record {
@@ -260,6 +277,8 @@ does-read n life place value a o e now is = record {
   waits = (waits_told a.standings, (refl, refl));
   made = (fields_told a, ((is, refl), refl));
   exchanged = (named_in a.contents, (refl, refl));
+  called = (shelf_of a.graphs, (refl, refl));
+  named = refl;
   asked = omega arith;
   keeps = λ m s. refl;
   did = λ p s. record {
@@ -272,7 +291,7 @@ does-read n life place value a o e now is = record {
 -- ---- slots
 
 -- what is put into a slot lives, if anything is
-put-alive : (put : Option ObjId) (a : LivingState) → ((n : ℕ) (o : Object) → object_at a.slots n ≡ Some o → o.unit.life ≡ begun_at a.begun n) → PutLives (lives_of a.slots) put → IfAlive put (lives_told a)
+pub put-alive : (put : Option ObjId) (a : LivingState) → ((n : ℕ) (o : Object) → object_at a.slots n ≡ Some o → o.unit.life ≡ begun_at a.begun n) → PutLives (lives_of a.slots) put → IfAlive put (lives_told a)
 put-alive None a last h = tt
 put-alive (Some x) a last h =
     let alive = is-living a.slots x.unit x.life h.0 h.1 in
@@ -285,10 +304,37 @@ does-exchange place put tag a last lives told is = record {
   waits = (waits_told a.standings, (refl, refl));
   made = (fields_told a, (refl, refl));
   exchanged = (named_in (with_exchanged place put tag a).contents, ((ap (λ (s : Slot). s.held) (sym is), ap (λ (s : Slot). s.by) (sym is), told), refl));
+  called = (shelf_of a.graphs, (refl, refl));
+  named = refl;
   asked = omega arith;
   keeps = λ m s. refl;
   did = λ p s. record {
     leads = record { fit = (put-alive put a last lives, tt); now_is = refl };
+    stays = s;
+    others = λ d q ne. refl;
+  };
+}
+
+-- ---- lists and trees
+
+-- a call on one of them, by which objects move at most from one to another
+pub does-call : (name : List ℕ) (position : ℕ) (call : PastCall) (tag : Tag) (a : LivingState) (slots : List (Option Object)) (graphs : List NamedGraph) → ((m : ℕ) → life_of (object_at slots m) ≡ life_of (object_at a.slots m)) → ((m : ℕ) → values_of (object_at slots m) ≡ values_of (object_at a.slots m)) → IfAlive (pushed_by call) (lives_told a) → IsKeyed call (fields_told a) → Calls (graph_names_in a.graphs) name position call tag (shelf_of a.graphs) (shelf_of graphs) → graph_names_in graphs ≡ graph_names_in a.graphs →
+    LivingDoes (act.Calls name position call tag ∷ []) a (record a { slots = slots; graphs = graphs })
+does-call name position call tag a slots graphs lives values alive keyed called named = record {
+  waits = (waits_told a.standings, (refl, refl));
+  made = (fields_told a, ((keyed, refl), fun_ext values));
+  exchanged = (named_in a.contents, (refl, refl));
+  called = (shelf_of graphs, (called, refl));
+  named = named;
+  asked = omega arith;
+  keeps = λ m s. refl;
+  did = λ p s. record {
+    leads = record {
+      fit = (alive, tt);
+      now_is =
+          let F : (ℕ → Option Life) → Shared = λ ys. told (record { begun = begun_at a.begun; holds = ys; dropping = λ p l. None }) a.side in
+          ap F (fun_ext (λ m. sym (lives m)));
+    };
     stays = s;
     others = λ d q ne. refl;
   };

@@ -1,6 +1,6 @@
 -- Slots by their places and by their names.
-use Rattle.std.proofs.Common.{◌≡◌, ◌∙◌, ◌⊎◌, ◌<◌, ◌+◌, ℕ, zero, suc, Bool, true, false, List, [], ◌∷◌, Option, Some, None, ap, arith, get_or, inl, inr, length, map, refl, set, subst, sym}
-use Rattle.std.specs.Prelude.{◌&&◌, not, if◌then◌else◌}
+use Rattle.std.proofs.Common.{◌≡◌, ◌∙◌, ◌⊎◌, ◌<◌, ℕ, zero, suc, Bool, true, false, List, [], ◌∷◌, Option, ap, arith, get_or, inl, inr, length, map, refl, set, subst, sym}
+use Rattle.std.specs.Prelude.{not, if◌then◌else◌}
 use Rattle.std.specs.List.{list_all}
 use Rattle.std.specs.Str.{bytes_eq}
 use Rattle.std.proofs.lemmas.Bool.{and_parts}
@@ -8,7 +8,7 @@ use Rattle.std.proofs.lemmas.Slice.Eq.{bytes_eq-Decides}
 use mathlib.Core.Path.{fun_ext}
 use Rattle.bm_journal.specs.declared.ids.ObjId.{ObjId}
 use Rattle.bm_journal.specs.declared.ids.Tag.{Tag}
-use Rattle.bm_law_order.specs.Slots.{Contents, Named, Slot, named_in, with_slot}
+use Rattle.bm_law_order.specs.Slots.{Named, Slot, named_in, with_slot}
 use Rattle.bm_world.specs.NamedSlots.{named_of}
 use Rattle.bm_world.specs.declared.contents.MapSlot.{MapSlot}
 use Rattle.std.proofs.lemmas.List.{map-set}

@@ -1,9 +1,7 @@
 -- What the slots of a scenario's maps hold, each with its name. (This project's own. In the kernel a slot is a field of a map's value.)
-use Rattle.std.specs.Prelude.{ℕ, Bool, true, ◌&&◌, not, Option, List, [], ◌∷◌, map, slice_index_or, slice_set}
+use Rattle.std.specs.Prelude.{ℕ, Bool, true, ◌&&◌, not, List, [], ◌∷◌, map, slice_index_or, slice_set}
 use Rattle.std.specs.List.{list_all}
 use Rattle.std.specs.Str.{bytes_eq}
-use Rattle.bm_journal.specs.declared.ids.ObjId.{ObjId}
-use Rattle.bm_journal.specs.declared.ids.Tag.{Tag}
 use Rattle.bm_law_order.specs.Slots.{Named, Slot, empty_slot}
 
 abbrev pub names_in : List Named → List (List ℕ)

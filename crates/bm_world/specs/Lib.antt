@@ -9,3 +9,6 @@ pub mod Told
 pub mod ToldLiving
 pub mod WaitingState
 pub mod Spared
+pub mod Graphs
+pub mod GraphItems
+pub mod NamedGraphs

@@ -3,10 +3,12 @@ use Rattle.std.specs.Prelude.{◌≡◌, ◌≢◌, ◌+◌, ◌-◌, ℕ, Optio
 use Rattle.bm_journal.specs.declared.ids.ObjId.{ObjId}
 use Rattle.bm_journal.specs.declared.ids.Tag.{Tag}
 use Rattle.bm_journal.specs.declared.ids.Domain.{Domain}
+use Rattle.bm_journal.specs.declared.past.PastCall.{PastCall}
 use Rattle.bm_page.specs.declared.units.Seal.{Seal}
 use Rattle.bm_page.specs.UnitState.{UnitState}
 use Rattle.bm_grace.specs.Known.{Known, Living, Lives}
 use Rattle.bm_grace.specs.Rights.{Rights}
+use Rattle.bm_law_order.specs.Graphs.{graphs_after}
 use Rattle.bm_world.specs.Contents.{put_at}
 
 -- the object of this type that a unit is, with so many references and these values
@@ -55,6 +57,7 @@ life_begun type values unit k = record k {
     begun = λ n. if eqb unit.number n then unit.life + 1 else k.objects.begun n;
     asked = k.objects.asked + 1;
     slots = k.objects.slots;
+    graphs = k.objects.graphs;
   };
 }
 
@@ -75,6 +78,10 @@ life_given_up n k = record k { objects = record k.objects { lives = recounted n 
 -- The slot at a place holds something else, which a call has put there.
 abbrev pub slot_exchanged : (place : ℕ) → (put : Option ObjId) → Tag → Known → Known
 slot_exchanged place put tag k = record k { objects = record k.objects { slots = put_at place (record { held = put; by = Some tag }) k.objects.slots } }
+
+-- A call was made on the list or tree at a place.
+abbrev pub graph_called : (place : ℕ) → PastCall → Tag → Known → Known
+graph_called place call tag k = record k { objects = record k.objects { graphs = graphs_after place call tag k.objects.graphs } }
 
 -- what is put there, if anything is, lives
 abbrev pub PutLives : Lives → Option ObjId → Type 0

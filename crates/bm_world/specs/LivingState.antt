@@ -6,7 +6,9 @@ use Rattle.std.proofs.lemmas.Bool.{and_parts}
 use Rattle.bm_journal.specs.declared.ids.Domain.{Domain}
 use Rattle.bm_journal.specs.declared.ids.ObjId.{ObjId}
 use Rattle.bm_journal.specs.declared.ids.Tag.{Tag}
+use Rattle.bm_law_order.specs.Graphs.{NamedGraph, graphs_after, standing_from}
 use Rattle.bm_law_order.specs.Slots.{Named}
+use Rattle.bm_journal.specs.declared.past.PastCall.{PastCall}
 use Rattle.bm_world.specs.Contents.{put_at}
 use Rattle.bm_journal.specs.declared.ids.Domain.TheVariants.{Plain, Tracing}
 use Rattle.bm_page.specs.declared.units.Seal.{Seal}
@@ -20,7 +22,7 @@ use Rattle.bm_grace.specs.PlainState.{PlainState, idle}
 use Rattle.bm_post.specs.PostState.{PostState, is_mine, no_parcels}
 use Rattle.bm_world.specs.Lives.{life_of_unit}
 use Rattle.bm_world.specs.SideState.{SideAtRest, SideState, idle-of, known_of}
-use Rattle.bm_world.specs.Slots.{count_of, new_object, object_at, unit_at, with_count}
+use Rattle.bm_world.specs.Slots.{count_of, new_object, object_at, stands_in, unit_at, with_count, with_place}
 use Rattle.bm_world.specs.declared.slots.Object.{Object}
 use Rattle.bm_world.specs.Standings.{AreStanding, counts_for, has_waited, is_over, is_waiting, standing_at, standing_of}
 use Rattle.bm_world.specs.declared.wait.Wait.{Wait}
@@ -28,7 +30,7 @@ use Rattle.bm_world.specs.declared.standing.Standing.{Standing}
 use Rattle.bm_world.specs.declared.standing.Standing.TheVariants.{Nothing, Waits}
 
 -- The side; by a unit's number the object that it is, if it lives, how many lives it has begun, and what it waits for; how many calls for
--- objects were counted; and the slots with what they hold.
+-- objects were counted; the slots with what they hold; and the lists and trees.
 pub record LivingState : Type 0 where
   pub side : SideState
   pub slots : List (Option Object)
@@ -36,6 +38,7 @@ pub record LivingState : Type 0 where
   pub standings : List Standing
   pub asked : ℕ
   pub contents : List Named
+  pub graphs : List NamedGraph
 
 -- an object that lives, as it is known
 abbrev pub living_of : Option Object → Option Living
@@ -51,7 +54,7 @@ begun_at begun n = slice_index_or begun n 0
 
 -- It knows what its side knows, and tells what lives and how many lives began.
 abbrev pub known_living : LivingState → Known
-known_living world = record (known_of world.side) { objects = record { lives = lives_of world.slots; begun = begun_at world.begun; asked = world.asked; slots = world.contents } }
+known_living world = record (known_of world.side) { objects = record { lives = lives_of world.slots; begun = begun_at world.begun; asked = world.asked; slots = world.contents; graphs = world.graphs } }
 
 -- Whether a unit with these lives so far may be used again: it has room for one life more, and they are the lives that it has
 -- begun.
@@ -113,6 +116,19 @@ with_given_up n world = record world { slots = slots_counted n (count_of (object
 abbrev pub with_exchanged : (place : ℕ) → (put : Option ObjId) → Tag → LivingState → LivingState
 with_exchanged place put tag world = record world { contents = put_at place (record { held = put; by = Some tag }) world.contents }
 
+-- The object that unit n is is in the list or tree at this place, or in none.
+abbrev pub slots_placed : (n : ℕ) → (within : Option ℕ) → List (Option Object) → List (Option Object)
+slots_placed n within slots = slice_set slots n (with_place within (object_at slots n))
+
+-- A call was made on the list or tree at a place ..
+abbrev pub with_called : (place : ℕ) → PastCall → Tag → LivingState → LivingState
+with_called place call tag world = record world { graphs = graphs_after place call tag world.graphs }
+
+-- .. and so the object that unit n is is in one, or in none
+abbrev pub with_moved : (place : ℕ) → PastCall → Tag → (n : ℕ) → (within : Option ℕ) → LivingState → LivingState
+with_moved place call tag n within world =
+    record world { slots = slots_placed n within world.slots; graphs = graphs_after place call tag world.graphs }
+
 -- What units wait for once the life of unit n has ended: behind a free with delay it waits from now on, behind a plain one for nothing,
 -- as before.
 abbrev pub wait_now : PlainState → Wait
@@ -162,6 +178,10 @@ pub record AreLiving (post : PostState) (plain tracing : ℕ) (slots : List (Opt
   pub lived : HaveLived begun standings post
   pub standing : AreStanding plain tracing slots standings
 
+-- What an object says of the list or tree that it is in is where it stands; and what doesn't live stands in none.
+pub record AreShelved (slots : List (Option Object)) (graphs : List NamedGraph) : Type 0 where
+  pub stands : (n : ℕ) → stands_in (object_at slots n) ≡ standing_from 0 graphs n
+
 -- what may be used again has room
 pub room-living : (p : LivingState) (n life : ℕ) (seal : Option Seal) → (rights_living p).settled n life seal ≡ true → (n < 2 ^ 16) × (life + 1 < 2 ^ 32)
 room-living p n life seal h =
@@ -184,4 +204,5 @@ no_living_state = record {
   standings = [];
   asked = 0;
   contents = [];
+  graphs = [];
 }

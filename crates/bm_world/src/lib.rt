@@ -2,13 +2,17 @@
 //!
 //! - `World` is a `Post` and a `Grace` in one value, so that a grace period that has passed can make the post's units ripe.
 //! - `OneSide` is the world on one thread for any number of processors, of which one has its turn.
-//! - `Lives` is a `World` in which units live: `begin_life`, `acquire`, `read`, `exchange`, `release_other`, `end_life`, `ask`.
+//! - `Lives` is a `World` in which units live: `begin_life`, `acquire`, `read`, `exchange`,
+//!   `push`, `pop`, `first`, `remove`, `release_other`, `end_life`, `ask`.
 //! - `LivingSide` is such a world on one thread: beside a `OneSide` it owns the objects that live, by the numbers of their units, and keeps
 //!   what each unit waits for (`Standing`).
 //! - `Since` says since when a processor's log and its side are tied.
 //! - `WaitingSide` tells which units wait and since when; the tests of delayed frees stand on it.
 //! - `Contents` has the slots of a scenario (`MapSlot`), with what they hold; an exchange answers what was there (`Displaced`).
-//! - `Slots` holds the objects that live, each with its unit, how many references there are to it, and the values of its fields.
+//! - `Graphs` has the lists and trees of a scenario (`MapGraph`), each with the history of its calls. A push answers what became of the
+//!   object (`Pushed`). An object is in one list or tree at most, and says in which.
+//! - `Slots` holds the objects that live, each with its unit, how many references there are to it, the values of its fields, and the list or
+//!   tree that it is in.
 //!
 //! Deferred work (`bm_work`) is generic over any world, and the machines of a run (`bm_exec_levels`) over any world with lives.
 //!
@@ -21,10 +25,12 @@
 
 mod begun;
 mod contents;
+mod graphs;
 mod law;
 mod lives;
 mod living;
 mod one_side;
+mod pushed;
 mod since;
 mod slots;
 mod standing;
@@ -34,10 +40,12 @@ mod waiting_law;
 mod world;
 
 pub use contents::{Contents, Displaced, MapSlot};
+pub use graphs::{Graphs, MapGraph};
 pub use law::aged_law;
 pub use lives::Lives;
 pub use living::LivingSide;
 pub use one_side::OneSide;
+pub use pushed::Pushed;
 pub use since::Since;
 pub use slots::Slots;
 pub use standing::{Standing, Standings};

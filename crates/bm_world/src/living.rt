@@ -26,19 +26,28 @@ ghost use Rattle.bm_law_order.specs.Act.{sealed};
 ghost use Rattle.bm_grace.specs.Begins.{begin_act};
 ghost use Rattle.bm_world.specs.LivingState.{HaveLived, LivingAtRest, begun_at, idle-living, known_living, lives_of, rights_living, room-living, with_acquired, with_asked, standings_after, with_begun, with_ended, with_exchanged, with_given_up};
 ghost use Rattle.bm_world.specs.Contents.{slot_at};
+ghost use Rattle.bm_journal.specs.declared.past.PastCall.TheVariants as past;
+ghost use Rattle.bm_graph.specs.Calls.{first_call};
+ghost use Rattle.bm_graph.specs.Ways.{is_for_tree, pop_call};
+ghost use Rattle.bm_graph.specs.declared.ways.Way.TheVariants.{Ordered};
+ghost use Rattle.bm_law_order.specs.Graphs.{effect_of, graph_at, moved, standing_from};
+ghost use Rattle.bm_world.specs.Graphs.{AreBare, end_node, first_node, key_of, pushed_at, pushed_call, stood};
 ghost use Rattle.bm_world.specs.Standings.{left_by, standing_at};
 ghost use Rattle.bm_world.specs.declared.standing.Standing.TheVariants.{Nothing as WaitsForNothing};
-ghost use Rattle.bm_world.specs.Lives.{HasLife, OthersAsBefore, PutLives, asked_once, count_in, life_acquired, life_begun, life_ended, life_given_up, life_of_unit, slot_exchanged, type_in, values_in};
+ghost use Rattle.bm_world.specs.Lives.{HasLife, OthersAsBefore, PutLives, asked_once, count_in, graph_called, life_acquired, life_begun, life_ended, life_given_up, life_of_unit, slot_exchanged, type_in, values_in};
 ghost use Rattle.bm_page.specs.declared.units.Seal.{Seal as SealValue};
 
 use crate::begun::Begun;
 use crate::contents::{Contents, Displaced};
+use crate::graphs::Graphs;
+use crate::pushed::Pushed;
 use crate::slots::Slots;
 use crate::standing::{Standing, Standings};
 use crate::wait::Wait;
 use crate::{Lives, OneSide, World};
 use bm_class::Class;
 use bm_grace::{Began, Done, Grace, Knows, Look};
+use bm_graph::{End, Way};
 use bm_journal::{Domain, ObjId, Period, Tag, Values};
 use bm_page::Unit;
 use bm_post::Post;
@@ -47,7 +56,7 @@ use std::alloc::Global;
 use std::marker::Model;
 
 /// The world on one thread with the units that live in it. Beside the side it owns each unit that lives, by its number, counts how
-/// many lives each unit has begun, keeps what each unit waits for, and has the slots of a scenario. It has to be ended, by `give_up` or by ending its parts. This
+/// many lives each unit has begun, keeps what each unit waits for, and has the slots, lists and trees of a scenario. It has to be ended, by `give_up` or by ending its parts. This
 /// project's own.
 ///
 /// A unit that lives isn't mine: its number can be named, and nothing can be done with it, until its life ends. A unit whose life
@@ -66,11 +75,13 @@ pub struct LivingSide {
     asked: u32,
     /// The slots of the scenario, with what they hold.
     contents: Contents,
+    /// The lists and trees of the scenario.
+    graphs: Graphs,
 }
 
 impl Model for LivingSide {
     ghost use Rattle.std.specs.Prelude.{◌≡◌, ◌^◌, length};
-    ghost use Rattle.bm_world.specs.LivingState.{AreLiving, LivingState};
+    ghost use Rattle.bm_world.specs.LivingState.{AreLiving, AreShelved, LivingState};
 
     ghost Value = { LivingState };
 
@@ -81,22 +92,30 @@ impl Model for LivingSide {
       standings = world.standings.standings.items;
       asked = world.asked;
       contents = world.contents;
+      graphs = world.graphs;
     } };
 
-    ghost invariant = { λ world. AreLiving world.side.post world.side.grace.plain.number world.side.grace.tracing.number world.slots.slots.items world.begun.counts.items world.standings.standings.items world.asked × (length world.standings.before.items ≡ 2 ^ 16) };
+    ghost invariant = { λ world. AreLiving world.side.post world.side.grace.plain.number world.side.grace.tracing.number world.slots.slots.items world.begun.counts.items world.standings.standings.items world.asked × (length world.standings.before.items ≡ 2 ^ 16) × AreShelved world.slots.slots.items world.graphs };
 }
 
 impl LivingSide {
-    /// A side with these slots, in which nothing lives, and for which no object was asked. No unit of its pool or its inboxes has ever lived. Want
+    /// A side with these slots, and with these lists and trees, in which nothing lives, and for which no object was asked. No unit of its pool or its inboxes has ever lived. Want
     /// of memory is the only refusal, and hands the side back.
-    pub fn create(alloc: Global, side: OneSide, contents: Contents) -> Result<LivingSide, OneSide>
-        requires { HaveLived [] [] side.post }
+    pub fn create(
+        alloc: Global,
+        side: OneSide,
+        contents: Contents,
+        graphs: Graphs,
+    ) -> Result<LivingSide, OneSide>
+        requires lived { HaveLived [] [] side.post }
+        requires bare { AreBare graphs }
         ensures side { IfOk result (λ world. world.side ≡ side) }
         ensures slots { IfOk result (λ world. AllEmpty world.slots) }
         ensures begun { IfOk result (λ world. (n : ℕ) → begun_at world.begun n ≡ 0) }
         ensures standings { IfOk result (λ world. (n : ℕ) → standing_at world.standings n ≡ WaitsForNothing) }
         ensures asked { IfOk result (λ world. world.asked ≡ 0) }
         ensures contents { IfOk result (λ world. world.contents ≡ contents) }
+        ensures graphs { IfOk result (λ world. world.graphs ≡ graphs) }
         ensures err { IfErr result (λ back. back ≡ side) }
     {
         let begun = match Begun::new(alloc) {
@@ -115,16 +134,18 @@ impl LivingSide {
                 standings,
                 asked: 0,
                 contents,
+                graphs,
             }),
             Err(_) => Err(side),
         }
     }
 
-    /// Gives the side and the units that live back, and how many objects were asked for.
-    pub fn into_parts(self) -> (OneSide, Slots, u32)
+    /// Gives the side and the units that live back, how many objects were asked for, and the lists and trees.
+    pub fn into_parts(self) -> (OneSide, Slots, u32, Graphs)
         ensures side { result.0 ≡ self.side }
         ensures slots { result.1.slots.items ≡ self.slots }
         ensures asked { result.2 ≡ self.asked }
+        ensures graphs { result.3 ≡ self.graphs }
     {
         let LivingSide {
             side,
@@ -133,8 +154,9 @@ impl LivingSide {
             standings: _,
             asked,
             contents: _,
+            graphs,
         } = self;
-        (side, slots, asked)
+        (side, slots, asked, graphs)
     }
 
     /// Ends it after a want of memory, whatever lives or waits. Its units are lost.
@@ -146,6 +168,7 @@ impl LivingSide {
             standings: _,
             asked: _,
             contents: _,
+            graphs: _,
         } = self;
         slots.give_up();
         let (post, _grace) = side.into_parts();
@@ -232,6 +255,7 @@ impl Grace for LivingSide {
         ensures standings { self.new.standings ≡ self.old.standings }
         ensures asked { self.new.asked ≡ self.old.asked }
         ensures contents { self.new.contents ≡ self.old.contents }
+        ensures graphs { self.new.graphs ≡ self.old.graphs }
         ensures grace { self.new.side.grace
             ≡ with_domain domain (word_moved self.old.side.grace.processor (domain_in domain self.old.side.grace)) self.old.side.grace }
         ensures word { result ≡ (side domain (known_living self.old)).word + 1 }
@@ -251,6 +275,7 @@ impl Grace for LivingSide {
         ensures standings { self.new.standings ≡ self.old.standings }
         ensures asked { self.new.asked ≡ self.old.asked }
         ensures contents { self.new.contents ≡ self.old.contents }
+        ensures graphs { self.new.graphs ≡ self.old.graphs }
         ensures grace { self.new.side.grace
             ≡ with_domain domain (word_moved self.old.side.grace.processor (domain_in domain self.old.side.grace)) self.old.side.grace }
         ensures word { result ≡ (side domain (known_living self.old)).word + 1 }
@@ -301,6 +326,7 @@ impl Grace for LivingSide {
         ensures standings { self.new.standings ≡ self.old.standings }
         ensures asked { self.new.asked ≡ self.old.asked }
         ensures contents { self.new.contents ≡ self.old.contents }
+        ensures graphs { self.new.graphs ≡ self.old.graphs }
         ensures grace { self.new.side.grace
             ≡ with_domain domain (period_begun self.old.side.grace.processor result (domain_in domain self.old.side.grace)) self.old.side.grace }
         ensures answer { BeganAt result even }
@@ -322,6 +348,7 @@ impl Grace for LivingSide {
         ensures standings { self.new.standings ≡ self.old.standings }
         ensures asked { self.new.asked ≡ self.old.asked }
         ensures contents { self.new.contents ≡ self.old.contents }
+        ensures graphs { self.new.graphs ≡ self.old.graphs }
         ensures grace { self.new.side.grace
             ≡ with_domain domain (period_looked (words_in domain self.old.side.grace) (domain_in domain self.old.side.grace)) self.old.side.grace }
         ensures first { length (side domain (known_living self.new)).first ≡ looks domain self.old.side.grace.processors }
@@ -344,6 +371,7 @@ impl Grace for LivingSide {
         ensures standings { self.new.standings ≡ self.old.standings }
         ensures asked { self.new.asked ≡ self.old.asked }
         ensures contents { self.new.contents ≡ self.old.contents }
+        ensures graphs { self.new.graphs ≡ self.old.graphs }
         ensures grace { self.new.side.grace ≡ with_domain domain (period_ended (domain_in domain self.old.side.grace)) self.old.side.grace }
         ensures period { result ≡ ended domain (side domain (known_living self.old)) }
         ensures known { known_living self.new ≡ finished false domain (known_living self.old) }
@@ -379,6 +407,7 @@ impl Post for LivingSide {
         ensures standings { self.new.standings ≡ self.old.standings }
         ensures asked { self.new.asked ≡ self.old.asked }
         ensures contents { self.new.contents ≡ self.old.contents }
+        ensures graphs { self.new.graphs ≡ self.old.graphs }
         ensures ok { IfOk result (λ n. Fetches class want n out.old.items out.new.items (rights_living self.old) (rights_living self.new)) }
         ensures err { OnErr result (out.new.items ≡ out.old.items) }
         ensures same { OnErr result (AreSame (rights_living self.old) (rights_living self.new)) }
@@ -401,6 +430,7 @@ impl Post for LivingSide {
         ensures standings { self.new.standings ≡ left_by units.items self.old.standings }
         ensures asked { self.new.asked ≡ self.old.asked }
         ensures contents { self.new.contents ≡ self.old.contents }
+        ensures graphs { self.new.graphs ≡ self.old.graphs }
         ensures back { GivesBack (numbers units.items) (rights_living self.old) (rights_living self.new) }
         ensures lasts { Lasting (numbers units.items) (rights_living self.old) (rights_living self.new) }
         ensures known { Posts false (known_living self.old) (known_living self.new) }
@@ -427,6 +457,7 @@ impl Post for LivingSide {
         ensures err_standings { OnErr result (self.new.standings ≡ self.old.standings) }
         ensures asked { self.new.asked ≡ self.old.asked }
         ensures contents { self.new.contents ≡ self.old.contents }
+        ensures graphs { self.new.graphs ≡ self.old.graphs }
         ensures sent { OnOk result (GivesBack (numbers units.items) (rights_living self.old) (rights_living self.new)) }
         ensures refused { IfErr result (λ back. back.items ≡ units.items) }
         ensures same { OnErr result (AreSame (rights_living self.old) (rights_living self.new)) }
@@ -465,6 +496,7 @@ impl Post for LivingSide {
         ensures standings { self.new.standings ≡ self.old.standings }
         ensures asked { self.new.asked ≡ self.old.asked }
         ensures contents { self.new.contents ≡ self.old.contents }
+        ensures graphs { self.new.graphs ≡ self.old.graphs }
         ensures some { IfSome result (λ units. Receives class units.items (rights_living self.old) (rights_living self.new)) }
         ensures none { IfNone result (AreSame (rights_living self.old) (rights_living self.new)) }
         ensures lasts { Lasting [] (rights_living self.old) (rights_living self.new) }
@@ -502,6 +534,7 @@ impl Lives for LivingSide {
         ensures object { result ≡ record { unit = unit.number; life = unit.life + 1 } }
         ensures next { unit.life ≡ begun_at self.old.begun unit.number }
         ensures none { lives_of self.old.slots unit.number ≡ None }
+        ensures alone { standing_from 0 self.old.graphs unit.number ≡ None }
         ensures state { self.new ≡ with_begun type_number values unit self.old }
         ensures known { known_living self.new ≡ life_begun type_number values unit (known_living self.old) }
         ensures gone { Loses (unit.number ∷ []) (rights_living self.old) (rights_living self.new) }
@@ -573,6 +606,98 @@ impl Lives for LivingSide {
         self.contents.exchange(place, put, tag)
     }
 
+    fn push(&mut self, place: usize, way: Way, object: ObjId, tag: Tag) -> Result<Pushed, NoMemory>
+        requires there { place < length self.old.graphs }
+        requires kind { (graph_at place self.old.graphs).is_tree ≡ is_for_tree way }
+        requires lives { (l : Living) × HasLife (lives_of self.old.slots) object.unit object.life l }
+        requires keyed { way ≡ Ordered → 0 < length (values_in (lives_of self.old.slots object.unit)) }
+        ensures at { IfOk result (λ pushed. pushed_at pushed ≡ length (graph_at place self.old.graphs).history) }
+        ensures stood { IfOk result (λ pushed. standing_from 0 self.old.graphs object.unit ≡ stood object.life pushed) }
+        ensures moves { IfOk result (λ pushed. let key = key_of (values_in (lives_of self.old.slots object.unit)) in
+            standing_from 0 self.new.graphs ≡ moved place (effect_of (pushed_call way object key pushed)) (standing_from 0 self.old.graphs)) }
+        ensures known { IfOk result (λ pushed. let key = key_of (values_in (lives_of self.old.slots object.unit)) in
+            known_living self.new ≡ graph_called place (pushed_call way object key pushed) tag (known_living self.old)) }
+        ensures same { AsBefore (rights_living self.old) (rights_living self.new) }
+        ensures rest { StaysAtRest LivingAtRest self.old self.new }
+        ensures does { IfOk result (λ pushed. let key = key_of (values_in (lives_of self.old.slots object.unit)) in
+            LivingDoes (act.Calls (graph_at place self.old.graphs).name (pushed_at pushed) (pushed_call way object key pushed) tag ∷ []) self.old self.new) }
+        ensures err { OnErr result (self.new ≡ self.old) }
+    {
+        let key = self.slots.key(object.unit);
+        match self.slots.within(object.unit) {
+            Some(owner) => {
+                let position = self.graphs.refuse(place, way, object, key, owner, tag)?;
+                Ok(Pushed::Already { owner, position })
+            }
+            None => {
+                let position = self.graphs.push(place, way, object, key, tag)?;
+                self.slots.place(object.unit, Some(place as u8));
+                Ok(Pushed::Done(position))
+            }
+        }
+    }
+
+    fn pop(&mut self, place: usize, end: End, tag: Tag) -> Result<(u32, Option<ObjId>), NoMemory>
+        requires there { place < length self.old.graphs }
+        requires kind { (graph_at place self.old.graphs).is_tree ≡ false }
+        ensures at { IfOk result (λ answer. answer.0 ≡ length (graph_at place self.old.graphs).history) }
+        ensures item { IfOk result (λ answer. answer.1 ≡ end_node end (graph_at place self.old.graphs).nodes) }
+        ensures stood { IfOk result (λ answer. IfSome answer.1 (λ id.
+            standing_from 0 self.old.graphs id.unit ≡ Some (record { life = id.life; place = place }))) }
+        ensures lives { IfOk result (λ answer. IfSome answer.1 (λ id. (l : Living) × HasLife (lives_of self.old.slots) id.unit id.life l)) }
+        ensures moves { IfOk result (λ answer. standing_from 0 self.new.graphs ≡ moved place (effect_of (pop_call end answer.1)) (standing_from 0 self.old.graphs)) }
+        ensures known { IfOk result (λ answer. known_living self.new ≡ graph_called place (pop_call end answer.1) tag (known_living self.old)) }
+        ensures same { AsBefore (rights_living self.old) (rights_living self.new) }
+        ensures rest { StaysAtRest LivingAtRest self.old self.new }
+        ensures does { IfOk result (λ answer.
+            LivingDoes (act.Calls (graph_at place self.old.graphs).name answer.0 (pop_call end answer.1) tag ∷ []) self.old self.new) }
+        ensures err { OnErr result (self.new ≡ self.old) }
+    {
+        let (position, popped) = self.graphs.pop(place, end, tag)?;
+        if let Some(object) = popped {
+            self.slots.place(object.unit, None);
+        }
+        Ok((position, popped))
+    }
+
+    fn first(&mut self, place: usize, tag: Tag) -> Result<(u32, Option<ObjId>), NoMemory>
+        requires there { place < length self.old.graphs }
+        requires kind { (graph_at place self.old.graphs).is_tree ≡ true }
+        ensures at { IfOk result (λ answer. answer.0 ≡ length (graph_at place self.old.graphs).history) }
+        ensures item { IfOk result (λ answer. answer.1 ≡ first_node (graph_at place self.old.graphs).nodes) }
+        ensures stood { IfOk result (λ answer. IfSome answer.1 (λ id.
+            standing_from 0 self.old.graphs id.unit ≡ Some (record { life = id.life; place = place }))) }
+        ensures lives { IfOk result (λ answer. IfSome answer.1 (λ id. (l : Living) × HasLife (lives_of self.old.slots) id.unit id.life l)) }
+        ensures moves { IfOk result (λ answer. standing_from 0 self.new.graphs ≡ moved place (effect_of (first_call answer.1)) (standing_from 0 self.old.graphs)) }
+        ensures known { IfOk result (λ answer. known_living self.new ≡ graph_called place (first_call answer.1) tag (known_living self.old)) }
+        ensures same { AsBefore (rights_living self.old) (rights_living self.new) }
+        ensures rest { StaysAtRest LivingAtRest self.old self.new }
+        ensures does { IfOk result (λ answer.
+            LivingDoes (act.Calls (graph_at place self.old.graphs).name answer.0 (first_call answer.1) tag ∷ []) self.old self.new) }
+        ensures err { OnErr result (self.new ≡ self.old) }
+    {
+        self.graphs.first(place, tag)
+    }
+
+    fn remove(&mut self, place: usize, object: ObjId, tag: Tag) -> Result<u32, NoMemory>
+        requires there { place < length self.old.graphs }
+        requires kind { (graph_at place self.old.graphs).is_tree ≡ true }
+        requires stands { standing_from 0 self.old.graphs object.unit ≡ Some (record { life = object.life; place = place }) }
+        ensures at { IfOk result (λ position. position ≡ length (graph_at place self.old.graphs).history) }
+        ensures lives { (l : Living) × HasLife (lives_of self.old.slots) object.unit object.life l }
+        ensures moves { OnOk result (standing_from 0 self.new.graphs ≡ moved place (effect_of (past.Remove object)) (standing_from 0 self.old.graphs)) }
+        ensures known { OnOk result (known_living self.new ≡ graph_called place (past.Remove object) tag (known_living self.old)) }
+        ensures same { AsBefore (rights_living self.old) (rights_living self.new) }
+        ensures rest { StaysAtRest LivingAtRest self.old self.new }
+        ensures does { IfOk result (λ position.
+            LivingDoes (act.Calls (graph_at place self.old.graphs).name position (past.Remove object) tag ∷ []) self.old self.new) }
+        ensures err { OnErr result (self.new ≡ self.old) }
+    {
+        let position = self.graphs.remove(place, object, tag)?;
+        self.slots.place(object.unit, None);
+        Ok(position)
+    }
+
     fn release_other(&mut self, object: ObjId) -> u32
         requires lives { (l : Living) × HasLife (lives_of self.old.slots) object.unit object.life l }
         requires others { 1 < count_in (lives_of self.old.slots object.unit) }
@@ -591,6 +716,7 @@ impl Lives for LivingSide {
     fn end_life(&mut self, number: u16, delayed: bool) -> Unit
         requires lives { is_some (lives_of self.old.slots number) ≡ true }
         requires only { count_in (lives_of self.old.slots number) ≡ 1 }
+        requires alone { standing_from 0 self.old.graphs number ≡ None }
         ensures unit { unit_at self.old.slots number ≡ Some result }
         ensures lived { let was = lives_of self.old.slots number in
             was ≡ Some (life_of_unit (type_in was) 1 (values_in was) result) }

@@ -1,8 +1,9 @@
 //! The objects that live, each in the slot of its unit's number.
 
 ghost use Rattle.std.specs.Prelude.{◌≡◌, ◌<◌, ◌^◌, IfOk, length, Some, None, is_some, true, slice_get, slice_set};
-ghost use Rattle.bm_world.specs.LivingState.{slots_counted};
-ghost use Rattle.bm_world.specs.Slots.{AllEmpty, count_of, new_object, object_at, unit_at, values_of};
+ghost use Rattle.bm_world.specs.Graphs.{key_of};
+ghost use Rattle.bm_world.specs.LivingState.{slots_counted, slots_placed};
+ghost use Rattle.bm_world.specs.Slots.{AllEmpty, count_of, new_object, object_at, place_within, unit_at, values_of};
 
 use bm_journal::Values;
 use bm_page::Unit;
@@ -13,13 +14,14 @@ use std::mem;
 /// How many unit numbers there are.
 const NUMBERS: usize = 65_536;
 
-/// An object that lives: its unit, the number of its type among those declared, how many references there are to it, and the values of
-/// its fields.
+/// An object that lives: its unit, the number of its type among those declared, how many references there are to it, the values of
+/// its fields, and the place of the list or tree that it is in, if it is in one.
 pub struct Object {
     pub unit: Unit,
     pub type_number: usize,
     pub count: u32,
     pub values: Values,
+    pub within: Option<u8>,
 }
 
 /// A slot for each unit number, which holds the object that the unit is where it lives.
@@ -44,7 +46,7 @@ impl Slots {
     }
 
     /// Puts a unit into its slot, which is empty, as an object of this type with these values of its fields, to which there is one
-    /// reference.
+    /// reference, and which is in no list or tree.
     pub fn put(&mut self, unit: Unit, type_number: usize, values: Values)
         requires size { length self.old.slots.items ≡ 2 ^ 16 }
         requires number { unit.number < 2 ^ 16 }
@@ -58,6 +60,7 @@ impl Slots {
             type_number,
             count: 1,
             values,
+            within: None,
         };
         match mem::replace(&mut self.slots[place], Some(object)) {
             None => {}
@@ -79,6 +82,7 @@ impl Slots {
                     type_number: _,
                     count: _,
                     values: _,
+                    within: _,
                 } = object;
                 unit
             }
@@ -124,6 +128,43 @@ impl Slots {
         }
     }
 
+    /// The key of the object that a unit is: the value of its first field, and 0 where it has none.
+    pub fn key(&self, number: u16) -> u32
+        requires size { length self.now.slots.items ≡ 2 ^ 16 }
+        ensures { result ≡ key_of (values_of (object_at self.now.slots.items number)) }
+    {
+        match &self.slots[number as usize] {
+            Some(object) => match object.values.as_slice().get(0) {
+                Some(value) => *value,
+                None => 0,
+            },
+            None => 0,
+        }
+    }
+
+    /// The place of the list or tree that the object is in which a unit is, if it is in one.
+    pub fn within(&self, number: u16) -> Option<u8>
+        requires size { length self.now.slots.items ≡ 2 ^ 16 }
+        ensures { result ≡ place_within (object_at self.now.slots.items number) }
+    {
+        match &self.slots[number as usize] {
+            Some(object) => object.within,
+            None => None,
+        }
+    }
+
+    /// Says in which list or tree the object is which a unit is, or that it is in none.
+    pub fn place(&mut self, number: u16, within: Option<u8>)
+        requires size { length self.old.slots.items ≡ 2 ^ 16 }
+        requires there { is_some (unit_at self.old.slots.items number) ≡ true }
+        ensures { self.new.slots.items ≡ slots_placed number within self.old.slots.items }
+    {
+        match &mut self.slots[number as usize] {
+            Some(object) => object.within = within,
+            None => unreachable!(),
+        }
+    }
+
     /// Ends the slots, and each object in them.
     pub fn give_up(self) {
         let Slots { slots } = self;
@@ -141,6 +182,7 @@ fn give_up_slots(slots: Vec<Option<Object>>) {
                 type_number: _,
                 count: _,
                 values: _,
+                within: _,
             } = object;
             unit.give_up();
         }

@@ -11,4 +11,5 @@ returns-clause-again c = record {
   repeats_is = refl;
   body_is = c.in_ok-body.was;
   leaves_is = refl;
+  lock_is = refl;
 }

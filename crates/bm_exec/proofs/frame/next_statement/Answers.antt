@@ -8,7 +8,7 @@ returns-in-len1-up c =
     let before = top-of _ _ _ _ c.pop.ensures.items c.in-Some.is in
     let now = top-of _ _ (Some _) _ c.push.ensures.items refl in
     let front = front-is c.in-Some.top.rest.now c.first-item.result (omega (arith, c.in-len1-up.len_at_least)) c.first-item.is in
-    rw now (record { stepped = taken _ c.in-Some.top _ _ c.first-item.result (drop 1 c.in-Some.top.rest.now) (rw before at c.loop-top.invariant.passed) front (behind-is c.in-Some.top.rest.now) refl refl refl })
+    rw now (record { stepped = taken _ c.in-Some.top _ _ c.first-item.result (drop 1 c.in-Some.top.rest.now) (rw before at c.loop-top.invariant.passed) front (behind-is c.in-Some.top.rest.now) refl refl refl refl })
 
 -- a block begins again
 pub loop-top-smaller-in-Some-again : goal.loop-top-smaller-in-Some-again

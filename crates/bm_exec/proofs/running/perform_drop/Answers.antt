@@ -24,13 +24,13 @@ returns-clause-performed g c =
     let found : d ≡ living.declared = declared-is c.args.types.now.declared.now _ d living.declared (get-is c.args.types.now.declared.now _ d c.in-Some.ensures.lookup.3.0 (c.in-Some.ensures.lookup.3.1 _)) living.of_class.found in
     let gone = subst (λ (x : TypeDeclaration). LetGo (g.M.Machine.level m0) x.counted living.class c.in-Object.object (g.M.Machine.lists m0) (g.M.Machine.log m0) (g.M.Machine.log m1) (g.M.Machine.lives m0) (g.M.Machine.lives m1)) found (c.dispose.ensures.disposed living.class living.alive) in
     let facts = both-ok r _ _ (both-ok r _ _ s.settled s.down) (both-ok r _ _ (both-ok r _ _ s.sound s.processor) (both-ok r _ _ s.lives s.asked)) in
-    on-ok r _ _ facts (λ f os.
-    drop-performed (declared_of c.args.types.now) (g.M.Machine.level m0) (g.M.Machine.around m0) (g.M.Machine.behind c.args.machine.now) (g.M.Machine.processor m0) (g.M.Machine.lists m0) (g.M.Machine.lists m1) (g.M.Machine.lists m2) c.args.name.now _ c.in-Object.object
+    on-ok r _ _ facts (λ f os none.
+    drop-performed (declared_of c.args.types.now) (g.M.Machine.level m0) (g.M.Machine.around m0) (g.M.Machine.behind c.args.machine.now) (g.M.Machine.processor m0) (g.M.Machine.lists m0) (g.M.Machine.lists m1) (g.M.Machine.lists m2) (g.M.Machine.guarded m0) c.args.name.now _ c.in-Object.object
     (names_of c.args.names.now) (names_of c.put.new.self) (g.M.Machine.lives m0) (g.M.Machine.lives m1) (g.M.Machine.lives m2) (g.M.Machine.asked m0) (g.M.Machine.asked m2)
     (g.M.Machine.log m0) (g.M.Machine.log m1) (g.M.Machine.log m2) living.class living.declared
     (g.met.M.Machine.told m0 c.requires.sound) (rw c.dispose.ensures.processor at (g.met.M.Machine.told m1 c.dispose.ensures.sound))
     (rw (f.1.0.1 ∙ c.dispose.ensures.processor) at (g.met.M.Machine.told m2 f.1.0.0)) living.of_class (sym held) gone (rw c.as_bytes-2.ensures.value at c.in-Ok.ensures.ok) (let x = f.1.1.1 in let y = c.dispose.ensures.asked in omega (arith, x, y))
-    f.1.1.0 (rw c.dispose.ensures.behind at f.0.0) (rw c.dispose.ensures.behind at f.0.1) os)
+    f.1.1.0 (rw c.dispose.ensures.behind at f.0.0) (rw c.dispose.ensures.behind at f.0.1) os none)
 
 pub returns-clause-keeps : goal.returns-clause-keeps
 returns-clause-keeps g c = on-ok c.settle.result _ _ c.settle.ensures.keeps (λ k. g.met.M.Machine.keeps_join c.args.machine.now c.dispose.new.self c.settle.new.self c.dispose.ensures.keeps k)

@@ -26,7 +26,7 @@ exchange-was-requires-clause-slot g c =
     (m, rw c.requires.declared of, sym c.duplicate.ensures, to-put c.args.types.now.declared.now c.requires.holds.0 (g.M.Machine.lives c.args.machine.now) (names_of c.args.names.now) _ c.args.given.now m.type_id c.take_given-put.result puts c.requires.holds.1)
 
 pub returns-clause-performed : goal.returns-clause-performed
-returns-clause-performed g c os =
+returns-clause-performed g c os down =
     let maps = c.args.types.now.maps.now in
     let m0 = c.args.machine.now in
     let m1 = c.exchange-was.new.self in
@@ -39,9 +39,9 @@ returns-clause-performed g c os =
     let free = ap (λ (n : Names). is_owning (value_of (n c.args.name.now))) (without-is c.args.given.now m.type_id c.take_given-put.result (names_of c.args.names.now) between puts) ∙ c.requires.free in
     let done = rw (c.requires.declared, c.duplicate.ensures) at (e.exchanged m (rw c.requires.declared of)) in
     let held = rw (c.as_bytes.ensures.value, c.holding_of.ensures, taken-is m.type_id was) at c.in-Ok.ensures.ok in
-    rw e.around (exchange-performed (declared_of c.args.types.now) (g.M.Machine.level m0) (g.M.Machine.around m0) (g.M.Machine.behind m0) (g.M.Machine.processor m0) (g.M.Machine.lists m0) (g.M.Machine.lists m1) c.args.name.now c.args.slot c.args.given.now m c.take_given-put.result was
+    rw e.around (exchange-performed (declared_of c.args.types.now) (g.M.Machine.level m0) (g.M.Machine.around m0) (g.M.Machine.behind m0) (g.M.Machine.processor m0) (g.M.Machine.lists m0) (g.M.Machine.lists m1) (g.M.Machine.guarded m0) c.args.name.now c.args.slot c.args.given.now m c.take_given-put.result was
     (names_of c.args.names.now) between (names_of c.put.new.self) (g.M.Machine.lives m0) (g.M.Machine.lives m1) (g.M.Machine.asked m0) (g.M.Machine.asked m1) (g.M.Machine.log m0) (g.M.Machine.log m1)
-    (g.met.M.Machine.told m0 c.requires.sound) (rw e.processor at (g.met.M.Machine.told m1 e.sound)) of puts free done held e.asked e.lists c.requires.down os)
+    (g.met.M.Machine.told m0 c.requires.sound) (rw e.processor at (g.met.M.Machine.told m1 e.sound)) of puts free done held e.asked e.lists os down)
 
 pub returns-clause-yields : goal.returns-clause-yields
 returns-clause-yields g c =

@@ -17,13 +17,13 @@ returns-clause-performed g c =
     let s = c.settle.ensures in
     let facts = both-ok r _ _ (both-ok r _ _ s.settled s.down) (both-ok r _ _ (both-ok r _ _ s.sound s.processor) (both-ok r _ _ s.lives s.asked)) in
     let made = is-made c.args.types.now.declared.now c.args.types.now.classes.now c.args.type_id.0 c.args.values.now c.in-Some.declared.now c.in-Some-get.class.now c.requires.classes (get-is c.args.types.now.declared.now c.args.type_id.0 c.in-Some.declared.now c.in-Some.ensures.lookup.3.0 (c.in-Some.ensures.lookup.3.1 _)) (get-is c.args.types.now.classes.now c.args.type_id.0 c.in-Some-get.class.now c.in-Some-get.ensures.lookup.3.0 (c.in-Some-get.ensures.lookup.3.1 _)) c.requires.can in
-    on-ok r _ _ facts (λ f os.
-    new-performed (declared_of c.args.types.now) (g.M.Machine.level m0) (g.M.Machine.around m0) (g.M.Machine.behind c.args.machine.now) (g.M.Machine.processor m0) (g.M.Machine.lists m0) (g.M.Machine.lists m1) (g.M.Machine.lists m2) c.args.name.now c.args.type_id c.args.values.now
+    on-ok r _ _ facts (λ f os none.
+    new-performed (declared_of c.args.types.now) (g.M.Machine.level m0) (g.M.Machine.around m0) (g.M.Machine.behind c.args.machine.now) (g.M.Machine.processor m0) (g.M.Machine.lists m0) (g.M.Machine.lists m1) (g.M.Machine.lists m2) (g.M.Machine.guarded m0) c.args.name.now c.args.type_id c.args.values.now
     (names_of c.args.names.now) (names_of c.put.new.self) (g.M.Machine.lives m0) (g.M.Machine.lives m1) (g.M.Machine.lives m2) (g.M.Machine.asked m0) (g.M.Machine.asked m2)
     (g.M.Machine.log m0) (g.M.Machine.log m1) (g.M.Machine.log m2) c.create-reply.result c.in-Some-get.class.now
     (g.met.M.Machine.told m0 c.requires.sound) (rw c.create-reply.ensures.processor at (g.met.M.Machine.told m1 c.create-reply.ensures.sound))
     (rw (f.1.0.1 ∙ c.create-reply.ensures.processor) at (g.met.M.Machine.told m2 f.1.0.0)) made c.requires.free (rw (c.in-Some-new.ensures.1 ∙ c.as_slice.ensures) at (rw c.duplicate.ensures at c.create-reply.ensures.created)) (rw c.as_bytes.ensures.value at (rw c.holding_of.ensures at c.in-Ok.ensures.ok)) (let x = f.1.1.1 in let y = c.create-reply.ensures.asked in omega (arith, x, y))
-    f.1.1.0 (rw c.create-reply.ensures.behind at f.0.0) (rw c.create-reply.ensures.behind at f.0.1) os)
+    f.1.1.0 (rw c.create-reply.ensures.behind at f.0.0) (rw c.create-reply.ensures.behind at f.0.1) os none)
 
 pub create-reply-requires-clause-made : goal.create-reply-requires-clause-made
 create-reply-requires-clause-made g c = rw (c.requires.declared, c.in-Some-new.ensures.1 ∙ c.as_slice.ensures) (is-made c.args.types.now.declared.now c.args.types.now.classes.now c.args.type_id.0 c.args.values.now c.in-Some.declared.now c.in-Some-get.class.now c.requires.classes (get-is c.args.types.now.declared.now c.args.type_id.0 c.in-Some.declared.now c.in-Some.ensures.lookup.3.0 (c.in-Some.ensures.lookup.3.1 _)) (get-is c.args.types.now.classes.now c.args.type_id.0 c.in-Some-get.class.now c.in-Some-get.ensures.lookup.3.0 (c.in-Some-get.ensures.lookup.3.1 _)) c.requires.can)

@@ -4,18 +4,21 @@ use Rattle.bm_journal.specs.declared.ids.ObjId.{ObjId}
 use Rattle.bm_grace.specs.Known.{Known}
 use Rattle.bm_law.specs.State.{seen}
 use Rattle.bm_law_order.specs.Act as act
+use Rattle.bm_law_order.specs.Graphs.{graph_names_in}
 use Rattle.bm_law_order.specs.Chunk as chunk
 use Rattle.bm_law_scenario.specs.Declared.{Declared, declared_in}
 use Rattle.bm_cache.specs.Tokens.{number_of}
 use Rattle.bm_exec_levels.specs.AtTie.{owes-did, tied-closed, tied-open}
 use Rattle.bm_exec_levels.specs.Hosting.{with_side}
 use Rattle.bm_exec_levels.specs.Ready.{known_of}
-use Rattle.bm_exec_levels.specs.Slotted.{in_hands}
+use Rattle.bm_exec_levels.specs.Slotted.{in_hands, items_in}
 use Rattle.bm_exec_levels.specs.declared.processor.Processor.{Processor}
 use Rattle.bm_exec_levels.proofs.Begun.{at-acquired}
 use Rattle.bm_exec_levels.proofs.Made.{one-more}
 use Rattle.bm_exec_levels.proofs.Noted.{between-join, between-sided, came-before, fine-before}
 use Rattle.bm_exec_levels.proofs.Stocked.{hand-life, hands-acquired}
+use Rattle.bm_exec_levels.proofs.Graphed.{items-counted}
+use Rattle.bm_exec.specs.Living.{count_in}
 use Rattle.bm_exec_levels.proofs.calls.acquire.Goals as goal
 
 pub acquire-seen-requires-clause-room : goal.acquire-seen-requires-clause-room
@@ -63,7 +66,7 @@ returns-clause-tied g c =
     let w : g.row.W.Denot = c.acquire-seen.new.self in
     let x = c.acquire-seen.result in
     let e = c.acquire-seen.ensures in
-    let did = owes-did g.W.Knows since start l [] (act.Acquires o.unit o.life x ∷ []) [] m w (e.does, ap (λ (x : Known). x.grace.processor) e.known) (tied-open g.W.Knows since start l m c.requires.tied) in
+    let did = owes-did g.W.Knows since start l [] (act.Acquires o.unit o.life x ∷ []) [] m w (e.does, ap (λ (x : Known). x.grace.processor) e.known, ap (λ (x : Known). graph_names_in x.objects.graphs) e.known) (tied-open g.W.Knows since start l m c.requires.tied) in
     tied-closed g.W.Knows since start l (act.Acquires o.unit o.life x ∷ []) (entry.Acquire o.unit o.life x ∷ []) c.call.new.own (record { chunk = chunk.Acquiring o.unit o.life x; free = refl; acts_are = refl; entries_are = refl }) (c.call.ensures.owes (act.Acquires o.unit o.life x ∷ []) did)
 
 pub returns-clause-between : goal.returns-clause-between
@@ -75,3 +78,13 @@ returns-clause-between g c =
     let e = c.acquire-seen.ensures in
     let one = between-sided g.W.Knows 1 l p m w (ap (λ (x : Known). x.grace) e.known) (ap (λ (x : Known). x.objects.asked) e.known) (fine-before g.W.Knows l m w e.same (ap (λ (x : Known). x.grace.processors) e.known) c.requires.fine) (came-before g.W.Knows l m w e.same) in
     between-join g.W.Knows 1 0 1 0 l p m (with_side m w) c.call.new.own one c.call.ensures.between
+
+pub returns-clause-items : goal.returns-clause-items
+returns-clause-items g c =
+    let o : ObjId = c.args.object in
+    let k : Known = known_of g.W.Knows c.args.own.now in
+    let e = c.acquire-seen.ensures in
+    record {
+      graphs = ap (λ (x : Known). x.objects.graphs) c.call.ensures.known ∙ ap (λ (x : Known). x.objects.graphs) e.known;
+      items = ap (λ (x : Known). items_in x.objects) c.call.ensures.known ∙ (ap (λ (x : Known). items_in x.objects) e.known ∙ items-counted k.objects o.unit (count_in (k.objects.lives o.unit) + 1) (k.objects.asked + 1));
+    }

@@ -1,5 +1,6 @@
 use Rattle.std.proofs.Common.{◌+◌, List, [], ◌∷◌, ap, append-nil, arith, refl, subst}
 use Rattle.bm_law_order.specs.Act.{Act}
+use Rattle.bm_law_order.specs.Graphs.{graph_names_in}
 use Rattle.bm_grace.specs.Known.{Known}
 use Rattle.bm_exec_levels.specs.AtTie.{OwesAt, owes-did, owes-said}
 use Rattle.bm_exec_levels.specs.Calling.{call-noted}
@@ -30,7 +31,7 @@ returns-clause-owes g c done owes =
     let start = g.B.Since.start in
     let m : Processor g.row.W.Denot = c.args.own.now in
     let w : g.row.W.Denot = c.ask.new.self in
-    let counted = owes-did g.W.Knows since start l done [] [] m w (c.ask.ensures.does, ap (λ (x : Known). x.grace.processor) c.ask.ensures.known) owes in
+    let counted = owes-did g.W.Knows since start l done [] [] m w (c.ask.ensures.does, ap (λ (x : Known). x.grace.processor) c.ask.ensures.known, ap (λ (x : Known). graph_names_in x.objects.graphs) c.ask.ensures.known) owes in
     let same = subst (λ (acts : List Act). OwesAt g.W.Knows since start l acts [] (with_side m w)) (append-nil done) counted in
     owes-said g.W.Knows since start l done [] c.args.entry (with_side m w) c.note.new.self n.records same
 

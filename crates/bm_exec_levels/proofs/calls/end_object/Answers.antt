@@ -5,6 +5,7 @@ use Rattle.bm_journal.specs.declared.entry.Entry.TheVariants as entry
 use Rattle.bm_journal.specs.declared.ids.ObjId.{ObjId}
 use Rattle.bm_page.specs.UnitState.{UnitState}
 use Rattle.bm_law_order.specs.Act as act
+use Rattle.bm_law_order.specs.Graphs.{graph_names_in, standing_from}
 use Rattle.bm_grace.specs.Known.{Known}
 use Rattle.bm_law.specs.Stands.{stands}
 use Rattle.bm_exec.specs.Living.{Living, count_in, home_of}
@@ -18,15 +19,16 @@ use Rattle.bm_exec_levels.specs.AtProcessor.{lists_of, tests_of}
 use Rattle.bm_exec_levels.specs.Freeing.{free_entry}
 use Rattle.bm_exec_levels.specs.Ready.{known_of}
 use Rattle.bm_exec_levels.specs.AtTie.{Awaits, FreesAt, tied-freeing, tied-open}
-use Rattle.bm_exec_levels.specs.Slotted.{in_hands}
+use Rattle.bm_exec_levels.specs.Slotted.{in_hands, items_in}
 use Rattle.bm_law_scenario.specs.Declared.{Declared, declared_in}
 use Rattle.bm_world.specs.Lives.{life_ended}
 use Rattle.bm_exec_levels.specs.Hosting.{with_caches, with_side}
 use Rattle.bm_exec_levels.specs.declared.processor.Processor.{Processor}
 use Rattle.bm_exec_levels.proofs.Begun.{at-ended, at-noted}
 use Rattle.bm_exec_levels.proofs.Made.{given-up}
+use Rattle.bm_exec_levels.proofs.Graphed.{items-ended}
 use Rattle.bm_exec_levels.proofs.Noted.{between-join, between-noted, between-sided, came-sided, fine-sided, stands-nowhere}
-use Rattle.bm_exec_levels.proofs.Stocked.{handed, hands-ended, last-held}
+use Rattle.bm_exec_levels.proofs.Stocked.{handed, hands-ended, last-held, last-out}
 use Rattle.bm_exec_levels.proofs.calls.end_object.Goals as goal
 
 pub end_life-unit-requires-clause-lives : goal.end_life-unit-requires-clause-lives
@@ -98,7 +100,7 @@ returns-clause-disposed g c class alive =
     let lived = whole ∙ (sym (ap (λ (x : Known). x.objects.lives o.unit) q) ∙ e.lived) in
     let home : home_of (hands o.unit) ≡ Some u.home = ap home_of lived in
     let is : u.class ≡ class = (living-now hands o.unit o.life class _ 1 _ u lived alive).1 in
-    let ends = c.release.ensures.lives ∙ (ap (λ (x : Known). in_hands x.objects) e.known ∙ (ap (λ (x : Known). in_hands (life_ended o.unit x).objects) q ∙ hands-ended d k o.unit _ stocked alive.is c.requires.only)) in
+    let ends = c.release.ensures.lives.0 ∙ (ap (λ (x : Known). in_hands x.objects) e.known ∙ (ap (λ (x : Known). in_hands (life_ended o.unit x).objects) q ∙ hands-ended d k o.unit _ stocked alive.is c.requires.only)) in
     given-up c.args.counted l _ class o u (lists_of m) _ f.rest _ _ _ _ hands _ e.number is (ap (seen number_of) (c.note.ensures.same ∙ c.call.ensures.shown)) home c.call.ensures.said n.records f.records f.allowed (ap count_in whole ∙ c.requires.only) ends
 
 pub returns-clause-between : goal.returns-clause-between
@@ -155,4 +157,24 @@ release-requires-clause-tied g c =
     let k : Processor g.row.W.Denot = with_side (with_caches c.call.new.own c.note.new.self) c.end_life-unit.new.self in
     let F : ℕ → Type 0 = λ x. FreesAt g.W.Knows since start l x u.home k in
     subst F (sym e.number) (tied-freeing g.W.Knows since start c.args.counted l o.unit o.life u.home c.call.new.own k (c.call.ensures.owes [] (tied-open g.W.Knows since start l m c.requires.tied)) n.records
-    (subst (λ x. g.W.Knows.does (act.Ends o.unit x u.home c.args.counted ∷ []) c.call.new.own.side k.side) now e.does, ap (λ (x : Known). x.grace.processor) e.known) (either c.args.counted (λ d. Awaits g.W.Knows d o.unit k) (λ f. e.undue f) (λ f. e.unsettled f)))
+    (subst (λ x. g.W.Knows.does (act.Ends o.unit x u.home c.args.counted ∷ []) c.call.new.own.side k.side) now e.does, ap (λ (x : Known). x.grace.processor) e.known, ap (λ (x : Known). graph_names_in x.objects.graphs) e.known) (either c.args.counted (λ d. Awaits g.W.Knows d o.unit k) (λ f. e.undue f) (λ f. e.unsettled f)))
+
+pub end_life-unit-requires-clause-alone : goal.end_life-unit-requires-clause-alone
+end_life-unit-requires-clause-alone g c =
+    let o : ObjId = c.args.object in
+    let d : Declared = declared_in c.args.program.now.scenario.now in
+    let k : Known = known_of g.W.Knows c.args.own.now in
+    ap (λ (x : Known). standing_from 0 x.objects.graphs o.unit) c.call.ensures.known ∙ last-out d k o.unit _ c.requires.at.ready.stocked c.requires.living.1.is c.requires.only
+
+pub returns-clause-items : goal.returns-clause-items
+returns-clause-items g c =
+    let o : ObjId = c.args.object in
+    let d : Declared = declared_in c.args.program.now.scenario.now in
+    let k : Known = known_of g.W.Knows c.args.own.now in
+    let e = c.end_life-unit.ensures in
+    let q = c.call.ensures.known in
+    let r = c.release.ensures.lives.1 in
+    record {
+      graphs = r.graphs ∙ (ap (λ (x : Known). x.objects.graphs) e.known ∙ ap (λ (x : Known). x.objects.graphs) q);
+      items = r.items ∙ (ap (λ (x : Known). items_in x.objects) e.known ∙ (ap (λ (x : Known). items_in (life_ended o.unit x).objects) q ∙ items-ended d k o.unit _ c.requires.at.ready.stocked c.requires.living.1.is c.requires.only));
+    }

@@ -6,6 +6,7 @@ use Rattle.bm_journal.specs.declared.ids.Tag.{Tag}
 use Rattle.bm_lang.specs.declared.scenario.MapDeclaration.{MapDeclaration}
 use Rattle.bm_grace.specs.Known.{Known, Lives}
 use Rattle.bm_law_order.specs.Act as act
+use Rattle.bm_law_order.specs.Graphs.{graph_names_in}
 use Rattle.bm_law_order.specs.Calls.{tag_after}
 use Rattle.bm_law_order.specs.Slots.{Named, Slot}
 use Rattle.bm_law_scenario.specs.Declared.{Declared, declared_in}
@@ -13,9 +14,12 @@ use Rattle.bm_world.specs.Contents.{slot_at}
 use Rattle.bm_exec.specs.Living.{IsToPut, TakesOut, without}
 use Rattle.bm_exec_levels.specs.AtTie.{OwesAt, owes-did, tied-exchanged, tied-open}
 use Rattle.bm_exec_levels.specs.AtPolls.{home}
+use Rattle.bm_exec_levels.specs.AtProcessor.{lock_of, log_of}
+use Rattle.bm_exec_levels.specs.Calling.{counts-of}
+use Rattle.bm_law_order.specs.Graphs.{graph_names_in}
 use Rattle.bm_exec_levels.specs.Hosting.{with_side}
 use Rattle.bm_exec_levels.specs.Ready.{known_of}
-use Rattle.bm_exec_levels.specs.Slotted.{in_hands}
+use Rattle.bm_exec_levels.specs.Slotted.{in_hands, items_in}
 use Rattle.bm_exec_levels.specs.declared.processor.Processor.{Processor}
 use Rattle.bm_exec_levels.proofs.Begun.{at-exchanged}
 use Rattle.bm_exec_levels.proofs.Made.{one-exchanged}
@@ -74,6 +78,11 @@ returns-clause-tied g c =
     let from = c.exchange-found.result.by in
     let name : (slot_at c.args.slot.0 k.objects.slots).name ≡ c.args.name = slot-name d k.objects c.args.slot.0 c.requires.slot.0 c.requires.at.ready.stocked c.requires.slot.1.found ∙ c.requires.slot.2 in
     let does = subst (λ (n : List ℕ). g.W.Knows.does (act.Exchanges n c.args.put held from tag ∷ []) m.side w) name e.does in
-    let did = owes-did g.W.Knows since start l [] (act.Exchanges c.args.name c.args.put held from tag ∷ []) [] m w (does, ap (λ (x : Known). x.grace.processor) e.known) (tied-open g.W.Knows since start l m c.requires.tied) in
+    let did = owes-did g.W.Knows since start l [] (act.Exchanges c.args.name c.args.put held from tag ∷ []) [] m w (does, ap (λ (x : Known). x.grace.processor) e.known, ap (λ (x : Known). graph_names_in x.objects.graphs) e.known) (tied-open g.W.Knows since start l m c.requires.tied) in
     let here : home g.W.Knows c.call.new.own.side ≡ c.processor.result = ap (λ (x : Known). x.grace.processor) c.call.ensures.known ∙ (ap (λ (x : Known). x.grace.processor) e.known ∙ (sym c.requires.at.ready.here ∙ sym c.processor.ensures)) in
-    tied-exchanged g.W.Knows since start l c.args.name c.args.put held from tag m c.call.new.own c.call.ensures.said c.requires.at.counts (ap (λ p. tag_after p m.calls) (sym here)) (c.call.ensures.owes (act.Exchanges c.args.name c.args.put held from tag ∷ []) did)
+    tied-exchanged g.W.Knows since start l c.args.name c.args.put held from tag m c.call.new.own c.call.ensures.said (counts-of (log_of m) m.calls (lock_of c.args.program.now m) c.requires.at.counts) (ap (λ p. tag_after p m.calls) (sym here)) (c.call.ensures.owes (act.Exchanges c.args.name c.args.put held from tag ∷ []) did)
+
+pub returns-clause-items : goal.returns-clause-items
+returns-clause-items g c =
+    let e = c.exchange-found.ensures in
+    record { graphs = ap (λ (x : Known). x.objects.graphs) c.call.ensures.known ∙ ap (λ (x : Known). x.objects.graphs) e.known; items = ap (λ (x : Known). items_in x.objects) c.call.ensures.known ∙ ap (λ (x : Known). items_in x.objects) e.known }

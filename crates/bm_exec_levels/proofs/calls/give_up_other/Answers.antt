@@ -1,4 +1,4 @@
-use Rattle.std.proofs.Common.{◌≡◌, ◌∙◌, ◌<◌, ◌+◌, ℕ, [], Some, ap, arith, refl, subst, sym}
+use Rattle.std.proofs.Common.{◌≡◌, ◌∙◌, ◌<◌, ◌+◌, ◌-◌, ℕ, [], Some, ap, arith, refl, subst, sym}
 use Rattle.bm_journal.specs.declared.entry.Entry.TheVariants as entry
 use Rattle.bm_journal.specs.declared.ids.ObjId.{ObjId}
 use Rattle.bm_grace.specs.Known.{Known, Living, Lives}
@@ -8,12 +8,14 @@ use Rattle.bm_exec.specs.Living.{count_in}
 use Rattle.bm_exec_levels.specs.AtTie.{tied-given-up, tied-open}
 use Rattle.bm_exec_levels.specs.Hosting.{with_caches, with_side}
 use Rattle.bm_exec_levels.specs.Ready.{known_of}
-use Rattle.bm_exec_levels.specs.Slotted.{in_hands}
+use Rattle.bm_exec_levels.specs.Slotted.{in_hands, items_in}
 use Rattle.bm_exec_levels.specs.declared.processor.Processor.{Processor}
 use Rattle.bm_exec_levels.proofs.Begun.{at-given-up, at-noted}
 use Rattle.bm_exec_levels.proofs.Made.{one-less}
 use Rattle.bm_exec_levels.proofs.Noted.{between-join, between-noted, between-sided, came-before, fine-before}
 use Rattle.bm_exec_levels.proofs.Stocked.{hand-life, hands-given-up}
+use Rattle.bm_exec_levels.proofs.Graphed.{items-counted}
+use Rattle.bm_law_order.specs.Graphs.{graph_names_in}
 use Rattle.bm_exec_levels.proofs.calls.give_up_other.Goals as goal
 
 pub release_other-seen-requires-clause-lives : goal.release_other-seen-requires-clause-lives
@@ -60,4 +62,14 @@ returns-clause-tied g c =
     let m : Processor g.row.W.Denot = c.args.own.now in
     let k : Processor g.row.W.Denot = with_caches (with_side c.call.new.own c.release_other-seen.new.self) c.note.new.self in
     let e = c.release_other-seen.ensures in
-    tied-given-up g.W.Knows g.B.Since.since g.B.Since.start l o.unit o.life c.release_other-seen.result c.call.new.own k (c.call.ensures.owes [] (tied-open g.W.Knows g.B.Since.since g.B.Since.start l m c.requires.tied)) (e.does, ap (λ (x : Known). x.grace.processor) e.known) n.records
+    tied-given-up g.W.Knows g.B.Since.since g.B.Since.start l o.unit o.life c.release_other-seen.result c.call.new.own k (c.call.ensures.owes [] (tied-open g.W.Knows g.B.Since.since g.B.Since.start l m c.requires.tied)) (e.does, ap (λ (x : Known). x.grace.processor) e.known, ap (λ (x : Known). graph_names_in x.objects.graphs) e.known) n.records
+
+pub returns-clause-items : goal.returns-clause-items
+returns-clause-items g c =
+    let o : ObjId = c.args.object in
+    let j : Known = known_of g.W.Knows c.call.new.own in
+    let e = c.release_other-seen.ensures in
+    record {
+      graphs = ap (λ (x : Known). x.objects.graphs) e.known ∙ ap (λ (x : Known). x.objects.graphs) c.call.ensures.known;
+      items = ap (λ (x : Known). items_in x.objects) e.known ∙ (items-counted j.objects o.unit (count_in (j.objects.lives o.unit) - 1) j.objects.asked ∙ ap (λ (x : Known). items_in x.objects) c.call.ensures.known);
+    }

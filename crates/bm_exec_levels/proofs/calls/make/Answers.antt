@@ -20,10 +20,12 @@ use Rattle.bm_exec_levels.specs.Ready.{asked_of, known_of}
 use Rattle.bm_exec_levels.specs.declared.processor.Processor.{Processor}
 use Rattle.bm_exec_levels.proofs.Begun.{at-begun}
 use Rattle.bm_exec_levels.proofs.Stocked.{hands-begun, no-hands}
-use Rattle.bm_exec_levels.specs.Slotted.{in_hands}
+use Rattle.bm_exec_levels.specs.Slotted.{in_hands, items_in}
 use Rattle.bm_law_scenario.specs.Declared.{Declared, declared_in}
 use Rattle.bm_law_order.specs.Chunk as chunk
 use Rattle.bm_exec_levels.proofs.Made.{made-none, made-one}
+use Rattle.bm_exec_levels.proofs.Graphed.{items-begun}
+use Rattle.bm_law_order.specs.Graphs.{graph_names_in}
 use Rattle.bm_exec_levels.proofs.Noted.{between-join, between-most, between-sided, came-sided, fine-sided}
 use Rattle.bm_exec_levels.proofs.calls.make.Goals as goal
 
@@ -44,7 +46,7 @@ returns-in-Unit-clause-created g c =
     let a = c.in-Unit.ensures.answer in
     let b = c.begin_life.ensures in
     let t = c.args.type_id.0 in
-    let kept : in_hands k.objects ≡ in_hands m.objects = c.allocate.ensures.lives ∙ ap (λ (x : Known). in_hands x.objects) c.call.ensures.known in
+    let kept : in_hands k.objects ≡ in_hands m.objects = c.allocate.ensures.lives.0 ∙ ap (λ (x : Known). in_hands x.objects) c.call.ensures.known in
     let none : in_hands m.objects u.number ≡ None = ap (λ (f : Lives). f u.number) (sym kept) ∙ no-hands k.objects u.number b.none in
     let V : List ℕ → Type 0 = λ v. in_hands (g.W.Knows.known c.begin_life.new.self).objects ≡ with_life u.number (Some (new_life u.class t (u.life + 1) u.home v)) (in_hands k.objects) in
     let lived = subst V c.duplicate-fields.ensures (ap (λ (x : Known). in_hands x.objects) b.known ∙ hands-begun d k t c.duplicate-fields.result u c.in-Unit.ensures.sound.0.ready.stocked b.none) in
@@ -86,7 +88,7 @@ returns-in-Unit-clause-between g c =
 pub returns-in-Empty-clause-created : goal.returns-in-Empty-clause-created
 returns-in-Empty-clause-created g c =
     let a = c.in-Empty.ensures.answer in
-    made-none g.L.Rank.number c.args.class c.args.type_id.0 c.args.name c.args.values _ _ _ _ (in_hands (known_of g.W.Knows c.args.own.now).objects) _ c.call.ensures.said a.1.records (inl (a.0, refl)) (c.allocate.ensures.lives ∙ ap (λ (x : Known). in_hands x.objects) c.call.ensures.known)
+    made-none g.L.Rank.number c.args.class c.args.type_id.0 c.args.name c.args.values _ _ _ _ (in_hands (known_of g.W.Knows c.args.own.now).objects) _ c.call.ensures.said a.1.records (inl (a.0, refl)) (c.allocate.ensures.lives.0 ∙ ap (λ (x : Known). in_hands x.objects) c.call.ensures.known)
 
 pub returns-in-Empty-clause-between : goal.returns-in-Empty-clause-between
 returns-in-Empty-clause-between g c =
@@ -97,7 +99,7 @@ returns-in-Empty-clause-between g c =
 pub returns-in-Busy-clause-created : goal.returns-in-Busy-clause-created
 returns-in-Busy-clause-created g c =
     let a = c.in-Busy.ensures.answer in
-    made-none g.L.Rank.number c.args.class c.args.type_id.0 c.args.name c.args.values _ _ _ _ (in_hands (known_of g.W.Knows c.args.own.now).objects) _ c.call.ensures.said a.2.records (inr (_, a.0, a.1, refl)) (c.allocate.ensures.lives ∙ ap (λ (x : Known). in_hands x.objects) c.call.ensures.known)
+    made-none g.L.Rank.number c.args.class c.args.type_id.0 c.args.name c.args.values _ _ _ _ (in_hands (known_of g.W.Knows c.args.own.now).objects) _ c.call.ensures.said a.2.records (inr (_, a.0, a.1, refl)) (c.allocate.ensures.lives.0 ∙ ap (λ (x : Known). in_hands x.objects) c.call.ensures.known)
 
 pub returns-in-Busy-clause-between : goal.returns-in-Busy-clause-between
 returns-in-Busy-clause-between g c =
@@ -130,4 +132,22 @@ returns-in-Unit-clause-tied g c =
     let i = c.args.class in
     let before : List Entry = entry.Enter i 1 ∷ entry.Pop i u.number ∷ entry.Count i a.0 ∷ entry.Leave i a.1 ∷ raise_below i a.0 in
     let F : Option (ℕ × ℕ) → Type 0 = λ z. Records g.L.Rank.number (before ++ given u.number (u.life + 1) z ∷ []) (log_of c.call.new.own) (log_of k) in
-    tied-begun g.W.Knows g.B.Since.since g.B.Since.start g.L.Rank.number u.number (u.life + 1) c.args.type_id.0 c.duplicate-fields.result u.seal before (log_of c.call.new.own) k (with_side k c.begin_life.new.self) (subst (λ v. IfSome (log_of c.call.new.own) (AsksFor g.L.Rank.number v)) (sym c.duplicate-fields.ensures) (asked-behind g.L.Rank.number c.args.name c.args.values (log_of c.args.own.now) (log_of c.call.new.own) c.call.ensures.said)) (raises-none i a.0 c.duplicate-fields.result) (subst F (seals-same u.seal) a.4) refl (b.does home, ap (λ (x : Known). x.grace.processor) b.known) s.1
+    tied-begun g.W.Knows g.B.Since.since g.B.Since.start g.L.Rank.number u.number (u.life + 1) c.args.type_id.0 c.duplicate-fields.result u.seal before (log_of c.call.new.own) k (with_side k c.begin_life.new.self) (subst (λ v. IfSome (log_of c.call.new.own) (AsksFor g.L.Rank.number v)) (sym c.duplicate-fields.ensures) (asked-behind g.L.Rank.number c.args.name c.args.values (log_of c.args.own.now) (log_of c.call.new.own) c.call.ensures.said)) (raises-none i a.0 c.duplicate-fields.result) (subst F (seals-same u.seal) a.4) refl (b.does home, ap (λ (x : Known). x.grace.processor) b.known, ap (λ (x : Known). graph_names_in x.objects.graphs) b.known) s.1
+
+pub returns-in-Unit-clause-items : goal.returns-in-Unit-clause-items
+returns-in-Unit-clause-items g c =
+    let d : Declared = declared_in c.args.program.now.scenario.now in
+    let k : Known = known_of g.W.Knows c.allocate.new.own in
+    let u : UnitState = c.in-Unit.unit in
+    let b = c.begin_life.ensures in
+    let r = c.allocate.ensures.lives.1 in
+    record {
+      graphs = ap (λ (x : Known). x.objects.graphs) b.known ∙ (r.graphs ∙ ap (λ (x : Known). x.objects.graphs) c.call.ensures.known);
+      items = ap (λ (x : Known). items_in x.objects) b.known ∙ (items-begun d k c.args.type_id.0 c.duplicate-fields.result u c.in-Unit.ensures.sound.0.ready.stocked b.none ∙ (r.items ∙ ap (λ (x : Known). items_in x.objects) c.call.ensures.known));
+    }
+
+pub returns-in-Empty-clause-items : goal.returns-in-Empty-clause-items
+returns-in-Empty-clause-items g c = (let r = c.allocate.ensures.lives.1 in record { graphs = r.graphs ∙ ap (λ (x : Known). x.objects.graphs) c.call.ensures.known; items = r.items ∙ ap (λ (x : Known). items_in x.objects) c.call.ensures.known })
+
+pub returns-in-Busy-clause-items : goal.returns-in-Busy-clause-items
+returns-in-Busy-clause-items g c = (let r = c.allocate.ensures.lives.1 in record { graphs = r.graphs ∙ ap (λ (x : Known). x.objects.graphs) c.call.ensures.known; items = r.items ∙ ap (λ (x : Known). items_in x.objects) c.call.ensures.known })

@@ -9,7 +9,7 @@ use Rattle.bm_law_scenario.specs.Declared.{Declared, declared_in}
 use Rattle.bm_cache.specs.Tokens.{number_of}
 use Rattle.bm_exec_levels.specs.AtTie.{owes-did, tied-closed, tied-open}
 use Rattle.bm_exec_levels.specs.Ready.{known_of}
-use Rattle.bm_exec_levels.specs.Slotted.{in_hands}
+use Rattle.bm_exec_levels.specs.Slotted.{in_hands, items_in}
 use Rattle.bm_exec_levels.specs.declared.processor.Processor.{Processor}
 use Rattle.bm_exec_levels.proofs.Made.{one-read}
 use Rattle.bm_exec_levels.proofs.Stocked.{hand-life, hand-values}
@@ -40,7 +40,7 @@ pub returns-clause-lists : goal.returns-clause-lists
 returns-clause-lists g c = ap (seen number_of) c.call.ensures.shown
 
 pub returns-clause-lives : goal.returns-clause-lives
-returns-clause-lives g c = ap (λ (x : Known). in_hands x.objects) c.call.ensures.known
+returns-clause-lives g c = (ap (λ (x : Known). in_hands x.objects) c.call.ensures.known, record { graphs = ap (λ (x : Known). x.objects.graphs) c.call.ensures.known; items = ap (λ (x : Known). items_in x.objects) c.call.ensures.known })
 
 pub returns-clause-tied : goal.returns-clause-tied
 returns-clause-tied g c =
@@ -50,5 +50,5 @@ returns-clause-tied g c =
     let start = g.B.Since.start in
     let m : Processor g.row.W.Denot = c.args.own.now in
     let x = c.read-value.result in
-    let did = owes-did g.W.Knows since start l [] (act.Finds o.unit o.life c.args.place x ∷ []) [] m m.side (c.read-value.ensures.does, refl) (tied-open g.W.Knows since start l m c.requires.tied) in
+    let did = owes-did g.W.Knows since start l [] (act.Finds o.unit o.life c.args.place x ∷ []) [] m m.side (c.read-value.ensures.does, refl, refl) (tied-open g.W.Knows since start l m c.requires.tied) in
     tied-closed g.W.Knows since start l (act.Finds o.unit o.life c.args.place x ∷ []) (entry.Get o.unit o.life c.args.place x ∷ []) c.call.new.own (record { chunk = chunk.Finding o.unit o.life c.args.place x; free = refl; acts_are = refl; entries_are = refl }) (c.call.ensures.owes (act.Finds o.unit o.life c.args.place x ∷ []) did)

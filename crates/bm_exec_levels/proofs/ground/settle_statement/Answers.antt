@@ -54,3 +54,13 @@ returns-clause-asked g c =
     let most = w.goes.keeps.0.asks_most in
     let F : Processor g.row.W.Denot → Type 0 = λ x. asked_of g.W.Knows s x ≤ asked_of g.W.Knows s m + 1 in
     subst F (sym lent) (omega (arith, most)))
+
+pub returns-clause-locked : goal.returns-clause-locked
+returns-clause-locked g c =
+    let m : Processor g.row.W.Denot = c.args.own.now in
+    let k : Processor g.row.W.Denot = c.until_down-settled.new.host.own.now in
+    on-ok c.until_down-settled.result _ _ c.until_down-settled.ensures.works (λ w.
+    let through = ap (λ (f : Face). f.through) w.goes.face in
+    let lent : c.own-2-1.given.0 ≡ k = search (rules, through) in
+    let F : Processor g.row.W.Denot → Type 0 = λ x. x.locked ≡ m.locked in
+    subst F (sym lent) w.goes.keeps.0.locked)

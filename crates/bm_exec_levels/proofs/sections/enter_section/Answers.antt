@@ -4,6 +4,7 @@ use Rattle.bm_grace.specs.Known.{Known, side}
 use Rattle.bm_grace.specs.declared.step.StepKind.TheVariants.{Enter}
 use Rattle.bm_journal.specs.declared.entry.Entry.TheVariants as entry
 use Rattle.bm_law_order.specs.Act as act
+use Rattle.bm_law_order.specs.Graphs.{graph_names_in}
 use Rattle.bm_law_order.specs.Chunk as chunk
 use Rattle.bm_exec_levels.specs.AtTie.{tied-told}
 use Rattle.bm_exec_levels.specs.Ready.{known_of, word_of}
@@ -35,4 +36,4 @@ returns-clause-tied g c since start t =
     let d = c.args.domain in
     let k : Processor g.row.W.Denot = record m { caches = c.note.new.self; side = c.enter-word.new.self; inside = c.inside_after-own.result } in
     let word = c.enter-word.result in
-    tied-told g.W.Knows since start c.args.level m k (act.Enters d word ∷ []) (entry.In d word) (record { chunk = chunk.Entering d word; free = refl; acts_are = refl; entries_are = refl }) (c.enter-word.ensures.does, ap (λ (x : Known). x.grace.processor) c.enter-word.ensures.known ∙ moved-processor Enter g.W.Knows.tells d (known_of g.W.Knows m)) c.note.ensures.step.records t
+    tied-told g.W.Knows since start c.args.level m k (act.Enters d word ∷ []) (entry.In d word) (record { chunk = chunk.Entering d word; free = refl; acts_are = refl; entries_are = refl }) (c.enter-word.ensures.does, ap (λ (x : Known). x.grace.processor) c.enter-word.ensures.known ∙ moved-processor Enter g.W.Knows.tells d (known_of g.W.Knows m), ap (λ (x : Known). graph_names_in x.objects.graphs) c.enter-word.ensures.known) c.note.ensures.step.records t

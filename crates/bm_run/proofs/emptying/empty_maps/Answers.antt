@@ -9,6 +9,7 @@ use Rattle.bm_world.specs.LivingState.{LivingState}
 use Rattle.bm_world.specs.ToldLiving.{knows_living}
 use Rattle.bm_exec_levels.specs.AtProcessor.{Between, lists_of, log_of}
 use Rattle.bm_exec_levels.specs.declared.processor.Processor.{Processor}
+use Rattle.bm_exec_levels.specs.Hosting.{lives-joined}
 use Rattle.bm_exec_levels.proofs.Noted.{between-join}
 use Rattle.bm_run.proofs.Emptied.{grew-map-more}
 use Rattle.bm_run.proofs.emptying.empty_maps.Goals as goal
@@ -37,7 +38,7 @@ loop-index-preserved g c =
       sound = e.sound;
       tied = e.tied;
       emptied = subst (λ (ms : List MapDeclaration). GrewBy (EmptiesMaps types ms) (lists_of a) (log_of a) (log_of d)) (sym next) grew;
-      lives = e.lives ∙ h.lives;
+      lives = lives-joined knows_living a b d h.lives e.lives;
       between = subst (λ n. Between knows_living n 0 0 p a d) twice (between-join knows_living (2 * i) 0 2 0 0 p a b d h.between e.between);
     }
 

@@ -7,6 +7,7 @@ use Rattle.bm_world.specs.ToldLiving.{knows_living}
 use Rattle.bm_exec.specs.Living.{Exchanged, HasType}
 use Rattle.bm_exec_levels.specs.AtProcessor.{lives_of, log_of}
 use Rattle.bm_exec_levels.specs.declared.processor.Processor.{Processor}
+use Rattle.bm_exec_levels.specs.Hosting.{items-joined}
 use Rattle.bm_exec_levels.proofs.Grounds.{sound-still}
 use Rattle.bm_exec_levels.proofs.Noted.{between-join}
 use Rattle.bm_run.proofs.Emptied.{emptied-lives, emptied-none, emptied-some, taken-class, taken-lives, taken-type}
@@ -35,7 +36,7 @@ returns-in_default-clause-lives g c =
     let a : Processor LivingState = c.args.own.now in
     let b : Processor LivingState = c.exchange.new.own in
     let got : Found types m c.duplicate-name.result a b None = subst (Found types m c.duplicate-name.result a b) c.in_default.is (c.exchange.ensures.exchanged m c.requires.slot) in
-    got.takes
+    (got.takes, c.exchange.ensures.items)
 
 pub returns-in_default-clause-sound : goal.returns-in_default-clause-sound
 returns-in_default-clause-sound g c = sound-still knows_living 1 c.args.program.now c.args.own.now c.exchange.new.own c.exchange.ensures.between c.exchange.ensures.at c.requires.sound
@@ -96,8 +97,10 @@ returns-clause-lives g c =
     let o : ObjId = c.in-Some.object in
     let e = c.exchange.ensures in
     let got : Found types m c.duplicate-name.result a b (Some o) = subst (Found types m c.duplicate-name.result a b) c.in-Some.is (e.exchanged m c.requires.slot) in
-    let typed : HasType types m.type_id.0 c.is_counted-counted.result = subst (λ (ts : List TypeDeclaration). HasType ts m.type_id.0 c.is_counted-counted.result) c.as_slice.ensures c.is_counted-counted.ensures in
-    emptied-lives c.args.program.now a b types m c.duplicate-name.result 1 c.duplicate-name.ensures c.requires.sound.fine e.between c.give_up.new.own o c.is_counted-counted.result got typed c.give_up.ensures.disposed
+    let typed : HasType types m.type_id.0 c.is_counted-counted.result = subst (λ (ts : List TypeDeclaration). HasType ts m.type_id.0 c.is_counted-counted.result) c.as_slice.ensures c.is_counted-counted.ensures in (
+      emptied-lives c.args.program.now a b types m c.duplicate-name.result 1 c.duplicate-name.ensures c.requires.sound.fine e.between c.give_up.new.own o c.is_counted-counted.result got typed c.give_up.ensures.disposed,
+      items-joined knows_living a b c.give_up.new.own e.items c.give_up.ensures.items,
+    )
 
 pub returns-clause-between : goal.returns-clause-between
 returns-clause-between g c = between-join knows_living 1 0 1 0 0 c.args.program.now c.args.own.now c.exchange.new.own c.give_up.new.own c.exchange.ensures.between c.give_up.ensures.between

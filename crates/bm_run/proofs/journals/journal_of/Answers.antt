@@ -75,7 +75,7 @@ graphs-none c = search rules
 
 -- nor is one called
 order-none : (c : goal.After-result-1) → CallNone (whole (named_turns c.args.scenario.now.turns) c.args.logs.items)
-order-none c = uncalled-is c.args.scenario.now (named_turns c.args.scenario.now.turns) c.args.logs.items c.requires.closed
+order-none c = uncalled-is c.args.scenario.now (named_turns c.args.scenario.now.turns) c.args.logs.items c.requires.closed c.requires.yet.slots
 
 graphs-lawful : (c : goal.After-result-1) → GraphLaws c.in_ok-maps.maps (history_of c.new-graphs.result) c.args.logs.items
 graphs-lawful c =

@@ -1,4 +1,5 @@
 use Rattle.std.proofs.Common.{◌≡◌, ◌∙◌, ap, List, None, subst, sym}
+use Rattle.bm_world.specs.Graphs.{AreBare}
 use Rattle.bm_world.specs.LivingState.{LivingState}
 use Rattle.bm_page.specs.Stock.{Stock}
 use Rattle.bm_lang.specs.declared.scenario.Parts.{Parts}
@@ -6,11 +7,15 @@ use Rattle.bm_lang.specs.Fine.{HasConditions}
 use Rattle.bm_lang.specs.Limits.{first_limit}
 use Rattle.bm_exec_levels.specs.declared.kept.Kept.{Kept}
 use Rattle.bm_exec_levels.specs.declared.program.Program.{Program}
-use Rattle.bm_run.specs.Opened.{empty_slots}
+use Rattle.bm_run.specs.Opened.{empty_graphs, empty_slots}
 use Rattle.bm_run.specs.Openings.{AreFilled, AreOpen}
-use Rattle.bm_run.proofs.OpeningLemmas.{living_side, side-is}
+use Rattle.bm_run.proofs.OpeningLemmas.{bare-empty, living_side, side-is}
 use Rattle.bm_run.proofs.OpeningTurns.{all-open}
 use Rattle.bm_run.proofs.opening.open_all.Goals as goal
+
+-- nothing is in the lists and trees
+pub open_side-requires-clause-bare : goal.open_side-requires-clause-bare
+open_side-requires-clause-bare c = subst AreBare (sym (c.in_ok-graphs.ensures ∙ ap empty_graphs c.as_slice-2.ensures)) (bare-empty c.args.program.now.scenario.now.maps)
 
 pub returns-in-Ok-open_side : goal.returns-in-Ok-open_side
 returns-in-Ok-open_side c =
@@ -26,4 +31,4 @@ returns-in-Ok-open_side c =
     let done : AreOpen p c.args.classes.now kept (living_side s.processors 0 pool world.slots world.begun world.standings s.maps) =
     all-open p c.args.classes.now kept pool world.slots world.begun world.standings c.requires.fits (subst HasConditions same c.requires.fine)
     (subst (λ (x : Parts). first_limit x ≡ None) same c.requires.limits) k.many filled w.slots w.begun w.standings in
-    subst (AreOpen p c.args.classes.now kept) (sym (side-is s.processors 0 world pool s.maps w.side w.asked (w.contents ∙ (c.in_ok-contents.ensures ∙ ap empty_slots c.as_slice.ensures)))) done
+    subst (AreOpen p c.args.classes.now kept) (sym (side-is s.processors 0 world pool s.maps w.side w.asked (w.contents ∙ (c.in_ok-contents.ensures ∙ ap empty_slots c.as_slice.ensures)) (w.graphs ∙ (c.in_ok-graphs.ensures ∙ ap empty_graphs c.as_slice-2.ensures)))) done

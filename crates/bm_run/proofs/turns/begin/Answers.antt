@@ -40,7 +40,7 @@ returns-clause-begun c = λ w down.
     let m : Processor LivingState = c.args.own.now in
     let e = rw c.section_of-domain.ensures at c.begin_script.ensures in
     let out = even-out m.inside (word_of knows_living Plain m) c.requires.sound.at.ready.inside (c.requires.outside Plain) in
-    has-begun c.args.program.now m c.begin_script.new.own _ w (program-declared c.args.program.now.types c.args.program.now.scenario.now c.requires.sound.at.ready.fits.types c.requires.sound.at.ready.fits.maps) out c.requires.outside c.requires.found down e.known e.inside e.same e.lists e.wrote c.in_ok-activation.ensures.start
+    has-begun c.args.program.now m c.begin_script.new.own _ w (program-declared c.args.program.now.types c.args.program.now.scenario.now c.requires.sound.at.ready.fits.types c.requires.sound.at.ready.fits.maps) out c.requires.unlocked c.requires.outside c.requires.found down e.known e.inside e.same e.lists e.wrote c.in_ok-activation.ensures.start
 
 pub returns-clause-yields : goal.returns-clause-yields
 returns-clause-yields c = stand-unyielding _ _ _ _ (tt, (tt, tt)) c.begin_script.ensures.wrote.grew

@@ -28,9 +28,9 @@ returns-clause-ended g c =
     let e = rw c.section_of.ensures at c.end_script.ensures in
     let x = c.settle_behind.ensures in
     let r = c.settle_behind.result in
-    let all = and-ok r _ _ (and-ok r _ _ x.wrote x.down) (and-ok r _ _ x.lives x.asked) in
+    let all = and-ok r _ _ (and-ok r _ _ x.wrote x.down) (and-ok r _ _ (and-ok r _ _ x.lives x.asked) x.locked) in
     both-on-ok r _ _ _ all x.statements (λ u st.
-    has-ended p m m1 c.settle_behind.new.own c.args.script.now (behind_of c.args.deferred.now.behind) c.requires.sound (c.end_script.ensures.sound p c.requires.sound) c.requires.inside c.requires.outer c.requires.apart e.known e.inside e.same e.wrote u.0.0 u.0.1 u.1.0 u.1.1 st)
+    has-ended p m m1 c.settle_behind.new.own c.args.script.now (behind_of c.args.deferred.now.behind) c.requires.sound (c.end_script.ensures.sound p c.requires.sound) c.requires.inside c.requires.outer c.requires.apart c.requires.unlocked e.known e.inside e.same e.wrote u.0.0 u.0.1 u.1.0.0 u.1.0.1 st u.1.1)
 
 pub returns-clause-yields : goal.returns-clause-yields
 returns-clause-yields g c =

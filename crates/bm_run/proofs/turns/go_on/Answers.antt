@@ -1,4 +1,6 @@
 use Rattle.std.proofs.Common.{◌≡◌, ◌∙◌, ◌%◌, ap, arith, refl, rules, subst, sym}
+use Rattle.std.specs.Option.{option_map}
+use Rattle.bm_lang.specs.declared.scenario.MapId.{MapId}
 use Rattle.bm_world.specs.LivingState.{LivingState}
 use Rattle.bm_exec.specs.Lists.{behind_of}
 use Rattle.bm_exec_levels.specs.AtTie.{TiedAt}
@@ -12,11 +14,14 @@ use Rattle.bm_world.specs.ToldLiving.{knows_living}
 use Rattle.bm_run.specs.Turns.{HasRun, WentOn, domain_of, outermost}
 use Rattle.bm_run.specs.declared.turns.Begun.{Begun}
 use Rattle.bm_run.proofs.Beginning.{inside-of}
-use Rattle.bm_run.proofs.Stopping.{both-went, finishes-on, finishes-ran, if-went, section-kept}
+use Rattle.bm_run.proofs.Stopping.{both-went, finishes-on, finishes-ran, if-went, none-locked, section-kept}
 use Rattle.bm_run.proofs.turns.go_on.Goals as goal
 
 pub resume-stopped-requires-clause-can : goal.resume-stopped-requires-clause-can
 resume-stopped-requires-clause-can g c = rw (c.is_plain-within.ensures, program-declared c.args.program.now.types c.args.program.now.scenario.now c.requires.sound.at.ready.fits.types c.requires.sound.at.ready.fits.maps) c.requires.stands.can
+
+pub resume-stopped-requires-clause-unlocked : goal.resume-stopped-requires-clause-unlocked
+resume-stopped-requires-clause-unlocked g c = λ _. ap (option_map (λ (x : MapId). x.0)) c.requires.stands.unlocked
 
 pub returns-clause-yielded : goal.returns-clause-yielded
 returns-clause-yielded g c = λ y.
@@ -47,6 +52,7 @@ returns-clause-yielded g c = λ y.
         within = sound.3;
         inside = ap (λ n. n % 2) word ∙ stands.inside;
         apart = λ q. ap (λ n. n % 2) tracing ∙ stands.apart q;
+        unlocked = none-locked k.locked ((rw y at e.unlocked) refl);
       };
       owns = went.holds;
       used = (let a = went.cost in omega (arith, a, tracing));
@@ -74,6 +80,7 @@ returns-clause-ended g c = λ y.
       grew = finishes-ran (declared_in s) _ _ _ _ _ _ _ _ (e.ended y);
       down = rw y at e.down;
       inside = inside-of _ k sound.3 (around (outermost b) stands.sections);
+      unlocked = none-locked k.locked ((rw y at e.unlocked) refl);
       owns = e.lives y;
       used = omega (arith, asked, tracing);
     } in

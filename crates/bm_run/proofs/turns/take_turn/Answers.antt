@@ -94,6 +94,10 @@ scripts-preserved g c =
       light = omega (arith, light, less, before);
     }
 
+-- the script holds no lock where it stops
+pub finish-requires-clause-unlocked : goal.finish-requires-clause-unlocked
+finish-requires-clause-unlocked g c = (c.go_on-stopped.ensures.ended c.in-Ended.is).unlocked
+
 -- the script stops in its section
 pub finish-requires-clause-inside : goal.finish-requires-clause-inside
 finish-requires-clause-inside g c =

@@ -2,7 +2,7 @@ use Rattle.std.proofs.Common.{◌∙◌, ap}
 use Rattle.std.specs.Prelude.{is_some, slice_get}
 use Rattle.bm_world.specs.Lives.{count_in, values_in}
 use Rattle.bm_world.specs.LivingState.{known_living}
-use Rattle.bm_tests_world.proofs.Begun.{begun-here, begun-life}
+use Rattle.bm_tests_world.proofs.Begun.{begun-alone, begun-here, begun-life}
 use Rattle.bm_tests_world.proofs.living_tests.a_unit_has_fields.Goals as goal
 
 pub read-requires-clause-lives : goal.read-requires-clause-lives
@@ -29,3 +29,8 @@ pub end_life-last-requires-clause-only : goal.end_life-last-requires-clause-only
 end_life-last-requires-clause-only g c =
     let b = c.begin_life-object.ensures in
     ap count_in (begun-here 3 c.fields.result c.fetch_one-unit.result (known_living c.fetch_one-unit.new.world) (known_living c.begin_life-object.new.self) c.begin_life-object.result b.object b.known)
+
+pub end_life-last-requires-clause-alone : goal.end_life-last-requires-clause-alone
+end_life-last-requires-clause-alone g c =
+    let b = c.begin_life-object.ensures in
+    begun-alone 3 c.fields.result c.fetch_one-unit.result (known_living c.fetch_one-unit.new.world) (known_living c.begin_life-object.new.self) c.begin_life-object.result b.object b.known b.alone

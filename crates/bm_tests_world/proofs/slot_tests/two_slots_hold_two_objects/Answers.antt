@@ -1,14 +1,7 @@
-use Rattle.std.proofs.Common.{◌≡◌, ◌∙◌, List, Option, ap, length, subst, sym}
-use Rattle.bm_grace.specs.Known.{Living}
-use Rattle.bm_journal.specs.declared.ids.ObjId.{ObjId}
-use Rattle.bm_world.specs.Lives.{HasLife}
-use Rattle.bm_world.specs.LivingState.{LivingState, known_living, lives_of}
-use Rattle.bm_world.specs.declared.slots.Object.{Object}
-use Rattle.bm_tests_world.proofs.Begun.{begun-life, lives-beside}
+use Rattle.std.proofs.Common.{◌∙◌, ap, length}
+use Rattle.bm_world.specs.LivingState.{LivingState, known_living}
+use Rattle.bm_tests_world.proofs.Begun.{begun-life, kept-life, lives-beside}
 use Rattle.bm_tests_world.proofs.slot_tests.two_slots_hold_two_objects.Goals as goal
-
-kept-life : (before now : List (Option Object)) (o : ObjId) (l : Living) → now ≡ before → HasLife (lives_of before) o.unit o.life l → HasLife (lives_of now) o.unit o.life l
-kept-life before now o l same was = subst (λ (slots : List (Option Object)). HasLife (lives_of slots) o.unit o.life l) (sym same) was
 
 pub loop-case-init : goal.loop-case-init
 loop-case-init g c =

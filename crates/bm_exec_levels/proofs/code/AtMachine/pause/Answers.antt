@@ -24,4 +24,4 @@ returns-clause-keeps g c =
     let p = c.args.self.now.program.now in
     let n = rw c.level.ensures.number at c.note.ensures.step in
     let b = between-noted g.W.Knows l p m c.note.new.self entry.Yield c.note.ensures.same n.processor c.note.ensures.placed n.records c.requires.sound.1 in
-    (record { came = b.came; asks = 0; stays = b.stays; goes = b.goes; fewer = b.fewer }, refl)
+    (record { came = b.came; asks = 0; stays = b.stays; above = λ h. (refl, record { graphs = refl; items = refl }); goes = b.goes; fewer = b.fewer }, refl)

@@ -1,7 +1,7 @@
-use Rattle.std.proofs.Common.{◌≡◌, ◌∙◌, ◌<◌, ℕ, List, Some, ap, length, map, subst, sym, true}
+use Rattle.std.proofs.Common.{◌≡◌, ◌∙◌, ◌<◌, ℕ, List, Some, ap, length, map, subst, sym}
 use Rattle.std.proofs.lemmas.List.{length-map}
-use Rattle.bm_law_order.specs.Slots.{Contents, Named, named_in, with_slot}
-use Rattle.bm_world.specs.Contents.{are_apart, names_in, put_at, slot_at}
+use Rattle.bm_law_order.specs.Slots.{Named, named_in}
+use Rattle.bm_world.specs.Contents.{are_apart, names_in}
 use Rattle.bm_world.specs.NamedSlots.{named_of}
 use Rattle.bm_world.specs.declared.contents.MapSlot.{MapSlot}
 use Rattle.bm_world.proofs.NamedLemmas.{named-there, names-stay, told-put, told-set, told-slot}

@@ -11,6 +11,7 @@ use Rattle.bm_world.proofs.SlotLemmas.{no-object, object-same}
 use Rattle.bm_world.specs.Slots.{new_object, object_at}
 use Rattle.bm_world.proofs.LivingDid.{does-make}
 use Rattle.bm_world.proofs.Alive.{lives-not}
+use Rattle.bm_world.proofs.Shelving.{nothing-there, shelved-begun}
 use Rattle.bm_world.proofs.living.LivingSideLives.begin_life.Goals as goal
 
 pub invariant_of-self : goal.invariant_of-self
@@ -22,10 +23,14 @@ invariant_of-self c =
     let settled = lives-so i.begun.counts.items i.standings.standings.items u.number u.life u.seal used in
     let home = subst (λ k. u.home < k) (sym c.processors_agree.ensures) (subst (λ (s : LivingState). u.home < s.side.grace.processors) (sym c.self.view_is) c.requires.home) in
     let room = subst (λ (s : LivingState). s.asked + 1 < 2 ^ 31) (sym c.self.view_is) c.requires.room in
+    let number = (room-of u.number u.life u.seal (has-room i.begun.counts.items u.number u.life settled)).0 in
+    let size = c.self.invariant.0.size in
+    let there : u.number < length i.slots.slots.items = omega (arith, number, size) in
+    let none = lives-not i.side.grace.plain.number i.side.grace.tracing.number i.standings.standings.items i.side.post i.slots.slots.items i.begun.counts.items u.number mine in
     let put = rw c.begin_life.ensures at c.put.ensures in
     let said = rw c.begin_life.ensures at (rw c.life.ensures at (rw c.number.ensures at c.set.ensures)) in
     let stood = rw c.begin_life.ensures at (rw c.number.ensures at c.set-2.ensures.standings) in
-    (rw (put, said, stood) (living-begun i.side.post i.side.grace.plain.number i.side.grace.tracing.number i.slots.slots.items i.begun.counts.items i.standings.standings.items i.asked c.args.type_number c.args.values u room mine settled home c.self.invariant.0), ap length c.set-2.ensures.before ∙ c.self.invariant.1)
+    (rw (put, said, stood) (living-begun i.side.post i.side.grace.plain.number i.side.grace.tracing.number i.slots.slots.items i.begun.counts.items i.standings.standings.items i.asked c.args.type_number c.args.values u room mine settled home c.self.invariant.0), ap length c.set-2.ensures.before ∙ c.self.invariant.1, rw put (shelved-begun i.slots.slots.items i.graphs c.args.type_number c.args.values u none there c.self.invariant.2))
 
 pub returns-clause-next : goal.returns-clause-next
 returns-clause-next c =
@@ -53,7 +58,7 @@ pub returns-clause-does : goal.returns-clause-does
 returns-clause-does c h =
     let i = c.self.inside in
     let u = c.args.unit in
-    let a : LivingState = record { side = i.side; slots = i.slots.slots.items; begun = i.begun.counts.items; standings = i.standings.standings.items; asked = i.asked; contents = i.contents } in
+    let a : LivingState = record { side = i.side; slots = i.slots.slots.items; begun = i.begun.counts.items; standings = i.standings.standings.items; asked = i.asked; contents = i.contents; graphs = i.graphs } in
     let mine = subst (λ (s : LivingState). (rights_living s).mine u.number ≡ true) (sym c.self.view_is) c.requires.mine in
     let used = subst (λ (s : LivingState). may_be_used s.begun s.standings u.number u.life u.seal ≡ true) (sym c.self.view_is) c.requires.settled in
     let settled = lives-so i.begun.counts.items i.standings.standings.items u.number u.life u.seal used in
@@ -81,7 +86,7 @@ pub returns-clause-known : goal.returns-clause-known
 returns-clause-known c =
     let i = c.self.inside in
     let u = c.args.unit in
-    let a : LivingState = record { side = i.side; slots = i.slots.slots.items; begun = i.begun.counts.items; standings = i.standings.standings.items; asked = i.asked; contents = i.contents } in
+    let a : LivingState = record { side = i.side; slots = i.slots.slots.items; begun = i.begun.counts.items; standings = i.standings.standings.items; asked = i.asked; contents = i.contents; graphs = i.graphs } in
     let used = subst (λ (s : LivingState). may_be_used s.begun s.standings u.number u.life u.seal ≡ true) (sym c.self.view_is) c.requires.settled in
     let settled = lives-so i.begun.counts.items i.standings.standings.items u.number u.life u.seal used in
     let number = (room-of u.number u.life u.seal (has-room i.begun.counts.items u.number u.life settled)).0 in
@@ -97,8 +102,14 @@ pub returns-clause-others : goal.returns-clause-others
 returns-clause-others c =
     let i = c.self.inside in
     let u = c.args.unit in
-    let a : LivingState = record { side = i.side; slots = i.slots.slots.items; begun = i.begun.counts.items; standings = i.standings.standings.items; asked = i.asked; contents = i.contents } in
+    let a : LivingState = record { side = i.side; slots = i.slots.slots.items; begun = i.begun.counts.items; standings = i.standings.standings.items; asked = i.asked; contents = i.contents; graphs = i.graphs } in
     let put = rw c.begin_life.ensures at c.put.ensures in
     let said = rw c.begin_life.ensures at (rw c.life.ensures at (rw c.number.ensures at c.set.ensures)) in
     let stood = rw c.begin_life.ensures at (rw c.number.ensures at c.set-2.ensures.standings) in
     rw (← c.self.view_is, put, said, stood) (begun-others c.args.type_number c.args.values u a)
+
+pub returns-clause-alone : goal.returns-clause-alone
+returns-clause-alone c =
+    let i = c.self.inside in
+    let mine = subst (λ (s : LivingState). (rights_living s).mine c.args.unit.number ≡ true) (sym c.self.view_is) c.requires.mine in
+    rw (← c.self.view_is) (nothing-there i.slots.slots.items i.graphs c.args.unit.number (lives-not i.side.grace.plain.number i.side.grace.tracing.number i.standings.standings.items i.side.post i.slots.slots.items i.begun.counts.items c.args.unit.number mine) c.self.invariant.2)

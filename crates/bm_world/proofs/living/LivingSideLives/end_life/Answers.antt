@@ -10,12 +10,14 @@ use Rattle.bm_page.specs.UnitState.{UnitState}
 use Rattle.bm_world.specs.Lives.{count_in, life_of_unit, type_in, values_in}
 use Rattle.bm_world.specs.Slots.{object_at}
 use Rattle.bm_world.specs.ToldLiving.{life_of}
+use Rattle.bm_law_order.specs.Graphs.{standing_from}
+use Rattle.bm_world.proofs.Shelving.{shelved-set}
 use Rattle.bm_world.proofs.living.LivingSideLives.end_life.Goals as goal
 
 pub invariant_of-self : goal.invariant_of-self
 invariant_of-self c =
     let i = c.self.inside in
-    (rw (c.take.ensures.empty, c.end_standing.ensures.standings, c.end_standing.ensures.side) (living-ended c.args.delayed i.side.post i.side.grace i.slots.slots.items i.begun.counts.items i.standings.standings.items i.asked c.args.number c.take.result c.take.ensures.unit c.self.invariant.0), ap length c.end_standing.ensures.before ∙ c.self.invariant.1)
+    (rw (c.take.ensures.empty, c.end_standing.ensures.standings, c.end_standing.ensures.side) (living-ended c.args.delayed i.side.post i.side.grace i.slots.slots.items i.begun.counts.items i.standings.standings.items i.asked c.args.number c.take.result c.take.ensures.unit c.self.invariant.0), ap length c.end_standing.ensures.before ∙ c.self.invariant.1, rw c.take.ensures.empty (shelved-set i.slots.slots.items i.graphs c.args.number None (within i.slots.slots.items c.args.number c.take.result c.take.ensures.unit) (sym (subst (λ (s : LivingState). standing_from 0 s.graphs c.args.number ≡ None) (sym c.self.view_is) c.requires.alone)) c.self.invariant.2))
 
 pub returns-clause-mine : goal.returns-clause-mine
 returns-clause-mine c =
@@ -67,7 +69,7 @@ returns-clause-does c =
     let i = c.self.inside in
     let n = c.args.number in
     let u = c.take.result in
-    let a : LivingState = record { side = i.side; slots = i.slots.slots.items; begun = i.begun.counts.items; standings = i.standings.standings.items; asked = i.asked; contents = i.contents } in
+    let a : LivingState = record { side = i.side; slots = i.slots.slots.items; begun = i.begun.counts.items; standings = i.standings.standings.items; asked = i.asked; contents = i.contents; graphs = i.graphs } in
     let inside = within i.slots.slots.items n u c.take.ensures.unit in
     let size = c.self.invariant.0.size in
     let stands = c.self.invariant.0.standing.size in
@@ -97,11 +99,11 @@ pub returns-clause-known : goal.returns-clause-known
 returns-clause-known c =
     let i = c.self.inside in
     let n = c.args.number in
-    let a : LivingState = record { side = i.side; slots = i.slots.slots.items; begun = i.begun.counts.items; standings = i.standings.standings.items; asked = i.asked; contents = i.contents } in
+    let a : LivingState = record { side = i.side; slots = i.slots.slots.items; begun = i.begun.counts.items; standings = i.standings.standings.items; asked = i.asked; contents = i.contents; graphs = i.graphs } in
     rw (← c.self.view_is, c.take.ensures.empty, c.end_standing.ensures.side) (known-ended c.args.delayed n a (object-same i.slots.slots.items n None (within i.slots.slots.items n c.take.result c.take.ensures.unit)))
 
 pub returns-clause-others : goal.returns-clause-others
 returns-clause-others c =
     let i = c.self.inside in
-    let a : LivingState = record { side = i.side; slots = i.slots.slots.items; begun = i.begun.counts.items; standings = i.standings.standings.items; asked = i.asked; contents = i.contents } in
+    let a : LivingState = record { side = i.side; slots = i.slots.slots.items; begun = i.begun.counts.items; standings = i.standings.standings.items; asked = i.asked; contents = i.contents; graphs = i.graphs } in
     rw (← c.self.view_is, c.take.ensures.empty, c.end_standing.ensures.standings, c.end_standing.ensures.side) (ended-others c.args.delayed c.args.number a)

@@ -21,5 +21,5 @@ returns-clause-does c =
     let lives = subst (λ (s : LivingState). (l : Living) × HasLife (lives_of s.slots) n life l) (sym c.self.view_is) c.requires.lives in
     let alive = is-living i.slots.slots.items n life lives.0 lives.1 in
     let counted = counted-at i.asked i.slots.slots.items n life alive (c.self.invariant.0.counted n) in
-    let a : LivingState = record { side = i.side; slots = i.slots.slots.items; begun = i.begun.counts.items; standings = i.standings.standings.items; asked = i.asked; contents = i.contents } in
+    let a : LivingState = record { side = i.side; slots = i.slots.slots.items; begun = i.begun.counts.items; standings = i.standings.standings.items; asked = i.asked; contents = i.contents; graphs = i.graphs } in
     rw (← c.self.view_is) (does-read n life c.args.place c.value.result a alive.object alive.is (sym alive.now_is ∙ c.self.invariant.0.life n alive.object.unit (ap unit_of alive.is)) c.value.ensures)

@@ -7,6 +7,7 @@ use Rattle.bm_world.specs.Slots.{count_of, object_at, unit_of}
 use Rattle.bm_world.proofs.Alive.{living-recounted, rights-recounted}
 use Rattle.bm_world.proofs.KnownLiving.{count-told, counted-at, is-living, known-given-up}
 use Rattle.bm_world.proofs.LivingDid.{does-recount, has-life}
+use Rattle.bm_world.proofs.Shelving.{shelved-counted}
 use Rattle.bm_world.proofs.living.LivingSideLives.release_other.Goals as goal
 
 pub invariant_of-self : goal.invariant_of-self
@@ -22,7 +23,7 @@ invariant_of-self c =
     let seen = c.references-count.ensures in
     let most = counted.1 in
     let few = c.self.invariant.0.few in
-    (rw c.count.ensures (living-recounted i.side.post i.side.grace.plain.number i.side.grace.tracing.number i.slots.slots.items i.begun.counts.items i.standings.standings.items i.asked i.asked n (c.references-count.result - 1) alive.within (omega (arith, seen, told, others)) (omega (arith, seen, most)) (omega arith) few c.self.invariant.0), c.self.invariant.1)
+    (rw c.count.ensures (living-recounted i.side.post i.side.grace.plain.number i.side.grace.tracing.number i.slots.slots.items i.begun.counts.items i.standings.standings.items i.asked i.asked n (c.references-count.result - 1) alive.within (omega (arith, seen, told, others)) (omega (arith, seen, most)) (omega arith) few c.self.invariant.0), c.self.invariant.1, rw c.count.ensures (shelved-counted i.slots.slots.items i.graphs n (c.references-count.result - 1) alive.within c.self.invariant.2))
 
 pub returns-clause-seen : goal.returns-clause-seen
 returns-clause-seen c =
@@ -37,7 +38,7 @@ returns-clause-known c =
     let lives = subst (λ (s : LivingState). (l : Living) × HasLife (lives_of s.slots) n life l) (sym c.self.view_is) c.requires.lives in
     let alive = is-living i.slots.slots.items n life lives.0 lives.1 in
     let counted = counted-at i.asked i.slots.slots.items n life alive (c.self.invariant.0.counted n) in
-    let a : LivingState = record { side = i.side; slots = i.slots.slots.items; begun = i.begun.counts.items; standings = i.standings.standings.items; asked = i.asked; contents = i.contents } in
+    let a : LivingState = record { side = i.side; slots = i.slots.slots.items; begun = i.begun.counts.items; standings = i.standings.standings.items; asked = i.asked; contents = i.contents; graphs = i.graphs } in
     rw (← c.self.view_is, c.count.ensures, c.references-count.ensures) (known-given-up n a alive.within)
 
 pub returns-clause-same : goal.returns-clause-same
@@ -58,8 +59,8 @@ returns-clause-does c =
     let lives = subst (λ (s : LivingState). (l : Living) × HasLife (lives_of s.slots) n life l) (sym c.self.view_is) c.requires.lives in
     let alive = is-living i.slots.slots.items n life lives.0 lives.1 in
     let counted = counted-at i.asked i.slots.slots.items n life alive (c.self.invariant.0.counted n) in
-    let a : LivingState = record { side = i.side; slots = i.slots.slots.items; begun = i.begun.counts.items; standings = i.standings.standings.items; asked = i.asked; contents = i.contents } in
+    let a : LivingState = record { side = i.side; slots = i.slots.slots.items; begun = i.begun.counts.items; standings = i.standings.standings.items; asked = i.asked; contents = i.contents; graphs = i.graphs } in
     let others = subst (λ (s : LivingState). 1 < count_in (lives_of s.slots n)) (sym c.self.view_is) c.requires.others in
     let more : 1 < count_of (object_at i.slots.slots.items n) = subst (λ k. 1 < k) (count-told (object_at i.slots.slots.items n)) others in
     let has = has-life n life a alive.object alive.is (sym alive.now_is ∙ c.self.invariant.0.life n alive.object.unit (ap unit_of alive.is)) in
-    rw (← c.self.view_is, c.count.ensures, c.references-count.ensures) (does-recount (act.GivesUp n life (count_of (object_at i.slots.slots.items n))) (λ k. k - 1) n life (count_of (object_at i.slots.slots.items n) - 1) a (with_given_up n a) (λ w. refl) (λ w. refl) (λ m. (tt, tt)) (λ p h. (h, more)) (λ p. refl) refl refl refl refl refl alive.within has refl (omega arith) (λ w. refl))
+    rw (← c.self.view_is, c.count.ensures, c.references-count.ensures) (does-recount (act.GivesUp n life (count_of (object_at i.slots.slots.items n))) (λ k. k - 1) n life (count_of (object_at i.slots.slots.items n) - 1) a (with_given_up n a) (λ w. refl) (λ w. refl) (λ m. (tt, tt)) (λ p h. (h, more)) (λ p. refl) refl refl refl refl refl alive.within has refl refl (omega arith) (λ w. refl) (λ names w. refl))

@@ -15,6 +15,7 @@ invariant_of-self c =
       rw c.fetch.ensures.grace (living-fetched i.side.grace.plain.number i.side.grace.tracing.number i.standings.standings.items c.fetch.result c.args.class c.args.want c.args.out.now.items c.fetch.new.out.items i.side.post c.fetch.new.self.post i.slots.slots.items i.begun.counts.items i.asked said.state said.err_state said.ok said.same
           (lived-fetched c.fetch.result c.args.class c.args.want i.begun.counts.items i.standings.standings.items i.side.post c.fetch.new.self.post said.state said.err_state k.lived) k),
       c.self.invariant.1,
+      c.self.invariant.2,
     )
 
 pub returns-clause-ok : goal.returns-clause-ok
@@ -26,4 +27,4 @@ returns-clause-ok c =
 pub returns-clause-does : goal.returns-clause-does
 returns-clause-does c =
     let i = c.self.inside in
-    rw (← c.self.view_is) (lifts-ok c.fetch.result (act.Fetches c.args.class c.args.want (numbers (drop (length c.args.out.now.items) c.fetch.new.out.items)) ∷ []) (record { side = i.side; slots = i.slots.slots.items; begun = i.begun.counts.items; standings = i.standings.standings.items; asked = i.asked; contents = i.contents }) (record { side = c.fetch.new.self; slots = i.slots.slots.items; begun = i.begun.counts.items; standings = i.standings.standings.items; asked = i.asked; contents = i.contents }) refl (omega arith) refl refl (on-ok c.fetch.result (keep-one (act.Fetches c.args.class c.args.want (numbers (drop (length c.args.out.now.items) c.fetch.new.out.items))) (λ w. refl) (waits_told i.standings.standings.items))) (on-ok c.fetch.result (kept-none (act.Fetches c.args.class c.args.want (numbers (drop (length c.args.out.now.items) c.fetch.new.out.items)) ∷ []) i.standings.standings.items)) (made-one (act.Fetches c.args.class c.args.want (numbers (drop (length c.args.out.now.items) c.fetch.new.out.items))) (λ w. refl) (λ w. refl)) c.fetch.ensures.does)
+    rw (← c.self.view_is) (lifts-ok c.fetch.result (act.Fetches c.args.class c.args.want (numbers (drop (length c.args.out.now.items) c.fetch.new.out.items)) ∷ []) (record { side = i.side; slots = i.slots.slots.items; begun = i.begun.counts.items; standings = i.standings.standings.items; asked = i.asked; contents = i.contents; graphs = i.graphs }) (record { side = c.fetch.new.self; slots = i.slots.slots.items; begun = i.begun.counts.items; standings = i.standings.standings.items; asked = i.asked; contents = i.contents; graphs = i.graphs }) refl refl (omega arith) refl refl (on-ok c.fetch.result (keep-one (act.Fetches c.args.class c.args.want (numbers (drop (length c.args.out.now.items) c.fetch.new.out.items))) (λ w. refl) (waits_told i.standings.standings.items))) (on-ok c.fetch.result (kept-none (act.Fetches c.args.class c.args.want (numbers (drop (length c.args.out.now.items) c.fetch.new.out.items)) ∷ []) i.standings.standings.items)) (made-one (act.Fetches c.args.class c.args.want (numbers (drop (length c.args.out.now.items) c.fetch.new.out.items))) (λ w. refl) (λ w. refl) (λ names w. refl)) c.fetch.ensures.does)

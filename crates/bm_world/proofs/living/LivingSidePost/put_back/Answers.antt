@@ -26,7 +26,7 @@ invariant_of-self c =
     let us = c.args.units.items in
     let holds = subst (λ (s : LivingState). Holds (rights_living s) us) (sym c.self.view_is) c.requires.mine in
     let fit = subst (λ (s : LivingState). All (MayLeave (rights_living s)) us) (sym c.self.view_is) c.requires.fit in
-    (rw (c.leave.ensures.standings, c.put_back.ensures.grace) (living-back i.side.post c.put_back.new.self.post i.side.grace.plain.number i.side.grace.tracing.number i.slots.slots.items i.begun.counts.items i.standings.standings.items i.asked us c.put_back.ensures.state holds fit c.put_back.ensures.back c.self.invariant.0), ap length c.leave.ensures.before ∙ (copied-size us i.standings.standings.items i.standings.before.items ∙ c.self.invariant.1))
+    (rw (c.leave.ensures.standings, c.put_back.ensures.grace) (living-back i.side.post c.put_back.new.self.post i.side.grace.plain.number i.side.grace.tracing.number i.slots.slots.items i.begun.counts.items i.standings.standings.items i.asked us c.put_back.ensures.state holds fit c.put_back.ensures.back c.self.invariant.0), ap length c.leave.ensures.before ∙ (copied-size us i.standings.standings.items i.standings.before.items ∙ c.self.invariant.1), c.self.invariant.2)
 
 pub returns-clause-back : goal.returns-clause-back
 returns-clause-back c =
@@ -42,9 +42,9 @@ returns-clause-does c =
     let t = i.side.grace.tracing.number in
     let holds = subst (λ (s : LivingState). Holds (rights_living s) us) (sym c.self.view_is) c.requires.mine in
     let fit = subst (λ (s : LivingState). All (MayLeave (rights_living s)) us) (sym c.self.view_is) c.requires.fit in
-    let a : LivingState = record { side = i.side; slots = i.slots.slots.items; begun = i.begun.counts.items; standings = ss; asked = i.asked; contents = i.contents } in
+    let a : LivingState = record { side = i.side; slots = i.slots.slots.items; begun = i.begun.counts.items; standings = ss; asked = i.asked; contents = i.contents; graphs = i.graphs } in
     let waits = waits-left (act.Returns (sealed us)) p t i.slots.slots.items us ss (λ x y h. h) c.self.invariant.0.standing holds.once (numbers-fit p t ss i.side.post i.slots.slots.items i.begun.counts.items us c.self.invariant.0.standing.size fit) (leave-over p t ss i.side.post i.slots.slots.items i.begun.counts.items us fit) in
-    rw (← c.self.view_is, c.leave.ensures.standings) (lifts-so (act.Returns (sealed us) ∷ []) a (record a { side = c.put_back.new.self; standings = left_by us ss }) refl (omega arith) refl refl waits (λ n s. kept-sealed us ss n s.0) (made-one (act.Returns (sealed us)) (λ w. refl) (λ w. refl)) c.put_back.ensures.does)
+    rw (← c.self.view_is, c.leave.ensures.standings) (lifts-so (act.Returns (sealed us) ∷ []) a (record a { side = c.put_back.new.self; standings = left_by us ss }) refl refl (omega arith) refl refl waits (λ n s. kept-sealed us ss n s.0) (made-one (act.Returns (sealed us)) (λ w. refl) (λ w. refl) (λ names w. refl)) c.put_back.ensures.does)
 
 pub returns-clause-lasts : goal.returns-clause-lasts
 returns-clause-lasts c =
@@ -65,6 +65,6 @@ returns-clause-gives c settled =
     let holds = subst (λ (s : LivingState). Holds (rights_living s) us) (sym c.self.view_is) c.requires.mine in
     let fit = subst (λ (s : LivingState). All (MayLeave (rights_living s)) us) (sym c.self.view_is) c.requires.fit in
     let all = subst (λ (s : LivingState). All (IsSettled (rights_living s)) us) (sym c.self.view_is) settled in
-    let a : LivingState = record { side = i.side; slots = i.slots.slots.items; begun = i.begun.counts.items; standings = ss; asked = i.asked; contents = i.contents } in
+    let a : LivingState = record { side = i.side; slots = i.slots.slots.items; begun = i.begun.counts.items; standings = ss; asked = i.asked; contents = i.contents; graphs = i.graphs } in
     let waits = waits-given us ss holds.once (numbers-fit p t ss i.side.post i.slots.slots.items i.begun.counts.items us c.self.invariant.0.standing.size fit) (settled-waited i.begun.counts.items ss us all) in
-    rw (← c.self.view_is, c.leave.ensures.standings) (lifts-so (act.GivesBack (numbers us) ∷ []) a (record a { side = c.put_back.new.self; standings = left_by us ss }) refl (omega arith) refl refl waits (λ n s. left-other us ss n s.0) (made-one (act.GivesBack (numbers us)) (λ w. refl) (λ w. refl)) (c.put_back.ensures.gives (settled-post p t ss i.side.post i.slots.slots.items i.begun.counts.items us all)))
+    rw (← c.self.view_is, c.leave.ensures.standings) (lifts-so (act.GivesBack (numbers us) ∷ []) a (record a { side = c.put_back.new.self; standings = left_by us ss }) refl refl (omega arith) refl refl waits (λ n s. left-other us ss n s.0) (made-one (act.GivesBack (numbers us)) (λ w. refl) (λ w. refl) (λ names w. refl)) (c.put_back.ensures.gives (settled-post p t ss i.side.post i.slots.slots.items i.begun.counts.items us all)))

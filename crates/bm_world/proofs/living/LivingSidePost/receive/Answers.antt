@@ -14,6 +14,7 @@ invariant_of-self c =
       rw c.receive.ensures.grace (living-received i.side.grace.plain.number i.side.grace.tracing.number i.standings.standings.items c.receive.result (λ v. v.items) c.args.class i.side.post c.receive.new.self.post i.slots.slots.items i.begun.counts.items i.asked said.state said.none_state said.some said.none
           (lived-received c.receive.result c.args.class i.begun.counts.items i.standings.standings.items i.side.post c.receive.new.self.post said.state said.none_state c.self.invariant.0.lived) c.self.invariant.0),
       c.self.invariant.1,
+      c.self.invariant.2,
     )
 
 pub returns-clause-some : goal.returns-clause-some
@@ -26,4 +27,4 @@ returns-clause-some c =
 pub returns-clause-does : goal.returns-clause-does
 returns-clause-does c =
     let i = c.self.inside in
-    rw (← c.self.view_is) (lifts (act.Receives c.args.class (option_map_or (λ units. numbers units.items) c.receive.result []) ∷ []) (record { side = i.side; slots = i.slots.slots.items; begun = i.begun.counts.items; standings = i.standings.standings.items; asked = i.asked; contents = i.contents }) (record { side = c.receive.new.self; slots = i.slots.slots.items; begun = i.begun.counts.items; standings = i.standings.standings.items; asked = i.asked; contents = i.contents }) refl (omega arith) refl refl refl (keep-one (act.Receives c.args.class (option_map_or (λ units. numbers units.items) c.receive.result [])) (λ w. refl)) (made-one (act.Receives c.args.class (option_map_or (λ units. numbers units.items) c.receive.result [])) (λ w. refl) (λ w. refl)) c.receive.ensures.does)
+    rw (← c.self.view_is) (lifts (act.Receives c.args.class (option_map_or (λ units. numbers units.items) c.receive.result []) ∷ []) (record { side = i.side; slots = i.slots.slots.items; begun = i.begun.counts.items; standings = i.standings.standings.items; asked = i.asked; contents = i.contents; graphs = i.graphs }) (record { side = c.receive.new.self; slots = i.slots.slots.items; begun = i.begun.counts.items; standings = i.standings.standings.items; asked = i.asked; contents = i.contents; graphs = i.graphs }) refl refl (omega arith) refl refl refl (keep-one (act.Receives c.args.class (option_map_or (λ units. numbers units.items) c.receive.result [])) (λ w. refl)) (made-one (act.Receives c.args.class (option_map_or (λ units. numbers units.items) c.receive.result [])) (λ w. refl) (λ w. refl) (λ names w. refl)) c.receive.ensures.does)

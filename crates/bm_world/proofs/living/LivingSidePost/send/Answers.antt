@@ -28,7 +28,7 @@ invariant_of-self c =
     let holds = subst (λ (s : LivingState). Holds (rights_living s) us) (sym c.self.view_is) c.requires.mine in
     let fit = subst (λ (s : LivingState). All (MayLeave (rights_living s)) us) (sym c.self.view_is) c.requires.fit in
     let sent : Result ℕ ℕ = Ok 0 in
-    (rw (c.leave.ensures.standings, c.send.ensures.grace) (living-sent sent c.args.to c.args.class i.side.post c.send.new.self.post i.side.grace.plain.number i.side.grace.tracing.number i.slots.slots.items i.begun.counts.items ss (left_by us ss) i.asked us c.in-Ok.ensures.state tt refl tt holds fit c.in-Ok.ensures.sent c.self.invariant.0), ap length c.leave.ensures.before ∙ (copied-size us ss i.standings.before.items ∙ c.self.invariant.1))
+    (rw (c.leave.ensures.standings, c.send.ensures.grace) (living-sent sent c.args.to c.args.class i.side.post c.send.new.self.post i.side.grace.plain.number i.side.grace.tracing.number i.slots.slots.items i.begun.counts.items ss (left_by us ss) i.asked us c.in-Ok.ensures.state tt refl tt holds fit c.in-Ok.ensures.sent c.self.invariant.0), ap length c.leave.ensures.before ∙ (copied-size us ss i.standings.before.items ∙ c.self.invariant.1), c.self.invariant.2)
 
 pub come_back-requires-clause-size : goal.come_back-requires-clause-size
 come_back-requires-clause-size c = let i = c.self.inside in ap length c.leave.ensures.standings ∙ (left-size c.args.units.items i.standings.standings.items ∙ c.self.invariant.0.standing.size)
@@ -55,7 +55,7 @@ invariant_of-self-in-Err c =
     let ss = i.standings.standings.items in
     let stay : c.come_back.new.self.standings.items ≡ ss = subst (λ (s : LivingState). c.come_back.new.self.standings.items ≡ s.standings) (sym c.self.view_is) (returns-in-Err-clause-err_standings c) in
     let P : Standings → Type 0 = λ x. AreLiving i.side.post i.side.grace.plain.number i.side.grace.tracing.number i.slots.slots.items i.begun.counts.items x i.asked in
-    (rw (c.send.ensures.grace, c.in-Err.ensures.err_state) (subst P (sym stay) c.self.invariant.0), ap length c.come_back.ensures.before ∙ (ap length c.leave.ensures.before ∙ (copied-size c.args.units.items ss i.standings.before.items ∙ c.self.invariant.1)))
+    (rw (c.send.ensures.grace, c.in-Err.ensures.err_state) (subst P (sym stay) c.self.invariant.0), ap length c.come_back.ensures.before ∙ (ap length c.leave.ensures.before ∙ (copied-size c.args.units.items ss i.standings.before.items ∙ c.self.invariant.1)), c.self.invariant.2)
 
 pub returns-in-Ok-clause-lasts : goal.returns-in-Ok-clause-lasts
 returns-in-Ok-clause-lasts c =
@@ -74,9 +74,9 @@ returns-in-Ok-clause-does c =
     let t = i.side.grace.tracing.number in
     let holds = subst (λ (s : LivingState). Holds (rights_living s) us) (sym c.self.view_is) c.requires.mine in
     let fit = subst (λ (s : LivingState). All (MayLeave (rights_living s)) us) (sym c.self.view_is) c.requires.fit in
-    let a : LivingState = record { side = i.side; slots = i.slots.slots.items; begun = i.begun.counts.items; standings = ss; asked = i.asked; contents = i.contents } in
+    let a : LivingState = record { side = i.side; slots = i.slots.slots.items; begun = i.begun.counts.items; standings = ss; asked = i.asked; contents = i.contents; graphs = i.graphs } in
     let waits = waits-left (act.Sends c.args.class c.args.to (sealed us)) p t i.slots.slots.items us ss (λ x y h. h) c.self.invariant.0.standing holds.once (numbers-fit p t ss i.side.post i.slots.slots.items i.begun.counts.items us c.self.invariant.0.standing.size fit) (leave-over p t ss i.side.post i.slots.slots.items i.begun.counts.items us fit) in
-    rw (← c.self.view_is, c.leave.ensures.standings) (lifts-so (act.Sends c.args.class c.args.to (sealed us) ∷ []) a (record a { side = c.send.new.self; standings = left_by us ss }) refl (omega arith) refl refl waits (λ n s. kept-sealed us ss n s.0) (made-one (act.Sends c.args.class c.args.to (sealed us)) (λ w. refl) (λ w. refl)) c.in-Ok.ensures.does)
+    rw (← c.self.view_is, c.leave.ensures.standings) (lifts-so (act.Sends c.args.class c.args.to (sealed us) ∷ []) a (record a { side = c.send.new.self; standings = left_by us ss }) refl refl (omega arith) refl refl waits (λ n s. kept-sealed us ss n s.0) (made-one (act.Sends c.args.class c.args.to (sealed us)) (λ w. refl) (λ w. refl) (λ names w. refl)) c.in-Ok.ensures.does)
 
 pub returns-in-Err-clause-lasts : goal.returns-in-Err-clause-lasts
 returns-in-Err-clause-lasts c =
@@ -102,8 +102,8 @@ returns-in-Err-clause-idle c =
     let i = c.self.inside in
     let ss = i.standings.standings.items in
     let stay : c.come_back.new.self.standings.items ≡ ss = subst (λ (s : LivingState). c.come_back.new.self.standings.items ≡ s.standings) (sym c.self.view_is) (returns-in-Err-clause-err_standings c) in
-    let a : LivingState = record { side = i.side; slots = i.slots.slots.items; begun = i.begun.counts.items; standings = ss; asked = i.asked; contents = i.contents } in
-    rw (← c.self.view_is) (lifts-so [] a (record a { side = c.send.new.self; standings = c.come_back.new.self.standings.items }) refl (omega arith) refl refl (ap waits_told stay) (λ n s. ap (λ xs. standing_at xs n) stay) (λ w. refl, λ w. refl) c.in-Err.ensures.idle)
+    let a : LivingState = record { side = i.side; slots = i.slots.slots.items; begun = i.begun.counts.items; standings = ss; asked = i.asked; contents = i.contents; graphs = i.graphs } in
+    rw (← c.self.view_is) (lifts-so [] a (record a { side = c.send.new.self; standings = c.come_back.new.self.standings.items }) refl refl (omega arith) refl refl (ap waits_told stay) (λ n s. ap (λ xs. standing_at xs n) stay) (λ w. refl, λ w. refl, λ names w. refl) c.in-Err.ensures.idle)
 
 pub returns-in-Ok-clause-drains : goal.returns-in-Ok-clause-drains
 returns-in-Ok-clause-drains c settled =
@@ -115,9 +115,9 @@ returns-in-Ok-clause-drains c settled =
     let holds = subst (λ (s : LivingState). Holds (rights_living s) us) (sym c.self.view_is) c.requires.mine in
     let fit = subst (λ (s : LivingState). All (MayLeave (rights_living s)) us) (sym c.self.view_is) c.requires.fit in
     let all = subst (λ (s : LivingState). All (IsSettled (rights_living s)) us) (sym c.self.view_is) settled in
-    let a : LivingState = record { side = i.side; slots = i.slots.slots.items; begun = i.begun.counts.items; standings = ss; asked = i.asked; contents = i.contents } in
+    let a : LivingState = record { side = i.side; slots = i.slots.slots.items; begun = i.begun.counts.items; standings = ss; asked = i.asked; contents = i.contents; graphs = i.graphs } in
     let waits = waits-drained c.args.class c.args.to us ss holds.once (numbers-fit p t ss i.side.post i.slots.slots.items i.begun.counts.items us c.self.invariant.0.standing.size fit) (settled-waited i.begun.counts.items ss us all) in
-    rw (← c.self.view_is, c.leave.ensures.standings) (lifts-so (act.Drains c.args.class c.args.to (numbers us) ∷ []) a (record a { side = c.send.new.self; standings = left_by us ss }) refl (omega arith) refl refl waits (λ n s. left-other us ss n s.0) (made-one (act.Drains c.args.class c.args.to (numbers us)) (λ w. refl) (λ w. refl)) (c.in-Ok.ensures.drains (settled-post p t ss i.side.post i.slots.slots.items i.begun.counts.items us all)))
+    rw (← c.self.view_is, c.leave.ensures.standings) (lifts-so (act.Drains c.args.class c.args.to (numbers us) ∷ []) a (record a { side = c.send.new.self; standings = left_by us ss }) refl refl (omega arith) refl refl waits (λ n s. left-other us ss n s.0) (made-one (act.Drains c.args.class c.args.to (numbers us)) (λ w. refl) (λ w. refl) (λ names w. refl)) (c.in-Ok.ensures.drains (settled-post p t ss i.side.post i.slots.slots.items i.begun.counts.items us all)))
 
 pub returns-in-Ok-clause-releases : goal.returns-in-Ok-clause-releases
 returns-in-Ok-clause-releases c seal waited =
@@ -129,6 +129,6 @@ returns-in-Ok-clause-releases c seal waited =
     let holds = subst (λ (s : LivingState). Holds (rights_living s) us) (sym c.self.view_is) c.requires.mine in
     let fit = subst (λ (s : LivingState). All (MayLeave (rights_living s)) us) (sym c.self.view_is) c.requires.fit in
     let all = subst (λ (s : LivingState). All (WaitedBy (rights_living s) seal) us) (sym c.self.view_is) waited in
-    let a : LivingState = record { side = i.side; slots = i.slots.slots.items; begun = i.begun.counts.items; standings = ss; asked = i.asked; contents = i.contents } in
+    let a : LivingState = record { side = i.side; slots = i.slots.slots.items; begun = i.begun.counts.items; standings = ss; asked = i.asked; contents = i.contents; graphs = i.graphs } in
     let waits = waits-released c.args.class c.args.to p t seal us ss holds.once (numbers-fit p t ss i.side.post i.slots.slots.items i.begun.counts.items us c.self.invariant.0.standing.size fit) (waited-over p t ss i.side.post i.slots.slots.items i.begun.counts.items us seal all) in
-    rw (← c.self.view_is, c.leave.ensures.standings) (lifts-so (act.Releases c.args.class c.args.to (numbers us) seal.stamp seal.seen ∷ []) a (record a { side = c.send.new.self; standings = left_by us ss }) refl (omega arith) refl refl waits (λ n s. left-other us ss n s.0) (made-one (act.Releases c.args.class c.args.to (numbers us) seal.stamp seal.seen) (λ w. refl) (λ w. refl)) (c.in-Ok.ensures.releases seal (waited-post p t ss i.side.post i.slots.slots.items i.begun.counts.items us seal all)))
+    rw (← c.self.view_is, c.leave.ensures.standings) (lifts-so (act.Releases c.args.class c.args.to (numbers us) seal.stamp seal.seen ∷ []) a (record a { side = c.send.new.self; standings = left_by us ss }) refl refl (omega arith) refl refl waits (λ n s. left-other us ss n s.0) (made-one (act.Releases c.args.class c.args.to (numbers us) seal.stamp seal.seen) (λ w. refl) (λ w. refl) (λ names w. refl)) (c.in-Ok.ensures.releases seal (waited-post p t ss i.side.post i.slots.slots.items i.begun.counts.items us seal all)))
