@@ -10,3 +10,4 @@ pub mod Scripts
 pub mod Answers
 pub mod Values
 pub mod Worked
+pub mod WorkedReferences

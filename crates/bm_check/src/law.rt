@@ -2,6 +2,7 @@
 
 ghost use Rattle.bm_check.specs.Values.{AcceptedIsSafe, StatesAreRight};
 ghost use Rattle.bm_check.specs.Worked.{WorkedStatements};
+ghost use Rattle.bm_check.specs.WorkedReferences.{WorkedReferences};
 
 /// Along an accepted script, whatever the replies, each statement finds what it needs, and at the end no name owns and
 /// no lock is held. `SafeBlock` says so by recursion on blocks, with what holds at the end as its last argument. So a
@@ -19,4 +20,9 @@ pub fn states_are_right()
 /// The judgement on a few statements, computed.
 pub fn worked_statements()
     ensures { WorkedStatements }
+{}
+
+/// How long a non-owning reference stands, computed: under the lock, up to its unlock, and to a pop or a removal.
+pub fn worked_references()
+    ensures { WorkedReferences }
 {}
