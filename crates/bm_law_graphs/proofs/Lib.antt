@@ -6,3 +6,5 @@ pub mod Content
 pub mod LocksAlong
 pub mod KeysAlong
 pub mod UncalledAlong
+pub mod ChunkShelved
+pub mod ShelvedAlong

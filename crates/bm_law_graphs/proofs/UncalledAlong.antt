@@ -10,6 +10,7 @@ record Apart (names : List (List ℕ)) (p l : ℕ) (e : Entry) (s : Shelved) : T
   fits : ShelvedFit names p l e s
   histories : (shelved_after names p l e s).shelves.histories ≡ s.shelves.histories
   within : (shelved_after names p l e s).shelves.within ≡ s.shelves.within
+  holders : (shelved_after names p l e s).shelves.holders ≡ s.shelves.holders
 
 apart : (names : List (List ℕ)) (p l : ℕ) (e : Entry) (s : Shelved) → CallsNone e → Apart names p l e s
 apart names p l (entry.Lock name) s h = absurd h
@@ -24,7 +25,7 @@ apart names p l (entry.PopFront name item pos) s h = absurd h
 apart names p l (entry.PopBack name item pos) s h = absurd h
 apart names p l (entry.First name item pos) s h = absurd h
 apart names p l (entry.Remove name u life pos) s h = absurd h
-apart names p l _ s h = record { fits = (tt, tt, tt); histories = refl; within = refl }
+apart names p l _ s h = record { fits = (tt, tt, tt); histories = refl; within = refl; holders = refl }
 
 pub uncalled-fits : (names : List (List ℕ)) (o : Order) (s : Shelved) → CallNone o → AllFit (shelved_after names) (ShelvedFit names) o s
 uncalled-fits names [] s h = tt
@@ -40,3 +41,9 @@ pub uncalled-within : (names : List (List ℕ)) (o : Order) (s : Shelved) → Ca
 uncalled-within names [] s h = refl
 uncalled-within names (e ∷ o) s h =
     let a = apart names e.processor e.level e.entry s h.0 in uncalled-within names o (shelved_after names e.processor e.level e.entry s) h.1 ∙ a.within
+
+-- .. and nobody takes a lock, or gives one back
+pub uncalled-holders : (names : List (List ℕ)) (o : Order) (s : Shelved) → CallNone o → (over (shelved_after names) o s).shelves.holders ≡ s.shelves.holders
+uncalled-holders names [] s h = refl
+uncalled-holders names (e ∷ o) s h =
+    let a = apart names e.processor e.level e.entry s h.0 in uncalled-holders names o (shelved_after names e.processor e.level e.entry s) h.1 ∙ a.holders

@@ -9,3 +9,5 @@ pub mod GraphLaws
 pub mod Worked
 pub mod Wrong
 pub mod Uncalled
+pub mod LocksTold
+pub mod ToldCalls

@@ -1,13 +1,18 @@
 //! The laws, over an order and over its logs.
 
-ghost use Rattle.std.specs.Prelude.{◌≡◌, ℕ, ◌+◌, Option, None, Some, false, List, [], ◌++◌};
+ghost use Rattle.std.specs.Prelude.{◌≡◌, ◌≤◌, ℕ, ◌+◌, Option, None, Some, false, true, List, [], ◌++◌, length};
 ghost use Rattle.bm_journal.specs.declared.ids.ObjId.{ObjId};
 ghost use Rattle.bm_journal.specs.declared.past.Past.{Past};
 ghost use Rattle.bm_graph.specs.Objects.{Node, has_object, ids_of, list_object, tree_object};
 ghost use Rattle.bm_graph.specs.Replay.{replay};
 ghost use Rattle.bm_law.specs.Lists.{Log};
 ghost use Rattle.bm_law_lives.specs.Together.{times};
-ghost use Rattle.bm_law_order.specs.Orders.{AllFit, Order, over};
+ghost use Rattle.bm_law_order.specs.Calls.{closes};
+ghost use Rattle.bm_law_order.specs.Chunk.{Chunk, acts_of, entries_of};
+ghost use Rattle.bm_law_order.specs.Graphs.{GraphsLead, Shelf, place_of};
+ghost use Rattle.bm_law_order.specs.Orders.{AllFit, Order, over, part_of};
+ghost use Rattle.bm_law_order.specs.Story.{at_level};
+ghost use Rattle.bm_law_objects.specs.Objects.{Owned, owned_after};
 ghost use Rattle.bm_law_laid.specs.Once.{named_by};
 ghost use Rattle.bm_law_laid.specs.OrderOf.{IsOrderOf};
 ghost use Rattle.bm_law_graphs.specs.Shelves.{IsShelved, Shelved, ShelvedFit, nothing_shelved, shelved_after};
@@ -17,6 +22,7 @@ ghost use Rattle.bm_law_graphs.specs.GraphLaws.{GraphLaws};
 ghost use Rattle.bm_law_graphs.specs.Keys.{KeysLaw};
 ghost use Rattle.bm_law_graphs.specs.Locks.{LocksLaw};
 ghost use Rattle.bm_law_graphs.specs.Takes.{TakesLaw, life_within, put_by, taken_by};
+ghost use Rattle.bm_law_graphs.specs.ToldCalls.{FoundApart, IsTold, NamesGraph, ShelvesGo};
 ghost use Rattle.bm_law_graphs.specs.Uncalled.{CallNone};
 
 /// Over an order each history grows by the calls that name it, each at the position that its log names; and so the history of
@@ -83,12 +89,36 @@ pub fn graphs_law()
         GraphLaws names (over (shelved_after names) o nothing_shelved).shelves.histories logs }
 {}
 
-/// In an order that calls no list or tree and takes no lock each entry finds what it needs of them; none of them has a history, and
-/// nothing stands in one.
+/// In an order that calls no list or tree and takes no lock each entry finds what it needs of them; none of them has a history,
+/// nothing stands in one, and nobody holds a lock.
 pub fn uncalled_law()
     ensures shelved { (names : List (List ℕ)) (o : Order) → CallNone o → IsShelved names o }
     ensures histories { (names : List (List ℕ)) (o : Order) → CallNone o → (name : List ℕ) →
         (over (shelved_after names) o nothing_shelved).shelves.histories name ≡ [] }
     ensures within { (names : List (List ℕ)) (o : Order) → CallNone o → (u : ℕ) →
         (over (shelved_after names) o nothing_shelved).shelves.within u ≡ None }
+    ensures unlocked { (names : List (List ℕ)) (o : Order) → CallNone o → (name : List ℕ) →
+        (over (shelved_after names) o nothing_shelved).shelves.holders name ≡ None }
+{}
+
+/// A chunk of which enough is known behind the log of its processor takes the lists and trees along: each of its entries finds what
+/// it needs, and they become what the chunk's acts make of them. And where the histories of a story only grow into ones that no
+/// undeclared name has, each list or tree that a chunk calls is declared.
+pub fn chunk_law()
+    ensures goes { (names : List (List ℕ)) (p l : ℕ) (c : Chunk) (x : Shelved) (before now : Shelf)
+        (log : Log) → FoundApart names → IsTold names p l log c x before now →
+        ShelvesGo names p log (at_level l (entries_of c)) x now }
+    ensures declared { (names : List (List ℕ)) (c : Chunk) (before now : Shelf)
+        (last : List ℕ → List Past) → GraphsLead names (acts_of c) before now →
+        ((name : List ℕ) → length names ≤ place_of names name → last name ≡ []) →
+        ((name : List ℕ) → length (now.histories name) ≤ length (last name)) → NamesGraph names c }
+{}
+
+/// Along an order objects go their own way, beside the lists and trees; and the closing has begun where processor 0's log begins it.
+pub fn beside_law()
+    ensures objects { (names : List (List ℕ)) (o : Order) (x : Shelved) (y : Owned) →
+        x.objects ≡ y.objects →
+        (over (shelved_after names) o x).objects ≡ (over owned_after o y).objects }
+    ensures closing { (names : List (List ℕ)) (o : Order) (x : Shelved) →
+        closes (part_of 0 o) ≡ true → (over (shelved_after names) o x).shelves.closing ≡ true }
 {}

@@ -16,6 +16,9 @@
 //! - `LocksLaw`: the calls that a processor makes under one lock have consecutive positions.
 //! - `TakesLaw`: a life is put into lists and trees as often as it is taken out.
 //!
+//! `ShelvesGo` (specs/ToldCalls) says that what a processor's log adds finds what it needs; `chunk_law` has it of each chunk of a
+//! story, by what the log before it tells.
+//!
 //! `*_law` say that they follow from an order; `worked_*` and `wrong_*` compute them on orders and histories made by hand, and on
 //! wrong ones beside them. What a right reply is, the sequential list and tree of bm_graph say.
 //!
@@ -27,7 +30,7 @@ mod laws;
 mod worked;
 
 pub use laws::{
-    content_law, graphs_law, histories_law, keys_law, locks_law, refusals_law, takes_law,
-    uncalled_law,
+    beside_law, chunk_law, content_law, graphs_law, histories_law, keys_law, locks_law,
+    refusals_law, takes_law, uncalled_law,
 };
 pub use worked::{worked_laws, worked_orders, wrong_laws, wrong_orders};
