@@ -15,8 +15,8 @@ TOP = pathlib.Path(__file__).resolve().parent.parent
 EXAMPLES = TOP / "examples"
 SOURCES = TOP / "crates/bm_tests_tool/src"
 
-# The tables, and how many examples one may have.
-TABLES = ["EXAMPLES", "MORE_EXAMPLES"]
+# The tables with what they are called, and how many examples one may have.
+TABLES = {"EXAMPLES": "Scenarios", "MORE_EXAMPLES": "More scenarios", "OTHER_EXAMPLES": "Other scenarios"}
 MOST = 10
 
 
@@ -48,9 +48,9 @@ def files() -> dict[pathlib.Path, str]:
     if len(names) > MOST * len(TABLES):
         sys.exit(f"more than {MOST * len(TABLES)} examples: another table is needed, and a test that walks it")
     tables = ""
-    for index, table in enumerate(TABLES):
+    for index, (table, called) in enumerate(TABLES.items()):
         rows = "".join(row(name) for name in names[MOST * index : MOST * (index + 1)])
-        tables += f"\n/// {'Scenarios' if index == 0 else 'More scenarios'}, each with its journal.\n"
+        tables += f"\n/// {called}, each with its journal.\n"
         tables += f"pub(crate) const {table}: &[(&str, &str)] = &[\n{rows}];\n"
     made[SOURCES / "examples.rt"] = (
         "//! The scenarios of examples/ with their journals, as tools/examples_to_tests.py writes them. Where the journals are from is\n"

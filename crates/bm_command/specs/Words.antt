@@ -53,15 +53,16 @@ reading_of (word ∷ rest) = reading_by word (filter is_flag rest) (filter is_ar
 abbrev pub count_of : List ℕ → Option ℕ
 count_of word = option_and_then piece_count (number_of word)
 
-abbrev pub gen_by : Option ℕ → Option ℕ → Option Command
-gen_by (Some count) (Some start) = Some (Gen count start)
-gen_by (Some count) None = None
-gen_by None start = None
+abbrev pub gen_by : Option ℕ → Option ℕ → (text : Bool) → Option Command
+gen_by (Some count) (Some start) text = Some (Gen count start text)
+gen_by (Some count) None text = None
+gen_by None start text = None
 
--- `gen`, by its flags and its arguments: its flag `--text` stands once, and its arguments are a count of pieces and a start,
+-- `gen`, by its flags and its arguments: its flag `--text` stands at most once, and its arguments are a count of pieces and a start,
 -- which is a number below 2^64
 abbrev pub gen_of : List (List ℕ) → List (List ℕ) → Option Command
-gen_of (flag ∷ []) (count ∷ start ∷ []) = if bytes_eq flag (codes "--text") then gen_by (count_of count) (number_of start) else None
+gen_of [] (count ∷ start ∷ []) = gen_by (count_of count) (number_of start) false
+gen_of (flag ∷ []) (count ∷ start ∷ []) = if bytes_eq flag (codes "--text") then gen_by (count_of count) (number_of start) true else None
 gen_of _ _ = None
 
 -- the command that the words behind `gen` are, where they are one

@@ -14,12 +14,14 @@ use std::alloc::Global;
 pub enum Command {
     /// A command that reads a scenario.
     Read(Reading),
-    /// `gen N START --text`: prints the text of the generated scenario of these two numbers, and reads nothing.
+    /// `gen N START`: runs the generated scenario of these two numbers, prints the lines of its totals, and reads nothing.
     Gen {
         /// N: how many pieces each script has.
         count: PieceCount,
         /// START: where the drawn numbers begin, below 2^64.
         start: u64,
+        /// `--text`: the scenario's text is printed, and nothing is run.
+        text: bool,
     },
 }
 
@@ -46,10 +48,10 @@ pub enum CommandFault {
 
 /// Reads the words of the command line, without the program's own name, as a command.
 ///
-/// A command's word stands first, and its flag anywhere behind it: `replay`, `replay --totals`, `check` and
+/// A command's word stands first, and its flag anywhere behind it: `replay`, `replay --totals`, `check`, `gen N START` and
 /// `gen N START --text` are the commands, where N is 1 to 2,000 and START below 2^64, in decimal digits without a
 /// leading zero. `Usage` comes exactly where the words are none of them, and takes no memory: a word too many or too
-/// few, a flag given twice, left out of `gen` or before the command, one that the command doesn't have, another
+/// few, a flag given twice or before the command, one that the command doesn't have, another
 /// number, a call for help, and every other word. `NoMemory` is want of memory alone, and comes only for the words of
 /// a command.
 pub fn read_command(alloc: Global, words: &[&str]) -> Result<Command, CommandFault>

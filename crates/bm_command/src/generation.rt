@@ -12,10 +12,18 @@ use bm_word::read_number;
 pub fn generation(rest: &[&str]) -> Option<Command>
     ensures { result ≡ gen_behind (texts rest.now) }
 {
-    let [first, second, third] = rest else {
-        return None;
-    };
-    of_three(first, second, third)
+    match rest {
+        [count, start] => of_two(count, start),
+        [first, second, third] => of_three(first, second, third),
+        _ => None,
+    }
+}
+
+// The command of two words, which are no flags.
+fn of_two(count: &str, start: &str) -> Option<Command>
+    ensures { result ≡ gen_behind (count.now ∷ start.now ∷ []) }
+{
+    of_numbers(count, start, false)
 }
 
 // The command of three words, one of which is the flag.
@@ -23,21 +31,21 @@ fn of_three(first: &str, second: &str, third: &str) -> Option<Command>
     ensures { result ≡ gen_behind (first.now ∷ second.now ∷ third.now ∷ []) }
 {
     if first == "--text" {
-        of_numbers(second, third)
+        of_numbers(second, third, true)
     } else if second == "--text" {
-        of_numbers(first, third)
+        of_numbers(first, third, true)
     } else if third == "--text" {
-        of_numbers(first, second)
+        of_numbers(first, second, true)
     } else {
         None
     }
 }
 
 // The command of the two numbers that these words are.
-fn of_numbers(count: &str, start: &str) -> Option<Command>
-    ensures { result ≡ gen_by (count_of count.now) (number_of start.now) }
+fn of_numbers(count: &str, start: &str, text: bool) -> Option<Command>
+    ensures { result ≡ gen_by (count_of count.now) (number_of start.now) text }
 {
     let count = PieceCount::new(read_number(count.as_bytes())?)?;
     let start = read_number(start.as_bytes())?;
-    Some(Command::Gen { count, start })
+    Some(Command::Gen { count, start, text })
 }

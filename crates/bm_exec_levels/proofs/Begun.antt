@@ -17,6 +17,7 @@ use Rattle.bm_world.specs.Lives.{asked_once, life_acquired, life_begun, life_end
 use Rattle.bm_journal.specs.declared.ids.ObjId.{ObjId}
 use Rattle.bm_journal.specs.declared.ids.Tag.{Tag}
 use Rattle.bm_lang.specs.declared.scenario.MapDeclaration.{MapDeclaration}
+use Rattle.bm_lang.specs.declared.scenario.MapKind.TheVariants.{Slot as SlotKind}
 use Rattle.bm_due.specs.Standing as standing
 use Rattle.bm_due.specs.Standing.{kind_of}
 use Rattle.bm_lang.specs.declared.scenario.MapId.{MapId}
@@ -51,7 +52,7 @@ tells-same s k n (Some es) g t = record { done = (let F : ℕ → Type 0 = λ p.
 
 -- what lives and what slots hold, where one more call is counted
 pub stocked-once : (d : Declared) (k : Known) → AreStocked d k.objects → AreStocked d (asked_once k).objects
-stocked-once d k a = record { names = a.names; graphs = a.graphs; kinds = a.kinds; kept = a.kept; stocked = a.stocked; items = a.items }
+stocked-once d k a = record { names = a.names; graphs = a.graphs; kinds = a.kinds; unused = a.unused; still = a.still; kept = a.kept; stocked = a.stocked; items = a.items }
 
 module _ {W : Type 0} (knows : Knows W) where
   -- what lives, and what slots hold, is as the program has it
@@ -149,10 +150,10 @@ module _ {W : Type 0} (knows : Knows W) where
       (subst (λ (x : Known). AreStocked (declared_in p.scenario.now) x.objects) (sym e) (stocked-ended (declared_in p.scenario.now) (known_of knows m) n h s.ready.stocked held only)) s
 
   -- what a slot held was exchanged
-  pub at-exchanged : (l : ℕ) (p : Program) (m : Processor W) (w : W) (place : ℕ) (put : Option ObjId) (tag : Tag) (slot : MapDeclaration) → knows.known w ≡ slot_exchanged place put tag (known_of knows m) → place < length (known_of knows m).objects.slots → slice_get p.scenario.now.maps place ≡ Some slot → IsToPut slot.type_id.0 (in_hands (known_of knows m).objects) put → IsAt knows StandsAt l p m → IsAt knows StandsAt l p (with_side m w)
-  at-exchanged l p m w place put tag slot e lt found held s =
+  pub at-exchanged : (l : ℕ) (p : Program) (m : Processor W) (w : W) (place : ℕ) (put : Option ObjId) (tag : Tag) (slot : MapDeclaration) → knows.known w ≡ slot_exchanged place put tag (known_of knows m) → place < length (known_of knows m).objects.slots → slice_get p.scenario.now.maps place ≡ Some slot → slot.kind ≡ SlotKind → IsToPut slot.type_id.0 (in_hands (known_of knows m).objects) put → IsAt knows StandsAt l p m → IsAt knows StandsAt l p (with_side m w)
+  at-exchanged l p m w place put tag slot e lt found kind held s =
       at-uncounted l p m w (ap (λ (x : Known). x.grace) e) (ap (λ (x : Known). x.objects.asked) e)
-      (subst (λ (x : Known). AreStocked (declared_in p.scenario.now) x.objects) (sym e) (stocked-exchanged (declared_in p.scenario.now) (known_of knows m).objects place (record { held = put; by = Some tag }) s.ready.stocked lt slot found held)) s
+      (subst (λ (x : Known). AreStocked (declared_in p.scenario.now) x.objects) (sym e) (stocked-exchanged (declared_in p.scenario.now) (known_of knows m).objects place (record { held = put; by = Some tag }) s.ready.stocked lt slot found held kind)) s
 
   -- an entry that is no call
   pub at-noted : (l : ℕ) (p : Program) (m : Processor W) (z : Caches Recorded) (e : Entry) → kind_of e ≡ standing.Stays → IsInner e → is_marked e ≡ false → z.processor ≡ m.caches.processor → Appends (log_of m) l e z.recorder.told → IsAt knows StandsAt l p m → IsAt knows StandsAt l p (with_caches m z)

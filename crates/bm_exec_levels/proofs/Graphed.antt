@@ -27,8 +27,8 @@ use Rattle.bm_exec.specs.Guarded.{Guarded, IsShelved, Shelved, shelved_at, witho
 use Rattle.bm_exec_levels.specs.AtPolls.{OwnerIs}
 use Rattle.bm_exec_levels.specs.Calling.{is_object_call}
 use Rattle.bm_exec.specs.Living.{IsMade, IsToPut, TakesOut, count_in, type_in, without}
-use Rattle.bm_exec_levels.specs.Slotted.{AreKinds, AreStocked, IsItem, IsKept, as_item, elsewhere, in_hands, is_of, item_of, items_in, less_times, times_held}
-use Rattle.bm_exec_levels.proofs.Stocked.{Handed, IsThere, handed, hands-moved, kept-moved, last-out, no-item, put-there}
+use Rattle.bm_exec_levels.specs.Slotted.{AreKinds, AreStocked, AreUnused, IsItem, IsKept, as_item, elsewhere, in_hands, is_of, item_of, items_in, less_times, times_held}
+use Rattle.bm_exec_levels.proofs.Stocked.{Handed, IsThere, handed, hands-moved, kept-moved, last-out, no-item, no-slot, put-there}
 
 -- ---- names and kinds stay
 
@@ -43,6 +43,14 @@ graph-kinds zero call tag (g ∷ gs) zero = refl
 graph-kinds zero call tag (g ∷ gs) (suc at) = refl
 graph-kinds (suc place) call tag (g ∷ gs) zero = refl
 graph-kinds (suc place) call tag (g ∷ gs) (suc at) = graph-kinds place call tag gs at
+
+-- those at other places stay as they are
+pub other-graph : (place at : ℕ) (call : PastCall) (tag : Tag) (gs : List NamedGraph) → at ≢ place → graph_at at (graphs_after place call tag gs) ≡ graph_at at gs
+other-graph place at call tag [] n = refl
+other-graph zero zero call tag (g ∷ gs) n = absurd (n refl)
+other-graph zero (suc at) call tag (g ∷ gs) n = refl
+other-graph (suc place) zero call tag (g ∷ gs) n = refl
+other-graph (suc place) (suc at) call tag (g ∷ gs) n = other-graph place at call tag gs (λ q. n (ap suc q))
 
 -- other lists and trees, with the same objects alive
 abbrev pub graphed : List NamedGraph → Objects → Objects
@@ -125,11 +133,13 @@ module _ (d : Declared) (o : Objects) (gs : List NamedGraph) (a : AreStocked d o
   ]
   item-now _ h u s q = a.items u s q
 
-  pub stocked-graphed : graph_names_in gs ≡ graph_names_in o.graphs → ((at : ℕ) → (graph_at at gs).is_tree ≡ (graph_at at o.graphs).is_tree) → AreStocked d (graphed gs o)
-  stocked-graphed names kinds = record {
+  pub stocked-graphed : graph_names_in gs ≡ graph_names_in o.graphs → ((at : ℕ) → (graph_at at gs).is_tree ≡ (graph_at at o.graphs).is_tree) → AreUnused d.maps gs → AreStocked d (graphed gs o)
+  stocked-graphed names kinds unused = record {
     names = a.names;
     graphs = names ∙ a.graphs;
     kinds = λ at x t f k. kinds at ∙ a.kinds at x t f k;
+    unused = unused;
+    still = a.still;
     kept = kept-moved d o (graphed gs o) a refl m.type_id.0 (put_by e) (taken_by e) total held (there e suits);
     stocked = a.stocked;
     items = λ u s q. item-now e held u s (sym (now-at u) ∙ q);
@@ -160,9 +170,19 @@ fits-suit place (Takes id) within h = h
 fits-suit place (Refuses id owner) within h = tt
 fits-suit place Looks within h = tt
 
-pub stocked-called : (d : Declared) (o : Objects) (place : ℕ) (m : MapDeclaration) (call : PastCall) (tag : Tag) → AreStocked d o → slice_get d.maps place ≡ Some m → HasMoved place call o.graphs (graphs_after place call tag o.graphs) → IsToPut m.type_id.0 (in_hands o) (put_by (effect_of call)) → AreStocked d (graphed (graphs_after place call tag o.graphs) o)
-stocked-called d o place m call tag a found h held =
-    stocked-graphed d o (graphs_after place call tag o.graphs) a place m found (effect_of call) h.within (fits-suit place (effect_of call) (standing_from 0 o.graphs) h.fits) held (graph-names place call tag o.graphs) (graph-kinds place call tag o.graphs)
+-- the places of slots stay unused, where a list or tree is called
+unused-called : (maps : List MapDeclaration) (graphs : List NamedGraph) (place : ℕ) (m : MapDeclaration) (is_tree : Bool) (call : PastCall) (tag : Tag) → slice_get maps place ≡ Some m → m.kind ≡ graph_kind is_tree → AreUnused maps graphs → AreUnused maps (graphs_after place call tag graphs)
+unused-called maps graphs place m is_tree call tag found kind unused at x f k = elim (eqb_tells at place) [
+  | inl z ↦
+      let q : Some x ≡ Some m = sym f ∙ (ap (slice_get maps) z.1 ∙ found) in
+      let same : x ≡ m = cc in
+      absurd (no-slot is_tree x.kind (ap (λ (y : MapDeclaration). y.kind) same ∙ kind) k)
+  | inr z ↦ subst (λ (g : NamedGraph). (g.history ≡ []) × (g.nodes ≡ [])) (sym (other-graph place at call tag graphs z.1)) (unused at x f k)
+]
+
+pub stocked-called : (d : Declared) (o : Objects) (place : ℕ) (m : MapDeclaration) (is_tree : Bool) (call : PastCall) (tag : Tag) → AreStocked d o → slice_get d.maps place ≡ Some m → m.kind ≡ graph_kind is_tree → HasMoved place call o.graphs (graphs_after place call tag o.graphs) → IsToPut m.type_id.0 (in_hands o) (put_by (effect_of call)) → AreStocked d (graphed (graphs_after place call tag o.graphs) o)
+stocked-called d o place m is_tree call tag a found kind h held =
+    stocked-graphed d o (graphs_after place call tag o.graphs) a place m found (effect_of call) h.within (fits-suit place (effect_of call) (standing_from 0 o.graphs) h.fits) held (graph-names place call tag o.graphs) (graph-kinds place call tag o.graphs) (unused-called d.maps o.graphs place m is_tree call tag found kind a.unused)
 
 pub hands-called : (d : Declared) (o : Objects) (place : ℕ) (m : MapDeclaration) (call : PastCall) (tag : Tag) → AreStocked d o → slice_get d.maps place ≡ Some m → HasMoved place call o.graphs (graphs_after place call tag o.graphs) → IsToPut m.type_id.0 (in_hands o) (put_by (effect_of call)) → TakesOut d.types m.type_id.0 (without (put_by (effect_of call)) (in_hands o)) (in_hands (graphed (graphs_after place call tag o.graphs) o)) (taken_by (effect_of call))
 hands-called d o place m call tag a found h held =

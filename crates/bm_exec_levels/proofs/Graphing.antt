@@ -1,5 +1,5 @@
 -- Where code is, once it called a list or tree.
-use Rattle.std.proofs.Common.{◌≡◌, ◌∙◌, ◌<◌, ◌+◌, ℕ, List, [], ◌∷◌, Option, Some, None, ap, ap₂, arith, refl, slice_get, subst, sym}
+use Rattle.std.proofs.Common.{◌≡◌, ◌∙◌, ◌<◌, ◌+◌, ℕ, Bool, List, [], ◌∷◌, Option, Some, None, ap, ap₂, arith, refl, slice_get, subst, sym}
 use Rattle.std.specs.Prelude.{IfSome, map}
 use Rattle.std.specs.Option.{option_map}
 use Rattle.bm_journal.specs.declared.entry.Entry.{Entry}
@@ -16,7 +16,7 @@ use Rattle.bm_law.specs.Lists.{Log}
 use Rattle.bm_law_order.specs.Act as act
 use Rattle.bm_law_order.specs.Calls.{tag_after}
 use Rattle.bm_law_order.specs.Graphs.{NamedGraph, effect_of, graph_at, graph_names_in, graphs_after, standing_from}
-use Rattle.bm_law_scenario.specs.Declared.{Declared, declared_in}
+use Rattle.bm_law_scenario.specs.Declared.{Declared, declared_in, graph_kind}
 use Rattle.bm_plan.specs.Position.{StandsAt}
 use Rattle.bm_world.specs.Lives.{asked_once, graph_called}
 use Rattle.bm_exec.specs.Guarded.{Guarded, Shelved}
@@ -55,11 +55,11 @@ module _ {W : Type 0} (knows : Knows W) (l : ℕ) (p : Program) (m : Processor W
   moved-now h = subst (λ (x : Known). HasMoved place call was.graphs x.objects.graphs) known h
 
   -- it is there still
-  pub at-graph : HasMoved place call was.graphs (knows.known w).objects.graphs → IsToPut decl.type_id.0 (in_hands was) (put_by (effect_of call)) → IsAt knows StandsAt l p m → IsAt knows StandsAt l p (with_side m w)
-  at-graph h held s =
+  pub at-graph : (is_tree : Bool) → decl.kind ≡ graph_kind is_tree → HasMoved place call was.graphs (knows.known w).objects.graphs → IsToPut decl.type_id.0 (in_hands was) (put_by (effect_of call)) → IsAt knows StandsAt l p m → IsAt knows StandsAt l p (with_side m w)
+  at-graph is_tree kind h held s =
       let d : Declared = declared_in p.scenario.now in
       at-graphed knows l p m w graced (ap (λ (x : Known). x.objects.asked) known)
-      (subst (λ (x : Known). AreStocked d x.objects) (sym known) (stocked-called d was place decl call tag s.ready.stocked found (moved-now h) held)) s
+      (subst (λ (x : Known). AreStocked d x.objects) (sym known) (stocked-called d was place decl is_tree call tag s.ready.stocked found kind (moved-now h) held)) s
 
   -- what names hold then
   pub hands-graph : HasMoved place call was.graphs (knows.known w).objects.graphs → IsToPut decl.type_id.0 (in_hands was) (put_by (effect_of call)) → IsAt knows StandsAt l p m → TakesOut p.scenario.now.types decl.type_id.0 (without (put_by (effect_of call)) (in_hands was)) (in_hands (knows.known w).objects) (taken_by (effect_of call))

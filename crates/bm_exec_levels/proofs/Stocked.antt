@@ -6,12 +6,14 @@ use Rattle.std.proofs.lemmas.List.{get_or-set_other, get_or-set_same}
 use mathlib.Core.Path.{fun_ext}
 use Rattle.bm_journal.specs.declared.ids.ObjId.{ObjId}
 use Rattle.bm_lang.specs.declared.scenario.MapDeclaration.{MapDeclaration}
+use Rattle.bm_lang.specs.declared.scenario.MapKind.{MapKind}
+use Rattle.bm_lang.specs.declared.scenario.MapKind.TheVariants.{Slot as SlotKind}
 use Rattle.bm_lang.specs.declared.scenario.TypeDeclaration.{TypeDeclaration}
 use Rattle.bm_graph.specs.declared.ways.Way.{Way}
 use Rattle.bm_law_order.specs.Graphs.{NamedGraph, Standing, standing_from}
 use Rattle.bm_law_order.specs.Slots.{Named, Slot}
 use Rattle.bm_law_scenario.specs.Calls.{IsCounted}
-use Rattle.bm_law_scenario.specs.Declared.{Declared}
+use Rattle.bm_law_scenario.specs.Declared.{Declared, graph_kind}
 use Rattle.bm_law_scenario.specs.Opened.{OfClass}
 use Rattle.bm_grace.specs.Known.{Known, Living, Lives, Objects}
 use Rattle.bm_page.specs.UnitState.{UnitState}
@@ -212,6 +214,8 @@ stocked-begun d k type values u a none made =
       names = a.names;
       graphs = a.graphs;
       kinds = a.kinds;
+      unused = a.unused;
+      still = a.still;
       kept = kept-aside d.types (elsewhere k.objects) k.objects.lives u.number (Some new) a.kept
           (λ l e. subst (λ (x : Living). IsKept d.types (elsewhere k.objects u.number) x) (some-is new l e) (record { made = made; some = omega arith; most = omega (arith, held); single = λ f. refl }));
       stocked = λ place x e. stocked-aside d.maps k.objects.lives u.number place x (Some new) (λ l f same. (let g : None ≡ Some l = sym none ∙ f in cc)) (a.stocked place x e);
@@ -253,6 +257,8 @@ stocked-counted d o n count asked l a e some most single =
       names = a.names;
       graphs = a.graphs;
       kinds = a.kinds;
+      unused = a.unused;
+      still = a.still;
       kept = kept-aside d.types (elsewhere o) o.lives n (with_references count (o.lives n)) a.kept
           (λ m f. subst (λ (x : Living). IsKept d.types (elsewhere o n) x) (some-is now m (sym is ∙ f)) (recount-kept d.types (elsewhere o n) count l (a.kept n l e) some most single));
       stocked = λ place x h. stocked-aside d.maps o.lives n place x (with_references count (o.lives n)) (λ m f same. (let q : l ≡ m = some-is l m (sym e ∙ f) in (now, is, ap (λ (x : Living). x.life) q, ap (λ (x : Living). x.type) q))) (a.stocked place x h);
@@ -347,6 +353,8 @@ stocked-ended d k n h a e only =
       names = a.names;
       graphs = a.graphs;
       kinds = a.kinds;
+      unused = a.unused;
+      still = a.still;
       kept = kept-aside d.types (elsewhere k.objects) k.objects.lives n None a.kept (λ l f. cc);
       stocked = λ place x held. stocked-aside d.maps k.objects.lives n place x None (λ l f same. (let some = times-some n place x k.objects.slots held same in absurd (omega (arith, some, free)))) (a.stocked place x held);
       items = λ v x held. item-aside d.maps k.objects.lives n v x None (λ l f same. (let some : as_item (standing_from 0 k.objects.graphs n) ≡ 1 = ap as_item (subst (λ j. standing_from 0 k.objects.graphs j ≡ Some x) same held) in absurd (omega (arith, some, free)))) (a.items v x held);
@@ -483,6 +491,11 @@ put-there d o t z a h =
 
 -- ---- an exchange
 
+-- a list or tree is no slot
+pub no-slot : (is_tree : Bool) (k : MapKind) → k ≡ graph_kind is_tree → k ≡ SlotKind → ⊥
+no-slot true k e f = cc
+no-slot false k e f = cc
+
 -- the slots once one was exchanged
 abbrev pub exchanged : (place : ℕ) → Slot → Objects → Objects
 exchanged place slot o = record o { slots = put_at place slot o.slots }
@@ -507,11 +520,16 @@ module _ (d : Declared) (o : Objects) (place : ℕ) (slot : Slot) (a : AreStocke
   hands-exchanged = hands-moved d o (exchanged place slot o) a refl m.type_id.0 slot.held displaced total-exchanged held displaced-there
 
   -- and what slots hold
-  pub stocked-exchanged : AreStocked d (exchanged place slot o)
-  stocked-exchanged = record {
+  pub stocked-exchanged : m.kind ≡ SlotKind → AreStocked d (exchanged place slot o)
+  stocked-exchanged kind = record {
     names = names-stay place slot o.slots ∙ a.names;
     graphs = a.graphs;
     kinds = a.kinds;
+    unused = a.unused;
+    still = λ q x b f k. elim (eqb_tells place q) [
+      | inl z ↦ absurd (no-slot b x.kind k (ap (λ (y : MapDeclaration). y.kind) (some-is x m (sym f ∙ (ap (slice_get d.maps) (sym z.1) ∙ found))) ∙ kind))
+      | inr z ↦ ap (λ (n : Named). n.slot.held) (get_or-set_other o.slots place q _ _ (λ f. z.1 (sym f))) ∙ a.still q x b f k
+    ];
     kept = kept-moved d o (exchanged place slot o) a refl m.type_id.0 slot.held displaced total-exchanged held displaced-there;
     stocked = λ q x e. elim (eqb_tells place q) [
       | inl z ↦ subst (λ j. IsStocked d.maps o.lives j x) z.1 (put-stocked slot.held held x (sym (ap (λ (n : Named). n.slot.held) (get_or-set_same o.slots place _ _ lt)) ∙ subst (λ j. (slot_at j (put_at place slot o.slots)).slot.held ≡ Some x) (sym z.1) e))

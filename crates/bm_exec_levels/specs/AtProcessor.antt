@@ -12,6 +12,7 @@ use Rattle.bm_lang.specs.Limits.{script_cost}
 use Rattle.bm_law.specs.Lists.{Log}
 use Rattle.bm_law.specs.Spans.{own_entries}
 use Rattle.bm_law.specs.State.{State, seen}
+use Rattle.bm_law_order.specs.Graphs.{NamedGraph}
 use Rattle.bm_cache.specs.Shown.{shown}
 use Rattle.bm_cache.specs.Tokens.{number_of}
 use Rattle.bm_law_scenario.specs.Handlers.{HandlerPhrase, RunsThere}
@@ -116,6 +117,10 @@ module _ {W : Type 0} (knows : Knows W) where
 
   abbrev pub items_of : Processor W → ℕ → Option Shelved
   items_of m = items_in (known_of knows m).objects
+
+  -- its lists and trees
+  abbrev pub graphs_of : Processor W → List NamedGraph
+  graphs_of m = (known_of knows m).objects.graphs
 
   -- lists and trees are as they were, and so is what is in them
   pub record SameItems (a b : Processor W) : Type 0 where

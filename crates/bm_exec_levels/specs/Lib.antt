@@ -16,4 +16,5 @@ pub mod Ordinary
 pub mod Stated
 pub mod Asked
 pub mod Slotted
+pub mod Called
 pub mod Calling

@@ -3,6 +3,7 @@
 use Rattle.std.specs.Prelude.{◌≡◌, ◌<◌, ◌≤◌, ◌+◌, ℕ, zero, suc, Bool, false, eqb, if◌then◌else◌, List, [], ◌∷◌, map, Option, Some, None, slice_get}
 use Rattle.bm_journal.specs.declared.ids.ObjId.{ObjId}
 use Rattle.bm_lang.specs.declared.scenario.MapDeclaration.{MapDeclaration}
+use Rattle.bm_lang.specs.declared.scenario.MapKind.TheVariants.{Slot}
 use Rattle.bm_lang.specs.declared.scenario.TypeDeclaration.{TypeDeclaration}
 use Rattle.bm_law_order.specs.Graphs.{NamedGraph, Standing, graph_at, graph_names_in, standing_from}
 use Rattle.bm_law_order.specs.Slots.{Named}
@@ -77,12 +78,22 @@ pub record IsItem (maps : List MapDeclaration) (lives : Lives) (u : ℕ) (s : St
 abbrev pub AreKinds : List MapDeclaration → List NamedGraph → Type 0
 AreKinds maps graphs = (place : ℕ) (m : MapDeclaration) (is_tree : Bool) → slice_get maps place ≡ Some m → m.kind ≡ graph_kind is_tree → (graph_at place graphs).is_tree ≡ is_tree
 
+-- at the place of a slot stands an empty list without a history
+abbrev pub AreUnused : List MapDeclaration → List NamedGraph → Type 0
+AreUnused maps graphs = (place : ℕ) (m : MapDeclaration) → slice_get maps place ≡ Some m → m.kind ≡ Slot → ((graph_at place graphs).history ≡ []) × ((graph_at place graphs).nodes ≡ [])
+
+-- at the place of a list or tree stands a slot that holds nothing
+abbrev pub AreStill : List MapDeclaration → List Named → Type 0
+AreStill maps slots = (place : ℕ) (m : MapDeclaration) (is_tree : Bool) → slice_get maps place ≡ Some m → m.kind ≡ graph_kind is_tree → (slot_at place slots).slot.held ≡ None
+
 -- The slots, lists and trees are those of the declared maps, so it is of each object that lives, of what each slot holds, and of what is in each list
 -- and tree.
 pub record AreStocked (d : Declared) (o : Objects) : Type 0 where
   pub names : names_in o.slots ≡ map (λ (m : MapDeclaration). m.name) d.maps
   pub graphs : graph_names_in o.graphs ≡ map (λ (m : MapDeclaration). m.name) d.maps
   pub kinds : AreKinds d.maps o.graphs
+  pub unused : AreUnused d.maps o.graphs
+  pub still : AreStill d.maps o.slots
   pub kept : (u : ℕ) (object : Living) → o.lives u ≡ Some object → IsKept d.types (elsewhere o u) object
   pub stocked : (place : ℕ) (x : ObjId) → (slot_at place o.slots).slot.held ≡ Some x → IsStocked d.maps o.lives place x
   pub items : (u : ℕ) (s : Standing) → standing_from 0 o.graphs u ≡ Some s → IsItem d.maps o.lives u s

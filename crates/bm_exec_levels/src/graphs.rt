@@ -10,13 +10,16 @@ ghost use Rattle.bm_journal.specs.declared.past.PastCall.TheVariants as past;
 ghost use Rattle.bm_law.specs.Spans.{Records};
 ghost use Rattle.bm_lang.specs.declared.scenario.MapDeclaration.{MapDeclaration};
 ghost use Rattle.bm_law_order.specs.Calls.{lock_in};
+ghost use Rattle.bm_law_order.specs.Graphs.{graph_at};
 ghost use Rattle.bm_law_scenario.specs.Declared.{IsGraph};
 ghost use Rattle.bm_plan.specs.Position.{StandsAt};
+ghost use Rattle.bm_world.specs.Graphs.{end_node, first_node};
 ghost use Rattle.bm_exec.specs.Guarded.{Found, HasLooked, IsShelved, Popped, PutIn, Refused, Removed, shelved_values};
 ghost use Rattle.bm_exec.specs.Living.{IsToPut, values_in};
 ghost use Rattle.bm_exec_levels.specs.AtPolls.{MayCall, home};
-ghost use Rattle.bm_exec_levels.specs.AtProcessor.{Between, FineAt, IsAt, SameLives, guarded_of, lists_of, lives_of, log_of};
+ghost use Rattle.bm_exec_levels.specs.AtProcessor.{Between, FineAt, IsAt, SameLives, graphs_of, guarded_of, lists_of, lives_of, log_of};
 ghost use Rattle.bm_exec_levels.specs.AtTie.{TiedAt};
+ghost use Rattle.bm_exec_levels.specs.Called.{CalledAt};
 ghost use Rattle.bm_exec_levels.specs.Ready.{asked_of};
 ghost use Rattle.bm_exec_levels.specs.declared.processor.Processor.{Processor as ProcessorValue};
 
@@ -199,6 +202,10 @@ pub fn pop<'s, W: Lives, B: Since<W>, L: Rank>(
         → Popped L.number program.now.scenario.now.types m.type_id.0 name end
         (log_of own.old) (log_of own.new) (lives_of W.Knows own.old) (lives_of W.Knows own.new)
         (guarded_of W.Knows own.old) (guarded_of W.Knows own.new) was) }
+    ensures item { IfOk result (λ was.
+        was ≡ end_node end (graph_at graph.0 (graphs_of W.Knows own.old)).nodes) }
+    ensures called { IfOk result (λ was. CalledAt graph.0 (pop_call end was)
+        (graphs_of W.Knows own.old) (graphs_of W.Knows own.new)) }
     ensures lists { OnOk result (lists_of own.new ≡ lists_of own.old) }
     ensures at { OnOk result (IsAt W.Knows StandsAt L.number program.now own.new) }
     ensures tied { OnOk result (TiedAt W.Knows B.since B.start own.new) }
@@ -230,6 +237,10 @@ pub fn first_item<'s, W: Lives, B: Since<W>, L: Rank>(
         → IsGraph program.now.scenario.now.maps true graph.0 m
         → Found L.number program.now.scenario.now.types m.type_id.0 graph.0 name
         (log_of own.old) (log_of own.new) (guarded_of W.Knows own.old) item) }
+    ensures item { IfOk result (λ item.
+        item ≡ first_node (graph_at graph.0 (graphs_of W.Knows own.old)).nodes) }
+    ensures called { IfOk result (λ item. CalledAt graph.0 (first_call item)
+        (graphs_of W.Knows own.old) (graphs_of W.Knows own.new)) }
     ensures guarded { OnOk result (guarded_of W.Knows own.new ≡ guarded_of W.Knows own.old) }
     ensures lists { OnOk result (lists_of own.new ≡ lists_of own.old) }
     ensures lives { OnOk result (lives_of W.Knows own.new ≡ lives_of W.Knows own.old) }
@@ -266,6 +277,8 @@ pub fn remove<'s, W: Lives, B: Since<W>, L: Rank>(
         → Removed L.number program.now.scenario.now.types m.type_id.0 name object
         (log_of own.old) (log_of own.new) (lives_of W.Knows own.old) (lives_of W.Knows own.new)
         (guarded_of W.Knows own.old) (guarded_of W.Knows own.new)) }
+    ensures called { OnOk result (CalledAt graph.0 (past.Remove object)
+        (graphs_of W.Knows own.old) (graphs_of W.Knows own.new)) }
     ensures lists { OnOk result (lists_of own.new ≡ lists_of own.old) }
     ensures at { OnOk result (IsAt W.Knows StandsAt L.number program.now own.new) }
     ensures tied { OnOk result (TiedAt W.Knows B.since B.start own.new) }

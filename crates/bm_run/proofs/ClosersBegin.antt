@@ -1,7 +1,7 @@
 -- Processors whose scripts have ended, once processor 0 has noted that the closing begins, can close together.
 use Rattle.std.specs.Prelude.{◌≢◌, ◌≤◌, get_or, map, set, slice_get, length}
 use Rattle.std.specs.List.{list_any}
-use Rattle.std.proofs.Common.{◌≡◌, ◌<◌, ℕ, zero, suc, Bool, true, false, List, [], ◌∷◌, ◌++◌, Option, Some, arith, refl, sym, ◌∙◌, ap, subst, inl, inr}
+use Rattle.std.proofs.Common.{◌≡◌, ◌<◌, ℕ, zero, suc, Bool, true, false, List, [], ◌∷◌, ◌++◌, Option, None, Some, arith, refl, sym, ◌∙◌, ap, subst, inl, inr}
 use Rattle.std.proofs.lemmas.Bool.{cases_eq}
 use Rattle.std.proofs.lemmas.List.{get_or-set_other, get_or-set_same, length-set}
 use Rattle.bm_journal.specs.declared.ids.Domain.TheVariants.{Plain, Tracing}
@@ -11,7 +11,9 @@ use Rattle.bm_law.specs.Stands.{times}
 use Rattle.bm_law.specs.State.{State, opening, seen, seven_lists}
 use Rattle.bm_law.proofs.Alone.{level-from, level-own}
 use Rattle.bm_law.proofs.Seen.{map-seven}
-use Rattle.bm_law_order.specs.Orders.{Order, by}
+use Rattle.bm_law_order.specs.Calls.{lock_in}
+use Rattle.bm_law_order.specs.Orders.{Order, by, part_of}
+use Rattle.bm_law_graphs.proofs.ChunkShelved.{lock-more}
 use Rattle.bm_law_places.specs.World.{outset, world_over}
 use Rattle.bm_law_scenario.specs.Grammar.{AreScripts, Front, lines_of}
 use Rattle.bm_law_scenario.specs.Opened.{opened_classes, uses_class}
@@ -33,7 +35,7 @@ use Rattle.bm_run.specs.Asked.{in_its_turn}
 use Rattle.bm_run.specs.Between.{AllStopped, Between, all_openings, ended_of}
 use Rattle.bm_run.specs.Turns.{owned_by}
 use Rattle.std.proofs.lemmas.Option.{get_or_from_slice_get}
-use Rattle.bm_run.specs.Closers.{AllDriven, AllOutside, AreTogether, BeginsClosing, HasRoom, IsAmong, IsResting, Keeps, OwnBefore, TellsLog}
+use Rattle.bm_run.specs.Closers.{AllDriven, AllOutside, AreFew, AreTogether, BeginsClosing, HasRoom, IsAmong, IsResting, Keeps, OwnBefore, TellsLog}
 use Rattle.bm_run.specs.LogsSoFar.{Stretched}
 use Rattle.bm_run.specs.Seated.{HasStopped, opening_lists, opening_log, runs_or_stopped}
 use Rattle.bm_run.specs.SoFar.{at_turn}
@@ -57,7 +59,7 @@ use Rattle.bm_run.specs.Emptied.{HasRoomFor}
 use Rattle.bm_run.specs.LeftAlone.{AllUnswept}
 use Rattle.bm_run.proofs.ClosersTaken.{his-side}
 use Rattle.bm_run.proofs.EndedStands.{ended-stands}
-use Rattle.bm_run.proofs.GivenLaws.{given-rows, given-unswept}
+use Rattle.bm_run.proofs.GivenLaws.{given-rows, given-unlocked, given-unswept}
 use Rattle.bm_run.proofs.LogLaw.{here, tells-here}
 use Rattle.bm_run.proofs.SeatAfter.{at-own, leaves-here}
 use Rattle.bm_run.proofs.Sections.{runs-none}
@@ -214,6 +216,9 @@ module _ (g : Program) (turns : List ℕ) (seats : List Seat) (world : LivingSta
   first-ended : (kept : Kept) → Keeps (kept_by seats) 0 kept → kept.handlers.planned.ended ≡ true
   first-ended kept keeps = subst (λ (k : Kept). k.handlers.planned.ended ≡ true) (first-kept kept keeps) (at 0 some-processors).stopped.ended
 
+  pub first-unlocked : (kept : Kept) → Keeps (kept_by seats) 0 kept → kept.locked ≡ None
+  first-unlocked kept keeps = subst (λ (k : Kept). k.locked ≡ None) (first-kept kept keeps) (at 0 some-processors).stopped.unlocked
+
   -- what a processor may ask for is within its share
   share-at : (q : ℕ) (lt : q < n) → (at q lt).kept.settled + left_cost g.scenario.now (at q lt).kept.handlers.planned.left ≤ get_or b.shares q 0
   share-at q lt =
@@ -226,14 +231,16 @@ module _ (g : Program) (turns : List ℕ) (seats : List Seat) (world : LivingSta
       subst (λ (k : Kept). k.settled + left_cost g.scenario.now k.handlers.planned.left ≤ get_or b.shares q 0) (same-kept (kept_by seats) q i.kept (at q lt).kept there (at q lt).keeps) own
 
   -- .. so processor 0 may still make the calls that empty the maps
-  pub first-room : (kept : Kept) → Keeps (kept_by seats) 0 kept → length g.scenario.now.maps ≤ 64 → HasRoomFor g (in_its_turn kept (at_turn 0 world))
+  pub first-room : (kept : Kept) → Keeps (kept_by seats) 0 kept → AreFew g world → HasRoomFor g (in_its_turn kept (at_turn 0 world))
   first-room kept keeps few =
       let share = subst (λ (k : Kept). k.settled + left_cost g.scenario.now k.handlers.planned.left ≤ get_or b.shares 0 0) (first-kept kept keeps) (share-at 0 some-processors) in
       let most = get_or-le-sum_by (λ x. x) b.shares 0 0 (subst (λ (k : ℕ). 0 < k) (sym b.shares_many) some-processors) in
       let all = b.few in
-      omega (arith, share, most, all, few)
+      let maps = few.0 in
+      let items = few.1 in
+      omega (arith, share, most, all, maps, items)
 
-  module _ (kept later : Kept) (now : LivingState) (keeps : Keeps (kept_by seats) 0 kept) (few-maps : length g.scenario.now.maps ≤ 64) (begins : BeginsClosing g kept (at_turn 0 world) (get_or b.logs 0 []) later now) where
+  module _ (kept later : Kept) (now : LivingState) (keeps : Keeps (kept_by seats) 0 kept) (few-maps : AreFew g world) (begins : BeginsClosing g kept (at_turn 0 world) (get_or b.logs 0 []) later now) where
     abbrev log : Log
     log = get_or b.logs 0 []
 
@@ -270,12 +277,20 @@ module _ (g : Program) (turns : List ℕ) (seats : List Seat) (world : LivingSta
     pub gives-unswept : AllUnswept gives
     gives-unswept = given-unswept (declared_in g.scenario.now) 0 (seen number_of (shown kept.caches)) gives begins.said gives-at
 
+    -- processor 0 still holds no lock
+    gives-free : lock_in (log ++ gives) ≡ None
+    gives-free =
+        let part : part_of 0 made ≡ log = b.so_far.order_of.parts 0 (subst (λ k. 0 < k) (sym b.so_far.many) some-processors) in
+        lock-more None log gives
+        ∙ (given-unlocked (declared_in g.scenario.now) 0 (seen number_of (shown kept.caches)) gives begins.said gives-at (lock_in log)
+        ∙ (ap lock_in (sym part) ∙ b.so_far.so_far.unheld 0))
+
     pub begun-stretch : Stretched n pages 0 made b.logs gives world now
     begun-stretch =
         let leaves = leaves-here g 0 before log refl (first-sound kept keeps) (first-told kept keeps) in
         let start : Leaves 0 log (after (opening 0) log) = record { named = leaves.named; lists = refl } in
         let last = leaves-here g 0 then (log ++ gives) own-side.grace_is begins.sound begins.told in
-        stretched false n pages 0 made b.logs (log ++ gives) gives world now (seen number_of (shown later.caches)) b.so_far some-processors refl begins.tied start last (unswept-found 0 gives (world_over made (outset n pages)) gives-unswept)
+        stretched false n pages 0 made b.logs (log ++ gives) gives world now (seen number_of (shown later.caches)) b.so_far some-processors refl gives-free begins.tied start last (unswept-found 0 gives (world_over made (outset n pages)) gives-unswept)
 
     abbrev pub begun_logs : List Log
     begun_logs = set b.logs 0 (log ++ gives)
@@ -330,7 +345,9 @@ module _ (g : Program) (turns : List ℕ) (seats : List Seat) (world : LivingSta
         let share = subst (λ (k : Kept). k.settled + left_cost g.scenario.now k.handlers.planned.left ≤ get_or b.shares 0 0) (first-kept kept keeps) (share-at 0 some-processors) in
         let asks = begins.asks in
         let all = b.few in
-        omega (arith, sums, most, same, share, asks, all, few-maps)
+        let maps = few-maps.0 in
+        let items = few-maps.1 in
+        omega (arith, sums, most, same, share, asks, all, maps, items)
 
     other-then : (q : ℕ) (lt : q < n) → q ≢ 0 → KeptThen q lt
     other-then q lt ne =

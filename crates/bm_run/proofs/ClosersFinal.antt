@@ -7,6 +7,7 @@ use Rattle.std.proofs.lemmas.Option.{get_or_from_slice_get}
 use Rattle.bm_journal.specs.declared.ids.Domain.{Domain}
 use Rattle.bm_journal.specs.declared.ids.Domain.TheVariants.{Plain, Tracing}
 use Rattle.bm_journal.specs.declared.entry.Entry.TheVariants as entry
+use Rattle.bm_journal.specs.declared.past.Past.{Past}
 use Rattle.bm_lang.specs.declared.scenario.Parts.{Parts}
 use Rattle.bm_law.specs.Alone.{AllAt}
 use Rattle.bm_law.specs.Lists.{Leaves, Log, after}
@@ -26,16 +27,18 @@ use Rattle.bm_grace.specs.Known.{Objects}
 use Rattle.bm_cache.specs.Shown.{shown}
 use Rattle.bm_cache.specs.Tokens.{Token, number_of}
 use Rattle.bm_plan.proofs.Positions.{whole}
+use Rattle.bm_world.specs.GraphItems.{history_told}
 use Rattle.bm_world.specs.LivingState.{LivingState, known_living}
 use Rattle.bm_closing.specs.declared.crew.Phase.TheVariants.{Ends, Sweeps}
 use Rattle.bm_exec_levels.specs.declared.kept.Kept.{Kept}
 use Rattle.bm_exec_levels.specs.declared.processor.Processor.{Processor}
 use Rattle.bm_exec_levels.specs.declared.program.Program.{Program}
-use Rattle.bm_exec_levels.specs.Slotted.{in_hands}
+use Rattle.bm_exec_levels.specs.Slotted.{AreStocked, AreUnused, in_hands}
 use Rattle.bm_lang.specs.declared.scenario.MapDeclaration.{MapDeclaration}
+use Rattle.bm_lang.specs.declared.scenario.MapKind.TheVariants.{Slot}
 use Rattle.bm_run.specs.Asked.{in_its_turn}
 use Rattle.bm_run.specs.Between.{AllClosed, AllStopped, Between, ClosesAs, GivesFirst, IsFinal, all_openings, ended_of, owns}
-use Rattle.bm_run.specs.Closers.{AllDriven, BeginsClosing, CloseTogether, Gathered, Keeps, TellsLog, log_kept}
+use Rattle.bm_run.specs.Closers.{AllDriven, AreFew, BeginsClosing, CloseTogether, Gathered, Keeps, TellsHistories, TellsLog, log_kept}
 use Rattle.bm_run.specs.InTurns.{one_by_one}
 use Rattle.bm_run.specs.LogsSoFar.{LogsSoFar, Stretched}
 use Rattle.bm_run.specs.Seated.{opening_log}
@@ -60,10 +63,7 @@ use Rattle.bm_world.specs.ToldLiving.{knows_living, told_living}
 use Rattle.bm_run.specs.Closers.{AllDone, IsAmong, OwnAfter}
 use Rattle.bm_run.specs.ClosersCrew.{all-done}
 use Rattle.bm_run.proofs.ClosersBegin.{KeptThen, StoppedAt, begun-stretch, begun-tells, front-is, get-map, given_by, gives-at, kept-then, kept_by, many-now, some-processors, stopped-at, stopped-ended, stopped-owns}
-use Rattle.bm_run.proofs.OrderEntries.{AllHave, have-all, have-append, no-log, order-has, order-uncalled, part-any}
-use Rattle.bm_run.proofs.Uncalled.{above-uncalled, front-none}
-use Rattle.bm_law_graphs.specs.Uncalled.{CallsNone}
-use Rattle.bm_law_order.specs.Graphs.{standing_from}
+use Rattle.bm_law_order.specs.Graphs.{graph_names_in, standing_from}
 use Rattle.bm_run.proofs.EmptiedSlots.{AllPutNone, along-append, emptied, hands-all, split-at, split-puts}
 use Rattle.bm_run.proofs.GivenLaws.{given-progress, given-puts, given-sends}
 use Rattle.bm_run.proofs.SeatAfter.{leaves-here}
@@ -76,7 +76,6 @@ use Rattle.bm_exec_levels.specs.Ready.{known_of}
 use Rattle.bm_exec_levels.specs.Sound.{Sound}
 use Rattle.bm_exec_levels.specs.AtProcessor.{log_of}
 use Rattle.bm_world.specs.Contents.{are_apart}
-use Rattle.bm_run.specs.Emptied.{AreSlots}
 use Rattle.bm_run.proofs.ClosersBoxes.{NoneSends, OrderSendsNone, beyond, log-sends, order-sends, unsent}
 use Rattle.std.proofs.lemmas.Bool.{cases_Bool}
 use Rattle.std.proofs.lemmas.Bool.Decides.{nat_tests}
@@ -225,7 +224,7 @@ among-times k (x ∷ cs) h = by (among-times k cs) (nat_eq k x) refl
 
 -- ---- all of them
 
-module _ (g : Program) (turns : List ℕ) (seats : List Seat) (world : LivingState) (b : Between g turns [] seats world) (stopped : AllStopped seats) (rows : RowsKept) (kept later : Kept) (now : LivingState) (keeps : Keeps (kept_by seats) 0 kept) (few-maps : length g.scenario.now.maps ≤ 64) (begins : BeginsClosing g kept (at_turn 0 world) (get_or b.logs 0 []) later now) (apart : are_apart (map (λ (m : MapDeclaration). m.name) g.scenario.now.maps) ≡ true) (slots : AreSlots g.scenario.now.maps) (finals : List Log) where
+module _ (g : Program) (turns : List ℕ) (seats : List Seat) (world : LivingState) (b : Between g turns [] seats world) (stopped : AllStopped seats) (rows : RowsKept) (kept later : Kept) (now : LivingState) (keeps : Keeps (kept_by seats) 0 kept) (few-maps : AreFew g world) (begins : BeginsClosing g kept (at_turn 0 world) (get_or b.logs 0 []) later now) (apart : are_apart (map (λ (m : MapDeclaration). m.name) g.scenario.now.maps) ≡ true) (finals : List Log) (histories : List (List ℕ × List Past)) where
   abbrev s : Parts
   s = g.scenario.now
 
@@ -276,14 +275,14 @@ module _ (g : Program) (turns : List ℕ) (seats : List Seat) (world : LivingSta
       get_or-set_other b.logs 0 (suc p) (get_or b.logs 0 [] ++ gives) [] (λ e. absurd (omega (arith, e)))
       ∙ (sym (append-nil (get_or b.logs (suc p) [])) ∙ ap (λ (z : Log). get_or b.logs (suc p) [] ++ z) (sym (none-replicated (n - 1) p)))
 
-  pub crew-as : (ps : List (Option Kept)) (cs : List ℕ) → ps ≡ places → cs ≡ classes → CloseTogether (record { processors = length ps; places = ps; world = Some now; classes = cs }) finals → CloseTogether crew finals
+  pub crew-as : (ps : List (Option Kept)) (cs : List ℕ) → ps ≡ places → cs ≡ classes → CloseTogether (record { processors = length ps; places = ps; world = Some now; classes = cs }) finals histories → CloseTogether crew finals histories
   crew-as ps cs e f h =
       let many : length places ≡ n = many-now g turns seats world b stopped rows kept later now keeps few-maps begins in
-      subst (λ m. CloseTogether (record { processors = m; places = places; world = Some now; classes = classes }) finals) many
-      (subst (λ (z : List ℕ). CloseTogether (record { processors = length places; places = places; world = Some now; classes = z }) finals) f
-      (subst (λ (z : List (Option Kept)). CloseTogether (record { processors = length z; places = z; world = Some now; classes = cs }) finals) e h))
+      subst (λ m. CloseTogether (record { processors = m; places = places; world = Some now; classes = classes }) finals histories) many
+      (subst (λ (z : List ℕ). CloseTogether (record { processors = length places; places = places; world = Some now; classes = z }) finals histories) f
+      (subst (λ (z : List (Option Kept)). CloseTogether (record { processors = length z; places = z; world = Some now; classes = cs }) finals histories) e h))
 
-  module _ (c : CloseTogether crew finals) where
+  module _ (c : CloseTogether crew finals histories) where
     pub ends : AfterSteps Ends n s.pages (made ++ by 0 gives) one now crew c.middle n
     ends = steps-taken Ends n s.pages (made ++ by 0 gives) one now crew c.middle n (omega arith) (many-now g turns seats world b stopped rows kept later now keeps few-maps begins) began.so_far refl (begun-tells g turns seats world b stopped rows kept later now keeps few-maps begins) c.ends
 
@@ -412,8 +411,8 @@ module _ (g : Program) (turns : List ℕ) (seats : List Seat) (world : LivingSta
     objects-are = sweeps.objects ∙ ends.objects
 
     -- the slots hold nothing once the maps were emptied
-    emptied-slots : (i : ℕ) (m : MapDeclaration) → slice_get s.maps i ≡ Some m → (named_in now.contents m.name).held ≡ None
-    emptied-slots i m e =
+    emptied-slots : (i : ℕ) (m : MapDeclaration) → slice_get s.maps i ≡ Some m → m.kind ≡ Slot → (named_in now.contents m.name).held ≡ None
+    emptied-slots i m e slot =
         let x : Owned = over owned_after made nothing_owned in
         let here = begins.said in
         let both = split-at here.one here.two (subst (AllAt 0) here.part_is first-at) in
@@ -421,27 +420,22 @@ module _ (g : Program) (turns : List ℕ) (seats : List Seat) (world : LivingSta
         let order : over owned_after (made ++ by 0 gives) nothing_owned ≡ over owned_after (by 0 gives) x = over-append owned_after OwnedFit made (by 0 gives) nothing_owned in
         let parts : over owned_after (by 0 gives) x ≡ over owned_after (by 0 here.two) (over owned_after (by 0 here.one) x) =
         ap (λ (z : Log). over owned_after (by 0 z) x) here.part_is ∙ along-append here.one here.two x in
-        let none = emptied s.types s.maps (after (seen number_of (shown kept.caches)) here.one) here.two (over owned_after (by 0 here.one) x) here.is_second both.1 puts.1 slots i m e in
+        let none = emptied s.types s.maps (after (seen number_of (shown kept.caches)) here.one) here.two (over owned_after (by 0 here.one) x) here.is_second both.1 puts.1 i m e slot in
         ap (λ (f : Contents). (f m.name).held) (sym began.so_far.so_far.slots ∙ ap (λ (y : Owned). y.objects.slots) (order ∙ parts)) ∙ none
 
-    -- nothing is in lists and trees, since no script called one
-    log-uncalled : (p : ℕ) → p < n → AllHave CallsNone (get_or b.logs p [])
-    log-uncalled p lt =
-        let h = (stopped-at g turns seats world b stopped p lt).stopped in
-        let front : Log = opening_log s p ++ h.scripts in
-        let of_front : AllHave CallsNone front = have-all CallsNone front (front-none s slots p (opening p) front (front-is s p h.scripts h.are_scripts)) (above-uncalled s slots p front h.stands h.done) in
-        subst (AllHave CallsNone) (sym h.log_is) (have-append CallsNone front ((0, entry.Ended) ∷ []) of_front (tt, tt))
+    -- .. and nothing is in lists and trees
+    graphs-are : sweeps.now.graphs ≡ now.graphs
+    graphs-are = ap (λ (o : Objects). o.graphs) objects-are
 
-    any-uncalled : (p : ℕ) → AllHave CallsNone (get_or b.logs p [])
-    any-uncalled p = elim (cases_lt p (length b.logs)) [
-      | inl lt ↦ log-uncalled p (subst (λ k. p < k) b.so_far.many lt)
-      | inr le ↦ subst (AllHave CallsNone) (sym (no-log p b.logs le)) tt
-    ]
+    stocked : AreStocked (declared_in s) (known_living now).objects
+    stocked = begins.sound.at.ready.stocked
 
-    bare : (u : ℕ) → standing_from 0 now.graphs u ≡ None
-    bare u =
-        let none = order-uncalled made (order-has CallsNone made (λ p. subst (AllHave CallsNone) (sym (part-any b.logs made b.so_far.order_of p)) (any-uncalled p))) in
-        ap (λ gs. standing_from 0 gs u) begins.graphs ∙ b.so_far.so_far.bare none u
+    histories-are : histories ≡ map history_told sweeps.now.graphs
+    histories-are = told c.now.world sweeps.now_is c.histories_are
+      where
+        told : (w : Option LivingState) → w ≡ Some sweeps.now → TellsHistories w histories → histories ≡ map history_told sweeps.now.graphs
+        told None e h = absurd (cc)
+        told (Some w) e h = h ∙ ap (λ (x : LivingState). map history_told x.graphs) (same-some e)
 
     none-lives : (u : ℕ) → in_hands (known_living world).objects u ≡ None
     none-lives u = by (in_hands (known_living world).objects u) refl
@@ -516,7 +510,7 @@ module _ (g : Program) (turns : List ℕ) (seats : List Seat) (world : LivingSta
     ]
 
     -- All have closed, whatever order of turns led here.
-    pub all-closed : AllClosed s turns finals
+    pub all-closed : AllClosed s turns finals histories
     all-closed = record {
       order = b.order;
       taken = b.taken;
@@ -537,7 +531,11 @@ module _ (g : Program) (turns : List ℕ) (seats : List Seat) (world : LivingSta
       logs = λ p lt. is-final p lt;
       world = sweeps.now;
       so_far = so-far;
-      lives = λ u. ap (λ (o : Objects). o.lives u) objects-are ∙ (sym (hands-all (known_living now).objects s.maps begins.sound.at.ready.stocked.names apart emptied-slots bare u) ∙ (ap (λ (f : Lives). f u) begins.hands ∙ none-lives u));
+      lives = λ u. ap (λ (o : Objects). o.lives u) objects-are ∙ (sym (hands-all (known_living now).objects (declared_in s) stocked apart emptied-slots begins.bare u) ∙ (ap (λ (f : Lives). f u) begins.hands ∙ none-lives u));
       inboxes = inboxes;
       idle = idle;
+      names = ap (λ gs. graph_names_in gs) graphs-are ∙ stocked.graphs;
+      unused = subst (AreUnused s.maps) (sym graphs-are) stocked.unused;
+      bare = λ u. ap (λ gs. standing_from 0 gs u) graphs-are ∙ begins.bare u;
+      histories_are = histories-are;
     }

@@ -19,6 +19,7 @@ use Rattle.bm_law.specs.Inboxes.{Inboxes}
 use Rattle.bm_law.specs.Lists.{Log}
 use Rattle.bm_law.specs.Stands.{times}
 use Rattle.bm_law.specs.State.{State, seen}
+use Rattle.bm_law_order.specs.Graphs.{standing_from}
 use Rattle.bm_law_order.specs.Tie.{Tied, TiedBy}
 use Rattle.bm_journal.specs.Recording.{Appends}
 use Rattle.bm_journal.specs.declared.entry.Entry.{Entry}
@@ -29,6 +30,7 @@ use Rattle.bm_post.specs.PostState.{told_in}
 use Rattle.bm_cache.specs.Shown.{shown}
 use Rattle.bm_cache.specs.Tokens.{number_of}
 use Rattle.bm_work.specs.Goes.{Alike}
+use Rattle.bm_world.specs.Graphs.{items_in}
 use Rattle.bm_world.specs.LivingState.{LivingAtRest, LivingState, idle-living, known_living}
 use Rattle.bm_world.specs.ToldLiving.{LivingDoes, knows_living}
 use Rattle.bm_closing.specs.Arrived.{emptied}
@@ -36,7 +38,7 @@ use Rattle.bm_closing.specs.Closes.{ClosesBy}
 use Rattle.bm_closing.specs.SweepsEach.{all_emptied}
 use Rattle.bm_exec_levels.specs.AtPolls.{DoesHere, here-same, polled}
 use Rattle.bm_exec_levels.specs.declared.kept.Kept.{Kept}
-use Rattle.bm_exec_levels.specs.AtProcessor.{SameLives, Stays, lists_of, log_of}
+use Rattle.bm_exec_levels.specs.AtProcessor.{Stays, lists_of, lives_of, log_of}
 use Rattle.bm_exec_levels.specs.AtTie.{TiedAt}
 use Rattle.bm_exec_levels.specs.declared.processor.Processor.{Processor}
 use Rattle.bm_journal.specs.declared.entry.Entry.TheVariants as entry
@@ -164,9 +166,9 @@ grown-told P t before (Some z) l g y = subst (GrewPart P t before) (same-log y) 
 -- A processor that had its turn to note it, and to empty the maps.
 pub begun-by : (g : Program) (kept : Kept) (start : LivingState) (old m k : Processor LivingState) (later : Kept) (now : LivingState) (log l : Log) → old ≡ in_its_turn kept start → later ≡ kept_of k → now ≡ k.side → later.caches.recorder.told ≡ Some l → kept.caches.recorder.told ≡ Some log →
     Appends (log_of old) 0 entry.Close (log_of m) → shown m.caches ≡ shown old.caches → m ≡ record old { caches = m.caches } →
-    GrewBy (EmptiesMaps g.scenario.now.types g.scenario.now.maps) (lists_of m) (log_of m) (log_of k) → SameLives knows_living m k → Stays knows_living (2 * length g.scenario.now.maps) 0 g m k → Sound knows_living g k → TiedAt knows_living log start k →
+    GrewBy (EmptiesMaps g.scenario.now.types g.scenario.now.maps) (lists_of m) (log_of m) (log_of k) → lives_of knows_living k ≡ lives_of knows_living m → ((u : ℕ) → standing_from 0 k.side.graphs u ≡ None) → Stays knows_living (2 * length g.scenario.now.maps + 3 * items_in m.side.graphs) 0 g m k → Sound knows_living g k → TiedAt knows_living log start k → kept.locked ≡ None →
     BeginsClosing g kept start log later now
-begun-by g kept start old m k later now log l opened closes side_is told first said lists same grew lives stays sound tied =
+begun-by g kept start old m k later now log l opened closes side_is told first said lists same grew lives bare stays sound tied unlocked =
     let old_told : log_of old ≡ Some log = ap (λ (z : Processor LivingState). log_of z) opened ∙ first in
     let note : Log = at_level 0 (entry.Close ∷ []) in
     let k_told : log_of k ≡ Some l = sym (ap (λ (x : Kept). x.caches.recorder.told) closes) ∙ told in
@@ -181,7 +183,8 @@ begun-by g kept start old m k later now log l opened closes side_is told first s
     let was : m.side ≡ start = ap (λ (z : Processor LivingState). z.side) same ∙ ap (λ (z : Processor LivingState). z.side) opened in
     let asked : asked_of knows_living g.scenario.now m ≡ asked_of knows_living g.scenario.now (in_its_turn kept start) = ap (asked_of knows_living g.scenario.now) same ∙ ap (asked_of knows_living g.scenario.now) opened in
     let most = stays.asks_most in
-    let F : Processor LivingState → Type 0 = λ x. asked_of knows_living g.scenario.now x ≤ asked_of knows_living g.scenario.now (in_its_turn kept start) + 2 * length g.scenario.now.maps in
+    let items : items_in m.side.graphs ≡ items_in start.graphs = ap (λ (w : LivingState). items_in w.graphs) was in
+    let F : Processor LivingState → Type 0 = λ x. asked_of knows_living g.scenario.now x ≤ asked_of knows_living g.scenario.now (in_its_turn kept start) + (2 * length g.scenario.now.maps + 3 * items_in start.graphs) in
     record {
       added = note ++ more.added;
       told = told ∙ ap Some is;
@@ -194,8 +197,11 @@ begun-by g kept start old m k later now log l opened closes side_is told first s
       };
       sound = subst (Sound knows_living g) back sound;
       tied = subst (λ (w : LivingState). T (log ++ (note ++ more.added)) w) (sym side_is) (subst (λ (z : Log). T z k.side) is here);
-      asks = subst F back (omega (arith, most, asked));
-      hands = ap (λ (w : LivingState). in_hands (known_living w).objects) side_is ∙ (lives.0 ∙ ap (λ (w : LivingState). in_hands (known_living w).objects) was);
-      graphs = ap (λ (w : LivingState). w.graphs) side_is ∙ (lives.1.graphs ∙ ap (λ (w : LivingState). w.graphs) was);
+      asks = subst F back (omega (arith, most, asked, items));
+      hands = ap (λ (w : LivingState). in_hands (known_living w).objects) side_is ∙ (lives ∙ ap (λ (w : LivingState). in_hands (known_living w).objects) was);
+      bare = λ u. ap (λ (w : LivingState). standing_from 0 w.graphs u) side_is ∙ bare u;
+      unlocked =
+          ap (λ (x : Kept). x.locked) closes
+          ∙ (stays.locked ∙ (ap (λ (z : Processor LivingState). z.locked) same ∙ (ap (λ (z : Processor LivingState). z.locked) opened ∙ unlocked)));
       parity = λ d. ap (λ (w : LivingState). (side d (known_living w)).word % 2) side_is ∙ (stays.parity d ∙ ap (λ (w : LivingState). (side d (known_living w)).word % 2) was);
     }

@@ -15,7 +15,9 @@ use Rattle.bm_law.specs.Stands.{times}
 use Rattle.bm_law.specs.State.{State, opening, seen, seven_lists}
 use Rattle.bm_law.proofs.Alone.{at-own}
 use Rattle.bm_law_logs.specs.SweepsTold.{SweepsTold}
+use Rattle.bm_law_order.specs.Calls.{lock_in}
 use Rattle.bm_law_order.specs.Orders.{AllFit, Order, by, part_of}
+use Rattle.bm_law_graphs.proofs.ChunkShelved.{lock-more}
 use Rattle.bm_law_order.specs.Tie.{Tied}
 use Rattle.bm_law_order.specs.Shared.{Shared}
 use Rattle.bm_law_order.specs.Story.{plainly}
@@ -47,6 +49,7 @@ use Rattle.bm_run.specs.LeftAlone.{AllUnswept, IsLeftAlone, IsUnswept}
 use Rattle.bm_run.specs.LogsSoFar.{LogsSoFar, Stretched}
 use Rattle.bm_run.specs.SoFar.{at_turn}
 use Rattle.bm_run.proofs.StaysSound.{fine-alone}
+use Rattle.bm_run.proofs.Closes.{IsLate, ends-late, late-log-unlocked, sweeps-late}
 use Rattle.bm_run.proofs.Stretch.{stretched}
 use Rattle.bm_run.proofs.SweepsTake.{sweeps-take}
 use Rattle.bm_run.proofs.TurnTaken.{side-at, so-many}
@@ -99,6 +102,12 @@ ends-unswept known s part h at =
     let all = part-then IsUnswept 0 (EndsOne Plain plain) (EndsOne Tracing tracing) (ends-one Plain plain) (ends-one Tracing tracing) s part h in
     subst AllUnswept (sym (at-own 0 part at)) (at-unswept (own_entries 0 part) all)
 
+ends-late-part : (known : Known) (s : State ℕ) (part : Log) → EndsBegun known s part → AllOf IsLate (own_entries 0 part)
+ends-late-part known s part h =
+    let plain = begun_by (side Plain known).number in
+    let tracing = begun_by (side Tracing known).number in
+    part-then IsLate 0 (EndsOne Plain plain) (EndsOne Tracing tracing) (ends-late Plain plain) (ends-late Tracing tracing) s part h
+
 -- ---- a step goes into the order
 
 -- the inboxes of the processor whose side it is
@@ -118,8 +127,8 @@ fine-leaves kept side p log fine here told =
     subst (λ (q : ℕ). Leaves q log (seen number_of (shown kept.caches))) here own
 
 stretch-by : (P : Part) (n pages p : ℕ) (o : Order) (logs : List Log) (world : LivingState) (kept : Kept) (log : Log) (later : Kept) (now : LivingState) → LogsSoFar n pages o logs world → p < n → get_or logs p [] ≡ log →
-    FineHere kept.caches (at_turn p world) → kept.caches.processor ≡ p → kept.caches.recorder.told ≡ Some log → (s : Stepped P kept (at_turn p world) log later now) → AllFit world_after SweepsInbox (by p s.added) (world_over o (outset n pages)) → Stretched n pages p o logs s.added world now
-stretch-by P n pages p o logs world kept log later now h lt same fine here told s takes =
+    FineHere kept.caches (at_turn p world) → kept.caches.processor ≡ p → kept.caches.recorder.told ≡ Some log → (s : Stepped P kept (at_turn p world) log later now) → AllOf IsLate (own_entries 0 s.added) → AllFit world_after SweepsInbox (by p s.added) (world_over o (outset n pages)) → Stretched n pages p o logs s.added world now
+stretch-by P n pages p o logs world kept log later now h lt same fine here told s late takes =
     let back : log ≡ get_or logs p [] = sym same in
     let leaves = fine-leaves kept (at_turn p world) p log fine here told in
     let before : Leaves p log (after (opening p) log) = record { named = leaves.named; lists = refl } in
@@ -127,7 +136,9 @@ stretch-by P n pages p o logs world kept log later now h lt same fine here told 
     let last = fine-leaves later now p (log ++ s.added) s.rests.fine his s.rests.told in
     let E : Log → Type 0 = λ z. Leaves p z (after (opening p) z) in
     let T : Log → Type 0 = λ z. Tied (polled knows_living true z (at_turn p world)) (DoesHere knows_living) z (at_turn p world) 0 [] [] (log ++ s.added) now in
-    stretched true n pages p o logs (log ++ s.added) s.added world now (seen number_of (shown later.caches)) h lt (ap (λ (z : Log). z ++ s.added) back) (subst T back s.tied) (subst E back before) last takes
+    let part : part_of p o ≡ log = h.order_of.parts p (subst (λ k. p < k) (sym h.many) lt) ∙ same in
+    let free : lock_in (log ++ s.added) ≡ None = lock-more None log s.added ∙ (late-log-unlocked s.added s.at late (lock_in log) ∙ (ap lock_in (sym part) ∙ h.so_far.unheld p)) in
+    stretched true n pages p o logs (log ++ s.added) s.added world now (seen number_of (shown later.caches)) h lt (ap (λ (z : Log). z ++ s.added) back) free (subst T back s.tied) (subst E back before) last takes
 
 -- .. of a step of either phase
 abbrev pub added_of : (phase : Phase) (classes : List ℕ) (kept : Kept) (side : LivingState) (log : Log) (later : Kept) (now : LivingState) → StepOf phase classes kept side log later now → Log
@@ -138,7 +149,7 @@ ends-stretched : (n pages p : ℕ) (o : Order) (logs : List Log) (classes : List
     FineHere kept.caches (at_turn p world) → kept.caches.processor ≡ p → kept.caches.recorder.told ≡ Some log → (s : EndsOf classes kept (at_turn p world) log later now) → Stretched n pages p o logs s.step.added world now
 ends-stretched n pages p o logs classes world kept log later now h lt same fine here told s =
     let known = known_living (at_turn p world) in
-    stretch-by (EndsBegun known) n pages p o logs world kept log later now h lt same fine here told s.step (unswept-found p s.step.added (world_over o (outset n pages)) (ends-unswept known (seen number_of (shown kept.caches)) s.step.added s.step.said s.step.at))
+    stretch-by (EndsBegun known) n pages p o logs world kept log later now h lt same fine here told s.step (ends-late-part known (seen number_of (shown kept.caches)) s.step.added s.step.said) (unswept-found p s.step.added (world_over o (outset n pages)) (ends-unswept known (seen number_of (shown kept.caches)) s.step.added s.step.said s.step.at))
 
 sweeps-stretched : (n pages p : ℕ) (o : Order) (logs : List Log) (classes : List ℕ) (world : LivingState) (kept : Kept) (log : Log) (later : Kept) (now : LivingState) → LogsSoFar n pages o logs world → p < n → get_or logs p [] ≡ log →
     FineHere kept.caches (at_turn p world) → kept.caches.processor ≡ p → kept.caches.recorder.told ≡ Some log → (s : SweepsOf classes kept (at_turn p world) log later now) → Stretched n pages p o logs s.step.added world now
@@ -153,6 +164,7 @@ sweeps-stretched n pages p o logs classes world kept log later now h lt same fin
     let shared : w.shared ≡ plainly (told_living world) = shared-of o (outset n pages) ∙ h.so_far.leads.now_is in
     let same_boxes : (k : ℕ) → boxes k ≡ w.shared.boxes p k = λ k. sym (own-boxes p k (at_turn p world).side.post few refl) ∙ ap (λ (x : Shared). x.boxes p k) (sym shared) in
     stretch-by (SweepsTold classes boxes) n pages p o logs world kept log later now h lt same fine here told s.step
+    (sweeps-late classes boxes (seen number_of (shown kept.caches)) s.step.added s.step.said)
     (sweeps-take p classes boxes (seen number_of (shown kept.caches)) s.step.added w s.step.at s.step.said lists same_boxes)
 
 pub step-stretched : (phase : Phase) (n pages p : ℕ) (o : Order) (logs : List Log) (classes : List ℕ) (world : LivingState) (kept : Kept) (log : Log) (later : Kept) (now : LivingState) → LogsSoFar n pages o logs world → p < n → get_or logs p [] ≡ log →

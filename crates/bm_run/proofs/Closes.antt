@@ -1,5 +1,5 @@
 -- The closing's entries.
-use Rattle.std.proofs.Common.{◌≡◌, ◌+◌, ◌==◌, ◌⊎◌, ℕ, true, false, cond, List, [], ◌∷◌, ◌++◌, Option, Some, None, refl, sym, ap, subst, inl, inr, append_assoc, append-nil}
+use Rattle.std.proofs.Common.{◌≡◌, ◌∙◌, ◌+◌, ◌==◌, ◌⊎◌, ℕ, true, false, cond, List, [], ◌∷◌, ◌++◌, Option, Some, None, refl, sym, ap, subst, inl, inr, append_assoc, append-nil}
 use Rattle.std.specs.List.{concat}
 use Rattle.bm_journal.specs.declared.ids.Domain.{Domain}
 use Rattle.bm_journal.specs.declared.ids.Domain.TheVariants.{Plain, Tracing}
@@ -19,6 +19,7 @@ use Rattle.bm_law.proofs.Alone.{at-own}
 use Rattle.bm_cache.specs.Steps.{steps_in}
 use Rattle.bm_law.specs.Begun.{begun_by}
 use Rattle.bm_law.specs.Inboxes.{Inboxes, on_inbox}
+use Rattle.bm_law_order.specs.Calls.{lock_after, lock_over}
 use Rattle.bm_law_work.specs.Parts.{Then}
 use Rattle.bm_law_work.proofs.Each.{AllOf, PartOf, of-append, part-nothing, part-say, part-then}
 use Rattle.bm_due.specs.Due.{due_handler}
@@ -85,6 +86,20 @@ where-late c (u ∷ us) = part-say IsLate 0 (SweepOf c (u ∷ us)) (λ own h. sw
 pub sweeps-late : (cs : List ℕ) (boxes : Inboxes) → PartOf IsLate 0 (SweepsTold cs boxes)
 sweeps-late [] boxes s part h = part-nothing IsLate 0 s part h
 sweeps-late (c ∷ cs) boxes s part h = part-then IsLate 0 (SweepWhere c (seven_lists (s.rows c) ++ concat (boxes c))) (SweepsTold cs (on_inbox c (λ parcels. []) boxes)) (where-late c (seven_lists (s.rows c) ++ concat (boxes c))) (sweeps-late cs (on_inbox c (λ parcels. []) boxes)) s part h.1
+
+-- ---- no lock is taken or given back then
+
+late-unlocked : (e : Entry) → IsLate e → (held : Option (List ℕ)) → lock_after held e ≡ held
+late-unlocked (entry.Lock name) h held = absurd h
+late-unlocked (entry.Unlock name) h held = absurd h
+late-unlocked _ h held = refl
+
+all-late-unlocked : (es : List Entry) → AllOf IsLate es → (held : Option (List ℕ)) → lock_over held (at_level 0 es) ≡ held
+all-late-unlocked [] h held = refl
+all-late-unlocked (e ∷ es) h held = ap (λ k. lock_over k (at_level 0 es)) (late-unlocked e h.0 held) ∙ all-late-unlocked es h.1 held
+
+pub late-log-unlocked : (log : Log) → AllAt 0 log → AllOf IsLate (own_entries 0 log) → (held : Option (List ℕ)) → lock_over held log ≡ held
+late-log-unlocked log at late held = ap (lock_over held) (at-own 0 log at) ∙ all-late-unlocked (own_entries 0 log) late held
 
 -- ---- how the log goes on then
 

@@ -1,18 +1,19 @@
--- Slots that were emptied.
-use Rattle.std.proofs.Common.{◌≡◌, ◌<◌, ◌+◌, ◌∙◌, ◌++◌, ◌∷◌, [], ℕ, zero, suc, Bool, true, false, List, Option, Some, None, IfSome, ap, append-nil, append_assoc, arith, inl, inr, is_some, refl, subst, sym, eqb}
+-- Maps that were emptied.
+use Rattle.std.proofs.Common.{◌||◌, ◌≡◌, ◌<◌, ◌+◌, ◌∙◌, ◌++◌, ◌∷◌, [], ℕ, zero, suc, Bool, true, false, List, Option, Some, None, IfSome, ap, append-nil, append_assoc, arith, inl, inr, is_some, refl, subst, sym, eqb}
 use Rattle.std.proofs.Math.Path.{fun_ext}
 use Rattle.std.proofs.lemmas.Bool.{eqb-true}
+use Rattle.bm_journal.specs.Recording.{Appends}
 use Rattle.bm_journal.specs.declared.entry.Entry.{Entry}
 use Rattle.bm_journal.specs.declared.entry.Entry.TheVariants as entry
 use Rattle.bm_journal.specs.declared.ids.ObjId.{ObjId}
 use Rattle.bm_lang.specs.declared.scenario.MapDeclaration.{MapDeclaration}
-use Rattle.bm_lang.specs.declared.scenario.MapKind.{MapKind}
-use Rattle.bm_lang.specs.declared.scenario.MapKind.TheVariants.{Slot}
 use Rattle.bm_lang.specs.declared.scenario.TypeDeclaration.{TypeDeclaration}
 use Rattle.bm_lang.specs.declared.scenario.TypeId.{TypeId}
 use Rattle.bm_law.specs.Lists.{Leaves, Log, after}
 use Rattle.bm_law.specs.State.{State}
+use Rattle.bm_law.specs.Spans.{Above}
 use Rattle.bm_law.proofs.Folds.{after-append}
+use Rattle.bm_law_order.specs.Calls.{closes, is_close, lock_in}
 use Rattle.bm_law_work.specs.Grown.{GrewBy}
 use Rattle.bm_law_work.specs.Parts.{Nothing, Part, Say, Stand}
 use Rattle.bm_law_work.proofs.Grown.{grew-join, grew-map, grew-none, grew-say, grew-stand}
@@ -25,9 +26,13 @@ use Rattle.bm_law_scenario.proofs.Freed.{knows-batch}
 use Rattle.bm_world.specs.LivingState.{LivingState}
 use Rattle.bm_world.specs.ToldLiving.{knows_living}
 use Rattle.bm_exec.specs.Living.{Exchanged, HasType, LetGo, Lives, Living, LivesAs, TakenOut, count_in, less_of, let_go, one_less, type_in, with_life}
-use Rattle.bm_exec_levels.specs.AtProcessor.{Between, FineAt, lists_of, lives_of, log_of}
+use Rattle.bm_exec_levels.specs.AtPolls.{MayCall, home}
+use Rattle.bm_exec_levels.specs.AtProcessor.{Between, FineAt, lists_of, lives_of, lock_of, log_of}
+use Rattle.bm_exec_levels.specs.Calling.{lock_name, locks-of}
+use Rattle.bm_exec_levels.specs.Sound.{Sound}
 use Rattle.bm_exec_levels.specs.declared.processor.Processor.{Processor}
 use Rattle.bm_exec_levels.specs.declared.program.Program.{Program}
+use Rattle.bm_run.specs.Emptied.{IsClosing}
 
 -- ---- the references that names hold
 
@@ -116,35 +121,38 @@ let-go-less : (counted : Bool) (c : ℕ) (o : ObjId) (s : State ℕ) (log log' :
 let-go-less counted c o s log log' lives lives' (inl gone) = gone.ends
 let-go-less counted c o s log log' lives lives' (inr (is, gone)) = gone.less
 
+-- what was taken out of a map is given up
+module _ (types : List TypeDeclaration) (t : TypeId) (o : ObjId) (counted : Bool) (s : State ℕ) (log log' : Option Log) (before lives lives' : Lives) (x : TakenOut types t.0 before lives o) (gone : (k : ℕ) → LivesAs lives k o.unit o.life → LetGo 0 counted k o s log log' lives lives') where
+  let-go-now : LetGo 0 counted x.object.class o s log log' lives lives'
+  let-go-now = gone x.object.class (taken-lives types t.0 before lives o x)
+
+  pub taken-given-back : HasType types t.0 counted → GrewBy (GivesBack types t (Some o)) s log log'
+  taken-given-back typed =
+      let k = x.object.class in
+      let of = taken-class types t.0 before lives o x in
+      let declared = x.made.declared in
+      let is : counted ≡ declared.counted = sym typed.counted_is ∙ ap (λ (d : TypeDeclaration). d.counted) (some-is typed.declared declared (sym typed.found ∙ of.found)) in
+      given-back types t o s log log' lives lives' k declared of (subst (λ d. LetGo 0 d k o s log log' lives lives') is let-go-now)
+
+  pub taken-let-go : lives' ≡ let_go o.unit lives
+  taken-let-go = let-go-less counted x.object.class o s log log' lives lives' let-go-now
+
+-- two parts join between processors, of which the second one came behind the first
+pub grew-between : (P Q R : Part) (p : Program) (n : ℕ) (a b : Processor LivingState) (log : Option Log) → ((one two : Log) (s : State ℕ) → P s one → Q (after s one) two → R s (one ++ two)) → FineAt knows_living 0 a → Between knows_living n 0 0 p a b → GrewBy P (lists_of a) (log_of a) (log_of b) → GrewBy Q (lists_of b) (log_of b) log → GrewBy R (lists_of a) (log_of a) log
+grew-between P Q R p n a b log join fine x one two =
+    grew-join P Q R a.caches.processor (lists_of a) (lists_of b) (log_of a) (log_of b) log (λ u v j k. join u v (lists_of a) j k)
+    fine.placed.told (subst (λ k. IfSome (log_of b) (λ es. Leaves k es (lists_of b))) x.came.processor x.fine.placed.told) one two
+
 -- a slot is exchanged with null, and then what it held is given up
 module _ (p : Program) (a b : Processor LivingState) (types : List TypeDeclaration) (m : MapDeclaration) (name : List ℕ) (i : ℕ) (same : name ≡ m.name) (fine : FineAt knows_living 0 a) (x : Between knows_living i 0 0 p a b) where
-  exchanged-with : (c : Processor LivingState) (was : Option ObjId) → Exchanged 0 types m.type_id.0 name None (log_of a) (log_of b) (lives_of knows_living a) (lives_of knows_living b) was → GrewBy (GivesBack types m.type_id was) (lists_of b) (log_of b) (log_of c) → GrewBy (EmptiesSlot types m) (lists_of a) (log_of a) (log_of c)
-  exchanged-with c was got back =
-      let n = a.caches.processor in
+  pub exchanged-with : (log : Option Log) (was : Option ObjId) → Exchanged 0 types m.type_id.0 name None (log_of a) (log_of b) (lives_of knows_living a) (lives_of knows_living b) was → GrewBy (GivesBack types m.type_id was) (lists_of b) (log_of b) log → GrewBy (EmptiesSlot types m) (lists_of a) (log_of a) log
+  exchanged-with log was got back =
       let first : Part = Stand 0 (entry.Xchg m.name None was got.by ∷ []) in
       let one : GrewBy first (lists_of a) (log_of a) (log_of b) = subst (λ (k : List ℕ). GrewBy (Stand 0 (entry.Xchg k None was got.by ∷ [])) (lists_of a) (log_of a) (log_of b)) same (grew-stand 0 (entry.Xchg name None was got.by ∷ []) (lists_of a) (log_of a) (log_of b) got.records) in
-      grew-join first (GivesBack types m.type_id was) (EmptiesSlot types m) n (lists_of a) (lists_of b) (log_of a) (log_of b) (log_of c)
-      (λ one two j k. (was, got.by, record { one = one; two = two; part_is = refl; is_first = j; is_second = k })) fine.placed.told (subst (λ k. IfSome (log_of b) (λ es. Leaves k es (lists_of b))) x.came.processor x.fine.placed.told) one back
+      grew-between first (GivesBack types m.type_id was) (EmptiesSlot types m) p i a b log (λ one two s j k. (was, got.by, record { one = one; two = two; part_is = refl; is_first = j; is_second = k })) fine x one back
 
   pub emptied-none : Exchanged 0 types m.type_id.0 name None (log_of a) (log_of b) (lives_of knows_living a) (lives_of knows_living b) None → GrewBy (EmptiesSlot types m) (lists_of a) (log_of a) (log_of b)
-  emptied-none got = exchanged-with b None got (grew-none Nothing (lists_of b) (log_of b) refl)
-
-  -- .. where it held something
-  module _ (c : Processor LivingState) (o : ObjId) (counted : Bool) (got : Exchanged 0 types m.type_id.0 name None (log_of a) (log_of b) (lives_of knows_living a) (lives_of knows_living b) (Some o)) (typed : HasType types m.type_id.0 counted) (gone : (k : ℕ) → LivesAs (lives_of knows_living b) k o.unit o.life → LetGo 0 counted k o (lists_of b) (log_of b) (log_of c) (lives_of knows_living b) (lives_of knows_living c)) where
-    let-go-now : LetGo 0 counted got.takes.object.class o (lists_of b) (log_of b) (log_of c) (lives_of knows_living b) (lives_of knows_living c)
-    let-go-now = gone got.takes.object.class (taken-lives types m.type_id.0 (lives_of knows_living a) (lives_of knows_living b) o got.takes)
-
-    pub emptied-some : GrewBy (EmptiesSlot types m) (lists_of a) (log_of a) (log_of c)
-    emptied-some =
-        let k = got.takes.object.class in
-        let of = taken-class types m.type_id.0 (lives_of knows_living a) (lives_of knows_living b) o got.takes in
-        let declared = got.takes.made.declared in
-        let is : counted ≡ declared.counted = sym typed.counted_is ∙ ap (λ (d : TypeDeclaration). d.counted) (some-is typed.declared declared (sym typed.found ∙ of.found)) in
-        exchanged-with c (Some o) got (given-back types m.type_id o (lists_of b) (log_of b) (log_of c) (lives_of knows_living b) (lives_of knows_living c) k declared of
-        (subst (λ d. LetGo 0 d k o (lists_of b) (log_of b) (log_of c) (lives_of knows_living b) (lives_of knows_living c)) is let-go-now))
-
-    pub emptied-lives : lives_of knows_living c ≡ lives_of knows_living a
-    emptied-lives = let-go-less counted got.takes.object.class o (lists_of b) (log_of b) (log_of c) (lives_of knows_living b) (lives_of knows_living c) let-go-now ∙ let-go-again types m.type_id.0 (lives_of knows_living a) (lives_of knows_living b) o got.takes
+  emptied-none got = exchanged-with (log_of b) None got (grew-none Nothing (lists_of b) (log_of b) refl)
 
 -- ---- one map after the other
 
@@ -164,8 +172,52 @@ maps-and-one types (x ∷ xs) m s one two f g =
     }
 
 -- One map more was emptied, where calls may begin on the caches before it.
-pub grew-map-more : (p : Program) (types : List TypeDeclaration) (ms : List MapDeclaration) (m : MapDeclaration) (i : ℕ) (a b c : Processor LivingState) → FineAt knows_living 0 a → Between knows_living i 0 0 p a b → GrewBy (EmptiesMaps types ms) (lists_of a) (log_of a) (log_of b) → m.kind ≡ Slot → GrewBy (EmptiesSlot types m) (lists_of b) (log_of b) (log_of c) →
-    GrewBy (EmptiesMaps types (ms ++ m ∷ [])) (lists_of a) (log_of a) (log_of c)
-grew-map-more p types ms m i a b c fine x g is h =
-    let last : GrewBy (EmptiesMap types m.kind m) (lists_of b) (log_of b) (log_of c) = subst (λ (k : MapKind). GrewBy (EmptiesMap types k m) (lists_of b) (log_of b) (log_of c)) (sym is) h in
-    grew-join (EmptiesMaps types ms) (EmptiesMap types m.kind m) (EmptiesMaps types (ms ++ m ∷ [])) a.caches.processor (lists_of a) (lists_of b) (log_of a) (log_of b) (log_of c) (maps-and-one types ms m (lists_of a)) fine.placed.told (subst (λ k. IfSome (log_of b) (λ es. Leaves k es (lists_of b))) x.came.processor x.fine.placed.told) g last
+pub grew-map-more : (p : Program) (types : List TypeDeclaration) (ms : List MapDeclaration) (m : MapDeclaration) (i : ℕ) (a b : Processor LivingState) (log : Option Log) → FineAt knows_living 0 a → Between knows_living i 0 0 p a b → GrewBy (EmptiesMaps types ms) (lists_of a) (log_of a) (log_of b) → GrewBy (EmptiesMap types m.kind m) (lists_of b) (log_of b) log →
+    GrewBy (EmptiesMaps types (ms ++ m ∷ [])) (lists_of a) (log_of a) log
+grew-map-more p types ms m i a b log fine x g h =
+    grew-between (EmptiesMaps types ms) (EmptiesMap types m.kind m) (EmptiesMaps types (ms ++ m ∷ [])) p i a b log (λ one two s j k. maps-and-one types ms m s one two j k) fine x g h
+
+-- ---- in the closing
+
+or-more : (x y z : Bool) → (y ≡ true → z ≡ true) → (x || y) ≡ true → (x || z) ≡ true
+or-more true y z f h = refl
+or-more false y z f h = f h
+
+closes-more : (a b : Log) → closes a ≡ true → closes (a ++ b) ≡ true
+closes-more [] b h = absurd (cc)
+closes-more (e ∷ a) b h = or-more (is_close e.1) (closes a) (closes (a ++ b)) (closes-more a b) h
+
+-- a log has the begin of the closing still once it has grown
+still-closes : (a b : Option Log) → Above 0 a b → IfSome a (λ (es : Log). closes es ≡ true) → IfSome b (λ (es : Log). closes es ≡ true)
+still-closes a None r h = tt
+still-closes a (Some now) r h =
+    let was : closes r.log ≡ true = subst (λ (o : Option Log). IfSome o (λ (es : Log). closes es ≡ true)) r.told h in
+    subst (λ (es : Log). closes es ≡ true) (sym r.now_is) (closes-more r.log r.added was)
+
+pub still-closing : (p : Program) (n : ℕ) (a b : Processor LivingState) → Between knows_living n 0 0 p a b → IsClosing a → IsClosing b
+still-closing p n a b x c = record {
+  begun = still-closes (log_of a) (log_of b) x.came.above c.begun;
+  first = x.stays.processor ∙ c.first;
+  unlocked = x.stays.locked ∙ c.unlocked;
+}
+
+closes-here : (l : ℕ) (es : Log) → closes (es ++ (l, entry.Close) ∷ []) ≡ true
+closes-here l [] = refl
+closes-here l (e ∷ es) = or-more (is_close e.1) true (closes (es ++ (l, entry.Close) ∷ [])) (λ h. closes-here l es) (or-true (is_close e.1))
+  where
+    or-true : (x : Bool) → (x || true) ≡ true
+    or-true true = refl
+    or-true false = refl
+
+-- a log has it once it was noted
+pub closes-noted : (l : ℕ) (a b : Option Log) → Appends a l entry.Close b → IfSome b (λ (es : Log). closes es ≡ true)
+closes-noted l a None x = tt
+closes-noted l a (Some now) x = subst (λ (es : Log). closes es ≡ true) (sym x.more) (closes-here l x.log)
+
+-- any list or tree may be called then
+pub may-call : (p : Program) (m : Processor LivingState) (name : List ℕ) → IsClosing m → Sound knows_living p m → IfSome (log_of m) (MayCall (home knows_living m.side) name)
+may-call p m name c s = of (log_of m) c.begun (locks-of (log_of m) m.calls (lock_of p m) None (ap (lock_name p.scenario.now.maps) c.unlocked) s.at.counts)
+  where
+    of : (o : Option Log) → IfSome o (λ (es : Log). closes es ≡ true) → IfSome o (λ (es : Log). lock_in es ≡ None) → IfSome o (MayCall (home knows_living m.side) name)
+    of None x y = tt
+    of (Some es) x y = inr (c.first, x, y)

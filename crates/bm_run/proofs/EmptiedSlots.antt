@@ -8,6 +8,9 @@ use Rattle.bm_journal.specs.declared.entry.Entry.{Entry}
 use Rattle.bm_journal.specs.declared.entry.Entry.TheVariants as entry
 use Rattle.bm_journal.specs.declared.ids.Tag.{Tag}
 use Rattle.bm_lang.specs.declared.scenario.MapDeclaration.{MapDeclaration}
+use Rattle.bm_lang.specs.declared.scenario.MapKind.{MapKind}
+use Rattle.bm_lang.specs.declared.scenario.MapKind.TheVariants.{Slot as SlotKind}
+use Rattle.bm_lang.specs.declared.scenario.MapKind.TheVariants as kind_is
 use Rattle.bm_lang.specs.declared.scenario.TypeDeclaration.{TypeDeclaration}
 use Rattle.bm_law.specs.Alone.{AllAt, at_level}
 use Rattle.bm_law.specs.Lists.{Log, after}
@@ -20,11 +23,11 @@ use Rattle.bm_law_order.specs.Slots.{Contents, Named, Slot, named_in}
 use Rattle.bm_law_order.proofs.Along.{by-append, over-append}
 use Rattle.bm_law_objects.specs.Objects.{Owned, OwnedFit, owned_after, slots_after}
 use Rattle.bm_law_scenario.specs.Closing.{EmptiesMap, EmptiesMaps}
+use Rattle.bm_law_scenario.specs.Declared.{Declared}
 use Rattle.bm_grace.specs.Known.{Objects}
 use Rattle.bm_world.specs.Contents.{are_apart, names_in, slot_at}
 use Rattle.bm_world.proofs.NamedLemmas.{named-there}
-use Rattle.bm_exec_levels.specs.Slotted.{as_item, elsewhere, in_hands, is_of, less_times, times_held}
-use Rattle.bm_run.specs.Emptied.{AreSlots}
+use Rattle.bm_exec_levels.specs.Slotted.{AreStocked, as_item, elsewhere, in_hands, is_of, less_times, times_held}
 
 -- ---- along a log
 
@@ -68,18 +71,18 @@ keeps-none (e ∷ es) x name p h = keeps-none es (owned_after 0 e.0 e.1 x) name 
 itself : (x : List ℕ) → bytes_eq x x ≡ true
 itself x = (bytes_eq-Decides x x).1 refl
 
--- One map after the other was emptied.
-pub emptied : (types : List TypeDeclaration) (maps : List MapDeclaration) (t : State ℕ) (es : Log) (x : Owned) → EmptiesMaps types maps t es → AllAt 0 es → AllPutNone es → AreSlots maps → (i : ℕ) (m : MapDeclaration) → slice_get maps i ≡ Some m → ((along es x).objects.slots m.name).held ≡ None
-emptied types [] t es x h at puts slots i m e = absurd (cc)
-emptied types (d ∷ ds) t es x h at puts slots i m e =
+-- One map after the other was emptied: the slots hold nothing.
+pub emptied : (types : List TypeDeclaration) (maps : List MapDeclaration) (t : State ℕ) (es : Log) (x : Owned) → EmptiesMaps types maps t es → AllAt 0 es → AllPutNone es → (i : ℕ) (m : MapDeclaration) → slice_get maps i ≡ Some m → m.kind ≡ SlotKind → ((along es x).objects.slots m.name).held ≡ None
+emptied types [] t es x h at puts i m e kind = absurd (cc)
+emptied types (d ∷ ds) t es x h at puts i m e kind =
     let F : Log → Type 0 = λ z. ((along z x).objects.slots m.name).held ≡ None in
     let ats = split-at h.one h.two (subst (AllAt 0) h.part_is at) in
     let alls = split-puts h.one h.two (subst AllPutNone h.part_is puts) in
-    subst F (sym h.part_is) (subst (λ (y : Owned). (y.objects.slots m.name).held ≡ None) (sym (along-append h.one h.two x)) (by-place (λ k f. emptied types ds (after t h.one) h.two (along h.one x) h.is_second ats.1 alls.1 (λ j w g. slots (suc j) w g) k m f) i e ats alls))
+    subst F (sym h.part_is) (subst (λ (y : Owned). (y.objects.slots m.name).held ≡ None) (sym (along-append h.one h.two x)) (by-place (λ k f. emptied types ds (after t h.one) h.two (along h.one x) h.is_second ats.1 alls.1 k m f kind) i e ats alls))
   where
-    first : (one : Log) (s : State ℕ) → EmptiesMap types d.kind d s one → AllAt 0 one → AllPutNone one → ((along one x).objects.slots d.name).held ≡ None
-    first one s k at puts =
-        let j = subst (λ kind. EmptiesMap types kind d s one) (slots 0 d refl) k in
+    first : d.kind ≡ SlotKind → (one : Log) (s : State ℕ) → EmptiesMap types d.kind d s one → AllAt 0 one → AllPutNone one → ((along one x).objects.slots d.name).held ≡ None
+    first is_slot one s k at puts =
+        let j = subst (λ (z : MapKind). EmptiesMap types z d s one) is_slot k in
         let z = j.2 in
         let ats = split-at z.one z.two (subst (AllAt 0) z.part_is at) in
         let alls = split-puts z.one z.two (subst AllPutNone z.part_is puts) in
@@ -92,7 +95,7 @@ emptied types (d ∷ ds) t es x h at puts slots i m e =
     by-place : ((k : ℕ) → slice_get ds k ≡ Some m → ((along h.two (along h.one x)).objects.slots m.name).held ≡ None) → (i : ℕ) → slice_get (d ∷ ds) i ≡ Some m → AllAt 0 h.one × AllAt 0 h.two → AllPutNone h.one × AllPutNone h.two → ((along h.two (along h.one x)).objects.slots m.name).held ≡ None
     by-place more zero e ats alls =
         let same : d ≡ m = cc in
-        keeps-none h.two (along h.one x) m.name alls.1 (subst (λ (w : MapDeclaration). ((along h.one x).objects.slots w.name).held ≡ None) same (first h.one t h.is_first ats.0 alls.0))
+        keeps-none h.two (along h.one x) m.name alls.1 (subst (λ (w : MapDeclaration). ((along h.one x).objects.slots w.name).held ≡ None) same (first (ap (λ (w : MapDeclaration). w.kind) same ∙ kind) h.one t h.is_first ats.0 alls.0))
     by-place more (suc i) e ats alls = more i e
 
 -- ---- in the world
@@ -112,19 +115,23 @@ none-times : (u : ℕ) (ss : List Named) → ((place : ℕ) → (slot_at place s
 none-times u [] h = refl
 none-times u (s ∷ ss) h = rw (ap (is_of u) (h 0)) (none-times u ss (λ place. h (suc place)))
 
--- Where the slots of all declared maps hold nothing by their names, and nothing is in lists and trees, names hold all references.
-pub hands-all : (o : Objects) (maps : List MapDeclaration) → names_in o.slots ≡ map (λ (m : MapDeclaration). m.name) maps → are_apart (map (λ (m : MapDeclaration). m.name) maps) ≡ true → ((i : ℕ) (m : MapDeclaration) → slice_get maps i ≡ Some m → (named_in o.slots m.name).held ≡ None) → ((u : ℕ) → standing_from 0 o.graphs u ≡ None) → (u : ℕ) → in_hands o u ≡ o.lives u
-hands-all o maps names apart none bare u =
+-- Where the declared slots hold nothing by their names, and nothing is in lists and trees, names hold all references.
+pub hands-all : (o : Objects) (d : Declared) → AreStocked d o → are_apart (map (λ (m : MapDeclaration). m.name) d.maps) ≡ true → ((i : ℕ) (m : MapDeclaration) → slice_get d.maps i ≡ Some m → m.kind ≡ SlotKind → (named_in o.slots m.name).held ≡ None) → ((u : ℕ) → standing_from 0 o.graphs u ≡ None) → (u : ℕ) → in_hands o u ≡ o.lives u
+hands-all o d stocked apart none bare u =
     let held = none-times u o.slots at-place in
     let items : as_item (standing_from 0 o.graphs u) ≡ 0 = ap as_item (bare u) in
     let all : elsewhere o u ≡ 0 = omega (arith, held, items) in
     ap (λ k. less_times k (o.lives u)) all
   where
+    by-kind : (place : ℕ) (m : MapDeclaration) (k : MapKind) → place < length o.slots → slice_get d.maps place ≡ Some m → m.name ≡ (slot_at place o.slots).name → m.kind ≡ k → (slot_at place o.slots).slot.held ≡ None
+    by-kind place m kind_is.Slot lt found name e =
+        let is = named-there place o.slots (subst (λ (ns : List (List ℕ)). are_apart ns ≡ true) (sym stocked.names) apart) lt in
+        ap (λ (s : Slot). s.held) (sym is) ∙ (ap (λ (n : List ℕ). (named_in o.slots n).held) (sym name) ∙ none place m found e)
+    by-kind place m kind_is.List lt found name e = stocked.still place m false found e
+    by-kind place m kind_is.Tree lt found name e = stocked.still place m true found e
+
     at-place : (place : ℕ) → (slot_at place o.slots).slot.held ≡ None
     at-place place = elim (cases_lt place (length o.slots)) [
-      | inl lt ↦
-          let m = named-of o.slots maps place names lt in
-          let is = named-there place o.slots (subst (λ (ns : List (List ℕ)). are_apart ns ≡ true) (sym names) apart) lt in
-          ap (λ (s : Slot). s.held) (sym is) ∙ (ap (λ (n : List ℕ). (named_in o.slots n).held) (sym m.2) ∙ none place m.0 m.1)
+      | inl lt ↦ (let m = named-of o.slots d.maps place stocked.names lt in by-kind place m.0 m.0.kind lt m.1 m.2 refl)
       | inr le ↦ beyond o.slots place le
     ]

@@ -1,5 +1,5 @@
 -- The logs of a run and their whole order keep the laws of journals.
-use Rattle.std.specs.Prelude.{None, Option, Some, get_or, length, nat_eq}
+use Rattle.std.specs.Prelude.{None, Option, Some, get_or, length, map, nat_eq}
 use Rattle.std.proofs.Common.{◌≡◌, ◌<◌, ◌+◌, ℕ, zero, suc, Bool, true, false, List, [], ◌∷◌, ◌++◌, arith, refl, sym, ◌∙◌, ap, subst, append_assoc, inl, inr}
 use Rattle.std.proofs.lemmas.Bool.{cases_lt}
 use Rattle.std.proofs.lemmas.Bool.Decides.{eqb_tells}
@@ -7,6 +7,8 @@ use Rattle.bm_journal.specs.declared.ids.Domain.{Domain}
 use Rattle.bm_journal.specs.declared.ids.Domain.TheVariants.{Plain, Tracing}
 use Rattle.bm_journal.specs.declared.entry.Entry.{Entry}
 use Rattle.bm_journal.specs.declared.entry.Entry.TheVariants as entry
+use Rattle.bm_journal.specs.declared.past.Past.{Past}
+use Rattle.bm_lang.specs.declared.scenario.MapDeclaration.{MapDeclaration}
 use Rattle.bm_lang.specs.declared.scenario.Parts.{Parts}
 use Rattle.bm_law.specs.Alone.{AllAt}
 use Rattle.bm_law.specs.Lists.{Log, after}
@@ -38,11 +40,11 @@ use Rattle.bm_law_places.proofs.Standing.{all-placed, shared-of}
 use Rattle.bm_law_seals.specs.Answered.{AreAnswered, ArePut}
 use Rattle.bm_law_seals.specs.Batches.{BatchFits, GivesNoMore, SweepsLast, WaitsInBatches}
 use Rattle.bm_run.specs.Between.{AllClosed, GivesFirst, all_openings}
-use Rattle.bm_run.specs.Emptied.{AreSlots}
 use Rattle.bm_run.specs.InTurns.{one_by_one}
 use Rattle.bm_run.specs.Seated.{opening_lists, opening_log}
-use Rattle.bm_law_graphs.specs.Uncalled.{CallNone, CallsNone}
+use Rattle.bm_law_graphs.specs.Shelves.{IsShelved, Shelves, nothing_shelved, shelved_after}
 use Rattle.bm_law_objects.specs.Objects.{IsOwned}
+use Rattle.bm_law_order.specs.Graphs.{Standing, history_in, standing_from}
 use Rattle.bm_world.specs.LivingState.{living_of}
 use Rattle.bm_world.specs.Slots.{object_at}
 use Rattle.bm_world.specs.declared.slots.Object.{Object}
@@ -50,7 +52,7 @@ use Rattle.bm_world.specs.ToldLiving.{life_of}
 use Rattle.bm_law_scenario.specs.Declared.{declared_in}
 use Rattle.bm_run.proofs.GivenClosing.{AllGiven, given-all-batches, given-no-more}
 use Rattle.bm_run.proofs.GivenLaws.{given-unsent}
-use Rattle.bm_run.proofs.GivenLogs.{given-log-puts, given-log-uncalled}
+use Rattle.bm_run.proofs.GivenLogs.{given-log-puts}
 use Rattle.bm_run.proofs.BatchesTold.{all-answered, handler-sends, late-batches, late-none, no-more, no-more-append, sweeps-last}
 use Rattle.bm_run.proofs.Closes.{IsLate, ends-late, sweeps-late}
 use Rattle.bm_run.proofs.FinalLog.{final-front, opening-said}
@@ -58,8 +60,7 @@ use Rattle.bm_run.proofs.FinalOrder.{closing_order, final_order, whole-is}
 use Rattle.bm_run.proofs.OwnParcels.{AllSendApart, IsUnsent, OrderUnsent, one-sends-apart, own-parcels, unsent-apart}
 use Rattle.bm_run.proofs.PiecesKnown.{IsFill, opening-own}
 use Rattle.bm_run.proofs.SealsTold.{LowSend}
-use Rattle.bm_run.proofs.OrderEntries.{AllHave, OrderHas, have-all, no-log, order-has, order-uncalled, part-any}
-use Rattle.bm_run.proofs.Uncalled.{above-uncalled}
+use Rattle.bm_run.proofs.OrderEntries.{AllHave, OrderHas, have-all, no-log, order-has, part-any}
 use Rattle.bm_run.proofs.Unsent.{scripts-unsent}
 
 -- ---- orders
@@ -120,19 +121,19 @@ none-there : (object : Option Object) → living_of object ≡ None → life_of 
 none-there None e = refl
 none-there (Some object) e = cc
 
-module _ (s : Parts) (turns : List ℕ) (finals : List Log) (h : AllClosed s turns finals) where
+module _ (s : Parts) (turns : List ℕ) (finals : List Log) (histories : List (List ℕ × List Past)) (h : AllClosed s turns finals histories) where
   abbrev n : ℕ
   n = s.processors
 
   abbrev o : Order
-  o = final_order s turns finals h
+  o = final_order s turns finals histories h
 
   abbrev front : Order
   front = all_openings s ++ h.order
 
   -- the whole order of the logs
   in-whole : (P : Order → Type 0) → P o → P (whole turns finals)
-  in-whole P x = subst P (sym (whole-is s turns finals h)) x
+  in-whole P x = subst P (sym (whole-is s turns finals histories h)) x
 
   pub order-is : IsOrderOf finals (whole turns finals)
   order-is = in-whole (IsOrderOf finals) h.so_far.order_of
@@ -175,16 +176,16 @@ module _ (s : Parts) (turns : List ℕ) (finals : List Log) (h : AllClosed s tur
       let same : i ≡ 0 + i = omega arith in
       (subst (λ k. (t : State ℕ) × GivesFirst (declared_in s) k t (get_or h.given i [])) same (f.lists, f.given_is), f.given_at)
 
-  none-given : GivesNoMore (one_by_one 0 h.given ++ closing_order s turns finals h)
-  none-given = no-more-append (one_by_one 0 h.given) (closing_order s turns finals h) (given-no-more (declared_in s) 0 h.given all-given) (no-more-append (one_by_one 0 h.finishes) (one_by_one 0 h.sweeps) (each-no-more 0 h.finishes finish-late) (each-no-more 0 h.sweeps sweep-late))
+  none-given : GivesNoMore (one_by_one 0 h.given ++ closing_order s turns finals histories h)
+  none-given = no-more-append (one_by_one 0 h.given) (closing_order s turns finals histories h) (given-no-more (declared_in s) 0 h.given all-given) (no-more-append (one_by_one 0 h.finishes) (one_by_one 0 h.sweeps) (each-no-more 0 h.finishes finish-late) (each-no-more 0 h.sweeps sweep-late))
 
-  apart : o ≡ front ++ (one_by_one 0 h.given ++ closing_order s turns finals h)
-  apart = append_assoc front (one_by_one 0 h.given) (closing_order s turns finals h)
+  apart : o ≡ front ++ (one_by_one 0 h.given ++ closing_order s turns finals histories h)
+  apart = append_assoc front (one_by_one 0 h.given) (closing_order s turns finals histories h)
 
   pub sealed-is : IsSealed (whole turns finals)
-  sealed-is = in-whole IsSealed (subst (λ (z : Order). IsSealed z) (sym apart) (fit-append waiting_after SealFits front (one_by_one 0 h.given ++ closing_order s turns finals h) nobody_waits h.waits.sealed.sealed (none-fits (one_by_one 0 h.given ++ closing_order s turns finals h) (over waiting_after front nobody_waits) none-given)))
+  sealed-is = in-whole IsSealed (subst (λ (z : Order). IsSealed z) (sym apart) (fit-append waiting_after SealFits front (one_by_one 0 h.given ++ closing_order s turns finals histories h) nobody_waits h.waits.sealed.sealed (none-fits (one_by_one 0 h.given ++ closing_order s turns finals histories h) (over waiting_after front nobody_waits) none-given)))
 
-  closing-batches : (m : Waiting) → AllFit waiting_after BatchFits (one_by_one 0 h.given ++ closing_order s turns finals h) m
+  closing-batches : (m : Waiting) → AllFit waiting_after BatchFits (one_by_one 0 h.given ++ closing_order s turns finals histories h) m
   closing-batches m =
       let G = one_by_one 0 h.given in
       let P = one_by_one 0 h.finishes in
@@ -230,27 +231,32 @@ module _ (s : Parts) (turns : List ℕ) (finals : List Log) (h : AllClosed s tur
   batched-is = in-whole WaitsInBatches (record {
     answered = λ p. subst AreAnswered (sym (part-any finals o h.so_far.order_of p)) (all-answered (get_or finals p []) (h.so_far.answers p));
     put = λ p l. subst (λ (z : Log). ArePut (own_entries l z)) (sym (part-any finals o h.so_far.order_of p)) (puts-any p l);
-    batches = subst (λ (z : Order). AllFit waiting_after BatchFits z nobody_waits) (sym apart) (fit-append waiting_after BatchFits front (one_by_one 0 h.given ++ closing_order s turns finals h) nobody_waits h.waits.batches (closing-batches (over waiting_after front nobody_waits)));
-    swept = subst SweepsLast (sym apart) (sweeps-last front (one_by_one 0 h.given ++ closing_order s turns finals h) h.waits.unswept none-given);
+    batches = subst (λ (z : Order). AllFit waiting_after BatchFits z nobody_waits) (sym apart) (fit-append waiting_after BatchFits front (one_by_one 0 h.given ++ closing_order s turns finals histories h) nobody_waits h.waits.batches (closing-batches (over waiting_after front nobody_waits)));
+    swept = subst SweepsLast (sym apart) (sweeps-last front (one_by_one 0 h.given ++ closing_order s turns finals histories h) h.waits.unswept none-given);
   })
 
   -- ---- lists and trees
 
-  final-uncalled : AreSlots s.maps → (p : ℕ) → p < n → AllHave CallsNone (get_or finals p [])
-  final-uncalled slots p lt =
-      let f = h.logs p lt in
-      let log = get_or finals p [] in
-      have-all CallsNone log (given-log-uncalled s slots p f.lists log (opening_log s p ++ f.scripts) (get_or h.given p []) (late_of p) (final-parts p lt) (final-front s p _ _ _ _ f) f.given_is (late-own p lt)) (above-uncalled s slots p log f.stands f.done)
+  abbrev names : List (List ℕ)
+  names = map (λ (m : MapDeclaration). m.name) s.maps
 
-  uncalled-any : AreSlots s.maps → (p : ℕ) → AllHave CallsNone (get_or finals p [])
-  uncalled-any slots p = elim (cases_lt p (length finals)) [
-    | inl lt ↦ final-uncalled slots p (subst (λ k. p < k) h.so_far.many lt)
-    | inr le ↦ subst (AllHave CallsNone) (sym (no-log p finals le)) tt
-  ]
+  -- the histories and the places of objects that the order makes are those that the world tells
+  abbrev shelves_by : List (List ℕ) → Shelves
+  shelves_by ns = (over (shelved_after ns) o nothing_shelved).shelves
 
-  -- no list or tree is called, where all maps are slots
-  pub uncalled-is : AreSlots s.maps → CallNone (whole turns finals)
-  uncalled-is slots = order-uncalled (whole turns finals) (order-has CallsNone (whole turns finals) (λ p. subst (AllHave CallsNone) (sym (part-any finals (whole turns finals) order-is p)) (uncalled-any slots p)))
+  pub shelved-is : IsShelved names (whole turns finals)
+  shelved-is = in-whole (IsShelved names) (subst (λ ns. IsShelved ns o) h.names h.so_far.so_far.shelved)
+
+  pub histories-are : (name : List ℕ) → (over (shelved_after names) (whole turns finals) nothing_shelved).shelves.histories name ≡ history_in h.world.graphs name
+  histories-are name =
+      let there : (shelves_by names).histories ≡ history_in h.world.graphs = subst (λ ns. (shelves_by ns).histories ≡ history_in h.world.graphs) h.names h.so_far.so_far.histories in
+      in-whole (λ z. (over (shelved_after names) z nothing_shelved).shelves.histories name ≡ history_in h.world.graphs name) (ap (λ (f : List ℕ → List Past). f name) there)
+
+  -- nothing is in any at last
+  pub none-within : (u : ℕ) → (over (shelved_after names) (whole turns finals) nothing_shelved).shelves.within u ≡ None
+  none-within u =
+      let there : (shelves_by names).within ≡ standing_from 0 h.world.graphs = subst (λ ns. (shelves_by ns).within ≡ standing_from 0 h.world.graphs) h.names h.so_far.so_far.within in
+      in-whole (λ z. (over (shelved_after names) z nothing_shelved).shelves.within u ≡ None) (ap (λ (f : ℕ → Option Standing). f u) there ∙ h.bare u)
 
   -- no unit is alive at last
   pub none-alive : (u : ℕ) → (shared_over (whole turns finals) (fresh n s.pages)).lives.holds u ≡ None
@@ -330,8 +336,8 @@ log-of-each P logs h p lt = (let same : 0 + p ≡ p = omega arith in subst (λ q
 
 -- ---- what is left at the end
 
-pub idle-is : (s : Parts) (turns : List ℕ) (finals : List Log) (h : AllClosed s turns finals) (d : Domain) → (of d (shared_over (whole turns finals) (fresh s.processors s.pages)).numbers).driver ≡ None
-idle-is s turns finals h d = subst (λ (o : Order). (of d (shared_over o (fresh s.processors s.pages)).numbers).driver ≡ None) (sym (whole-is s turns finals h)) (h.idle d)
+pub idle-is : (s : Parts) (turns : List ℕ) (finals : List Log) (histories : List (List ℕ × List Past)) (h : AllClosed s turns finals histories) (d : Domain) → (of d (shared_over (whole turns finals) (fresh s.processors s.pages)).numbers).driver ≡ None
+idle-is s turns finals histories h d = subst (λ (o : Order). (of d (shared_over o (fresh s.processors s.pages)).numbers).driver ≡ None) (sym (whole-is s turns finals histories h)) (h.idle d)
 
-pub inboxes-are : (s : Parts) (turns : List ℕ) (finals : List Log) (h : AllClosed s turns finals) (p c : ℕ) → (shared_over (whole turns finals) (fresh s.processors s.pages)).boxes p c ≡ []
-inboxes-are s turns finals h p c = subst (λ (o : Order). (shared_over o (fresh s.processors s.pages)).boxes p c ≡ []) (sym (whole-is s turns finals h)) (h.inboxes p c)
+pub inboxes-are : (s : Parts) (turns : List ℕ) (finals : List Log) (histories : List (List ℕ × List Past)) (h : AllClosed s turns finals histories) (p c : ℕ) → (shared_over (whole turns finals) (fresh s.processors s.pages)).boxes p c ≡ []
+inboxes-are s turns finals histories h p c = subst (λ (o : Order). (shared_over o (fresh s.processors s.pages)).boxes p c ≡ []) (sym (whole-is s turns finals histories h)) (h.inboxes p c)

@@ -6,6 +6,7 @@ use Rattle.std.proofs.lemmas.List.{append_cancel_left, append_cancel_right}
 use Rattle.std.proofs.lemmas.List.FromFn.{get_or-map-range_with_len, length-map-range_with_len}
 use Rattle.bm_journal.specs.declared.ids.Domain.TheVariants.{Plain, Tracing}
 use Rattle.bm_journal.specs.declared.entry.Entry.TheVariants as entry
+use Rattle.bm_journal.specs.declared.past.Past.{Past}
 use Rattle.bm_lang.specs.declared.scenario.Parts.{Parts}
 use Rattle.bm_law.specs.Alone.{AllAt}
 use Rattle.bm_law.specs.Lists.{Log, after}
@@ -30,7 +31,7 @@ use Rattle.bm_run.proofs.LogLaw.{fill-level, fill_entries}
 use Rattle.bm_run.proofs.PiecesKnown.{AreKnown, IsFill, ends-own, front-unended, known-parts, level-at, opening-own, scripts-first, told-first}
 use Rattle.bm_run.proofs.WholeInTurns.{made-one-by-one, whole-in-turns}
 
-module _ (s : Parts) (turns : List ℕ) (finals : List Log) (h : AllClosed s turns finals) where
+module _ (s : Parts) (turns : List ℕ) (finals : List Log) (histories : List (List ℕ × List Past)) (h : AllClosed s turns finals histories) where
   abbrev fills : List Log
   fills = map (opening_log s) (range_with_len 0 s.processors)
 

@@ -21,6 +21,7 @@ use Rattle.bm_law.specs.Phrases.{DelayPhrase, FreePhrase, overtaken, overtaken_d
 use Rattle.bm_law.specs.Spans.{own_entries}
 use Rattle.bm_law.specs.State.{State}
 use Rattle.bm_law.proofs.Alone.{at-own}
+use Rattle.bm_law_order.specs.Calls.{lock_after, lock_over}
 use Rattle.bm_law_order.specs.Orders.{AllFit, by}
 use Rattle.bm_law_order.specs.Seals.{GivesNo, GivesNone, Waiting, waiting_after}
 use Rattle.bm_law_seals.specs.Answered.{PutsDelayed}
@@ -276,6 +277,11 @@ gives-puts : (e : Entry) → IsGivingUp e → PutsNone e
 gives-puts (entry.Xchg name put was by) h = h
 gives-puts _ h = tt
 
+gives-unlocked : (e : Entry) → IsGivingUp e → (held : Option (List ℕ)) → lock_after held e ≡ held
+gives-unlocked (entry.Lock name) h held = absurd h
+gives-unlocked (entry.Unlock name) h held = absurd h
+gives-unlocked _ h held = refl
+
 -- ---- logs of such entries of ordinary code
 
 all-put-none : (es : List Entry) → AllOf IsGivingUp es → AllPutNone (at_level 0 es)
@@ -297,6 +303,10 @@ all-give-none (e ∷ es) h = (gives-no e h.0, all-give-none es h.1)
 all-progress : (d : Domain) (o : Option ℕ) (es : List Entry) → AllOf IsGivingUp es → in_progress d o (at_level 0 es) ≡ o
 all-progress d o [] h = refl
 all-progress d o (e ∷ es) h = ap (λ b. in_progress d b (at_level 0 es)) (gives-progress d o e h.0) ∙ all-progress d o es h.1
+
+all-unlocked : (es : List Entry) → AllOf IsGivingUp es → (held : Option (List ℕ)) → lock_over held (at_level 0 es) ≡ held
+all-unlocked [] h held = refl
+all-unlocked (e ∷ es) h held = ap (λ k. lock_over k (at_level 0 es)) (gives-unlocked e h.0 held) ∙ all-unlocked es h.1 held
 
 all-batches : (p : ℕ) (es : List Entry) (m : Waiting) → AllOf IsGivingUp es → AllFit waiting_after BatchFits (by p (at_level 0 es)) m
 all-batches p [] m h = tt
@@ -329,6 +339,10 @@ module _ (d : Declared) (p : ℕ) (t : State ℕ) (given : Log) (h : GivesFirst 
 
     pub given-unswept : AllUnswept given
     given-unswept = subst AllUnswept (sym is) (all-unswept (own_entries 0 given) all)
+
+    -- it takes no lock, and gives none back
+    pub given-unlocked : (held : Option (List ℕ)) → lock_over held given ≡ held
+    given-unlocked held = ap (lock_over held) is ∙ all-unlocked (own_entries 0 given) all held
 
     -- it gives no unit
     pub given-none : GivesNone given

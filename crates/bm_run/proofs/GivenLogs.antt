@@ -1,5 +1,5 @@
--- A log in which the closing gives up what the maps hold, between the end of its scripts and what is late: it calls no list or tree, and
--- each delayed free in it puts its unit where it waits.
+-- A log in which the closing gives up what the maps hold, between the end of its scripts and what is late: each delayed free in it puts
+-- its unit where it waits.
 use Rattle.std.specs.Prelude.{not}
 use Rattle.std.proofs.Common.{◌≡◌, ◌≢◌, ℕ, Bool, true, List, [], ◌∷◌, ◌++◌, Option, Some, None, append-nil, append_assoc, inl, inr, map, ne_eqb, refl, sym, ◌∙◌, ap, subst}
 use Rattle.std.proofs.lemmas.Bool.{and_parts, not-true}
@@ -9,19 +9,16 @@ use Rattle.bm_journal.specs.declared.entry.Entry.TheVariants as entry
 use Rattle.bm_lang.specs.declared.scenario.AtLine.{AtLine}
 use Rattle.bm_lang.specs.declared.scenario.Parts.{Parts}
 use Rattle.bm_lang.specs.declared.scenario.Script.{Script}
-use Rattle.bm_law.specs.Alone.{AllAt, at_level}
+use Rattle.bm_law.specs.Alone.{AllAt}
 use Rattle.bm_law.specs.Lists.{Log}
 use Rattle.bm_law.specs.Phrases.{DelayPhrase, FreePhrase}
 use Rattle.bm_law.specs.Spans.{own_entries}
 use Rattle.bm_law.specs.State.{State, opening}
-use Rattle.bm_law.proofs.Alone.{level-own}
 use Rattle.bm_law.proofs.Spans.{own-append}
-use Rattle.bm_law_work.proofs.Each.{AllOf, of-append}
+use Rattle.bm_law_work.proofs.Each.{AllOf}
 use Rattle.bm_due.specs.Due.{planned_for}
 use Rattle.bm_due.specs.Standing.{HandlersStand, Standing, at_first, is_nobody, is_ordinary, standing_after}
 use Rattle.bm_due.proofs.Standings.{after-append, ends-entry}
-use Rattle.bm_law_graphs.specs.Uncalled.{CallsNone}
-use Rattle.bm_law_scenario.specs.Closing.{close_of}
 use Rattle.bm_law_scenario.specs.Declared.{Declared, declared_in}
 use Rattle.bm_law_scenario.specs.Grammar.{Front}
 use Rattle.bm_law_scenario.specs.Handlers.{HandlersDone}
@@ -30,36 +27,9 @@ use Rattle.bm_law_scenario.proofs.GoneBack.{done-grow}
 use Rattle.bm_law_seals.specs.Answered.{ArePut, IsPut, PutsDelayed}
 use Rattle.bm_exec_levels.specs.Growing.{no-back}
 use Rattle.bm_run.specs.Between.{GivesFirst}
-use Rattle.bm_run.specs.Emptied.{AreSlots}
 use Rattle.bm_run.proofs.BatchesTold.{log-puts}
 use Rattle.bm_run.proofs.Closes.{IsLate}
 use Rattle.bm_run.proofs.GivenLaws.{GivesUp, IsListing, delayed, freed, given-has}
-use Rattle.bm_run.proofs.SlotRuns.{given-uncalled}
-use Rattle.bm_run.proofs.Uncalled.{ordinary-uncalled}
-
--- ---- lists and trees
-
-front-of : (I : Entry → Type 0) (v w : List Entry) → AllOf I (v ++ w) → AllOf I v
-front-of I [] w h = tt
-front-of I (e ∷ v) w h = (h.0, front-of I v w h.1)
-
-back-of : (I : Entry → Type 0) (v w : List Entry) → AllOf I (v ++ w) → AllOf I w
-back-of I [] w h = h
-back-of I (e ∷ v) w h = back-of I v w h.1
-
--- So it is of ordinary code: of the front of a log, of its end, of what the closing gives up, and of what is late.
-pub given-log-uncalled : (s : Parts) → AreSlots s.maps → (p : ℕ) (t : State ℕ) (log front given late : Log) → log ≡ (front ++ (0, entry.Ended) ∷ given) ++ late → Front s p (opening p) front → GivesFirst (declared_in s) p t given → AllOf IsLate (own_entries 0 late) → AllOf CallsNone (own_entries 0 log)
-given-log-uncalled s slots p t log front given late parts is_front h late_own =
-    let bare : Log = at_level 0 (entry.Ended ∷ close_of p) in
-    let whole : AllOf CallsNone (own_entries 0 ((front ++ bare) ++ late)) = ordinary-uncalled s slots p ((front ++ bare) ++ late) front bare late refl is_front (level-own 0 (entry.Ended ∷ close_of p)) late_own in
-    let apart : AllOf CallsNone (own_entries 0 (front ++ bare) ++ own_entries 0 late) = subst (AllOf CallsNone) (own-append 0 (front ++ bare) late) whole in
-    let first : AllOf CallsNone (own_entries 0 front ++ own_entries 0 bare) = subst (AllOf CallsNone) (own-append 0 front bare) (front-of CallsNone (own_entries 0 (front ++ bare)) (own_entries 0 late) apart) in
-    let of_front : AllOf CallsNone (own_entries 0 front) = front-of CallsNone (own_entries 0 front) (own_entries 0 bare) first in
-    let of_late : AllOf CallsNone (own_entries 0 late) = back-of CallsNone (own_entries 0 (front ++ bare)) (own_entries 0 late) apart in
-    let of_ended : AllOf CallsNone (own_entries 0 ((0, entry.Ended) ∷ given)) = (tt, given-uncalled (declared_in s) slots p t given h) in
-    let early : Log = front ++ (0, entry.Ended) ∷ given in
-    let of_early : AllOf CallsNone (own_entries 0 early) = subst (AllOf CallsNone) (sym (own-append 0 front ((0, entry.Ended) ∷ given))) (of-append CallsNone (own_entries 0 front) (own_entries 0 ((0, entry.Ended) ∷ given)) of_front of_ended) in
-    subst (λ z. AllOf CallsNone (own_entries 0 z)) (sym parts) (subst (AllOf CallsNone) (sym (own-append 0 early late)) (of-append CallsNone (own_entries 0 early) (own_entries 0 late) of_early of_late))
 
 -- ---- delayed frees
 

@@ -26,9 +26,8 @@ pub mod StampsBound
 pub mod PollsTold
 pub mod OwnedTold
 pub mod SlotsTold
-pub mod SlotRuns
 pub mod OrderEntries
-pub mod BareTold
+pub mod ShelvedTold
 pub mod SealsTold
 pub mod BatchesTold
 pub mod Nesting
@@ -54,7 +53,6 @@ pub mod OwnParcels
 pub mod Unsent
 pub mod FinalLog
 pub mod FinalOrder
-pub mod Uncalled
 pub mod FinalLaws
 pub mod AllTurns
 pub mod AllTurnsBegin
@@ -68,6 +66,9 @@ pub mod ClosersStep
 pub mod ClosersTaken
 pub mod ClosersSteps
 pub mod Emptied
+pub mod EmptiedGraphs
+pub mod EmptiedMaps
+pub mod EmptiedOneByOne
 pub mod EmptiedSlots
 pub mod GivenLaws
 pub mod GivenLogs
@@ -78,3 +79,6 @@ pub mod ClosersLists
 pub mod ClosersEnd
 pub mod ClosersFinal
 pub mod ClosersBoxes
+pub mod FineRuns
+pub mod HistoriesKept
+pub mod OwnersNamed

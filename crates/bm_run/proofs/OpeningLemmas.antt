@@ -8,6 +8,7 @@ use Rattle.std.proofs.lemmas.List.Elements.{All-nil}
 use Rattle.std.specs.Str.{bytes_eq}
 use mathlib.Core.Path.{fun_ext}
 use Rattle.bm_journal.specs.declared.ids.ObjId.{ObjId}
+use Rattle.bm_journal.specs.declared.past.Past.{Past}
 use Rattle.bm_lang.specs.declared.scenario.MapDeclaration.{MapDeclaration}
 use Rattle.bm_journal.specs.declared.ids.Domain.{Domain}
 use Rattle.bm_journal.specs.declared.ids.Domain.TheVariants.{Plain, Tracing}
@@ -39,13 +40,13 @@ use Rattle.bm_cache.specs.Tokens.{Token, number_of}
 use Rattle.bm_work.specs.Dated.{Dated, DatedRow}
 use Rattle.bm_work.specs.DeskTests.{tests_by}
 use Rattle.bm_law_scenario.specs.Declared.{Declared, graph_kind}
-use Rattle.bm_law_order.specs.Graphs.{Standing as Stood, graph_names_in, standing_from}
+use Rattle.bm_law_order.specs.Graphs.{Standing as Stood, graph_names_in, history_in, standing_from}
 use Rattle.bm_law_scenario.specs.Fills.{prefill}
 use Rattle.bm_law_order.specs.Slots.{Slot, empty_slot, named_in}
 use Rattle.bm_world.specs.Contents.{names_in, slot_at}
 use Rattle.bm_world.specs.Graphs.{AreBare}
 use Rattle.bm_exec.specs.Living.{one_less}
-use Rattle.bm_exec_levels.specs.Slotted.{AreKinds, AreStocked, elsewhere, in_hands, less_times}
+use Rattle.bm_exec_levels.specs.Slotted.{AreKinds, AreStocked, AreUnused, elsewhere, in_hands, less_times}
 use Rattle.bm_run.specs.Filling.{filling, units_in, IsUnborn, NeverLived}
 use Rattle.bm_run.specs.Opened.{ascends, empty_graphs, empty_slots, fresh_side, is_tree_kind}
 use Rattle.bm_run.specs.Openings.{AreNew}
@@ -151,6 +152,15 @@ bare-empty [] i d lt = absurd (omega arith)
 bare-empty (m ∷ ms) zero d lt = refl
 bare-empty (m ∷ ms) (suc i) d lt = bare-empty ms i d (omega arith)
 
+-- none was called
+pub none-called : (maps : List MapDeclaration) (name : List ℕ) → history_in (empty_graphs maps) name ≡ []
+none-called [] name = refl
+none-called (m ∷ ms) name = either (bytes_eq m.name name) (history_in (empty_graphs ms) name) (none-called ms name)
+  where
+    either : (b : Bool) (h : List Past) → h ≡ [] → (if b then [] else h) ≡ []
+    either true h e = refl
+    either false h e = e
+
 -- no object stands in one
 pub none-within : (maps : List MapDeclaration) (place u : ℕ) → standing_from place (empty_graphs maps) u ≡ None
 none-within [] place u = refl
@@ -169,12 +179,20 @@ kinds-empty (x ∷ xs) zero m b found is =
     ap (λ (y : MapDeclaration). is_tree_kind y.kind) e ∙ (ap is_tree_kind is ∙ kind-told b)
 kinds-empty (x ∷ xs) (suc place) m b found is = kinds-empty xs place m b found is
 
+-- none has a history
+unused-empty : (maps : List MapDeclaration) → AreUnused maps (empty_graphs maps)
+unused-empty [] place m found is = absurd (let z : ◌≡◌ {A = Option MapDeclaration} None (Some m) = found in cc)
+unused-empty (x ∷ xs) zero m found is = (refl, refl)
+unused-empty (x ∷ xs) (suc place) m found is = unused-empty xs place m found is
+
 -- nothing lives, and nothing is in the slots, lists and trees
 pub stocked-empty : (d : Declared) (o : Objects) → o.slots ≡ empty_slots d.maps → o.graphs ≡ empty_graphs d.maps → ((u : ℕ) → o.lives u ≡ None) → AreStocked d o
 stocked-empty d o e g none = record {
   names = ap names_in e ∙ names-empty d.maps;
   graphs = ap graph_names_in g ∙ graph-names-empty d.maps;
   kinds = subst (AreKinds d.maps) (sym g) (kinds-empty d.maps);
+  unused = subst (AreUnused d.maps) (sym g) (unused-empty d.maps);
+  still = λ place m b found is. ap (λ ss. (slot_at place ss).slot.held) e ∙ at-empty d.maps place;
   items = λ u s h. absurd (let z : ◌≡◌ {A = Option Stood} None (Some s) = sym (ap (λ gs. standing_from 0 gs u) g ∙ none-within d.maps 0 u) ∙ h in cc);
   kept = λ u object h. absurd (let z : ◌≡◌ {A = Option Living} None (Some object) = sym (none u) ∙ h in cc);
   stocked = λ place x h. absurd (let z : ◌≡◌ {A = Option ObjId} None (Some x) = sym (ap (λ ss. (slot_at place ss).slot.held) e ∙ at-empty d.maps place) ∙ h in cc);

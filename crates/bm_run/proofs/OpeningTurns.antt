@@ -1,9 +1,10 @@
 -- The order of the openings of several processors: each opening is a turn, so the order is so far as it is between two turns.
 use Rattle.std.specs.Prelude.{◌<◌, ◌≤◌}
-use Rattle.std.proofs.Common.{◌≡◌, ℕ, zero, suc, Option, false, List, [], ◌∷◌, ◌++◌, length, refl, sym, ap, subst, ◌∙◌, None, arith, inl, inr}
+use Rattle.std.proofs.Common.{◌≡◌, ℕ, zero, suc, Option, false, true, map, List, [], ◌∷◌, ◌++◌, length, refl, sym, ap, subst, ◌∙◌, None, arith, inl, inr}
 use Rattle.std.proofs.lemmas.Bool.{cases_eq, cases_lt}
 use Rattle.std.proofs.lemmas.Option.{slice_get_within}
 use mathlib.Core.Path.{fun_ext}
+use Rattle.bm_lang.specs.declared.scenario.MapDeclaration.{MapDeclaration}
 use Rattle.bm_lang.specs.declared.scenario.Parts.{Parts}
 use Rattle.bm_lang.specs.Fine.{HasConditions}
 use Rattle.bm_lang.specs.Limits.{first_limit}
@@ -13,15 +14,20 @@ use Rattle.bm_law.specs.State.{State, opening}
 use Rattle.bm_law_scenario.specs.Fills.{fresh_stock, opening_stock}
 use Rattle.bm_law_scenario.proofs.EachLevel.{AllAbove}
 use Rattle.bm_law_order.specs.Bare.{bare_pool}
-use Rattle.bm_law_order.specs.Graphs.{standing_from}
+use Rattle.bm_law_order.specs.Calls.{lock_in}
+use Rattle.bm_law_order.specs.Graphs.{graph_names_in, history_in, standing_from}
 use Rattle.bm_law_order.specs.Orders.{AllFit, AllShared, Leads, Order, by, over, part_of}
 use Rattle.bm_law_order.specs.Seals.{nobody_waits, waiting_after}
 use Rattle.bm_law_order.specs.Shared.{Shared, fresh}
 use Rattle.bm_law_order.specs.Slots.{named_in}
 use Rattle.bm_law_order.specs.Story.{Steady, plainly}
+use Rattle.bm_law_graphs.specs.Shelves.{nothing_shelved}
+use Rattle.bm_law_graphs.specs.Uncalled.{CallNone}
+use Rattle.bm_law_graphs.proofs.UncalledAlong.{uncalled-fits, uncalled-histories, uncalled-holders, uncalled-within}
 use Rattle.bm_law_places.specs.World.{AllFound, SweepsInbox, World, outset, world_after}
 use Rattle.bm_law_seals.specs.Batches.{BatchFits}
 use Rattle.bm_cache.specs.Opening.{Fills, fill_log}
+use Rattle.bm_world.specs.Contents.{are_apart}
 use Rattle.bm_world.specs.LivingState.{LivingState, begun_at}
 use Rattle.bm_world.specs.Slots.{AllEmpty, object_at, values_of}
 use Rattle.bm_world.proofs.SlotLemmas.{no-object}
@@ -45,7 +51,7 @@ use Rattle.bm_run.proofs.AddedParts.{part-added, part-kept}
 use Rattle.bm_run.proofs.BatchesTold.{LowStamp, unswept-append, unswept-by}
 use Rattle.bm_run.proofs.Bounds.{within}
 use Rattle.bm_run.proofs.FreshTold.{fills-tied, first-told, fresh-told, no-lives, no-slots, no-standing}
-use Rattle.bm_run.proofs.OpeningLemmas.{living_side, named-empty, none-within}
+use Rattle.bm_run.proofs.OpeningLemmas.{graph-names-empty, living_side, named-empty, none-called, none-within}
 use Rattle.bm_run.proofs.Opens.{filling-leaves, opens}
 use Rattle.bm_run.proofs.SealsTold.{LowSend}
 use Rattle.bm_run.proofs.SweepsTake.{unswept-take}
@@ -105,6 +111,26 @@ openings-unswept classes pages (suc p) =
     let fs = (filling_of classes pages p).fills in
     unswept-append (openings classes pages p) (by p (fill_log fs)) (openings-unswept classes pages p) (unswept-by p (fill_log fs) (fills-unswept fs))
 
+-- No list or tree is called in the openings, and no lock is taken.
+
+none-append : (o q : Order) → CallNone o → CallNone q → CallNone (o ++ q)
+none-append [] q h k = k
+none-append (e ∷ o) q h k = (h.0, none-append o q h.1 k)
+
+fills-uncalled : (p : ℕ) (fs : Fills) → CallNone (by p (fill_log fs))
+fills-uncalled p [] = tt
+fills-uncalled p (f ∷ fs) = (tt, fills-uncalled p fs)
+
+pub openings-uncalled : (classes : List ℕ) (pages n : ℕ) → CallNone (openings classes pages n)
+openings-uncalled classes pages zero = tt
+openings-uncalled classes pages (suc p) =
+    let fs = (filling_of classes pages p).fills in
+    none-append (openings classes pages p) (by p (fill_log fs)) (openings-uncalled classes pages p) (fills-uncalled p fs)
+
+fills-free : (fs : Fills) → lock_in (fill_log fs) ≡ None
+fills-free [] = refl
+fills-free (f ∷ fs) = fills-free fs
+
 -- Nothing is swept in the openings.
 pub openings-take : (classes : List ℕ) (pages n : ℕ) (w : World) → AllFit world_after SweepsInbox (openings classes pages n) w
 openings-take classes pages n w = unswept-take (openings classes pages n) w (openings-unswept classes pages n)
@@ -152,7 +178,7 @@ opened-so-far n pages classes (suc p) few most =
     let own = fresh-is-side n p before (omega (arith, few)) most in
     let part = part-unopened classes pages p p (omega arith) in
     let sealed = sealed-at p o (fresh_world n 0 before) h.sealed in
-    let t = turn-taken false n pages p o [] log start now (so-far-at n pages p o (fresh_world n 0 before) h.so_far) own part tied in
+    let t = turn-taken false n pages p o [] log start now (so-far-at n pages p o (fresh_world n 0 before) h.so_far) own part (fills-free fs) tied in
     let so_far : SoFar n pages (o ++ by p log) now = subst (λ (z : Log). SoFar n pages (o ++ by p z) now) (sym t.log_is) t.so_far in
     record {
       so_far = so-far-at n pages 0 (o ++ by p log) now so_far;
@@ -160,15 +186,20 @@ opened-so-far n pages classes (suc p) few most =
       batches = turn-batches p o [] log log start now own part refl tied (fills-send fs) (fills-stamp fs) sealed h.batches;
     }
 
--- What is so far is so of a world that tells the same.
-so-far-told : (n pages : ℕ) (o : Order) (a b : LivingState) → told_living a ≡ told_living b → named_in b.contents ≡ named_in a.contents → fields_told a ≡ fields_told b → ((u : ℕ) → standing_from 0 b.graphs u ≡ standing_from 0 a.graphs u) → SoFar n pages o a → SoFar n pages o b
-so-far-told n pages o a b e c f g h = record {
+-- What is so far is so of a world that tells the same, with other lists and trees in which nothing is, where none was called.
+so-far-told : (n pages : ℕ) (o : Order) (a b : LivingState) → told_living a ≡ told_living b → named_in b.contents ≡ named_in a.contents → fields_told a ≡ fields_told b → CallNone o → are_apart (graph_names_in b.graphs) ≡ true → ((name : List ℕ) → history_in b.graphs name ≡ []) → ((u : ℕ) → standing_from 0 b.graphs u ≡ None) → SoFar n pages o a → SoFar n pages o b
+so-far-told n pages o a b e c f none apart empty stands h = record {
   leads = subst (λ s. Leads o (fresh n pages) (plainly s)) e h.leads;
   steady = subst Steady e h.steady;
   polled = h.polled;
   owned = h.owned;
   slots = h.slots ∙ sym c;
-  bare = λ none u. g u ∙ h.bare none u;
+  apart = apart;
+  shelved = uncalled-fits (graph_names_in b.graphs) o nothing_shelved none;
+  histories = uncalled-histories (graph_names_in b.graphs) o nothing_shelved none ∙ fun_ext (λ name. sym (empty name));
+  within = uncalled-within (graph_names_in b.graphs) o nothing_shelved none ∙ fun_ext (λ u. sym (stands u));
+  unlocked = λ name. ap (λ (holders : List ℕ → Option ℕ). holders name) (uncalled-holders (graph_names_in b.graphs) o nothing_shelved none);
+  unheld = h.unheld;
   made = λ u.
       subst (λ (g : Fields). MadeAs ((told_living b).lives.holds u) ((told_living b).lives.begun u) (g u) ((over owned_after o nothing_owned).objects.made u)) f
       (subst (λ (s : Shared). MadeAs (s.lives.holds u) (s.lives.begun u) (fields_told a u) ((over owned_after o nothing_owned).objects.made u)) e (h.made u));
@@ -183,9 +214,9 @@ openings-batched n pages classes most = (opened-so-far n pages classes n (omega 
 -- Processors that have filled their caches one after the other are open, on a world in which nobody has done anything else.
 
 pub all-open : (p : Program) (classes : List ℕ) (kept : List Kept) (pool : Stock) (slots : List (Option Object)) (begun : List ℕ) (standings : List Standing) → IsProgram p → HasConditions p.scenario.now → first_limit p.scenario.now ≡ None →
-    length kept ≡ p.scenario.now.processors → AreFilled p.scenario.now classes kept pool → AllEmpty slots → ((u : ℕ) → begun_at begun u ≡ 0) → ((u : ℕ) → standing_at standings u ≡ Nothing) →
+    length kept ≡ p.scenario.now.processors → are_apart (map (λ (m : MapDeclaration). m.name) p.scenario.now.maps) ≡ true → AreFilled p.scenario.now classes kept pool → AllEmpty slots → ((u : ℕ) → begun_at begun u ≡ 0) → ((u : ℕ) → standing_at standings u ≡ Nothing) →
     AreOpen p classes kept (living_side p.scenario.now.processors 0 pool slots begun standings p.scenario.now.maps)
-all-open p classes kept pool slots begun standings fits fine limits many filled empty none stands =
+all-open p classes kept pool slots begun standings fits fine limits many apart filled empty none stands =
     let s : Parts = p.scenario.now in
     let maps = s.maps in
     let n = s.processors in
@@ -206,7 +237,8 @@ all-open p classes kept pool slots begun standings fits fine limits many filled 
           let x = filled.each i own f in
           opens n i p (filling_of classes s.pages i) pool slots begun standings own lt most fits fine (within s i lt limits) x.filled x.units filled.unborn empty none stands;
       side = fresh-is-side n 0 pool some most;
-      so_far = so-far-told n s.pages o first world same (named-empty maps) (fun_ext (λ u. ap values_of (no-object (object_at [] u) (no-slots u) ∙ sym (no-object (object_at slots u) (empty u))))) (none-within maps 0) h.so_far;
+      so_far = so-far-told n s.pages o first world same (named-empty maps) (fun_ext (λ u. ap values_of (no-object (object_at [] u) (no-slots u) ∙ sym (no-object (object_at slots u) (empty u)))))
+          (openings-uncalled classes s.pages n) (ap are_apart (graph-names-empty maps) ∙ apart) (none-called maps) (none-within maps 0) h.so_far;
       sealed = record {
         waits = h.sealed.waits ∙ fun_ext (λ u. ap told_standing (no-standing u ∙ sym (stands u)));
         sealed = h.sealed.sealed;

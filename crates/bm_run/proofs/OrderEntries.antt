@@ -1,12 +1,11 @@
 -- What entries of logs have, those of their order have.
 use Rattle.std.specs.Prelude.{get_or, length}
-use Rattle.std.proofs.Common.{◌≡◌, ◌≢◌, ◌<◌, ◌≤◌, ℕ, zero, suc, List, [], ◌∷◌, ◌++◌, arith, refl, sym, ◌∙◌, eq-eqb, inl, inr}
+use Rattle.std.proofs.Common.{◌≡◌, ◌≢◌, ◌<◌, ◌≤◌, ℕ, zero, suc, List, [], ◌∷◌, arith, refl, sym, ◌∙◌, eq-eqb, inl, inr}
 use Rattle.std.proofs.lemmas.Bool.{cases_lt}
 use Rattle.std.proofs.lemmas.Bool.Decides.{eqb_tells}
 use Rattle.bm_journal.specs.declared.entry.Entry.{Entry}
 use Rattle.bm_law.specs.Lists.{Log}
 use Rattle.bm_law.specs.Spans.{own_entries}
-use Rattle.bm_law_graphs.specs.Uncalled.{CallNone, CallsNone}
 use Rattle.bm_law_laid.specs.OrderOf.{AllBelow, IsOrderOf}
 use Rattle.bm_law_order.specs.Orders.{Order, part_of}
 use Rattle.bm_law_scenario.proofs.EachLevel.{AllAbove}
@@ -65,12 +64,3 @@ order-has I (e ∷ o) h = (first (h e.processor), order-has I o (λ p. rest p (h
       | inl y ↦ (let own : I e.entry × AllHave I (part_of p o) = rw y.0 at k in own.1)
       | inr y ↦ rw y.0 at k
     ]
-
-pub order-uncalled : (o : Order) → OrderHas CallsNone o → CallNone o
-order-uncalled [] h = tt
-order-uncalled (e ∷ o) h = (h.0, order-uncalled o h.1)
-
--- one log behind another
-pub have-append : (I : Entry → Type 0) (one two : Log) → AllHave I one → AllHave I two → AllHave I (one ++ two)
-have-append I [] two h k = k
-have-append I (e ∷ es) two h k = (h.0, have-append I es two h.1 k)

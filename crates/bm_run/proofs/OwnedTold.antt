@@ -3,6 +3,7 @@
 use Rattle.std.proofs.Common.{◌≡◌, ◌∙◌, ◌+◌, ℕ, Bool, true, false, List, [], ◌∷◌, ◌++◌, Option, None, Some, ap, append-nil, eq-eqb, inl, inr, map, refl, slice_get, subst, sym}
 use Rattle.std.specs.Prelude.{◌&&◌, ◌-◌, eqb, if◌then◌else◌}
 use Rattle.std.proofs.lemmas.Bool.Decides.{eqb_tells}
+use Rattle.bm_journal.specs.declared.ids.ObjId.{ObjId}
 use Rattle.bm_journal.specs.declared.entry.Entry.{Entry}
 use Rattle.bm_journal.specs.declared.entry.Entry.TheVariants as entry
 use Rattle.bm_law.specs.Lists.{Log}
@@ -15,12 +16,12 @@ use Rattle.bm_journal.specs.declared.past.PastCall.{PastCall}
 use Rattle.bm_journal.specs.declared.past.PastCall.TheVariants as past
 use Rattle.bm_law_order.specs.Act.{Act}
 use Rattle.bm_law_order.specs.Act as act
-use Rattle.bm_law_order.specs.Acts.{ActsFit, acts_over}
+use Rattle.bm_law_order.specs.Acts.{ActsFit, acts_over, pushed_by}
 use Rattle.bm_law_order.specs.Calls.{calls_in}
 use Rattle.bm_law_order.specs.Chunk.{Chunk, acts_of, entries_of, seal_told}
 use Rattle.bm_law_order.specs.Chunk as chunk
-use Rattle.bm_law_order.specs.Lives.{Life, Lives, counted, lives_after}
-use Rattle.bm_law_order.specs.Made.{Fields, MadeLead, with_fields}
+use Rattle.bm_law_order.specs.Lives.{IfAlive, IsAlive, Life, Lives, counted, lives_after}
+use Rattle.bm_law_order.specs.Made.{Fields, IsKeyed, MadeLead, with_fields}
 use Rattle.bm_law_order.specs.Orders.{AllFit, Leads, Order, by, over, part_of, shared_over}
 use Rattle.bm_law_order.specs.Quiet.{is_quiet}
 use Rattle.bm_law_order.specs.Shared.{Shared, fresh, shared_after}
@@ -31,7 +32,8 @@ use Rattle.bm_law_order.specs.Tie.{Tied}
 use Rattle.bm_law_order.proofs.ActsJoin.{acts-append, acts-before, acts-later}
 use Rattle.bm_law_order.proofs.Along.{by-append, fit-append, over-append}
 use Rattle.bm_law_order.proofs.Stories.{comes}
-use Rattle.bm_law_objects.specs.Objects.{Asked, IsOwned, Made, Owned, OwnedFit, asking_after, at_place, made_after, nothing_owned, owned_after}
+use Rattle.bm_law_objects.specs.Objects.{Asked, IsOwned, Made, Objects, Owned, OwnedFit, asking_after, at_place, made_after, nothing_owned, owned_after}
+use Rattle.bm_law_graphs.specs.ToldCalls.{HasMadeKey, KeyedBy, KeyedCall}
 use Rattle.bm_world.specs.LivingState.{LivingState}
 use Rattle.bm_world.specs.Told.{IsSideOf}
 use Rattle.bm_world.specs.ToldLiving.{LivingDoes, fields_told, knows_living, told_living}
@@ -159,6 +161,19 @@ ended-agrees u made lives fields h v = elim (eqb_tells v u) [
   | inl y ↦ rw (y.0) tt
   | inr y ↦ rw (y.0) (h v)
 ]
+
+made-key : (id : ObjId) (key : ℕ) (made : ℕ → Option Made) (lives : Lives) (fields : Fields) (objects : Objects) → objects.made ≡ made → Agree made lives fields → IsAlive id.unit id.life lives → slice_get (fields id.unit) 0 ≡ Some key → HasMadeKey id key objects
+made-key id key made lives fields objects e h alive keyed =
+    let m = subst (λ (o : Option Life). MadeAs o (lives.begun id.unit) (fields id.unit) (made id.unit)) alive.holds (h id.unit) in (
+      m.0,
+      ap (λ (f : ℕ → Option Made). f id.unit) e ∙ (m.1 ∙ ap (λ (k : ℕ). let z : Made = record { life = k; asked = m.0 } in Some z) (sym alive.now_is)),
+      ap (λ (vs : List ℕ). slice_get vs 0) m.2 ∙ keyed,
+    )
+
+-- so it is of each addition along a story of processor p
+abbrev pub KeyedAlong : (p : ℕ) → Story → Owned → Type 0
+KeyedAlong p [] x = Unit {0}
+KeyedAlong p (t ∷ ts) x = KeyedCall t.chunk x.objects × KeyedAlong p ts (over owned_after (by p (lines_of t)) x)
 
 module _ (p : ℕ) where
   -- one entry that makes and reads nothing
@@ -298,9 +313,19 @@ module _ (p : ℕ) where
     made-split [] fs a c h = (a, (refl, h))
     made-split (e ∷ es) fs a c h = let r = made-split es fs h.0 c h.1.1 in (r.0, ((h.0, (h.1.0, r.1.0)), r.1.1))
 
+    -- an addition to a tree is of an object that lives, and was made with its key
+    keyed-call : (call : PastCall) (made : ℕ → Option Made) (lives : Lives) (fields : Fields) (objects : Objects) → objects.made ≡ made → Agree made lives fields → IfAlive (pushed_by call) lives → IsKeyed call fields → KeyedBy call objects
+    keyed-call (past.Add id key) made lives fields objects e h alive keyed = made-key id key made lives fields objects e h alive keyed
+    keyed-call (past.AddAlready id key owner) made lives fields objects e h alive keyed = made-key id key made lives fields objects e h alive keyed
+    keyed-call _ made lives fields objects e h alive keyed = tt
+
+    keyed-of : (c : Chunk) (x : Owned) (s : Shared) (fields now : Fields) → Agree x.objects.made s.lives fields → ActsFit p (acts_of c) s → MadeLead (acts_of c) fields now → KeyedCall c x.objects
+    keyed-of (chunk.Calling graph position call owner tag) x s fields now h f m = keyed-call call x.objects.made s.lives fields x.objects refl h f.0 m.1.0.0
+    keyed-of _ x s fields now h f m = tt
+
     story-owned : (ts : Story) (x : Owned) (s : Shared) (fields now : Fields) (slots later : Contents) (log : Log) → home knows_living start ≡ p → x.objects.calls p ≡ calls_in log → x.objects.slots ≡ slots → SlotsLead (deeds ts) slots later → x.lives ≡ (plainly s).lives → Steady s → Agree x.objects.made s.lives fields → AskAll x log → ActsFit p (deeds ts) s → MadeLead (deeds ts) fields now → AllJudged (polled knows_living closing since start) log ts →
-        Follows p (lines ts) x (acts_over p (deeds ts) s).lives now × ((over owned_after (by p (lines ts)) x).objects.slots ≡ later)
-    story-owned [] x s fields now slots later log own calls held r e steady h a f m j = (nothing-said x s.lives fields now m h, held ∙ sym r)
+        Follows p (lines ts) x (acts_over p (deeds ts) s).lives now × ((over owned_after (by p (lines ts)) x).objects.slots ≡ later) × KeyedAlong p ts x
+    story-owned [] x s fields now slots later log own calls held r e steady h a f m j = (nothing-said x s.lives fields now m h, held ∙ sym r, tt)
     story-owned (t ∷ ts) x s fields now slots later log own calls held r e steady h a f m j =
         let es = acts_of t.chunk in
         let first = lines_of t in
@@ -324,15 +349,16 @@ module _ (p : ℕ) where
                 (subst (λ (y : Owned). Agree y.objects.made (acts_over p (deeds ts) s1).lives now) (sym joined) rest.0.agrees);
           },
           ap (λ (y : Owned). y.objects.slots) joined ∙ rest.1,
+          (keyed-of t.chunk x s fields q.0 h (acts-before p es (deeds ts) s f) q.1.0, rest.2),
         )
 
 -- what an order leaves of objects
-abbrev owned_over : Order → Owned
+abbrev pub owned_over : Order → Owned
 owned_over o = over owned_after o nothing_owned
 
 -- Where it is so of the order so far, it is with what a processor's log adds while it is tied.
-pub tied-owned-since : (closing : Bool) (n pages p : ℕ) (o : Order) (since added log : Log) (start now : LivingState) → Leads o (fresh n pages) (plainly (told_living start)) → Steady (told_living start) → IsSideOf p start.side → part_of p o ≡ since → log ≡ since ++ added → Tied (polled knows_living closing since start) LivingDoes since start 0 [] [] log now → IsOwned o → IsMadeOf o start → (owned_over o).objects.slots ≡ named_in start.contents →
-    IsOwned (o ++ by p added) × (IsMadeOf (o ++ by p added) now × ((owned_over (o ++ by p added)).objects.slots ≡ named_in now.contents))
+pub tied-owned-since : (closing : Bool) (n pages p : ℕ) (o : Order) (since added log : Log) (start now : LivingState) → Leads o (fresh n pages) (plainly (told_living start)) → Steady (told_living start) → IsSideOf p start.side → part_of p o ≡ since → log ≡ since ++ added → (t : Tied (polled knows_living closing since start) LivingDoes since start 0 [] [] log now) → IsOwned o → IsMadeOf o start → (owned_over o).objects.slots ≡ named_in start.contents →
+    (IsOwned (o ++ by p added) × (IsMadeOf (o ++ by p added) now × ((owned_over (o ++ by p added)).objects.slots ≡ named_in now.contents))) × KeyedAlong p t.story (owned_over o)
 tied-owned-since closing n pages p o since added log start now leads steady own part log_is t owned made slots =
     let judge = polled knows_living closing since start in
     let said = added-lines judge since added log start now log_is t in
@@ -354,4 +380,4 @@ tied-owned-since closing n pages p o since added log start now leads steady own 
     subst (λ (z : Shared). Agree (owned_over (o ++ by p (lines t.story))).objects.made z.lives (fields_told now)) led
     (subst (λ (y : Owned). Agree y.objects.made (acts_over p (deeds t.story) s).lives (fields_told now)) (sym whole) r.agrees) in
     let F : Log → Type 0 = λ z. IsOwned (o ++ by p z) × (IsMadeOf (o ++ by p z) now × ((owned_over (o ++ by p z)).objects.slots ≡ named_in now.contents)) in
-    subst F (sym said) (fit-append owned_after OwnedFit o (by p (lines t.story)) nothing_owned owned r.fit, (agrees, ap (λ (y : Owned). y.objects.slots) whole ∙ told.1))
+    (subst F (sym said) (fit-append owned_after OwnedFit o (by p (lines t.story)) nothing_owned owned r.fit, (agrees, ap (λ (y : Owned). y.objects.slots) whole ∙ told.1)), told.2)

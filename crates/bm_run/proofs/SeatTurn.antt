@@ -1,6 +1,6 @@
 -- A run of all processors goes on by a turn of one.
-use Rattle.std.specs.Prelude.{◌≢◌, ◌≤◌, ◌^◌, get_or, if◌then◌else◌, length, set, slice_get, sum_by}
-use Rattle.std.proofs.Common.{◌≡◌, ◌<◌, ◌⊎◌, ◌+◌, ℕ, Bool, true, false, List, [], ◌∷◌, ◌++◌, Err, IfOk, Ok, OnOk, Result, Some, arith, append_assoc, inl, inr, refl, sym, ◌∙◌, ap, subst}
+use Rattle.std.specs.Prelude.{◌≢◌, ◌≤◌, ◌*◌, ◌^◌, get_or, if◌then◌else◌, length, set, slice_get, sum_by}
+use Rattle.std.proofs.Common.{◌≡◌, ◌<◌, ◌⊎◌, ◌+◌, ℕ, Bool, true, false, List, [], ◌∷◌, ◌++◌, Err, IfOk, IfSome, None, Ok, OnOk, Option, Result, Some, arith, append_assoc, inl, inr, refl, sym, ◌∙◌, ap, subst}
 use Rattle.std.proofs.lemmas.Bool.{cases_eq}
 use Rattle.std.proofs.lemmas.List.{get_or-map, get_or-set_other, get_or-set_same, length-set, map-set}
 use Rattle.std.proofs.lemmas.List.Sums.{get_or-le-sum_by, sum_by-set}
@@ -8,6 +8,7 @@ use Rattle.std.proofs.lemmas.Option.{get_or_from_slice_get, slice_get-get_or, sl
 use Rattle.bm_lang.specs.declared.scenario.Parts.{Parts}
 use Rattle.bm_law.specs.Lists.{Leaves, Log, after}
 use Rattle.bm_law.specs.State.{opening}
+use Rattle.bm_law_order.specs.Calls.{lock_in}
 use Rattle.bm_law_order.specs.Orders.{Order, by, part_of}
 use Rattle.bm_law_order.specs.Whole.{joined}
 use Rattle.bm_law_places.specs.World.{outset, world_over}
@@ -18,17 +19,23 @@ use Rattle.bm_exec_levels.specs.declared.processor.Processor.{Processor}
 use Rattle.bm_exec_levels.specs.declared.program.Program.{Program}
 use Rattle.bm_world.specs.LivingState.{LivingState, known_living}
 use Rattle.bm_world.specs.Told.{IsSideOf}
+use Rattle.bm_world.specs.ToldLiving.{knows_living}
+use Rattle.bm_exec_levels.specs.AtProcessor.{lock_of, log_of}
+use Rattle.bm_exec_levels.specs.Calling.{Reckons, lock_name}
 use Rattle.bm_exec_levels.specs.Slotted.{in_hands}
+use Rattle.bm_exec_levels.specs.Sound.{Sound}
 use Rattle.bm_run.specs.Asked.{in_its_turn}
 use Rattle.bm_run.specs.Between.{Between, all_openings, ended_of}
 use Rattle.bm_run.specs.InTurns.{AreTaken, TurnsSoFar}
 use Rattle.bm_run.specs.LogsSoFar.{LogsSoFar, Stretched, WaitsSoFar}
 use Rattle.bm_run.specs.NextTurn.{IsNextTurn, seat_weight, seats_weight}
 use Rattle.bm_run.specs.SeatTurn.{MayTurn, TookTurn, has_gone, kept_log, told_or_none}
-use Rattle.bm_run.specs.Seated.{IsSeated, opening_log}
+use Rattle.bm_run.specs.Lines.{works_for}
+use Rattle.bm_run.specs.Seated.{IsSeated, opening_log, runs_or_stopped}
 use Rattle.bm_run.specs.SoFar.{at_turn}
-use Rattle.bm_run.specs.Turns.{owned_by, weight_left}
+use Rattle.bm_run.specs.Turns.{owned_by, stands_in, weight_left}
 use Rattle.bm_run.specs.declared.seats.Seat.{Seat}
+use Rattle.bm_run.specs.declared.turns.Begun.{Begun}
 use Rattle.bm_run.specs.declared.turns.Remaining.{Remaining}
 use Rattle.bm_run.proofs.BatchesTold.{unswept-append, unswept-by}
 use Rattle.bm_run.proofs.PiecesCut.{joined-more, taken-more}
@@ -62,6 +69,23 @@ ended-at seats p seat there =
 
 ended-set : (seats : List Seat) (p : ℕ) (seat : Seat) → set (ended_of seats) p seat.ended ≡ ended_of (set seats p seat)
 ended-set seats p seat = sym (map-set (λ (x : Seat). x.ended) seats p seat)
+
+-- ---- locks
+
+stands-unlocked : (s : Parts) (w : Option (List ℕ)) (m : Processor LivingState) (b : Option Begun) → stands_in s w m b → m.locked ≡ None
+stands-unlocked s w m None h = h.unlocked
+stands-unlocked s w m (Some b) h = h.unlocked
+
+-- between turns a processor holds none
+seat-unlocked : (ended : Bool) (s : Parts) (p : ℕ) (log : Log) (m : Processor LivingState) (r : Remaining) → runs_or_stopped ended s p log m r → m.locked ≡ None
+seat-unlocked false s p log m r h = stands-unlocked s (works_for s) m r.begun h.can.stands
+seat-unlocked true s p log m r h = h.unlocked
+
+-- .. and neither does its log
+seat-free : (g : Program) (log : Log) (m : Processor LivingState) → Sound knows_living g m → log_of m ≡ Some log → m.locked ≡ None → lock_in log ≡ None
+seat-free g log m sound told unlocked =
+    let counts : IfSome (Some log) (Reckons m.calls (lock_of g m)) = subst (λ (o : Option Log). IfSome o (Reckons m.calls (lock_of g m))) told sound.at.counts in
+    counts.1 ∙ ap (lock_name g.scenario.now.maps) unlocked
 
 -- ---- what makes turns end
 
@@ -181,7 +205,7 @@ module _ (g : Program) (turns rest : List ℕ) (seats : List Seat) (world : Livi
 
     went : Stretched n s.pages p o b.logs added world now
     went =
-        stretched false n s.pages p o b.logs t.log added world now _ b.so_far turn more.log_is left.tied leaves-before
+        stretched false n s.pages p o b.logs t.log added world now _ b.so_far turn more.log_is (seat-free g t.log (in_its_turn own-seat.kept (at_turn p now)) own-seat.sound own-seat.told (seat-unlocked seat'.ended s p t.log (in_its_turn own-seat.kept (at_turn p now)) seat'.remaining own-seat.runs)) left.tied leaves-before
         (leaves-here g p (in_its_turn own-seat.kept (at_turn p now)) t.log refl own-seat.sound own-seat.told) (unswept-found p added (world_over o (outset n s.pages)) more.unswept)
 
     -- ---- the turns
@@ -241,7 +265,7 @@ module _ (g : Program) (turns rest : List ℕ) (seats : List Seat) (world : Livi
 
     -- ---- the seats
 
-    few : now.asked + sum_by (λ x. x) shares' + 128 < 2 ^ 22
+    few : now.asked + sum_by (λ x. x) shares' + 3 * 2 ^ 16 + 128 < 2 ^ 22
     few =
         let sums : sum_by (λ x. x) shares' + get_or b.shares p 0 ≡ sum_by (λ x. x) b.shares + left.share' = sum_by-set (λ x. x) b.shares p left.share' 0 shares-below in
         let asked = left.few in

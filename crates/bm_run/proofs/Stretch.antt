@@ -1,11 +1,12 @@
 -- A stretch of one processor's log goes into the order, and leaves the other processors alone.
 use Rattle.std.specs.Prelude.{◌≢◌, get_or, set, length}
-use Rattle.std.proofs.Common.{◌≡◌, ◌<◌, ◌⊎◌, ℕ, Bool, List, [], ◌∷◌, ◌++◌, sym, ◌∙◌, ap, subst, append_assoc, inl, inr}
+use Rattle.std.proofs.Common.{◌≡◌, ◌<◌, ◌⊎◌, ℕ, Bool, List, None, [], ◌∷◌, ◌++◌, sym, ◌∙◌, ap, subst, append_assoc, inl, inr}
 use Rattle.std.proofs.lemmas.Bool.{cases_eq}
 use Rattle.std.proofs.lemmas.List.{append_cancel_left, get_or-set_other, get_or-set_same, length-set}
 use Rattle.bm_law.specs.Lists.{Leaves, Log, after}
 use Rattle.bm_law.specs.State.{State, opening, seen}
 use Rattle.bm_law_laid.specs.OrderOf.{AllBelow, IsOrderOf}
+use Rattle.bm_law_order.specs.Calls.{lock_in}
 use Rattle.bm_law_order.specs.Orders.{AllFit, Order, by, part_of}
 use Rattle.bm_law_order.specs.Tie.{Tied}
 use Rattle.bm_law_order.specs.Story.{lines}
@@ -75,17 +76,17 @@ order-told n pages o world h found = record {
 
 -- ---- a stretch
 
-pub stretched : (closing : Bool) (n pages p : ℕ) (o : Order) (logs : List Log) (log added : Log) (world now : LivingState) (s : State ℕ) → LogsSoFar n pages o logs world → p < n → log ≡ get_or logs p [] ++ added →
+pub stretched : (closing : Bool) (n pages p : ℕ) (o : Order) (logs : List Log) (log added : Log) (world now : LivingState) (s : State ℕ) → LogsSoFar n pages o logs world → p < n → log ≡ get_or logs p [] ++ added → lock_in log ≡ None →
     Tied (polled knows_living closing (get_or logs p []) (at_turn p world)) (DoesHere knows_living) (get_or logs p []) (at_turn p world) 0 [] [] log now → Leaves p (get_or logs p []) (after (opening p) (get_or logs p [])) → Leaves p log s →
     AllFit world_after SweepsInbox (by p added) (world_over o (outset n pages)) → Stretched n pages p o logs added world now
-stretched closing n pages p o logs log added world now s h lt log_is tie before leaves sweeps =
+stretched closing n pages p o logs log added world now s h lt log_is free tie before leaves sweeps =
     let since : Log = get_or logs p [] in
     let start = at_turn p world in
     let there : p < length logs = subst (λ k. p < k) (sym h.many) lt in
     let part : part_of p o ≡ since = h.order_of.parts p there in
     let many : p < world.side.grace.processors = subst (λ k. p < k) (sym (so-many n pages o world h.so_far)) lt in
     let his : IsSideOf p start.side = side-at p h.turn world many h.side in
-    let t = next-turn closing n pages p h.turn o since log world now h.so_far h.side lt part tie in
+    let t = next-turn closing n pages p h.turn o since log world now h.so_far h.side lt part free tie in
     let same : t.added ≡ added = append_cancel_left since t.added added (sym t.log_is ∙ log_is) in
     let bare = tied-bare knows_living (polled knows_living closing since start) since start 0 [] [] log now tie in
     let said : added ≡ lines bare.story = added-lines (polled knows_living closing since start) since added log start now log_is bare in

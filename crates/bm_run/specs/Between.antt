@@ -1,7 +1,9 @@
 -- What is so of a whole run between two turns. (This project's own.)
-use Rattle.std.specs.Prelude.{◌≡◌, ◌<◌, ◌+◌, ◌-◌, ◌^◌, ◌++◌, ◌∷◌, ℕ, zero, suc, Bool, true, List, [], Some, None, get_or, length, map, slice_get, sum_by}
+use Rattle.std.specs.Prelude.{◌≡◌, ◌<◌, ◌+◌, ◌*◌, ◌-◌, ◌^◌, ◌++◌, ◌∷◌, ℕ, zero, suc, Bool, true, List, [], Some, None, get_or, length, map, slice_get, sum_by}
 use Rattle.bm_journal.specs.declared.ids.Domain.{Domain}
+use Rattle.bm_journal.specs.declared.past.Past.{Past}
 use Rattle.bm_journal.specs.declared.entry.Entry.TheVariants as entry
+use Rattle.bm_lang.specs.declared.scenario.MapDeclaration.{MapDeclaration}
 use Rattle.bm_lang.specs.declared.scenario.Parts.{Parts}
 use Rattle.bm_law.specs.Alone.{AllAt}
 use Rattle.bm_law.specs.Kept.{Ready}
@@ -9,6 +11,7 @@ use Rattle.bm_law.specs.Lists.{Leaves, Log, after}
 use Rattle.bm_law.specs.Stands.{times}
 use Rattle.bm_law.specs.State.{State, seen, seven_lists}
 use Rattle.bm_law_order.specs.ByDomain.{of}
+use Rattle.bm_law_order.specs.Graphs.{graph_names_in, standing_from}
 use Rattle.bm_law_order.specs.Orders.{Order, shared_over}
 use Rattle.bm_law_order.specs.Shared.{fresh}
 use Rattle.bm_law_order.specs.Whole.{joined}
@@ -24,8 +27,9 @@ use Rattle.bm_due.specs.Standing.{HandlersStand}
 use Rattle.bm_cache.specs.Tokens.{Token, number_of}
 use Rattle.bm_exec.specs.Living.{Living, Lives, count_in}
 use Rattle.bm_exec_levels.specs.declared.program.Program.{Program}
+use Rattle.bm_world.specs.GraphItems.{history_told}
 use Rattle.bm_world.specs.LivingState.{LivingState, known_living}
-use Rattle.bm_exec_levels.specs.Slotted.{in_hands}
+use Rattle.bm_exec_levels.specs.Slotted.{AreUnused, in_hands}
 use Rattle.bm_run.specs.InTurns.{AreTaken, TurnsSoFar, one_by_one}
 use Rattle.bm_run.specs.LogsSoFar.{LogsSoFar, WaitsSoFar}
 use Rattle.bm_run.specs.Openings.{openings}
@@ -58,7 +62,7 @@ abbrev pub all_openings : Parts → Order
 all_openings s = openings (opened_classes s.types) s.pages s.processors
 
 -- All processors of a program are between turns, which they take in this order, of which the rest is still to come. By what they may ask for
--- yet, two calls for each map are left for the closing.
+-- yet, two calls for each map, and three for each object that may be in a list or tree, are left for the closing.
 pub record Between (g : Program) (turns rest : List ℕ) (seats : List Seat) (world : LivingState) : Type 0 where
   pub many : length seats ≡ g.scenario.now.processors
   pub order : Order
@@ -74,7 +78,7 @@ pub record Between (g : Program) (turns rest : List ℕ) (seats : List Seat) (wo
   pub seated : (p : ℕ) (seat : Seat) → slice_get seats p ≡ Some seat → IsSeated g p (get_or logs p []) (bases p) (get_or shares p 0) world seat
   pub add_up : AddUp g.scenario.now.processors bases (in_hands (known_living world).objects)
   pub shares_many : length shares ≡ g.scenario.now.processors
-  pub few : world.asked + sum_by (λ n. n) shares + 128 < 2 ^ 22
+  pub few : world.asked + sum_by (λ n. n) shares + 3 * 2 ^ 16 + 128 < 2 ^ 22
 
 -- each processor has ended
 abbrev pub AllStopped : List Seat → Type 0
@@ -118,8 +122,8 @@ pub record IsFinal (s : Parts) (p : ℕ) (final given finishes sweeps : Log) : T
   pub closes : ClosesAs (opened_classes s.types) (opening_log s p ++ scripts) (after lists given) p final finishes sweeps
 
 -- All processors of a scenario have closed, and these are their logs: the turns made this order; then processor 0 began the closing,
--- and emptied the maps; then each ended its periods, and then each swept its classes.
-pub record AllClosed (s : Parts) (turns : List ℕ) (finals : List Log) : Type 0 where
+-- and emptied the maps; then each ended its periods, and then each swept its classes. These are the histories of all maps, of which that of a slot is empty.
+pub record AllClosed (s : Parts) (turns : List ℕ) (finals : List Log) (histories : List (List ℕ × List Past)) : Type 0 where
   pub order : Order
   pub taken : List (List Log)
   pub ended : List Bool
@@ -141,3 +145,7 @@ pub record AllClosed (s : Parts) (turns : List ℕ) (finals : List Log) : Type 0
   pub lives : (u : ℕ) → (known_living world).objects.lives u ≡ None
   pub inboxes : (p c : ℕ) → (shared_over (((all_openings s ++ order) ++ one_by_one 0 given) ++ (one_by_one 0 finishes ++ one_by_one 0 sweeps)) (fresh s.processors s.pages)).boxes p c ≡ []
   pub idle : (d : Domain) → (of d (shared_over (((all_openings s ++ order) ++ one_by_one 0 given) ++ (one_by_one 0 finishes ++ one_by_one 0 sweeps)) (fresh s.processors s.pages)).numbers).driver ≡ None
+  pub names : graph_names_in world.graphs ≡ map (λ (m : MapDeclaration). m.name) s.maps
+  pub unused : AreUnused s.maps world.graphs
+  pub bare : (u : ℕ) → standing_from 0 world.graphs u ≡ None
+  pub histories_are : histories ≡ map history_told world.graphs

@@ -1,13 +1,15 @@
 -- The closing of all processors on one thread: what a step of one of them needs, and what it makes. (This project's own.)
-use Rattle.std.specs.Prelude.{◌≡◌, ◌≤◌, ◌<◌, ◌+◌, ◌*◌, ◌%◌, ◌++◌, ℕ, zero, suc, false, true, List, [], ◌∷◌, Option, None, Some, get_or, length, map, set, slice_get}
+use Rattle.std.specs.Prelude.{◌≡◌, ◌≤◌, ◌<◌, ◌+◌, ◌*◌, ◌%◌, ◌^◌, ◌++◌, ℕ, zero, suc, false, true, List, [], ◌∷◌, Option, None, Some, get_or, length, map, set, slice_get}
 use Rattle.std.specs.List.{concat}
 use Rattle.bm_journal.specs.declared.ids.Domain.{Domain}
+use Rattle.bm_journal.specs.declared.past.Past.{Past}
 use Rattle.bm_journal.specs.Recording.{Kept as Recorded}
 use Rattle.bm_law.specs.Alone.{AllAt}
 use Rattle.bm_law.specs.Lists.{Log}
 use Rattle.bm_law.specs.Stands.{times}
 use Rattle.bm_law.specs.State.{seen, seven_lists}
 use Rattle.bm_law_logs.specs.SweepsTold.{SweepsTold}
+use Rattle.bm_law_order.specs.Graphs.{standing_from}
 use Rattle.bm_law_order.specs.Orders.{Order}
 use Rattle.bm_law_order.specs.Tie.{Tied}
 use Rattle.bm_law_work.specs.Parts.{Part}
@@ -21,6 +23,8 @@ use Rattle.bm_cache.specs.Tokens.{number_of}
 use Rattle.bm_cache.specs.declared.caches.Caches.{Caches}
 use Rattle.bm_work.specs.DeskTests.{tests_by}
 use Rattle.bm_work.specs.Goes.{Alike}
+use Rattle.bm_world.specs.GraphItems.{history_told}
+use Rattle.bm_world.specs.Graphs.{items_in}
 use Rattle.bm_world.specs.LivingState.{LivingState, known_living, rights_living}
 use Rattle.bm_world.specs.Told.{told_boxes}
 use Rattle.bm_world.specs.ToldLiving.{LivingDoes, knows_living}
@@ -222,17 +226,22 @@ held_of (c ∷ cs) g p = units_kept (slice_get g.places p) c ++ (units_waiting g
 
 -- ---- the begin and the end
 
--- Processor 0 has begun the closing, behind this log: it noted that, and emptied the maps of the program. Names hold what they held, lists and trees are as they were, it is in a
--- section or in none as before, few more objects and works were asked for, and ordinary code could go on.
+-- A scenario has at most 64 maps, and no more objects are in lists and trees than there are units.
+abbrev pub AreFew : Program → LivingState → Type 0
+AreFew g world = (length g.scenario.now.maps ≤ 64) × (items_in world.graphs ≤ 2 ^ 16)
+
+-- Processor 0 has begun the closing, behind this log: it noted that, and emptied the maps of the program. Names hold what they held, nothing is in lists and trees, no lock is
+-- held, it is in a section or in none as before, it asked for no more than that takes, and ordinary code could go on.
 pub record BeginsClosing (g : Program) (kept : Kept) (side : LivingState) (log : Log) (then : Kept) (now : LivingState) : Type 0 where
   pub added : Log
   pub told : then.caches.recorder.told ≡ Some (log ++ added)
   pub said : GivesFirst (declared_in g.scenario.now) 0 (seen number_of (shown kept.caches)) added
   pub sound : Sound knows_living g (in_its_turn then now)
   pub tied : Tied (polled knows_living false log side) (DoesHere knows_living) log side 0 [] [] (log ++ added) now
-  pub asks : asked_of knows_living g.scenario.now (in_its_turn then now) ≤ asked_of knows_living g.scenario.now (in_its_turn kept side) + 2 * length g.scenario.now.maps
+  pub asks : asked_of knows_living g.scenario.now (in_its_turn then now) ≤ asked_of knows_living g.scenario.now (in_its_turn kept side) + (2 * length g.scenario.now.maps + 3 * items_in side.graphs)
   pub hands : in_hands (known_living now).objects ≡ in_hands (known_living side).objects
-  pub graphs : now.graphs ≡ side.graphs
+  pub bare : (u : ℕ) → standing_from 0 now.graphs u ≡ None
+  pub unlocked : then.locked ≡ None
   pub parity : (d : Domain) → (of_side d (known_living now)).word % 2 ≡ (of_side d (known_living side)).word % 2
 
 -- what its recorder tells, if it is there
@@ -247,8 +256,13 @@ pub record IsEmptied (place : Option Kept) : Type 0 where
   pub lists : (c : ℕ) → seven_lists ((shown kept.caches).rows c) ≡ []
   pub hands : (l : ℕ) → ((shown kept.caches).sides l).hand ≡ []
 
--- They came by the steps of both phases to others that hold nothing, of which these are the logs.
-pub record CloseTogether (before : Gathered) (logs : List Log) : Type 0 where
+-- These are the histories of the lists and trees that a world tells, each with its name, if it is there.
+abbrev pub TellsHistories : Option LivingState → List (List ℕ × List Past) → Type 0
+TellsHistories None histories = Unit {0}
+TellsHistories (Some world) histories = histories ≡ map history_told world.graphs
+
+-- They came by the steps of both phases to others that hold nothing, of which these are the logs, and the histories of all maps.
+pub record CloseTogether (before : Gathered) (logs : List Log) (histories : List (List ℕ × List Past)) : Type 0 where
   pub middle : Gathered
   pub now : Gathered
   pub ends : StepsBelow (TookStep Ends) before.processors before middle
@@ -256,3 +270,4 @@ pub record CloseTogether (before : Gathered) (logs : List Log) : Type 0 where
   pub has : (p : ℕ) → p < before.processors → IsAmong (OwnAfter Sweeps) now p
   pub same : now.processors ≡ before.processors
   pub logs_are : map Some logs ≡ map log_kept now.places
+  pub histories_are : TellsHistories now.world histories

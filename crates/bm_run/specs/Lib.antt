@@ -19,3 +19,4 @@ pub mod AllTurns
 pub mod Emptied
 pub mod Closers
 pub mod ClosersCrew
+pub mod Histories

@@ -8,13 +8,13 @@ ghost use Rattle.bm_law_scenario.specs.Opened.{opened_classes};
 ghost use Rattle.bm_world.specs.LivingState.{LivingState};
 ghost use Rattle.bm_exec_levels.specs.declared.kept.Kept.{Kept as KeptValue};
 ghost use Rattle.bm_run.specs.Between.{AllClosed, AllStopped, Between};
-ghost use Rattle.bm_run.specs.Closers.{BeginsClosing, CloseTogether, EndsOf, FineHere, IsAmong, IsEmptied, IsResting, Keeps, NeedsFor, OwnAfter, OwnBefore, StepOf, SweepsOf, TookStep, gathered_with, held_of, log_kept, number_among};
+ghost use Rattle.bm_run.specs.Closers.{BeginsClosing, CloseTogether, EndsOf, FineHere, IsAmong, IsEmptied, IsResting, Keeps, NeedsFor, OwnAfter, OwnBefore, StepOf, SweepsOf, TellsHistories, TookStep, gathered_with, held_of, log_kept, number_among};
 ghost use Rattle.bm_exec_levels.specs.Sound.{Sound};
 ghost use Rattle.bm_lang.specs.declared.scenario.MapDeclaration.{MapDeclaration as MapValue};
 ghost use Rattle.bm_world.specs.Contents.{are_apart};
 ghost use Rattle.bm_world.specs.ToldLiving.{knows_living};
 ghost use Rattle.bm_run.specs.Asked.{in_its_turn};
-ghost use Rattle.bm_run.specs.Emptied.{AreSlots, HasRoomFor};
+ghost use Rattle.bm_run.specs.Emptied.{HasRoomFor};
 ghost use Rattle.bm_run.specs.SoFar.{at_turn};
 ghost use Rattle.bm_run.specs.ClosersCrew.{all-even, gathered, holds-none, sweeps-next};
 ghost use Rattle.bm_run.specs.declared.seats.Seat.{Seat as SeatValue};
@@ -26,7 +26,7 @@ use crate::stretches::note;
 use bm_class::Class;
 use bm_closing::{Crew, Phase, close_all, end_periods, sweep_each};
 use bm_exec_levels::{Kept, Processor, Program, Since};
-use bm_journal::{Entry, Log, Recorder};
+use bm_journal::{Entry, History, Log, Recorder};
 use bm_law_logs::handled_law;
 use bm_word::NoMemory;
 use bm_world::LivingSide;
@@ -322,14 +322,20 @@ fn begin_own<'s, B: Since<LivingSide>>(
     requires told { kept.caches.recorder.told ≡ Some B.since }
     requires start { B.start ≡ side }
     requires sound { Sound knows_living program.now (in_its_turn kept side) }
-    requires slots { AreSlots program.now.scenario.now.maps }
+    requires first { side.side.grace.processor ≡ 0 }
+    requires unlocked { kept.locked ≡ None }
     requires room { HasRoomFor program.now (in_its_turn kept side) }
     ensures { IfOk result (λ r. BeginsClosing program.now kept side B.since r.0 r.1) }
 {
     let mut own = Processor::open(kept, side);
     note(&mut own, Entry::Close);
-    empty_maps::<B>(&mut own, program);
+    let emptied = empty_maps::<B>(&mut own, program);
     let (kept, side) = own.close();
+    if emptied.is_err() {
+        kept.give_up();
+        side.give_up();
+        return Err(NoMemory);
+    }
     if_told(kept, side)
 }
 
@@ -388,20 +394,31 @@ fn logs_of(alloc: Global, places: Vec<Option<Kept>>) -> Result<Vec<Log>, NoMemor
     Ok(logs)
 }
 
+// The histories of the maps that the world tells, at its end. Want of memory is the only refusal.
+fn histories_of(alloc: Global, world: Option<LivingSide>) -> Result<Vec<History>, NoMemory>
+    requires { (w : LivingState) × (world ≡ Some w) }
+    ensures { IfOk result (λ histories. TellsHistories world histories.items) }
+{
+    let Some(world) = world else {
+        unreachable!();
+    };
+    world.into_histories(alloc)
+}
+
 // The closing of processors whose closing has begun. Want of memory is the only refusal.
 fn close_begun(
     alloc: Global,
     places: Vec<Option<Kept>>,
     world: LivingSide,
     classes: &[Class],
-) -> Result<Vec<Log>, NoMemory>
+) -> Result<Closed, NoMemory>
     requires some { 0 < length places.items }
     requires few { length places.items ≤ 8 }
     requires may { (p : ℕ) → p < length places.items →
         IsAmong (OwnBefore EndsPhase) (gathered_with places.items world classes.now) p }
-    ensures closed { IfOk result (λ logs.
-        CloseTogether (gathered_with places.items world classes.now) logs.items) }
-    ensures whole { IfOk result (λ logs. All (λ log. IsTrue (is_whole_log log)) logs.items) }
+    ensures closed { IfOk result (λ closed.
+        CloseTogether (gathered_with places.items world classes.now) closed.logs.items closed.histories.items) }
+    ensures whole { IfOk result (λ closed. All (λ log. IsTrue (is_whole_log log)) closed.logs.items) }
 {
     let mut closers = Closers {
         alloc,
@@ -418,37 +435,53 @@ fn close_begun(
         world,
         classes: _,
     } = closers;
-    if let Some(world) = world {
-        world.give_up();
-    }
     if closed.is_err() {
         give_up_places(places);
+        if let Some(world) = world {
+            world.give_up();
+        }
         return Err(NoMemory);
     }
-    logs_of(alloc, places)
+    let histories = match histories_of(alloc, world) {
+        Ok(histories) => histories,
+        Err(_) => {
+            give_up_places(places);
+            return Err(NoMemory);
+        }
+    };
+    let logs = logs_of(alloc, places)?;
+    Ok(Closed { logs, histories })
 }
 
-/// The closing of all processors, whose scripts have ended: processor 0 begins it, and gives up what the slots hold; each ends the periods
-/// that it has in progress; and then each sweeps these classes. The answer is what their recorders hold, ascending. Out of memory is the only refusal.
+/// What processors leave that have closed: what the recorder of each holds, ascending, and the history of each map, in the order of their
+/// declarations; that of a slot is empty.
+#[derive(Drop)]
+pub struct Closed {
+    pub logs: Vec<Log>,
+    pub histories: Vec<History>,
+}
+
+/// The closing of all processors, whose scripts have ended: processor 0 begins it, and gives up what the maps hold; each ends the periods
+/// that it has in progress; and then each sweeps these classes. Out of memory is the only refusal.
 pub fn close_seats<'s>(
     alloc: Global,
     seats: Vec<Seat<'s>>,
     world: LivingSide,
     program: &'s Program<'s>,
     classes: &[Class],
-) -> Result<Vec<Log>, NoMemory>
+) -> Result<Closed, NoMemory>
     requires between { (turns : List ℕ) × Between program.now turns [] seats.items world }
     requires stopped { AllStopped seats.items }
     requires classes { classes.now ≡ opened_classes program.now.scenario.now.types }
-    requires slots { AreSlots program.now.scenario.now.maps }
     requires apart { are_apart (map (λ (m : MapValue). m.name) program.now.scenario.now.maps) ≡ true }
     requires few { length program.now.scenario.now.maps ≤ 64 }
-    ensures closed { IfOk result (λ logs. (turns : List ℕ) →
+    ensures closed { IfOk result (λ closed. (turns : List ℕ) →
         Between program.now turns [] seats.entry.items world →
-        AllClosed program.now.scenario.now turns logs.items) }
-    ensures whole { IfOk result (λ logs. All (λ log. IsTrue (is_whole_log log)) logs.items) }
+        AllClosed program.now.scenario.now turns closed.logs.items closed.histories.items) }
+    ensures whole { IfOk result (λ closed. All (λ log. IsTrue (is_whole_log log)) closed.logs.items) }
 {
     handled_law();
+    world.few_items();
     let mut places = match places_of(alloc, seats) {
         Ok(places) => places,
         Err(_) => {

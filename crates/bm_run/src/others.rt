@@ -1,11 +1,12 @@
 //! What turns of other processors leave of one that waits for its turn.
 
-ghost use Rattle.std.specs.Prelude.{◌≡◌, ◌≢◌, ◌<◌, ◌≤◌, ◌+◌, ◌^◌, ◌++◌, ℕ, Bool, List, [], get_or, length, set};
+ghost use Rattle.std.specs.Prelude.{◌≡◌, ◌≢◌, ◌<◌, ◌≤◌, ◌+◌, ◌^◌, ◌++◌, ℕ, Bool, List, None, [], get_or, length, set};
 ghost use Rattle.bm_journal.specs.declared.ids.Domain.{Domain};
 ghost use Rattle.bm_lang.specs.declared.scenario.Parts.{Parts};
 ghost use Rattle.bm_law.specs.Lists.{Leaves, Log, after};
 ghost use Rattle.bm_law.specs.State.{State, opening, seen};
 ghost use Rattle.bm_law_order.specs.Act.{Act};
+ghost use Rattle.bm_law_order.specs.Calls.{lock_in};
 ghost use Rattle.bm_law_order.specs.Orders.{AllFit, Order, by, part_of};
 ghost use Rattle.bm_law_order.specs.Seals.{Wait, WaitLeads};
 ghost use Rattle.bm_law_order.specs.Story.{Story, deeds, lines, plainly};
@@ -88,12 +89,13 @@ pub fn others_law()
 {}
 
 /// A stretch of a processor's log that is tied to the world since its begin goes into the order: with it each entry of the order finds what
-/// it needs, each drop has its answers, and each other processor was left alone. The stretch names what is there, and its sweeps take what
-/// waits in the inboxes.
+/// it needs, each drop has its answers, and each other processor was left alone. The stretch names what is there, ends under no lock, and its
+/// sweeps take what waits in the inboxes.
 pub fn stretch_law()
     ensures { (closing : Bool) (n pages p : ℕ) (o : Order) (logs : List Log)
         (log added : Log) (world now : LivingState) (s : State ℕ) →
         LogsSoFar n pages o logs world → p < n → log ≡ get_or logs p [] ++ added →
+        lock_in log ≡ None →
         Tied (polled knows_living closing (get_or logs p []) (at_turn p world))
         (DoesHere knows_living) (get_or logs p []) (at_turn p world) 0 [] [] log now →
         Leaves p (get_or logs p []) (after (opening p) (get_or logs p [])) → Leaves p log s →

@@ -41,7 +41,6 @@ fn words_and_their_commands(rt: HostRuntime) {
         (&["replay --totals"], USAGE),
         (&["bpfmem", "replay"], USAGE),
         (&["run"], USAGE),
-        (&["gen", "1", "2"], USAGE),
         // A flag that isn't the command's, one given twice, one before the command.
         (&["--totals"], USAGE),
         (&["--totals", "replay"], USAGE),
@@ -138,7 +137,6 @@ const GEN: &[(&[&str], Option<(u64, u64)>)] = &[
     (&["gen", "--text"], None),
     (&["gen", "1"], None),
     (&["gen", "1", "--text"], None),
-    (&["gen", "1", "0"], None),
     (&["gen", "1", "0", "0", "--text"], None),
     (&["gen", "1", "0", "--text", "x"], None),
     (&["gen", "gen", "1", "0", "--text"], None),
@@ -164,19 +162,54 @@ const GEN: &[(&[&str], Option<(u64, u64)>)] = &[
     (&["check", "1", "0", "--text"], None),
 ];
 
+// .. and words without the flag
+const GEN_TOTALS: &[(&[&str], Option<(u64, u64)>)] = &[
+    (&["gen", "1", "0"], Some((1, 0))),
+    (&["gen", "1", "2"], Some((1, 2))),
+    (
+        &["gen", "2000", "18446744073709551615"],
+        Some((2000, 18446744073709551615)),
+    ),
+    (&["gen", "5", "3000"], Some((5, 3000))),
+    (&["gen", "3000", "5"], None),
+    (&["gen", "0", "1"], None),
+    (&["gen", "2001", "1"], None),
+    (&["gen", "1", "18446744073709551616"], None),
+    (&["gen", "01", "0"], None),
+    (&["gen", "1", "00"], None),
+    (&["gen", "1", "-0"], None),
+    (&["gen", "-1", "0"], None),
+    (&["gen", "1", ""], None),
+    (&["gen", "1", "x"], None),
+    (&["gen", "1", "0", "0"], None),
+    (&["gen", "gen", "1", "0"], None),
+];
+
 // The command of two numbers, or that words are none.
-fn gen_answer(rt: &impl Abort, numbers: Option<(u64, u64)>) -> Result<Command, CommandFault> {
+fn gen_answer(
+    rt: &impl Abort,
+    numbers: Option<(u64, u64)>,
+    text: bool,
+) -> Result<Command, CommandFault> {
     let Some((count, start)) = numbers else {
         return USAGE;
     };
     let count = PieceCount::new(count).expect(rt, "a count of pieces");
-    Ok(Command::Gen { count, start })
+    Ok(Command::Gen { count, start, text })
 }
 
 #[test]
 fn words_of_gen(rt: HostRuntime) {
     for (words, numbers) in GEN {
-        let answer = gen_answer(&rt, *numbers);
+        let answer = gen_answer(&rt, *numbers, true);
+        assert!(rt; read(rt.alloc(), words, answer), "{words:?}");
+    }
+}
+
+#[test]
+fn words_of_gen_without_its_flag(rt: HostRuntime) {
+    for (words, numbers) in GEN_TOTALS {
+        let answer = gen_answer(&rt, *numbers, false);
         assert!(rt; read(rt.alloc(), words, answer), "{words:?}");
     }
 }

@@ -29,7 +29,7 @@ fn sink(alloc: Global, fails: &[u32]) -> Result<MemSink, Fail> {
 }
 
 // How many bytes a device moves at a time.
-const PIECE: usize = 10;
+pub(crate) const PIECE: usize = 10;
 
 // Calls the program over memory; the calls of the source and of the two sinks whose numbers are given fail.
 pub(crate) fn call_over(

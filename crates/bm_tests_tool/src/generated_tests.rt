@@ -1,4 +1,4 @@
-//! Calls of the program that print the text of a generated scenario. Its pieces were drawn by hand, from the rule of the draws.
+//! Calls of the program that print the text of a generated scenario, or run it. Its pieces were drawn by hand, from the rule of the draws.
 
 use crate::calls::{agrees, call_over};
 use std::test::Fail;
@@ -58,13 +58,36 @@ turns {
 }
 ";
 
+// The totals of its run, by a second simulator.
+const TOTALS: &str = "total steps 1660
+total given 3
+total empty 0
+total busy 0
+total last 3
+total still 0
+total acquired 0
+total exchanged 3
+total pushed 1
+total already 0
+total taken 1
+total none 2
+total raised 5
+total worked 11
+total fetched 416
+total returned 416
+total plain 1
+total tracing 8
+total handlers 2
+";
+
 const USAGE: &str = "bpfmem: usage\n";
 
 const ROWS: &[(&[&str], u8, &str, &str)] = &[
     (&["gen", "1", "0", "--text"], 0, TEXT, ""),
     (&["gen", "1", "--text", "0"], 0, TEXT, ""),
     (&["gen", "--text", "1", "0"], 0, TEXT, ""),
-    (&["gen", "1", "0"], 1, "", USAGE),
+    (&["gen", "1"], 1, "", USAGE),
+    (&["gen", "1", "0", "0"], 1, "", USAGE),
     (&["gen", "0", "0", "--text"], 1, "", USAGE),
     (&["gen", "2001", "0", "--text"], 1, "", USAGE),
     (&["gen", "1", "00", "--text"], 1, "", USAGE),
@@ -80,6 +103,15 @@ fn words_of_gen(rt: HostRuntime) -> Result<(), Fail> {
         agrees(&rt, &called, *status, out, err, "gen");
         assert!(rt; !called.answered);
     }
+    Ok(())
+}
+
+// .. and none of a run, whose journal is answered
+#[test]
+fn totals_of_a_generated_scenario(rt: HostRuntime) -> Result<(), Fail> {
+    let called = call_over(rt.alloc(), &["gen", "1", "0"], b"$", &[1], &[], &[])?;
+    agrees(&rt, &called, 0, TOTALS, "", "gen");
+    assert!(rt; called.answered);
     Ok(())
 }
 

@@ -2,7 +2,7 @@
 
 use crate::calls::{agrees, call, call_over, call_with, give_their_journals, give_their_totals};
 use crate::examples::one_object::SCENARIO;
-use crate::examples::{EXAMPLES, MORE_EXAMPLES};
+use crate::examples::{EXAMPLES, MORE_EXAMPLES, OTHER_EXAMPLES};
 use bm_text::{MemSink, MemSource};
 use std::alloc::Global;
 use std::process::Abort;
@@ -128,6 +128,12 @@ fn examples_give_their_journals(rt: HostRuntime) -> Result<(), Fail> {
 fn more_examples_give_their_journals(rt: HostRuntime) -> Result<(), Fail> {
     give_their_journals(&rt, rt.alloc(), MORE_EXAMPLES)?;
     give_their_totals(&rt, rt.alloc(), MORE_EXAMPLES)
+}
+
+#[test]
+fn other_examples_give_their_journals(rt: HostRuntime) -> Result<(), Fail> {
+    give_their_journals(&rt, rt.alloc(), OTHER_EXAMPLES)?;
+    give_their_totals(&rt, rt.alloc(), OTHER_EXAMPLES)
 }
 
 // Blocks six deep, with names that are bound again. By the rules an `item` has 16 bytes and a `big` 512, so the opening

@@ -1,4 +1,4 @@
-//! Tests of the program's whole calls, of the opening and of the forms that can't be run so far, over their public calls.
+//! Tests of the program's whole calls and of the opening, over their public calls.
 #![tactic(auto)]
 
 #[cfg(test)]
@@ -8,9 +8,9 @@ mod deferred_tests;
 #[cfg(test)]
 mod examples;
 #[cfg(test)]
-mod form_tests;
-#[cfg(test)]
 mod generated_tests;
+#[cfg(test)]
+mod graph_tests;
 #[cfg(test)]
 mod handler_tests;
 #[cfg(test)]

@@ -5,63 +5,38 @@ use Rattle.bm_text.specs.Faults.{Rose}
 use Rattle.bm_lang.specs.declared.bounds.Limit.{Limit}
 use Rattle.bm_lang.specs.declared.bounds.Limit.TheVariants.{Input}
 use Rattle.bm_lang.specs.declared.fault.BadText.{BadText}
-use Rattle.bm_lang.specs.declared.place.Place.{Place}
 use Rattle.bm_lang.specs.declared.scenario.Parts.{Parts}
 use Rattle.bm_lang.specs.declared.scenario.Script.{Script}
 use Rattle.bm_lang.specs.Limits.{first_limit}
 use Rattle.bm_lang.specs.Machine.{fault_of}
 use Rattle.bm_lang.specs.Scenarios.{Reads}
-use Rattle.bm_lang.specs.Tokens.{tokens, start}
 use Rattle.bm_check.specs.declared.rule.Rule.{Rule}
 use Rattle.bm_check.specs.Scripts.{IsRejected}
-use Rattle.bm_run_yet.specs.Unbuilt.{unbuilt_before, not_yet}
 use Rattle.bm_command.specs.declared.command.Command.{Command}
 use Rattle.bm_command.specs.declared.command.Command.TheVariants.{Read}
 use Rattle.bm_command.specs.declared.command.Reading.{Reading}
-use Rattle.bm_command.specs.declared.command.Reading.TheVariants.{Replay, Check}
 use Rattle.bm_command.specs.Words.{command_of}
 use Rattle.bm_tool.specs.declared.refusal.Refusal.{Refusal}
 use Rattle.bm_tool.specs.declared.refusal.Refusal.TheVariants as refusal
 use Rattle.bm_tool.specs.Refusals.{input_limit}
 
--- a form that can't be run yet is a fault where it comes first
-abbrev pub earlier : Option Place → Option BadText → Option BadText
-earlier (Some place) fault = Some (not_yet place)
-earlier None fault = fault
-
--- the first fault of a text for a command, where its fault by the whole language is this
-abbrev pub command_fault : Reading → Option BadText → List ℕ → Option BadText
-command_fault Check fault bytes = fault
-command_fault (Replay totals) fault bytes = earlier (unbuilt_before fault (tokens start bytes)) fault
-
--- a text without a reading, with its fault by the whole language
+-- a text without a reading, with its fault
 pub record IsUnread (bytes : List ℕ) (fault : BadText) : Type 0 where
   pub none : (s : Parts) → Reads bytes s → ⊥
   pub first : fault_of bytes ≡ Some fault
 
--- The fault of a text that is refused: it has no reading, or a form that can't be run yet.
-abbrev pub IsRefused : Reading → List ℕ → BadText → Type 0
-IsRefused c bytes bad =
-    ((fault : BadText) × IsUnread bytes fault × (command_fault c (Some fault) bytes ≡ Some bad))
-    ⊎ ((s : Parts) × Reads bytes s × (command_fault c None bytes ≡ Some bad))
-
--- all forms of a text can be run
-abbrev pub IsBuilt : Reading → List ℕ → Type 0
-IsBuilt c bytes = command_fault c None bytes ≡ None
-
 -- the limit is the first that is exceeded, by a text that isn't refused before
-abbrev pub IsExceeded : Reading → List ℕ → Limit → Type 0
-IsExceeded c bytes l =
+abbrev pub IsExceeded : List ℕ → Limit → Type 0
+IsExceeded bytes l =
     ((l ≡ Input) × (input_limit < length bytes))
-    ⊎ ((length bytes ≤ input_limit) × IsBuilt c bytes × ((s : Parts) × Reads bytes s × (first_limit s ≡ Some l)))
+    ⊎ ((length bytes ≤ input_limit) × ((s : Parts) × Reads bytes s × (first_limit s ≡ Some l)))
 
 -- The script of this name is the first that isn't accepted, with its first broken rule and that rule's line. The text
 -- isn't refused before.
-pub record IsScriptRejected (c : Reading) (bytes name : List ℕ) (line : ℕ) (rule : Rule) : Type 0 where
+pub record IsScriptRejected (bytes name : List ℕ) (line : ℕ) (rule : Rule) : Type 0 where
   pub within : length bytes ≤ input_limit
   pub scenario : Parts
   pub reads : Reads bytes scenario
-  pub built : IsBuilt c bytes
   pub limits : first_limit scenario ≡ None
   pub place : ℕ
   pub rejected : IsRejected scenario place line rule
@@ -81,14 +56,14 @@ IsRejection s (refusal.Limit l) = ⊥
 
 -- The cause of each refusal that comes of the input of a command that reads: of the bytes left in the source, where they are
 -- told, and of the source's count of faults before and after. Want of memory needs none.
-abbrev pub InputCause : Reading → Option (List ℕ) → ℕ → ℕ → Refusal → Type 0
-InputCause c left before after refusal.Usage = ⊥
-InputCause c left before after refusal.ReadFailed = Rose before after
-InputCause c left before after refusal.WriteFailed = ⊥
-InputCause c left before after refusal.OutOfMemory = ⊤
-InputCause c left before after (refusal.Text bad) = IfSome left (λ bytes. (length bytes ≤ input_limit) × IsRefused c bytes bad)
-InputCause c left before after (refusal.Rejected script line rule) = IfSome left (λ bytes. IsScriptRejected c bytes script line rule)
-InputCause c left before after (refusal.Limit l) = IfSome left (λ bytes. IsExceeded c bytes l)
+abbrev pub InputCause : Option (List ℕ) → ℕ → ℕ → Refusal → Type 0
+InputCause left before after refusal.Usage = ⊥
+InputCause left before after refusal.ReadFailed = Rose before after
+InputCause left before after refusal.WriteFailed = ⊥
+InputCause left before after refusal.OutOfMemory = ⊤
+InputCause left before after (refusal.Text bad) = IfSome left (λ bytes. (length bytes ≤ input_limit) × IsUnread bytes bad)
+InputCause left before after (refusal.Rejected script line rule) = IfSome left (λ bytes. IsScriptRejected bytes script line rule)
+InputCause left before after (refusal.Limit l) = IfSome left (λ bytes. IsExceeded bytes l)
 
 -- The cause of each refusal: also of the words, and of the sink's count of faults before and after. Want of memory comes for any
 -- command, and what comes of the input only for one that reads.
@@ -96,4 +71,4 @@ abbrev pub Cause : List (List ℕ) → Option (List ℕ) → ℕ → ℕ → ℕ
 Cause words left before after out_before out_after refusal.Usage = command_of words ≡ None
 Cause words left before after out_before out_after refusal.WriteFailed = Rose out_before out_after
 Cause words left before after out_before out_after refusal.OutOfMemory = (c : Command) × (command_of words ≡ Some c)
-Cause words left before after out_before out_after r = (c : Reading) × (command_of words ≡ Some (Read c)) × InputCause c left before after r
+Cause words left before after out_before out_after r = (c : Reading) × (command_of words ≡ Some (Read c)) × InputCause left before after r

@@ -18,37 +18,46 @@ use Rattle.bm_command.specs.declared.command.Reading.{Reading}
 use Rattle.bm_command.specs.declared.command.Reading.TheVariants.{Replay, Check}
 use Rattle.bm_generator.specs.Generated.{generated}
 use Rattle.bm_tool.specs.declared.refusal.Refusal.{Refusal}
-use Rattle.bm_tool.specs.Causes.{IsBuilt, Cause}
+use Rattle.bm_tool.specs.Causes.{Cause}
 use Rattle.bm_tool.specs.Refusals.{input_limit, status_of, line_of, Told}
 
 -- the bytes are read as this scenario, which is within the limits, and whose scripts are accepted
-pub record IsPrepared (c : Reading) (bytes : List ℕ) (s : Parts) : Type 0 where
+pub record IsPrepared (bytes : List ℕ) (s : Parts) : Type 0 where
   pub within : length bytes ≤ input_limit
   pub reads : Reads bytes s
-  pub built : IsBuilt c bytes
   pub limits : first_limit s ≡ None
   pub accepted : AllAccepted s
 
--- what a command that reads asks of its input: a reading, in forms that it can serve, within the limits, with accepted scripts
-pub record IsServable (c : Reading) (bytes : List ℕ) : Type 0 where
+-- what a command that reads asks of its input: a reading, within the limits, with accepted scripts
+pub record IsServable (bytes : List ℕ) : Type 0 where
   pub within : length bytes ≤ input_limit
   pub reading : Parts
   pub reads : Reads bytes reading
-  pub built : IsBuilt c bytes
   pub limits : (s : Parts) → Reads bytes s → first_limit s ≡ None
   pub accepted : (s : Parts) → Reads bytes s → AllAccepted s
-
--- What a command answers of the bytes that were left in the source: `replay` a lawful journal that is laid, `check` none. `gen`
--- answers none, whatever was left.
-abbrev pub Serves : Command → Option (List ℕ) → Option Journal → Type 0
-Serves (Read Check) left journal = (journal ≡ None) × IfSome left (λ bytes. (s : Parts) × IsPrepared Check bytes s)
-Serves (Read (Replay totals)) left None = ⊥
-Serves (Read (Replay totals)) left (Some journal) = IfSome left (λ bytes. (s : Parts) × IsPrepared (Replay totals) bytes s × Lawful s journal × Laid s journal)
-Serves (Gen count start) left journal = journal ≡ None
 
 -- the text that printing gives of the generated scenario of a count of pieces and a start
 unfoldable pub generated_text : ℕ → ℕ → List ℕ
 generated_text count start = printed (spell_scenario (generated count start))
+
+-- a journal of a text's scenario, lawful and laid
+abbrev pub ServesGenerated : (text : List ℕ) → Option Journal → Type 0
+ServesGenerated text None = ⊥
+ServesGenerated text (Some journal) = (s : Parts) × IsPrepared text s × Lawful s journal × Laid s journal
+
+-- What a command answers of the bytes that were left in the source: `replay` a lawful journal that is laid, `check` none. `gen`
+-- answers such a journal of the generated scenario, whatever was left, or none, where it prints that scenario's text.
+abbrev pub Serves : Command → Option (List ℕ) → Option Journal → Type 0
+Serves (Read Check) left journal = (journal ≡ None) × IfSome left (λ bytes. (s : Parts) × IsPrepared bytes s)
+Serves (Read (Replay totals)) left None = ⊥
+Serves (Read (Replay totals)) left (Some journal) = IfSome left (λ bytes. (s : Parts) × IsPrepared bytes s × Lawful s journal × Laid s journal)
+Serves (Gen count start false) left journal = ServesGenerated (generated_text count start) journal
+Serves (Gen count start true) left journal = journal ≡ None
+
+-- the lines of a journal's totals
+abbrev pub totals_in : Option Journal → List ℕ
+totals_in None = []
+totals_in (Some journal) = totals_text journal.totals
 
 -- what a command writes: the text of the journal, or its lines of totals alone, or that the scripts are accepted, or the text of the
 -- generated scenario
@@ -57,7 +66,8 @@ out_text (Read Check) journal = codes "accepted\n"
 out_text (Read (Replay totals)) None = []
 out_text (Read (Replay false)) (Some journal) = journal_text journal
 out_text (Read (Replay true)) (Some journal) = totals_text journal.totals
-out_text (Gen count start) journal = generated_text count start
+out_text (Gen count start false) journal = totals_in journal
+out_text (Gen count start true) journal = generated_text count start
 
 -- a text was written and flushed
 abbrev pub Printed : List ℕ → Option (List ℕ) → Option (List ℕ) → Option ℕ → Option ℕ → Type 0

@@ -1,8 +1,8 @@
 //! The program's top call: words, a scenario read from a source, and what is written to a sink.
 //!
 //! - `bpfmem` is the call: it reads the words as a command, takes all bytes of a source, reads and checks the scenario, runs it
-//!   for `replay`, and writes what the command prints; for `gen` it takes nothing, and writes the text of a generated scenario.
-//!   `Answer` is its status, with the journal of a `replay`.
+//!   for `replay`, and writes what the command prints; for `gen` it takes nothing, and runs a generated scenario, or writes its text.
+//!   `Answer` is its status, with the journal of what was run.
 //! - `Refusal` is a refusal with its cause, its status and its one line; `out_of_memory` is the line for want of memory.
 //! - `Outcome` (specs) says for each status what was read, written and answered.
 //!

@@ -6,7 +6,7 @@ ghost use Rattle.bm_lang.specs.Scenarios.{Reads};
 ghost use Rattle.bm_lang.specs.Limits.{first_limit};
 ghost use Rattle.bm_check.specs.Answers.{IsFault};
 ghost use Rattle.bm_command.specs.declared.command.Command.TheVariants.{Read};
-ghost use Rattle.bm_tool.specs.Causes.{InputCause, IsBuilt, IsRejection, command_fault};
+ghost use Rattle.bm_tool.specs.Causes.{InputCause, IsRejection};
 ghost use Rattle.bm_tool.specs.Outcome.{IsPrepared, Serves, out_text};
 ghost use Rattle.bm_tool.specs.Refusals.{input_limit};
 
@@ -14,9 +14,8 @@ use crate::refusal::Refusal;
 use bm_check::{CheckFault, Checked, check};
 use bm_command::Reading;
 use bm_journal::{Journal, Totals, put_totals, text_of};
-use bm_lang::{BadKind, BadText, LangFault, Parts, Scenario, limits, read_scenario};
+use bm_lang::{LangFault, Parts, Scenario, limits, read_scenario};
 use bm_run::replay;
-use bm_run_yet::{built_scenarios_run, first_unbuilt};
 use bm_word::NoMemory;
 use std::alloc::Global;
 
@@ -27,40 +26,15 @@ pub(crate) struct Done {
     pub(crate) text: Vec<u8>,
 }
 
-// The first fault of a text for a command, where its fault by the whole language is this.
-fn first_fault(command: Reading, bytes: &[u8], fault: Option<BadText>) -> Option<BadText>
-    requires { length bytes.now ≤ input_limit }
-    ensures { result ≡ command_fault command fault bytes.now }
-{
-    match command {
-        Reading::Check => fault,
-        Reading::Replay { totals: _ } => match first_unbuilt(bytes, fault) {
-            Some(place) => Some(BadText {
-                line: place.line,
-                column: place.column,
-                kind: BadKind::NotYet,
-            }),
-            None => fault,
-        },
-    }
-}
-
 // The scenario of a text.
-fn read(alloc: Global, command: Reading, bytes: &[u8]) -> Result<Scenario, Refusal>
+fn read(alloc: Global, bytes: &[u8]) -> Result<Scenario, Refusal>
     requires { length bytes.now ≤ input_limit }
     ensures reads { IfOk result (Reads bytes.now) }
-    ensures built { IfOk result (λ _. IsBuilt command bytes.now) }
-    ensures cause { IfErr result (λ r. (before after : ℕ) → InputCause command (Some bytes.now) before after r) }
+    ensures cause { IfErr result (λ r. (before after : ℕ) → InputCause (Some bytes.now) before after r) }
 {
     match read_scenario(alloc, bytes) {
-        Ok(scenario) => match first_fault(command, bytes, None) {
-            None => Ok(scenario),
-            Some(bad) => Err(Refusal::Text(bad)),
-        },
-        Err(LangFault::Bad(fault)) => match first_fault(command, bytes, Some(fault)) {
-            Some(bad) => Err(Refusal::Text(bad)),
-            None => unreachable!(),
-        },
+        Ok(scenario) => Ok(scenario),
+        Err(LangFault::Bad(fault)) => Err(Refusal::Text(fault)),
         Err(LangFault::NoMemory) => Err(Refusal::OutOfMemory),
     }
 }
@@ -85,13 +59,13 @@ fn rejection(fault: CheckFault, scenario: &Parts) -> Refusal
     }
 }
 
-/// The scenario of a text, which is within the limits, and whose scripts are accepted.
-pub(crate) fn prepare(alloc: Global, command: Reading, bytes: &[u8]) -> Result<Checked, Refusal>
+// The scenario of a text, which is within the limits, and whose scripts are accepted.
+fn prepare(alloc: Global, bytes: &[u8]) -> Result<Checked, Refusal>
     requires { length bytes.now ≤ input_limit }
-    ensures prepared { IfOk result (IsPrepared command bytes.now) }
-    ensures cause { IfErr result (λ r. (before after : ℕ) → InputCause command (Some bytes.now) before after r) }
+    ensures prepared { IfOk result (IsPrepared bytes.now) }
+    ensures cause { IfErr result (λ r. (before after : ℕ) → InputCause (Some bytes.now) before after r) }
 {
-    let scenario = read(alloc, command, bytes)?;
+    let scenario = read(alloc, bytes)?;
     if let Some(limit) = limits(&scenario) {
         return Err(Refusal::Limit(limit));
     }
@@ -110,14 +84,14 @@ fn totals_lines(alloc: Global, totals: &Totals) -> Result<Vec<u8>, NoMemory>
     Ok(text)
 }
 
-/// Does a command on a prepared scenario. Want of memory is the only refusal.
-pub(crate) fn perform(
+// Does a command on a prepared scenario. Want of memory is the only refusal.
+fn perform(
     alloc: Global,
     command: Reading,
     bytes: &[u8],
     checked: &Checked,
 ) -> Result<Done, NoMemory>
-    requires { IsPrepared command bytes.now checked.now }
+    requires { IsPrepared bytes.now checked.now }
     ensures serves { IfOk result (λ done. Serves (Read command) (Some bytes.now) done.journal) }
     ensures text { IfOk result (λ done. done.text.items ≡ out_text (Read command) done.journal) }
 {
@@ -127,7 +101,6 @@ pub(crate) fn perform(
             text: Vec::from_slice(alloc, b"accepted\n")?,
         }),
         Reading::Replay { totals } => {
-            built_scenarios_run();
             let journal = replay(alloc, checked)?;
             let text = if totals {
                 totals_lines(alloc, &journal.totals)?
@@ -139,5 +112,19 @@ pub(crate) fn perform(
                 text,
             })
         }
+    }
+}
+
+/// What a command that reads answers of bytes.
+pub(crate) fn serve(alloc: Global, command: Reading, bytes: &[u8]) -> Result<Done, Refusal>
+    requires { length bytes.now ≤ input_limit }
+    ensures serves { IfOk result (λ done. Serves (Read command) (Some bytes.now) done.journal) }
+    ensures text { IfOk result (λ done. done.text.items ≡ out_text (Read command) done.journal) }
+    ensures cause { IfErr result (λ r. (before after : ℕ) → InputCause (Some bytes.now) before after r) }
+{
+    let checked = prepare(alloc, bytes)?;
+    match perform(alloc, command, bytes, &checked) {
+        Ok(done) => Ok(done),
+        Err(NoMemory) => Err(Refusal::OutOfMemory),
     }
 }

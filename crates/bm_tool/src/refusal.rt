@@ -19,7 +19,7 @@ pub enum Refusal {
     WriteFailed,
     /// Memory ran out.
     OutOfMemory,
-    /// The text has no reading, or a form that can't be run yet.
+    /// The text has no reading.
     Text(BadText),
     /// A script breaks a rule of ownership.
     Rejected { script: Name, line: u32, rule: Rule },

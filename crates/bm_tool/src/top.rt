@@ -1,6 +1,6 @@
 //! The top call.
 
-ghost use Rattle.std.specs.Prelude.{◌≡◌, ◌≢◌, ◌⊎◌, ◌↔◌, ℕ, ◌≤◌, List, None, Some, length, vec_len, IfSome, IsSome, IfOk, IfErr, OnOk};
+ghost use Rattle.std.specs.Prelude.{◌≡◌, ◌≢◌, ◌⊎◌, ◌↔◌, ℕ, ◌≤◌, Bool, List, None, Some, length, vec_len, IfSome, IsSome, IfOk, IfErr, OnOk};
 ghost use Rattle.std.specs.Io.KnownBytes.{IsAtEnd};
 ghost use Rattle.bm_text.specs.Faults.{Rose};
 ghost use Rattle.bm_command.specs.Words.{command_of, texts};
@@ -14,7 +14,7 @@ ghost use Rattle.bm_tool.specs.Outcome.{IsServable, Serves, out_text, Printed, P
 ghost use Rattle.bm_tool.specs.Refusals.{input_limit, status_of, line_of, IsLong, Told};
 
 use crate::generate::generate;
-use crate::prepare::{Done, perform, prepare};
+use crate::prepare::{Done, serve};
 use crate::refusal::{Refusal, bad_text_line, limit_line, rejected_line};
 use bm_command::{Command, CommandFault, Reading, read_command};
 use bm_journal::Journal;
@@ -36,11 +36,11 @@ pub struct Answer {
 }
 
 // Reads the whole input, up to its limit.
-fn input<S: Source>(alloc: Global, command: Reading, source: &mut S) -> Result<Vec<u8>, Refusal>
+fn input<S: Source>(alloc: Global, source: &mut S) -> Result<Vec<u8>, Refusal>
     ensures all { IfOk result (λ bytes. IfSome (S.left source.old) (λ left. bytes.items ≡ left)) }
     ensures within { IfOk result (λ bytes. vec_len bytes ≤ input_limit) }
     ensures end { OnOk result (IsAtEnd (S.left source.new)) }
-    ensures cause { IfErr result (InputCause command (S.left source.old) (S.faults source.old) (S.faults source.new)) }
+    ensures cause { IfErr result (InputCause (S.left source.old) (S.faults source.old) (S.faults source.new)) }
 {
     match read_all(alloc, source, INPUT_LIMIT) {
         Ok(bytes) => Ok(bytes),
@@ -50,28 +50,14 @@ fn input<S: Source>(alloc: Global, command: Reading, source: &mut S) -> Result<V
     }
 }
 
-// What a command that reads answers of bytes.
-fn serve(alloc: Global, command: Reading, bytes: &[u8]) -> Result<Done, Refusal>
-    requires { length bytes.now ≤ input_limit }
-    ensures serves { IfOk result (λ done. Serves (Read command) (Some bytes.now) done.journal) }
-    ensures text { IfOk result (λ done. done.text.items ≡ out_text (Read command) done.journal) }
-    ensures cause { IfErr result (λ r. (before after : ℕ) → InputCause command (Some bytes.now) before after r) }
-{
-    let checked = prepare(alloc, command, bytes)?;
-    match perform(alloc, command, bytes, &checked) {
-        Ok(done) => Ok(done),
-        Err(NoMemory) => Err(Refusal::OutOfMemory),
-    }
-}
-
 // Reads the input, and does what the command asks.
 fn run<S: Source>(alloc: Global, command: Reading, source: &mut S) -> Result<Done, Refusal>
     ensures serves { IfOk result (λ done. Serves (Read command) (S.left source.old) done.journal) }
     ensures text { IfOk result (λ done. done.text.items ≡ out_text (Read command) done.journal) }
     ensures end { OnOk result (IsAtEnd (S.left source.new)) }
-    ensures cause { IfErr result (InputCause command (S.left source.old) (S.faults source.old) (S.faults source.new)) }
+    ensures cause { IfErr result (InputCause (S.left source.old) (S.faults source.old) (S.faults source.new)) }
 {
-    let bytes = input(alloc, command, source)?;
+    let bytes = input(alloc, source)?;
     serve(alloc, command, bytes.as_slice())
 }
 
@@ -219,13 +205,13 @@ pub fn bpfmem<S: Source, K: Sink, E: Sink>(
 
     // A command that reads, a text that it can serve, and no fault of the source or the sink: then all is done, or memory ran out.
     ensures complete { (c : Asking) → command_of (texts words.now) ≡ Some (Read c) → IsSome (S.left source.old)
-        → IfSome (S.left source.old) (IsServable c)
+        → IfSome (S.left source.old) IsServable
         → Stayed (S.faults source.old) (S.faults source.new) → Stayed (K.faults out.old) (K.faults out.new)
         → (result.status ≡ 0) ⊎ (result.status ≡ 4) }
 
     // `gen` takes nothing from the source. Where no fault of the sink came, all is done, or memory ran out; else it may be the writing
     // that failed.
-    ensures made { (count start : ℕ) → command_of (texts words.now) ≡ Some (Gen count start)
+    ensures made { (count start : ℕ) (text : Bool) → command_of (texts words.now) ≡ Some (Gen count start text)
         → (S.left source.new ≡ S.left source.old) × (S.faults source.new ≡ S.faults source.old)
         × ((result.status ≡ 0) ⊎ (result.status ≡ 4) ⊎ (result.status ≡ 3))
         × (Stayed (K.faults out.old) (K.faults out.new) → (result.status ≡ 0) ⊎ (result.status ≡ 4)) }
@@ -240,7 +226,7 @@ pub fn bpfmem<S: Source, K: Sink, E: Sink>(
             Ok(done) => print(out, err, done),
             Err(refusal) => refused(alloc, err, refusal),
         },
-        Command::Gen { count, start } => match generate(alloc, count, start) {
+        Command::Gen { count, start, text } => match generate(alloc, count, start, text) {
             Ok(done) => print(out, err, done),
             Err(NoMemory) => refused(alloc, err, Refusal::OutOfMemory),
         },

@@ -23,21 +23,21 @@ use Rattle.bm_world.specs.Graphs.{AreBare, AreGraphs, Grows, HasMore, times_amon
 same-unit : (u : ℕ) → eqb u u ≡ true
 same-unit u = elim (eqb_tells u u) [ inl y ↦ y.0 | inr n ↦ absurd (n.1 refl) ]
 
-hit : (u : ℕ) → Node → ℕ
+pub hit : (u : ℕ) → Node → ℕ
 hit u n = if eqb n.id.unit u then 1 else 0
 
-hit-itself : (n : Node) → hit n.id.unit n ≡ 1
+pub hit-itself : (n : Node) → hit n.id.unit n ≡ 1
 unfolding hit
 hit-itself n = ap (λ b. if b then 1 else 0) (same-unit n.id.unit)
 
-hit-one : (u : ℕ) (n : Node) → n.id.unit ≡ u → hit u n ≡ 1
+pub hit-one : (u : ℕ) (n : Node) → n.id.unit ≡ u → hit u n ≡ 1
 hit-one u n e = subst (λ v. hit v n ≡ 1) e (hit-itself n)
 
-hit-other : (u : ℕ) (n : Node) → n.id.unit ≢ u → hit u n ≡ 0
+pub hit-other : (u : ℕ) (n : Node) → n.id.unit ≢ u → hit u n ≡ 0
 unfolding hit
 hit-other u n ne = elim (eqb_tells n.id.unit u) [ inl y ↦ absurd (ne y.1) | inr k ↦ ap (λ b. if b then 1 else 0) k.0 ]
 
-times-of : (u : ℕ) (n : Node) (ns : List Node) → times_among u (n ∷ ns) ≡ hit u n + times_among u ns
+pub times-of : (u : ℕ) (n : Node) (ns : List Node) → times_among u (n ∷ ns) ≡ hit u n + times_among u ns
 unfolding hit
 times-of u n ns = refl
 
@@ -114,7 +114,7 @@ none-stands place u [] h = refl
 none-stands place u (g ∷ gs) h =
     rw (life-none u g.nodes (omega (arith, h))) (none-stands (place + 1) u gs (omega (arith, h)))
 
-stands-none : (place : ℕ) (u : ℕ) (gs : List NamedGraph) → standing_from place gs u ≡ None → times_in u gs ≡ 0
+pub stands-none : (place : ℕ) (u : ℕ) (gs : List NamedGraph) → standing_from place gs u ≡ None → times_in u gs ≡ 0
 stands-none place u [] h = refl
 stands-none place u (g ∷ gs) h =
     let here = first (life_among u g.nodes) refl h in

@@ -12,4 +12,5 @@ pub mod GraphNodes
 pub mod GraphLemmas
 pub mod GraphsDid
 pub mod Shelving
+pub mod FewItems
 pub mod LivingCalls

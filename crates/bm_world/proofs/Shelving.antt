@@ -1,13 +1,14 @@
 -- What objects say of the list or tree that they are in stays what is so.
-use Rattle.std.proofs.Common.{◌≡◌, ◌≢◌, ◌∙◌, ◌+◌, ◌<◌, ℕ, List, [], ◌∷◌, Option, Some, None, ap, inl, inr, length, refl, set, subst, sym}
+use Rattle.std.proofs.Common.{◌≡◌, ◌≢◌, ◌∙◌, ◌+◌, ◌<◌, ◌≤◌, ℕ, List, [], ◌∷◌, Option, Some, None, ap, inl, inr, length, refl, set, subst, sym}
 use Rattle.std.proofs.lemmas.Bool.{cases_eq}
+use Rattle.std.proofs.lemmas.Option.{slice_get_past}
 use Rattle.std.proofs.lemmas.List.Elements.{All-head, All-tail}
 use Rattle.bm_page.specs.UnitState.{UnitState}
 use Rattle.bm_law_order.specs.Graphs.{NamedGraph, standing_from}
 use Rattle.bm_law_order.specs.Graphs.{Standing as Stood}
 use Rattle.bm_world.specs.Graphs.{AreBare}
 use Rattle.bm_world.specs.LivingState.{AreShelved, living_of, next_life, slots_counted, slots_placed}
-use Rattle.bm_world.specs.Slots.{AllEmpty, new_object, object_at, stands_in, unit_at, unit_of, values_of, with_count, with_place}
+use Rattle.bm_world.specs.Slots.{AllEmpty, joined, new_object, object_at, stands_in, unit_at, unit_of, values_of, with_count, with_place}
 use Rattle.bm_world.specs.ToldLiving.{life_of}
 use Rattle.bm_world.specs.declared.slots.Object.{Object}
 use Rattle.bm_world.proofs.SlotLemmas.{Slotted, no-object, object-other, object-same}
@@ -92,3 +93,7 @@ unit-placed within (Some o) = refl
 
 pub placed-unit : (slots : Slotted) (n : ℕ) (within : Option ℕ) (m : ℕ) → n < length slots → unit_at (slots_placed n within slots) m ≡ unit_at slots m
 placed-unit slots n within m lt = placed-as unit_of slots n within m lt (unit-placed within)
+
+-- a unit that has no place among the slots stands in no list or tree
+pub unknown-stands : (slots : Slotted) (graphs : List NamedGraph) (n : ℕ) → length slots ≤ n → AreShelved slots graphs → standing_from 0 graphs n ≡ None
+unknown-stands slots graphs n le h = sym (h.stands n) ∙ ap stands_in (ap joined (slice_get_past slots n le))

@@ -26,6 +26,11 @@ abbrev pub times_in : (u : ℕ) → List NamedGraph → ℕ
 times_in u [] = 0
 times_in u (g ∷ gs) = times_among u g.nodes + times_in u gs
 
+-- how many objects are in all of them
+abbrev pub items_in : List NamedGraph → ℕ
+items_in [] = 0
+items_in (g ∷ gs) = length g.nodes + items_in gs
+
 -- nothing is in any of them
 abbrev pub AreBare : List NamedGraph → Type 0
 AreBare graphs = All (λ (g : NamedGraph). g.nodes ≡ []) graphs

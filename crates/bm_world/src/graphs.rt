@@ -10,7 +10,7 @@ ghost use Rattle.bm_graph.specs.declared.ways.End.TheVariants as end_;
 ghost use Rattle.bm_graph.specs.declared.ways.Way.TheVariants as way;
 ghost use Rattle.bm_law_order.specs.Graphs.{Calls, NamedGraph, effect_of, graph_at, graph_names_in, graphs_after, life_among, moved, shelf_of, standing_from};
 ghost use Rattle.bm_world.specs.Contents.{are_apart};
-ghost use Rattle.bm_world.specs.Graphs.{AreBare, Grows, HasMore, end_node, first_node, last_node};
+ghost use Rattle.bm_world.specs.Graphs.{AreBare, Grows, HasMore, end_node, first_node, last_node, times_in};
 ghost use Rattle.bm_world.specs.GraphItems.{ListGrows, TreeGrows, history_told, item_id};
 ghost use Rattle.bm_world.specs.NamedGraphs.{list_nodes, named_graph};
 ghost use Rattle.bm_graph.specs.Contents.{nodes};
@@ -347,6 +347,14 @@ impl Graphs {
         ensures { result ≡ map named_graph graphs.items }
     {
         Graphs { graphs }
+    }
+
+    // No unit is in two of them, or twice in one.
+    pub(crate) fn each_once(&self)
+        ensures { (u : ℕ) → times_in u self.now ≤ 1 }
+    {
+        // For the prover: what the lists and trees keep.
+        let _graphs = &self.graphs;
     }
 
     /// Puts an object that is in no list or tree into the one at a place, with its key: a list's objects have none. Answers the call's

@@ -1,6 +1,6 @@
 //! The world on one thread with the units that live in it.
 
-ghost use Rattle.std.specs.Prelude.{◌≡◌, ◌≢◌, ◌+◌, ◌%◌, ◌^◌, ◌<◌, ◌≤◌, ◌∷◌, ◌++◌, [], drop, ℕ, eqb, if◌then◌else◌, List, Option, None, Some, false, length, is_some, reverse, slice_get, true, IfOk, IfErr, IfSome, IfNone, OnOk, OnErr};
+ghost use Rattle.std.specs.Prelude.{◌≡◌, ◌≢◌, ◌+◌, ◌%◌, ◌^◌, ◌<◌, ◌≤◌, ◌∷◌, ◌++◌, [], drop, ℕ, eqb, if◌then◌else◌, List, Option, None, Some, false, length, is_some, reverse, slice_get, true, IfOk, IfErr, IfSome, IfNone, OnOk, OnErr, map};
 ghost use Rattle.std.specs.List.{All};
 ghost use Rattle.std.specs.Option.{option_map_or};
 ghost use Rattle.bm_page.specs.Stock.{fetched as stock_fetched};
@@ -31,7 +31,8 @@ ghost use Rattle.bm_graph.specs.Calls.{first_call};
 ghost use Rattle.bm_graph.specs.Ways.{is_for_tree, pop_call};
 ghost use Rattle.bm_graph.specs.declared.ways.Way.TheVariants.{Ordered};
 ghost use Rattle.bm_law_order.specs.Graphs.{effect_of, graph_at, moved, standing_from};
-ghost use Rattle.bm_world.specs.Graphs.{AreBare, end_node, first_node, key_of, pushed_at, pushed_call, stood};
+ghost use Rattle.bm_world.specs.GraphItems.{history_told};
+ghost use Rattle.bm_world.specs.Graphs.{AreBare, end_node, first_node, items_in, key_of, pushed_at, pushed_call, stood};
 ghost use Rattle.bm_world.specs.Standings.{left_by, standing_at};
 ghost use Rattle.bm_world.specs.declared.standing.Standing.TheVariants.{Nothing as WaitsForNothing};
 ghost use Rattle.bm_world.specs.Lives.{HasLife, OthersAsBefore, PutLives, asked_once, count_in, graph_called, life_acquired, life_begun, life_ended, life_given_up, life_of_unit, slot_exchanged, type_in, values_in};
@@ -48,7 +49,7 @@ use crate::{Lives, OneSide, World};
 use bm_class::Class;
 use bm_grace::{Began, Done, Grace, Knows, Look};
 use bm_graph::{End, Way};
-use bm_journal::{Domain, ObjId, Period, Tag, Values};
+use bm_journal::{Domain, History, ObjId, Period, Tag, Values};
 use bm_page::Unit;
 use bm_post::Post;
 use bm_word::NoMemory;
@@ -173,6 +174,25 @@ impl LivingSide {
         slots.give_up();
         let (post, _grace) = side.into_parts();
         post.give_up();
+    }
+
+    /// No more objects are in lists and trees than there are units: each is in one at most, and lives.
+    pub fn few_items(&self)
+        ensures { items_in self.now.graphs ≤ 2 ^ 16 }
+    {
+        self.graphs.each_once();
+    }
+
+    /// Ends it, whatever lives or waits, for the histories of its lists and trees, in the order of their places: of a map that is a slot
+    /// there is an empty one. Want of memory is the only refusal.
+    pub fn into_histories(self, alloc: Global) -> Result<Vec<History>, NoMemory>
+        ensures { IfOk result (λ histories. histories.items ≡ map history_told self.graphs) }
+    {
+        let (side, slots, _asked, graphs) = self.into_parts();
+        slots.give_up();
+        let (post, _grace) = side.into_parts();
+        post.give_up();
+        graphs.into_histories(alloc)
     }
 
     /// Makes it the side of a processor.

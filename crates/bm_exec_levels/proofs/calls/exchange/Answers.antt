@@ -45,7 +45,7 @@ call-requires-clause-at g c =
     let m = c.requires.slot.0 in
     let found = c.requires.slot.1.found in
     at-exchanged g.W.Knows g.L.Rank.number c.args.program.now c.args.own.now c.exchange-found.new.self c.args.slot.0 c.args.put (record { processor = c.processor.result; serial = c.args.own.now.calls + 1 }) m c.exchange-found.ensures.known
-    (slot-there d (known_of g.W.Knows c.args.own.now).objects c.args.slot.0 m c.requires.at.ready.stocked found) found c.requires.slot.3 c.requires.at
+    (slot-there d (known_of g.W.Knows c.args.own.now).objects c.args.slot.0 m c.requires.at.ready.stocked found) found c.requires.slot.1.kind c.requires.slot.3 c.requires.at
 
 pub returns-clause-exchanged : goal.returns-clause-exchanged
 returns-clause-exchanged g c m s =

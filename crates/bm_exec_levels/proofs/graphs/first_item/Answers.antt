@@ -49,7 +49,7 @@ call-requires-clause-at g c =
     let item = c.in_ok-position.item in
     let e = c.in_ok-position.ensures in
     let decl = c.requires.graph.0 in
-    at-graph g.W.Knows g.L.Rank.number c.args.program.now m c.first.new.self c.args.graph.0 (first_call item) c.next_tag-tag.result decl e.known c.requires.graph.1.found
+    at-graph g.W.Knows g.L.Rank.number c.args.program.now m c.first.new.self c.args.graph.0 (first_call item) c.next_tag-tag.result decl e.known c.requires.graph.1.found true c.requires.graph.1.kind
     (record { fits = looks-fit c.args.graph.0 (standing_from 0 o.graphs) item; within = e.moves })
     (none-held decl.type_id.0 (in_hands o) _ (ap put_by (looks-first item))) c.requires.at
 
@@ -114,3 +114,11 @@ returns-clause-tied g c =
     (owns-first (names_of g.W.Knows m.side) item []) e.does c.call.ensures.said
     (ap (λ (x : Known). x.grace.processor) c.call.ensures.known) (ap (λ (x : Known). graph_names_in x.objects.graphs) c.call.ensures.known)
     (c.call.ensures.owes _)
+
+pub returns-clause-item : goal.returns-clause-item
+returns-clause-item g c = c.in_ok-position.ensures.item
+
+pub returns-clause-called : goal.returns-clause-called
+returns-clause-called g c =
+    let tag = c.next_tag-tag.result in
+    record { tag = tag; now_is = ap (λ (x : Known). x.objects.graphs) c.call.ensures.known ∙ ap (λ (x : Known). x.objects.graphs) c.in_ok-position.ensures.known }

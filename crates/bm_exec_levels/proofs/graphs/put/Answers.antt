@@ -4,7 +4,7 @@ use Rattle.bm_journal.specs.Recording.{Appends}
 use Rattle.bm_journal.specs.declared.entry.Entry.{Entry}
 use Rattle.bm_lang.specs.declared.scenario.MapDeclaration.{MapDeclaration}
 use Rattle.bm_graph.specs.Entries.{call_entry}
-use Rattle.bm_graph.specs.Ways.{push_call, refused_push}
+use Rattle.bm_graph.specs.Ways.{is_for_tree, push_call, refused_push}
 use Rattle.bm_grace.specs.Known.{Known, Living, Objects}
 use Rattle.bm_law.proofs.Spans.{Records-one}
 use Rattle.bm_law_order.specs.Act as act
@@ -62,7 +62,7 @@ call-requires-clause-at g c =
     let moves = subst (λ (x : Pushed). standing_from 0 (g.W.Knows.known w).objects.graphs ≡ moved place (effect_of (pushed_call way id key x)) (standing_from 0 o.graphs)) c.in-Done.is e.moves in
     let call = push_call way id key in
     let has : HasMoved place call o.graphs (g.W.Knows.known w).objects.graphs = record { fits = subst (λ (f : Effect). EffectFits place f (standing_from 0 o.graphs)) (sym (effect-pushed way id key)) stands; within = moves } in
-    at-graph g.W.Knows l p m w place call tag decl known found has (subst (IsToPut decl.type_id.0 (in_hands o)) (sym (put-pushed way id key)) c.requires.graph.3) c.requires.at
+    at-graph g.W.Knows l p m w place call tag decl known found (is_for_tree way) c.requires.graph.1.kind has (subst (IsToPut decl.type_id.0 (in_hands o)) (sym (put-pushed way id key)) c.requires.graph.3) c.requires.at
 
 pub bounds-as_slice-owner : goal.bounds-as_slice-owner
 bounds-as_slice-owner g c =
@@ -94,7 +94,7 @@ call-requires-in-Already-clause-at g c =
     let owner = c.in-Already.owner in
     let call = refused_push way id key owner in
     let has : HasMoved place call o.graphs (g.W.Knows.known w).objects.graphs = record { fits = subst (λ (f : Effect). EffectFits place f (standing_from 0 o.graphs)) (sym (effect-refused way id key owner)) stands; within = moves } in
-    at-graph g.W.Knows l p m w place call tag decl known found has (none-held decl.type_id.0 (in_hands o) _ (put-refused way id key owner)) c.requires.at
+    at-graph g.W.Knows l p m w place call tag decl known found (is_for_tree way) c.requires.graph.1.kind has (none-held decl.type_id.0 (in_hands o) _ (put-refused way id key owner)) c.requires.at
 
 pub call-requires-in-Already-clause-call : goal.call-requires-in-Already-clause-call
 call-requires-in-Already-clause-call g c = subst (λ (x : Entry). is_object_call x ≡ true) (sym (c.refused.ensures 0)) (graph-call c.args.name c.in-Already.position _ (refused_push c.args.way c.args.object 0 0))

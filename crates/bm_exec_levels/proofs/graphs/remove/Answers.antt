@@ -45,7 +45,7 @@ call-requires-clause-at g c =
     let decl = c.requires.graph.0 in
     let e = c.in_ok-position.ensures in
     let stands = stands-there d o c.args.graph.0 decl.type_id.0 c.args.object.unit c.args.object.life (guarded_of g.W.Knows m).lock c.requires.at.ready.stocked c.requires.graph.3 in
-    at-graph g.W.Knows g.L.Rank.number c.args.program.now m c.remove.new.self c.args.graph.0 (past.Remove c.args.object) c.next_tag-tag.result decl e.known c.requires.graph.1.found
+    at-graph g.W.Knows g.L.Rank.number c.args.program.now m c.remove.new.self c.args.graph.0 (past.Remove c.args.object) c.next_tag-tag.result decl e.known c.requires.graph.1.found true c.requires.graph.1.kind
     (record { fits = stands; within = e.moves }) tt c.requires.at
 
 pub returns-clause-removed : goal.returns-clause-removed
@@ -87,3 +87,8 @@ returns-clause-tied g c =
     tt e.does c.call.ensures.said
     (ap (λ (x : Known). x.grace.processor) c.call.ensures.known) (ap (λ (x : Known). graph_names_in x.objects.graphs) c.call.ensures.known)
     (c.call.ensures.owes _)
+
+pub returns-clause-called : goal.returns-clause-called
+returns-clause-called g c =
+    let tag = c.next_tag-tag.result in
+    record { tag = tag; now_is = ap (λ (x : Known). x.objects.graphs) c.call.ensures.known ∙ ap (λ (x : Known). x.objects.graphs) c.in_ok-position.ensures.known }

@@ -5,7 +5,7 @@ use Rattle.bm_run.specs.Closers.{CloseTogether, IsAmong, OwnAfter, TookStep}
 use Rattle.bm_run.specs.declared.closers.Closers.{Closers}
 use Rattle.bm_run.specs.ClosersCrew.{gathered}
 use Rattle.bm_run.proofs.ClosersEnd.{all-emptied, together-by}
-use Rattle.bm_run.proofs.Results.{if-ok, not-err}
+use Rattle.bm_run.proofs.Results.{not-err}
 use Rattle.bm_run.proofs.closers.close_begun.Goals as goal
 
 pub logs_of-requires : goal.logs_of-requires
@@ -26,5 +26,18 @@ returns-clause-closed c =
     let count : crew.processors ≡ c.len.result = not-err c.close_all-closed.result _ e done.count in
     let has : (p : ℕ) → p < crew.processors → IsAmong (OwnAfter Sweeps) (gathered crew) p = not-err c.close_all-closed.result _ e done.has in
     let goes : (m : Closers) × StepsBelow (λ p x y. TookStep Ends p (gathered x) (gathered y)) c.len.result before m × StepsBelow (λ p x y. TookStep Sweeps p (gathered x) (gathered y)) c.len.result m crew = not-err c.close_all-closed.result _ e done.goes in
-    if-ok c.logs_of.result _ _ c.logs_of.ensures.told (λ logs told.
-    subst (λ n. CloseTogether (record { processors = n; places = c.args.places.items; world = Some c.args.world; classes = c.args.classes.now }) logs.items) (c.len.ensures ∙ c.args.places.ok.0) (together-by before crew logs.items goes count has told))
+    let logs = c.in_ok-logs.logs.items in
+    let histories = c.in-Ok.histories.items in
+    subst (λ n. CloseTogether (record { processors = n; places = c.args.places.items; world = Some c.args.world; classes = c.args.classes.now }) logs histories) (c.len.ensures ∙ c.args.places.ok.0)
+    (together-by before crew logs histories goes count has c.in_ok-logs.ensures.told c.in-Ok.ensures)
+
+-- the world is there again
+pub histories_of-requires : goal.histories_of-requires
+histories_of-requires c =
+    let e = c.if-is_err.ensures.value in
+    let done = c.close_all-closed.ensures in
+    let crew = c.close_all-closed.new.crew in
+    let count : crew.processors ≡ c.len.result = not-err c.close_all-closed.result _ e done.count in
+    let has : (p : ℕ) → p < crew.processors → IsAmong (OwnAfter Sweeps) (gathered crew) p = not-err c.close_all-closed.result _ e done.has in
+    let x = has 0 (subst (λ n. 0 < n) (sym (count ∙ c.len.ensures ∙ c.args.places.ok.0)) c.requires.some) in
+    (x.world, x.world_is)

@@ -11,7 +11,7 @@ use Rattle.bm_run.specs.Asked.{in_its_turn}
 use Rattle.bm_run.specs.Closers.{BeginsClosing, Keeps, told_log}
 use Rattle.bm_run.specs.Emptied.{HasRoomFor}
 use Rattle.bm_run.specs.SoFar.{at_turn}
-use Rattle.bm_run.proofs.ClosersBegin.{all-can-end, few-processors, first-room, first-sound, first-told, kept_by, many-places, outside-then, some-processors, stopped-at}
+use Rattle.bm_run.proofs.ClosersBegin.{all-can-end, few-processors, first-room, first-sound, first-told, first-unlocked, kept_by, many-places, outside-then, some-processors, stopped-at}
 use Rattle.bm_run.proofs.ClosersFinal.{all-closed, crew-as}
 use Rattle.bm_run.proofs.ClosersTaken.{get-set-same, set-twice}
 use Rattle.bm_run.proofs.Results.{if-ok}
@@ -43,7 +43,16 @@ begin_own-requires-clause-room c =
     let kept : Kept = c.take_kept-kept.result in
     let keeps : Keeps (kept_by c.args.seats.items) 0 kept = ap (λ (ps : List (Option Kept)). slice_get ps 0) (sym c.in-Ok.ensures) ∙ c.take_kept-kept.ensures.kept in
     subst (λ (w : LivingState). HasRoomFor c.args.program.now (in_its_turn kept w)) (sym (c.turned-side.ensures c.args.world refl))
-    (first-room c.args.program.now c.requires.between.0 c.args.seats.items c.args.world c.requires.between.1 c.requires.stopped c.handled_law.ensures.rows kept keeps c.requires.few)
+    (first-room c.args.program.now c.requires.between.0 c.args.seats.items c.args.world c.requires.between.1 c.requires.stopped c.handled_law.ensures.rows kept keeps (c.requires.few, c.few_items.ensures))
+
+pub begin_own-requires-clause-first : goal.begin_own-requires-clause-first
+begin_own-requires-clause-first c = ap (λ (w : LivingState). w.side.grace.processor) (c.turned-side.ensures c.args.world refl)
+
+pub begin_own-requires-clause-unlocked : goal.begin_own-requires-clause-unlocked
+begin_own-requires-clause-unlocked c =
+    let kept : Kept = c.take_kept-kept.result in
+    let keeps : Keeps (kept_by c.args.seats.items) 0 kept = ap (λ (ps : List (Option Kept)). slice_get ps 0) (sym c.in-Ok.ensures) ∙ c.take_kept-kept.ensures.kept in
+    first-unlocked c.args.program.now c.requires.between.0 c.args.seats.items c.args.world c.requires.between.1 c.requires.stopped c.handled_law.ensures.rows kept keeps
 
 pub put_kept-requires : goal.put_kept-requires
 put_kept-requires c =
@@ -73,7 +82,7 @@ all_at_rest-requires c =
     let keeps : Keeps (kept_by seats) 0 kept = ap (λ (ps : List (Option Kept)). slice_get ps 0) (sym c.in-Ok.ensures) ∙ c.take_kept-kept.ensures.kept in
     let told = first-told g turns seats c.args.world b c.requires.stopped rows kept keeps in
     let begins = began g kept c.in-Ok-begin_own.begun.0 c.turned-side.result (at_turn 0 c.args.world) c.in-Ok-begin_own.begun.1 (get_or b.logs 0 []) (c.turned-side.ensures c.args.world refl) told c.in-Ok-begin_own.ensures in
-    record { outside = outside-then g turns seats c.args.world b c.requires.stopped rows kept c.in-Ok-begin_own.begun.0 c.in-Ok-begin_own.begun.1 keeps c.requires.few begins }
+    record { outside = outside-then g turns seats c.args.world b c.requires.stopped rows kept c.in-Ok-begin_own.begun.0 c.in-Ok-begin_own.begun.1 keeps (c.requires.few, c.few_items.ensures) begins }
 
 pub close_begun-requires-clause-some : goal.close_begun-requires-clause-some
 close_begun-requires-clause-some c =
@@ -109,10 +118,10 @@ close_begun-requires-clause-may c =
     let told = first-told g turns seats c.args.world b c.requires.stopped rows kept keeps in
     let begins = began g kept c.in-Ok-begin_own.begun.0 c.turned-side.result (at_turn 0 c.args.world) c.in-Ok-begin_own.begun.1 (get_or b.logs 0 []) (c.turned-side.ensures c.args.world refl) told c.in-Ok-begin_own.ensures in
     let places = noted (kept_by seats) c.take_kept-kept.new.places.items c.put_kept.new.places.items c.in-Ok.places.items (Some c.in-Ok-begin_own.begun.0) c.in-Ok.ensures c.take_kept-kept.ensures.places c.put_kept.ensures in
-    all-can-end g turns seats c.args.world b c.requires.stopped rows kept c.in-Ok-begin_own.begun.0 c.in-Ok-begin_own.begun.1 keeps c.requires.few begins c.all_at_rest.ensures.driven c.put_kept.new.places.items c.args.classes.now places c.requires.classes
+    all-can-end g turns seats c.args.world b c.requires.stopped rows kept c.in-Ok-begin_own.begun.0 c.in-Ok-begin_own.begun.1 keeps (c.requires.few, c.few_items.ensures) begins c.all_at_rest.ensures.driven c.put_kept.new.places.items c.args.classes.now places c.requires.classes
 
 pub returns-clause-closed : goal.returns-clause-closed
-returns-clause-closed c = if-ok c.close_begun.result _ _ c.close_begun.ensures.closed (λ logs together turns b.
+returns-clause-closed c = if-ok c.close_begun.result _ _ c.close_begun.ensures.closed (λ left together turns b.
     let g = c.args.program.now in
     let seats = c.args.seats.items in
     let rows = c.handled_law.ensures.rows in
@@ -121,5 +130,5 @@ returns-clause-closed c = if-ok c.close_begun.result _ _ c.close_begun.ensures.c
     let told = first-told g turns seats c.args.world b c.requires.stopped rows kept keeps in
     let begins = began g kept c.in-Ok-begin_own.begun.0 c.turned-side.result (at_turn 0 c.args.world) c.in-Ok-begin_own.begun.1 (get_or b.logs 0 []) (c.turned-side.ensures c.args.world refl) told c.in-Ok-begin_own.ensures in
     let places = noted (kept_by seats) c.take_kept-kept.new.places.items c.put_kept.new.places.items c.in-Ok.places.items (Some c.in-Ok-begin_own.begun.0) c.in-Ok.ensures c.take_kept-kept.ensures.places c.put_kept.ensures in
-    let crew = crew-as g turns seats c.args.world b c.requires.stopped rows kept c.in-Ok-begin_own.begun.0 c.in-Ok-begin_own.begun.1 keeps c.requires.few begins c.requires.apart c.requires.slots logs.items c.put_kept.new.places.items c.args.classes.now places c.requires.classes together in
-    all-closed g turns seats c.args.world b c.requires.stopped rows kept c.in-Ok-begin_own.begun.0 c.in-Ok-begin_own.begun.1 keeps c.requires.few begins c.requires.apart c.requires.slots logs.items crew)
+    let crew = crew-as g turns seats c.args.world b c.requires.stopped rows kept c.in-Ok-begin_own.begun.0 c.in-Ok-begin_own.begun.1 keeps (c.requires.few, c.few_items.ensures) begins c.requires.apart left.logs.items left.histories.items c.put_kept.new.places.items c.args.classes.now places c.requires.classes together in
+    all-closed g turns seats c.args.world b c.requires.stopped rows kept c.in-Ok-begin_own.begun.0 c.in-Ok-begin_own.begun.1 keeps (c.requires.few, c.few_items.ensures) begins c.requires.apart left.logs.items left.histories.items crew)

@@ -1,16 +1,16 @@
-use Rattle.std.proofs.Common.{◌≡◌, ℕ, List, None, Option, Some, slice_get, subst, sym}
+use Rattle.std.proofs.Common.{◌∙◌, ℕ, List, None, Option, Some, subst}
 use Rattle.bm_journal.specs.declared.ids.ObjId.{ObjId}
 use Rattle.bm_lang.specs.declared.scenario.MapDeclaration.{MapDeclaration}
 use Rattle.bm_lang.specs.declared.scenario.TypeDeclaration.{TypeDeclaration}
 use Rattle.bm_world.specs.LivingState.{LivingState}
 use Rattle.bm_world.specs.ToldLiving.{knows_living}
-use Rattle.bm_exec.specs.Living.{Exchanged, HasType}
+use Rattle.bm_exec.specs.Living.{Exchanged}
 use Rattle.bm_exec_levels.specs.AtProcessor.{lives_of, log_of}
 use Rattle.bm_exec_levels.specs.declared.processor.Processor.{Processor}
 use Rattle.bm_exec_levels.specs.Hosting.{items-joined}
 use Rattle.bm_exec_levels.proofs.Grounds.{sound-still}
 use Rattle.bm_exec_levels.proofs.Noted.{between-join}
-use Rattle.bm_run.proofs.Emptied.{emptied-lives, emptied-none, emptied-some, taken-class, taken-lives, taken-type}
+use Rattle.bm_run.proofs.Emptied.{emptied-none, exchanged-with, let-go-again}
 use Rattle.bm_run.proofs.emptying.empty_slot.Goals as goal
 
 -- what a call of a slot's exchange with null found
@@ -43,38 +43,18 @@ returns-in_default-clause-sound g c = sound-still knows_living 1 c.args.program.
 
 -- ---- it held an object
 
-pub is_counted-counted-requires : goal.is_counted-counted-requires
-is_counted-counted-requires g c =
+pub give_back-requires-clause-taken : goal.give_back-requires-clause-taken
+give_back-requires-clause-taken g c =
     let types : List TypeDeclaration = c.args.program.now.scenario.now.types in
     let m : MapDeclaration = c.args.slot.now in
     let a : Processor LivingState = c.args.own.now in
     let b : Processor LivingState = c.exchange.new.own in
     let o : ObjId = c.in-Some.object in
     let got : Found types m c.duplicate-name.result a b (Some o) = subst (Found types m c.duplicate-name.result a b) c.in-Some.is (c.exchange.ensures.exchanged m c.requires.slot) in
-    let declared = got.takes.made.declared in
-    let found = (taken-class types m.type_id.0 (lives_of knows_living a) (lives_of knows_living b) o got.takes).found in
-    record { declared = (declared, subst (λ (ts : List TypeDeclaration). slice_get ts m.type_id.0 ≡ Some declared) (sym c.as_slice.ensures) found) }
+    (lives_of knows_living a, got.takes)
 
-pub give_up-requires-clause-living : goal.give_up-requires-clause-living
-give_up-requires-clause-living g c =
-    let types : List TypeDeclaration = c.args.program.now.scenario.now.types in
-    let m : MapDeclaration = c.args.slot.now in
-    let a : Processor LivingState = c.args.own.now in
-    let b : Processor LivingState = c.exchange.new.own in
-    let o : ObjId = c.in-Some.object in
-    let got : Found types m c.duplicate-name.result a b (Some o) = subst (Found types m c.duplicate-name.result a b) c.in-Some.is (c.exchange.ensures.exchanged m c.requires.slot) in
-    (got.takes.object.class, taken-lives types m.type_id.0 (lives_of knows_living a) (lives_of knows_living b) o got.takes)
-
-pub give_up-requires-clause-typed : goal.give_up-requires-clause-typed
-give_up-requires-clause-typed g c =
-    let types : List TypeDeclaration = c.args.program.now.scenario.now.types in
-    let m : MapDeclaration = c.args.slot.now in
-    let a : Processor LivingState = c.args.own.now in
-    let b : Processor LivingState = c.exchange.new.own in
-    let o : ObjId = c.in-Some.object in
-    let got : Found types m c.duplicate-name.result a b (Some o) = subst (Found types m c.duplicate-name.result a b) c.in-Some.is (c.exchange.ensures.exchanged m c.requires.slot) in
-    let typed : HasType types m.type_id.0 c.is_counted-counted.result = subst (λ (ts : List TypeDeclaration). HasType ts m.type_id.0 c.is_counted-counted.result) c.as_slice.ensures c.is_counted-counted.ensures in
-    subst (λ t. HasType types t c.is_counted-counted.result) (sym (taken-type types m.type_id.0 (lives_of knows_living a) (lives_of knows_living b) o got.takes)) typed
+pub give_back-requires-clause-sound : goal.give_back-requires-clause-sound
+give_back-requires-clause-sound g c = sound-still knows_living 1 c.args.program.now c.args.own.now c.exchange.new.own c.exchange.ensures.between c.exchange.ensures.at c.requires.sound
 
 pub returns-clause-grew : goal.returns-clause-grew
 returns-clause-grew g c =
@@ -85,8 +65,7 @@ returns-clause-grew g c =
     let o : ObjId = c.in-Some.object in
     let e = c.exchange.ensures in
     let got : Found types m c.duplicate-name.result a b (Some o) = subst (Found types m c.duplicate-name.result a b) c.in-Some.is (e.exchanged m c.requires.slot) in
-    let typed : HasType types m.type_id.0 c.is_counted-counted.result = subst (λ (ts : List TypeDeclaration). HasType ts m.type_id.0 c.is_counted-counted.result) c.as_slice.ensures c.is_counted-counted.ensures in
-    emptied-some c.args.program.now a b types m c.duplicate-name.result 1 c.duplicate-name.ensures c.requires.sound.fine e.between c.give_up.new.own o c.is_counted-counted.result got typed c.give_up.ensures.disposed
+    exchanged-with c.args.program.now a b types m c.duplicate-name.result 1 c.duplicate-name.ensures c.requires.sound.fine e.between (log_of c.give_back.new.own) (Some o) got c.give_back.ensures.grew
 
 pub returns-clause-lives : goal.returns-clause-lives
 returns-clause-lives g c =
@@ -96,16 +75,10 @@ returns-clause-lives g c =
     let b : Processor LivingState = c.exchange.new.own in
     let o : ObjId = c.in-Some.object in
     let e = c.exchange.ensures in
-    let got : Found types m c.duplicate-name.result a b (Some o) = subst (Found types m c.duplicate-name.result a b) c.in-Some.is (e.exchanged m c.requires.slot) in
-    let typed : HasType types m.type_id.0 c.is_counted-counted.result = subst (λ (ts : List TypeDeclaration). HasType ts m.type_id.0 c.is_counted-counted.result) c.as_slice.ensures c.is_counted-counted.ensures in (
-      emptied-lives c.args.program.now a b types m c.duplicate-name.result 1 c.duplicate-name.ensures c.requires.sound.fine e.between c.give_up.new.own o c.is_counted-counted.result got typed c.give_up.ensures.disposed,
-      items-joined knows_living a b c.give_up.new.own e.items c.give_up.ensures.items,
+    let got : Found types m c.duplicate-name.result a b (Some o) = subst (Found types m c.duplicate-name.result a b) c.in-Some.is (e.exchanged m c.requires.slot) in (
+      c.give_back.ensures.lives ∙ let-go-again types m.type_id.0 (lives_of knows_living a) (lives_of knows_living b) o got.takes,
+      items-joined knows_living a b c.give_back.new.own e.items c.give_back.ensures.items,
     )
 
 pub returns-clause-between : goal.returns-clause-between
-returns-clause-between g c = between-join knows_living 1 0 1 0 0 c.args.program.now c.args.own.now c.exchange.new.own c.give_up.new.own c.exchange.ensures.between c.give_up.ensures.between
-
-pub returns-clause-sound : goal.returns-clause-sound
-returns-clause-sound g c =
-    sound-still knows_living 1 c.args.program.now c.exchange.new.own c.give_up.new.own c.give_up.ensures.between c.give_up.ensures.at
-    (sound-still knows_living 1 c.args.program.now c.args.own.now c.exchange.new.own c.exchange.ensures.between c.exchange.ensures.at c.requires.sound)
+returns-clause-between g c = between-join knows_living 1 0 1 0 0 c.args.program.now c.args.own.now c.exchange.new.own c.give_back.new.own c.exchange.ensures.between c.give_back.ensures.between

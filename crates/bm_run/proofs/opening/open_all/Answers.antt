@@ -1,4 +1,6 @@
-use Rattle.std.proofs.Common.{◌≡◌, ◌∙◌, ap, List, None, subst, sym}
+use Rattle.std.proofs.Common.{◌≡◌, ◌∙◌, ap, List, None, map, subst, sym, true}
+use Rattle.bm_lang.specs.declared.scenario.MapDeclaration.{MapDeclaration}
+use Rattle.bm_world.specs.Contents.{are_apart}
 use Rattle.bm_world.specs.Graphs.{AreBare}
 use Rattle.bm_world.specs.LivingState.{LivingState}
 use Rattle.bm_page.specs.Stock.{Stock}
@@ -30,5 +32,6 @@ returns-in-Ok-open_side c =
     let filled : AreFilled s c.args.classes.now kept pool = subst (λ (x : Parts). AreFilled x c.args.classes.now kept pool) same k.kept in
     let done : AreOpen p c.args.classes.now kept (living_side s.processors 0 pool world.slots world.begun world.standings s.maps) =
     all-open p c.args.classes.now kept pool world.slots world.begun world.standings c.requires.fits (subst HasConditions same c.requires.fine)
-    (subst (λ (x : Parts). first_limit x ≡ None) same c.requires.limits) k.many filled w.slots w.begun w.standings in
+    (subst (λ (x : Parts). first_limit x ≡ None) same c.requires.limits) k.many
+    (subst (λ (x : Parts). are_apart (map (λ (m : MapDeclaration). m.name) x.maps) ≡ true) same c.requires.apart) filled w.slots w.begun w.standings in
     subst (AreOpen p c.args.classes.now kept) (sym (side-is s.processors 0 world pool s.maps w.side w.asked (w.contents ∙ (c.in_ok-contents.ensures ∙ ap empty_slots c.as_slice.ensures)) (w.graphs ∙ (c.in_ok-graphs.ensures ∙ ap empty_graphs c.as_slice-2.ensures)))) done

@@ -1,4 +1,3 @@
-use Rattle.std.proofs.Common.{refl}
 use Rattle.bm_generator.specs.Generated.{generated}
 use Rattle.bm_tool.specs.Outcome.{generated_text}
 use Rattle.bm_tool.proofs.generate.generated_texts_are_servable.Goals as goal
@@ -10,7 +9,6 @@ returns c count start le =
       within = law.short;
       reading = generated count start;
       reads = law.has_reading;
-      built = refl;
       limits = law.within_limits;
       accepted = law.accepted;
     }

@@ -7,4 +7,4 @@ pub returns-in-Err-clause-cause : goal.returns-in-Err-clause-cause
 returns-in-Err-clause-cause c =
     let s = c.in_ok-scenario.scenario in
     let within : first_limit s ≡ None = search rules in
-    rejected c.args.command c.args.bytes.now s c.rejection.result c.requires c.in_ok-scenario.ensures.reads c.in_ok-scenario.ensures.built within (as_given s c.parts.result.now c.rejection.result (c.parts.ensures.value ∙ c.in-Err.ensures.given_back) c.rejection.ensures)
+    rejected c.args.bytes.now s c.rejection.result c.requires c.in_ok-scenario.ensures.reads within (as_given s c.parts.result.now c.rejection.result (c.parts.ensures.value ∙ c.in-Err.ensures.given_back) c.rejection.ensures)

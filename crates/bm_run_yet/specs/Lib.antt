@@ -1,2 +1,0 @@
-pub mod Yet
-pub mod Unbuilt
