@@ -4,7 +4,7 @@
 For each seed a scenario is made, replayed by both, and the journals are compared byte by byte; one that differs is told, and
 its scenario kept in the folder for temporary files. Scenarios that exceed the limit of statements are left out. The last line
 counts. The status is 0 where no journal differs. With `--processors` the scenarios are of two to eight processors, with `--slots` they have
-slots, which handlers exchange too, and with `--objects` they are of the whole language: with lists and trees, which the program can't run yet.
+slots, which handlers exchange too, and with `--objects` they are of the whole language: with slots, lists and trees.
 """
 
 import subprocess

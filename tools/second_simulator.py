@@ -4,9 +4,8 @@
     tools/second_simulator.py replay [--totals] < SCENARIO
 
 It was written from the rules alone, which docs/caches.md, docs/deferred-work.md, docs/grace-periods.md, docs/handlers.md
-and docs/journals.md restate, and shares no code with the program. It knows the whole language: what the program can't run yet
-(a second reference, a field that is read, slots, lists, trees and locks) it runs too, by second_objects.py. Nothing of it is proved. It
-answers as the program does, but that it refuses no form as `not_yet`.
+and docs/journals.md restate, and shares no code with the program. It knows the whole language: references, fields, slots, lists, trees and
+locks by second_objects.py. Nothing of it is proved. It answers as the program does.
 """
 
 import sys
