@@ -1,7 +1,7 @@
 -- Worked orders of two processors. Units are of class 10, whose units have 4096 bytes, so that a page has one unit: those of three pages
 -- are 0, 256 and 512.
 use Rattle.std.specs.Prelude.{ℕ, List, [], ◌∷◌, ◌++◌}
-use Rattle.bm_journal.specs.declared.ids.Domain.TheVariants.{Plain}
+use Rattle.bm_journal.specs.declared.ids.Domain.TheVariants.{Plain, Tracing}
 use Rattle.bm_journal.specs.declared.period.Period.{Period}
 use Rattle.bm_journal.specs.declared.units.Units.TheVariants.{Whole}
 use Rattle.bm_journal.specs.declared.entry.Entry.{Entry}
@@ -69,6 +69,18 @@ other_word = fills ++ (first_turns ++ entries 1 (entry.Out Plain 4 ∷ []))
 abbrev pub other_unit : Order
 other_unit = fills ++ entries 0 (entry.Fetch 10 1 (Whole (768 ∷ [])) ∷ [])
 
+-- The fetch gives the unit of a page that was taken before.
+abbrev pub taken_page : Order
+taken_page = fills ++ entries 0 (entry.Fetch 10 1 (Whole (256 ∷ [])) ∷ [])
+
+-- Two units are fetched, and the greater one comes first.
+abbrev pub greater_first : Order
+greater_first = entries 0 (entry.Fetch 10 2 (Whole (256 ∷ 0 ∷ [])) ∷ [])
+
+-- Two units are fetched, and one comes, though there are three.
+abbrev pub too_few : Order
+too_few = entries 0 (entry.Fetch 10 2 (Whole (0 ∷ [])) ∷ [])
+
 -- A unit is returned that isn't out any more.
 abbrev pub returned_twice : Order
 returned_twice = fills ++ entries 0 (entry.Return 10 (Whole (0 ∷ [])) ∷ entry.Return 10 (Whole (0 ∷ [])) ∷ [])
@@ -93,3 +105,14 @@ two_sent unit =
 -- The sweep of the inbox leaves the parcel that waits there.
 abbrev pub left_behind : Order
 left_behind = fills ++ (entries 0 (entry.Send 10 1 (Whole (0 ∷ [])) ∷ []) ++ entries 1 (entry.Sweep 10 (Whole []) ∷ []))
+
+-- ---- a closing
+
+-- Processor 0 sweeps its unit, and a tracing period passes before the unit goes back, with these numbers: the stamp of what it swept,
+-- the one at the begin of the period, the one at its end, and the one that it sees then.
+abbrev pub closes : (stamp begun ended seen : ℕ) → Order
+closes stamp begun ended seen =
+    fills
+    ++ entries 0 (entry.Sweep 10 (Whole (0 ∷ [])) ∷ entry.Stamp 10 Tracing stamp ∷ entry.Begin Tracing begun
+    ∷ entry.Finish (record { domain = Tracing; number = ended; first = 0 ∷ 0 ∷ 0 ∷ 0 ∷ []; later = 0 ∷ 0 ∷ 0 ∷ 0 ∷ [] })
+    ∷ entry.Pass 10 Tracing seen ∷ entry.Return 10 (Whole (0 ∷ [])) ∷ [])

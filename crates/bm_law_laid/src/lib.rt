@@ -10,7 +10,8 @@
 //!   over an order.
 //! - `whole_law`, `named_law`: an order of logs, as a run's one order is, names what the logs name.
 //! - `journal_law`: what bm_law_lives says of logs, as far as it follows from an order of them that is laid.
-//! - `worked_orders`: orders that are laid, and wrong ones beside them; `worked_journal`: a whole journal that is laid.
+//! - `worked_orders`, `worked_closings`: orders that are laid, and wrong ones beside them; `worked_journal`: a whole journal that is
+//!   laid.
 //! - `worked_polls`, `worked_seals`: orders in which polls have rested and units have waited, and wrong ones beside them.
 //!
 //! That the order of a run is laid is proved where the run is. What one log says by itself, as which units are on which
@@ -27,4 +28,4 @@ pub use laws::{
     lives_ended_law, lives_given_law, numbers_law, parcels_law, references_law, returns_law,
 };
 pub use logs::{journal_law, named_law, whole_law};
-pub use worked::worked_orders;
+pub use worked::{worked_closings, worked_orders};

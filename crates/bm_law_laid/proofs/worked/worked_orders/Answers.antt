@@ -1,4 +1,4 @@
-use Rattle.std.proofs.Common.{◌≡◌, ℕ, List, [], ◌∷◌, refl, ap, inl, inr, arith}
+use Rattle.std.proofs.Common.{◌≡◌, ℕ, List, [], ◌∷◌, refl, ap, inl, inr, arith, length}
 use Rattle.std.proofs.lemmas.Bool.{false≢true}
 use Rattle.bm_class.specs.Sizes.{size_of_class}
 use Rattle.bm_page.specs.Stock.{any_out, fetched, given, is_stock_of, least_below, next_unit, returned, unit_given}
@@ -121,6 +121,22 @@ first-same x y e = ap first e
 pub returns-clause-unit : goal.returns-clause-unit
 unfolding any_out fetched given is_stock_of least_below next_unit returned size_of_class unit_given
 returns-clause-unit c h = let same = first-same 768 512 h.1.1.0.pages in omega (arith, same)
+
+pub returns-clause-page : goal.returns-clause-page
+unfolding any_out fetched given is_stock_of least_below next_unit returned size_of_class unit_given
+returns-clause-page c h = let same = first-same 256 512 h.1.1.0.pages in omega (arith, same)
+
+pub returns-clause-greater : goal.returns-clause-greater
+unfolding any_out fetched given is_stock_of least_below next_unit returned size_of_class unit_given
+returns-clause-greater c h = let same = ap first_of h.0.pages in omega (arith, same)
+  where
+    first_of : List ℕ → ℕ
+    first_of [] = 0
+    first_of (x ∷ xs) = x
+
+pub returns-clause-few : goal.returns-clause-few
+unfolding any_out fetched given is_stock_of least_below next_unit returned size_of_class unit_given
+returns-clause-few c h = let same = ap length h.0.pages in omega (arith, same)
 
 pub returns-clause-returned : goal.returns-clause-returned
 unfolding any_out fetched given is_stock_of least_below next_unit returned size_of_class unit_given
