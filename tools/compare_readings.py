@@ -1,28 +1,34 @@
 #!/usr/bin/env python3
-"""Makes texts to compare the program's `read_journal` with a second reader, which judges them.
+"""Compares `read_journal` with a second reader, which judges the same texts.
 
-No command reads journals, so the answers are compared by a program of its own: one that reads texts, each behind a line with its
-length, and prints for each a line, `OK` or the line of the fault. Into the folder go files of such texts, and beside each, as
-NAME.stdout, what the second reader says of them; `rt try --cases FOLDER` runs that program on each and compares.
+No command reads journals, so tools/read_texts.rt is the program that does: it reads texts, each behind a line with its length, and
+prints for each a line, `OK` or the line of the fault; `OK` only where the text of the journal read is the text again. Into the folder
+go files of such texts, and beside each, as NAME.stdout, what the second reader says of them. Then the program is built, without
+proofs, in a copy of the repository's crates below the folder, and `rt try --cases` runs it on each file and compares.
 
-For each seed there are three journals: an example, one that the second simulator leaves of a random scenario, and one drawn line by
-line from the forms of lines, some of whose numbers and words are wrong by a little. Of each of these come the text itself, and the
-text with a byte changed, with a line dropped, with a line doubled, with its end cut off, and with a piece of its beginning behind it.
-The last line counts the texts, and how many of them are journals.
+For each seed there are three journals: an example, one that the second simulator leaves of a random scenario of the whole language,
+of one processor or of several, and one drawn line by line from the forms of lines, some of whose numbers and words are wrong by a
+little. Of each of these come the text itself, and the text with a byte changed, with a line dropped, with a line doubled, with its end
+cut off, and with a piece of its beginning behind it. A line counts the texts, and how many of them are journals; then come the lines of
+`rt try`. The status is 0 where no answer differs.
 """
 
 import argparse
 import random
+import shutil
+import subprocess
+import sys
 from collections.abc import Iterator
 from pathlib import Path
 
-from random_scenarios import Maker
+from object_scenarios import ObjectMaker
 from second_reader import BYTE, CALL_FORMS, ENTRY_FORMS, LIMITS, LISTS, LONG, NUMBER, SHORT, SIZES, TOTALS, first_wrong
 from second_simulator import Simulator
 
-EXAMPLES = sorted((Path(__file__).parent.parent / "examples").glob("*.journal"))
+TOOLS = Path(__file__).parent
+EXAMPLES = sorted((TOOLS.parent / "examples").glob("*.journal"))
 # longer journals are left out, since the program is run as built by `rt try`, with all its checks
-LONGEST = 15_000
+LONGEST = 60_000
 FILE_BYTES = 2_000_000
 NAMES = ["a", "_", "q0", "Item", "x" * 31]
 
@@ -131,7 +137,7 @@ def turned(text: bytes, draw: random.Random) -> Iterator[bytes]:
 def texts(seeds: range) -> Iterator[bytes]:
     for seed in seeds:
         draw = random.Random(seed)
-        simulated = Simulator(Maker(seed).scenario()).journal().encode()
+        simulated = Simulator(ObjectMaker(seed, seed % 2 == 0).scenario()).journal().encode()
         for journal in (EXAMPLES[seed % len(EXAMPLES)].read_bytes(), simulated, Drawer(seed).journal()):
             if len(journal) <= LONGEST:
                 yield from turned(journal, draw)
@@ -142,26 +148,46 @@ def put(folder: Path, name: str, held: list[bytes], answers: list[int]) -> None:
     (folder / f"{name}.stdout").write_text("".join(f"{line or 'OK'}\n" for line in answers))
 
 
-def main() -> None:
-    parser = argparse.ArgumentParser(description=__doc__, formatter_class=argparse.RawDescriptionHelpFormatter)
-    parser.add_argument("folder", type=Path, help="where the files go")
-    parser.add_argument("first", type=int, help="the first seed")
-    parser.add_argument("last", type=int, help="the last seed")
-    given = parser.parse_args()
-    given.folder.mkdir(parents=True, exist_ok=True)
+def make_texts(folder: Path, seeds: range) -> None:
+    """Puts the texts into the folder, with what the second reader says of them, and counts them."""
     held: list[bytes] = []
     answers: list[int] = []
     files, count, journals, size = 0, 0, 0, 0
-    for text in texts(range(given.first, given.last + 1)):
+    for text in texts(seeds):
         held.append(text)
         answers.append(first_wrong(text))
         count, journals, size = count + 1, journals + (answers[-1] == 0), size + len(text)
         if size > FILE_BYTES:
-            put(given.folder, f"texts-{files:04}", held, answers)
+            put(folder, f"texts-{files:04}", held, answers)
             held, answers, files, size = [], [], files + 1, 0
-    put(given.folder, f"texts-{files:04}", held, answers)
-    print(f"{count} texts in {files + 1} files, {journals} of them journals")
+    put(folder, f"texts-{files:04}", held, answers)
+    print(f"{count} texts in {files + 1} files, {journals} of them journals", flush=True)
+
+
+def make_program(built: Path) -> Path:
+    """Copies the repository's crates, with one more that reads texts, and answers the folder of that one."""
+    top = TOOLS.parent
+    shutil.copytree(top / "crates", built / "crates", ignore=shutil.ignore_patterns("out", "must-fail"))
+    shutil.copy(top / "HANDLES", built)
+    crate = built / "crates" / "read_texts"
+    (crate / "src").mkdir(parents=True)
+    shutil.copy(TOOLS / "read_texts.rt", crate / "src" / "main.rt")
+    (built / "crates.txt").write_text((top / "crates.txt").read_text() + "read_texts: bm_journal bm_journal_reader bm_text\n")
+    return crate
+
+
+def main() -> int:
+    parser = argparse.ArgumentParser(description=__doc__, formatter_class=argparse.RawDescriptionHelpFormatter)
+    parser.add_argument("folder", type=Path, help="where the texts and the program go; it isn't there yet")
+    parser.add_argument("first", type=int, help="the first seed")
+    parser.add_argument("last", type=int, help="the last seed")
+    given = parser.parse_args()
+    folder = given.folder.resolve()
+    cases = folder / "texts"
+    cases.mkdir(parents=True)
+    make_texts(cases, range(given.first, given.last + 1))
+    return subprocess.run(["rt", "try", "--cases", str(cases)], cwd=make_program(folder), check=False).returncode
 
 
 if __name__ == "__main__":
-    main()
+    sys.exit(main())
