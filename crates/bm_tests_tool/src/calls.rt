@@ -83,6 +83,15 @@ pub(crate) fn agrees(
     assert_eq!(rt; called.out.as_slice(), out.as_bytes(), "{note}");
 }
 
+// A call is done, and what it wrote ends so.
+pub(crate) fn ends_with(rt: &impl Abort, called: &Called, end: &str, note: &str) {
+    assert_eq!(rt; called.status, 0, "{note}");
+    assert_eq!(rt; called.err.len(), 0, "{note}");
+    let from = called.out.len().saturating_sub(end.len());
+    let written = called.out.as_slice().get(from..).unwrap_or(&[]);
+    assert_eq!(rt; written, end.as_bytes(), "{note}");
+}
+
 // `replay` prints and answers the journal of a text.
 fn gives_its_journal(
     rt: &impl Abort,

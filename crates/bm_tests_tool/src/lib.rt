@@ -14,6 +14,10 @@ mod graph_tests;
 #[cfg(test)]
 mod handler_tests;
 #[cfg(test)]
+mod held_up_tests;
+#[cfg(test)]
+mod hostile_tests;
+#[cfg(test)]
 mod journal_tests;
 #[cfg(test)]
 mod opening_tests;

@@ -1,7 +1,7 @@
 //! Texts that are refused, with the status and the line of each. They are worked out by hand from the rules.
 
 use crate::calls::{agrees, call};
-use crate::examples::one_object::SCENARIO;
+use crate::examples::one_object::{JOURNAL, SCENARIO};
 use bm_tool::out_of_memory;
 use std::alloc::Global;
 use std::process::Abort;
@@ -55,7 +55,22 @@ const TOTALS: &[&str] = &["replay", "--totals"];
 
 const CHECK: &[&str] = &["check"];
 
-// A text is refused with this status and this line, and no journal is answered.
+// Bytes are refused with this status and this line, nothing is printed, and no journal is answered.
+fn bytes_are_refused(
+    rt: &impl Abort,
+    alloc: Global,
+    words: &[&str],
+    bytes: &[u8],
+    status: u8,
+    line: &str,
+    note: &str,
+) -> Result<(), Fail> {
+    let called = call(alloc, words, bytes)?;
+    agrees(rt, &called, status, "", line, note);
+    assert!(rt; !called.answered, "{note}");
+    Ok(())
+}
+
 fn is_refused(
     rt: &impl Abort,
     alloc: Global,
@@ -65,10 +80,7 @@ fn is_refused(
     line: &str,
     note: &str,
 ) -> Result<(), Fail> {
-    let called = call(alloc, words, text.as_bytes())?;
-    agrees(rt, &called, status, "", line, note);
-    assert!(rt; !called.answered, "{note}");
-    Ok(())
+    bytes_are_refused(rt, alloc, words, text.as_bytes(), status, line, note)
 }
 
 // A body for each rule that a script without graphs can break. It begins on line 7.
@@ -459,6 +471,58 @@ fn a_processor_runs_20_000_statements(rt: HostRuntime) -> Result<(), Fail> {
     Ok(())
 }
 
+// Fifteen objects, of which each is given up before the next one is asked for: 5 steps and 4 for each, and 4 for the closing.
+const FIFTEEN_OBJECTS: &str = "total steps 139
+total given 15
+total empty 0
+total busy 0
+total last 15
+total still 0
+total acquired 0
+total exchanged 0
+total pushed 0
+total already 0
+total taken 0
+total none 0
+total raised 15
+total worked 0
+total fetched 4
+total returned 4
+total plain 0
+total tracing 1
+total handlers 0
+";
+
+// A script of so many `if`s, each inside the one before. The first three lines are those of the first one, up to its `drop`.
+fn with_ifs(alloc: Global, count: u32) -> Result<String, Fail> {
+    let mut body = String::new(alloc);
+    for _ in 0..count {
+        body.push_str("new x item 1\nif x {\ndrop x\n")?;
+    }
+    for _ in 0..count {
+        body.push_str("}\n")?;
+    }
+    with_body(alloc, "type item { a }", body.as_str())
+}
+
+// Fifteen `if`s are sixteen blocks with the script's own. The block of a sixteenth `if` is refused where it opens. The first `if` stands
+// on line 8, and each other one three lines after the one that it is inside of.
+#[test]
+fn blocks_stand_sixteen_deep(rt: HostRuntime) -> Result<(), Fail> {
+    let deepest = with_ifs(rt.alloc(), 15)?;
+    let called = call(rt.alloc(), CHECK, deepest.as_bytes())?;
+    agrees(&rt, &called, 0, "accepted\n", "", "15");
+    let called = call(rt.alloc(), TOTALS, deepest.as_bytes())?;
+    agrees(&rt, &called, 0, FIFTEEN_OBJECTS, "", "15");
+    let err = "bpfmem: line 53 column 6: depth\n";
+    let deeper = with_ifs(rt.alloc(), 16)?;
+    is_refused(&rt, rt.alloc(), CHECK, deeper.as_str(), 5, err, "16")?;
+    is_refused(&rt, rt.alloc(), REPLAY, deeper.as_str(), 5, err, "16")?;
+    let deeper = with_ifs(rt.alloc(), 17)?;
+    is_refused(&rt, rt.alloc(), CHECK, deeper.as_str(), 5, err, "17")?;
+    is_refused(&rt, rt.alloc(), REPLAY, deeper.as_str(), 5, err, "17")
+}
+
 // A text that plans so many handlers, of which none runs.
 fn with_planned(alloc: Global, count: u32) -> Result<String, Fail> {
     let mut text = format!(in alloc;
@@ -506,12 +570,17 @@ fn are_cut_off(rt: &impl Abort, alloc: Global, rows: &[(usize, &str)]) -> Result
     Ok(())
 }
 
-// Each front ends with status 5, but the one without its last line feed, which is whole.
+// Each front ends with status 5 and prints nothing, but the one without its last line feed, which is whole.
 fn fronts_are_refused(rt: &impl Abort, alloc: Global, text: &[u8]) -> Result<(), Fail> {
     for cut in 0..text.len() {
         let called = call(alloc, REPLAY, text.get(..cut).unwrap_or(text))?;
-        let status = if text.len() - cut > 1 { 5 } else { 0 };
-        assert_eq!(rt; called.status, status, "{cut}");
+        if text.len() - cut > 1 {
+            assert_eq!(rt; called.status, 5, "{cut}");
+            assert_eq!(rt; called.out.len(), 0, "{cut}");
+            assert!(rt; !called.answered, "{cut}");
+        } else {
+            agrees(rt, &called, 0, JOURNAL, "", "whole");
+        }
     }
     Ok(())
 }
@@ -520,6 +589,67 @@ fn fronts_are_refused(rt: &impl Abort, alloc: Global, text: &[u8]) -> Result<(),
 fn texts_that_were_cut_off(rt: HostRuntime) -> Result<(), Fail> {
     are_cut_off(&rt, rt.alloc(), CUTS)?;
     fronts_are_refused(&rt, rt.alloc(), SCENARIO.as_bytes())
+}
+
+// Each token of the scenario: how many bytes stand before it, and its place.
+const TOKENS: &[(usize, &str)] = &[
+    (0, "line 1 column 1"),
+    (9, "line 1 column 10"),
+    (11, "line 2 column 1"),
+    (22, "line 2 column 12"),
+    (24, "line 3 column 1"),
+    (30, "line 3 column 7"),
+    (32, "line 4 column 1"),
+    (41, "line 4 column 10"),
+    (45, "line 5 column 1"),
+    (50, "line 5 column 6"),
+    (55, "line 5 column 11"),
+    (57, "line 5 column 13"),
+    (59, "line 5 column 15"),
+    (61, "line 6 column 1"),
+    (68, "line 6 column 8"),
+    (73, "line 6 column 13"),
+    (79, "line 6 column 19"),
+    (81, "line 7 column 1"),
+    (85, "line 7 column 5"),
+    (87, "line 7 column 7"),
+    (92, "line 7 column 12"),
+    (94, "line 8 column 1"),
+    (97, "line 8 column 4"),
+    (99, "line 8 column 6"),
+    (101, "line 8 column 8"),
+    (106, "line 8 column 13"),
+    (108, "line 8 column 15"),
+    (110, "line 9 column 1"),
+    (112, "line 10 column 1"),
+    (116, "line 10 column 5"),
+    (118, "line 10 column 7"),
+    (123, "line 11 column 1"),
+];
+
+// A byte that can begin no token, in front of each of these.
+fn stray_bytes_are_told(
+    rt: &impl Abort,
+    alloc: Global,
+    text: &[u8],
+    rows: &[(usize, &str)],
+) -> Result<(), Fail> {
+    for (before, place) in rows {
+        let mut bytes = Vec::from_slice(alloc, text.get(..*before).unwrap_or(text))?;
+        bytes.push(200)?;
+        bytes.extend_from_slice(text.get(*before..).unwrap_or(&[]))?;
+        let told = format!(in alloc; "bpfmem: {place}: byte\n")?;
+        let bytes = bytes.as_slice();
+        bytes_are_refused(rt, alloc, REPLAY, bytes, 5, told.as_str(), place)?;
+        bytes_are_refused(rt, alloc, TOTALS, bytes, 5, told.as_str(), place)?;
+        bytes_are_refused(rt, alloc, CHECK, bytes, 5, told.as_str(), place)?;
+    }
+    Ok(())
+}
+
+#[test]
+fn a_stray_byte_before_each_token(rt: HostRuntime) -> Result<(), Fail> {
+    stray_bytes_are_told(&rt, rt.alloc(), SCENARIO.as_bytes(), TOKENS)
 }
 
 #[test]
