@@ -6,5 +6,6 @@ mod Returning
 mod Sweeping
 mod Swept
 mod Classes
+mod Stops
 mod Closes
 pub mod Others

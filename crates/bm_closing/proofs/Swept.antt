@@ -44,7 +44,7 @@ use Rattle.bm_closing.proofs.Sweeping.{batched, batched-second}
 -- ---- its entries
 
 -- a gathering and a return are a sweep
-sweep-of : (c : ℕ) (ns : List ℕ) (w : Waited) → w.period.domain ≡ Tracing → w.stamp ≤ w.seen → SweepOf c ns (gathering c ns w ++ entry.Return c (Whole ns) ∷ [])
+pub sweep-of : (c : ℕ) (ns : List ℕ) (w : Waited) → w.period.domain ≡ Tracing → w.stamp ≤ w.seen → SweepOf c ns (gathering c ns w ++ entry.Return c (Whole ns) ∷ [])
 sweep-of c ns w d le =
     let begun : List Entry = entry.Begin Tracing w.begun ∷ entry.Finish w.period ∷ [] in
     let poll : List Entry = entry.Begin Tracing w.begun ∷ entry.Finish w.period ∷ entry.Pass c Tracing w.seen ∷ [] in
@@ -68,7 +68,7 @@ level-at : (l : ℕ) (v : List Entry) → AllAt l (at_level l v)
 level-at l [] = tt
 level-at l (e ∷ v) = (refl, level-at l v)
 
-alone-adds : (l : ℕ) (own : List Entry) (a b : Option Log) → Adds l own a b → Alone l a b
+pub alone-adds : (l : ℕ) (own : List Entry) (a b : Option Log) → Adds l own a b → Alone l a b
 alone-adds l own a None h = tt
 alone-adds l own a (Some now) h = record { log = h.log; told = h.told; added = at_level l own; now_is = h.now_is; at = level-at l own }
 
@@ -83,7 +83,7 @@ where-none c ns s e = let F : List ℕ → Type 0 = λ ms. SweepWhere c ms s [] 
 -- ---- its units
 
 -- they are named by the numbers of the lists and then of those that came
-swept-named : (c : ℕ) (us : List Token) (s : State Token) → swept c us s ≡ seven_lists ((seen number_of s).rows c) ++ numbers us
+pub swept-named : (c : ℕ) (us : List Token) (s : State Token) → swept c us s ≡ seven_lists ((seen number_of s).rows c) ++ numbers us
 swept-named c us s = map-append number_of (seven_lists (s.rows c)) us ∙ ap (λ (x : List ℕ). x ++ map number_of us) (map-seven number_of (s.rows c))
 
 -- the lists afterwards
@@ -143,7 +143,7 @@ module _ {H R : Type 0} (log : R → Option Log) (faces : H → Face) (waits : H
       all-came : ◌≡◌ {A = List UnitState} e.came.came us
       all-came = sym e.came.units_are
 
-      told-came : IfSome (known a).parcels (λ boxes. numbers us ≡ concat (boxes c))
+      pub told-came : IfSome (known a).parcels (λ boxes. numbers us ≡ concat (boxes c))
       told-came = let F : List UnitState → Type 0 = λ vs. IfSome (known a).parcels (λ boxes. numbers vs ≡ concat (boxes c)) in subst F all-came e.came.parcels
 
       none-told : IfSome (known a).parcels (λ boxes. numbers us ≡ [] → boxes c ≡ [])

@@ -9,6 +9,7 @@ pub mod Swept
 pub mod Sweeps
 pub mod EndsBegun
 pub mod SweepsEach
+pub mod Stops
 pub mod Closes
 pub mod Crews
 pub mod Others

@@ -1,6 +1,6 @@
 //! The closing of a processor on a desk: periods that end, and sweeps.
 
-ghost use Rattle.std.specs.Prelude.{◌≡◌, ◌≢◌, ◌+◌, ◌++◌, ◌%◌, ◌<◌, ◌≤◌, ℕ, List, [], true, false, length, map, IfOk, OnOk, IsTrue, is_some};
+ghost use Rattle.std.specs.Prelude.{◌≡◌, ◌≢◌, ◌+◌, ◌++◌, ◌%◌, ◌<◌, ◌≤◌, ℕ, List, [], true, false, length, map, vec_capacity, vec_len, IfOk, OnErr, OnOk, IsTrue, is_some};
 ghost use Rattle.std.specs.List.{All, flat_map};
 ghost use Rattle.bm_journal.specs.declared.ids.Domain.TheVariants.{Plain, Tracing};
 ghost use Rattle.bm_law.specs.Stands.{stands, times};
@@ -27,6 +27,7 @@ ghost use Rattle.bm_closing.specs.Closes.{ClosesBy};
 ghost use Rattle.bm_closing.specs.Emptied.{Emptied};
 ghost use Rattle.bm_closing.specs.Gathered.{Gathered, swept};
 ghost use Rattle.bm_closing.specs.SentBack.{SentBack};
+ghost use Rattle.bm_closing.specs.Stops.{StopsSweep, Unreturned};
 ghost use Rattle.bm_closing.specs.Sweeps.{Sweeps};
 ghost use Rattle.bm_closing.specs.Swept.{Swept};
 ghost use Rattle.bm_closing.specs.Told.{receives_all};
@@ -35,7 +36,7 @@ ghost use Rattle.bm_closing.specs.declared.period.Waited.{Waited as WaitedValue}
 
 use crate::Ended;
 use crate::gathering::{gather, units_of};
-use crate::inbox::{give_up_parcels, give_up_units, numbers_of, receive_all};
+use crate::inbox::{give_up_parcels, receive_all, write_numbers};
 use crate::period::{end_driven, wait_period};
 use bm_cache::Host;
 use bm_class::Class;
@@ -75,7 +76,8 @@ pub fn end_period<R: Recorder, H: Ended<R>>(host: &mut H, domain: Domain)
     host.caches().finished(level, period);
 }
 
-/// All parcels of a class's inbox, each of which holds a unit. Want of memory is the only refusal.
+/// All parcels of a class's inbox, each of which holds a unit. Want of memory is the only refusal, and leaves the caches as they
+/// were; parcels that were received are lost then.
 fn empty_inbox<R: Recorder, H: Ended<R>>(
     alloc: Global,
     host: &mut H,
@@ -88,6 +90,7 @@ fn empty_inbox<R: Recorder, H: Ended<R>>(
     ensures rest { OnOk result (StaysAtRest H.W.Knows.rest (H.shared host.old) (H.shared host.new)) }
     ensures at_end { OnOk result (AtEnd R.log R.counts Whatever H.Host.tests H.Host.face H.Host.held host.new) }
     ensures owes { IfOk result (λ parcels. H.owes (receives_all class (map (λ p. numbers p.items) parcels.items)) [] host.new) }
+    ensures refused { OnErr result (H.Host.held host.new ≡ H.Host.held host.old) }
 {
     let mut parcels = Vec::new(alloc);
     if receive_all(host.world(), class, &mut parcels).is_err() {
@@ -123,7 +126,63 @@ fn gather_all<R: Recorder, H: Ended<R>>(host: &mut H, class: Class, parcels: Vec
     gather(host.caches(), class, parcels, waited);
 }
 
-/// The tracing batch of a class, whose units may leave, goes back to the stock. Want of memory is the only refusal.
+/// An empty list with room for the numbers of the units of a class's tracing batch. Want of memory is the only refusal. Nothing
+/// changes.
+fn room_for_return<R: Recorder, H: Ended<R>>(
+    alloc: Global,
+    host: &mut H,
+    class: Class,
+) -> Result<Vec<u16>, NoMemory>
+    requires at_end { AtEnd R.log R.counts H.Host.sound H.Host.tests H.Host.face
+        H.Host.held host.old }
+    ensures room { IfOk result (λ numbers. (vec_len numbers ≡ 0)
+        × (length ((shown (H.Host.held host.old)).rows class).deferred.second
+        ≤ vec_capacity numbers)) }
+    ensures same { H.Host.held host.new ≡ H.Host.held host.old }
+    ensures handled { Handled H.Host.face H.Host.pending H.stays H.shared H.Host.tests
+        host.old host.new }
+    ensures at_end { AtEnd R.log R.counts H.Host.sound H.Host.tests H.Host.face
+        H.Host.held host.new }
+{
+    let count = host.caches().counts(class).second;
+    Ok(Vec::with_capacity(alloc, count as usize)?)
+}
+
+/// The tracing batch of a class, whose units may leave, goes back to the stock. The list has room for their numbers. Want of
+/// memory is the only refusal, and leaves the caches as they were.
+fn send_back_now<R: Recorder, H: Ended<R>>(
+    host: &mut H,
+    class: Class,
+    numbers: Vec<u16>,
+) -> Result<(), NoMemory>
+    requires at_end { AtEnd R.log R.counts H.Host.sound H.Host.tests H.Host.face H.Host.held host.old }
+    requires progress { IsTrue (is_some ((shown (H.Host.held host.old)).rows class).deferred.tracing) }
+    requires fit { All (MayLeave (H.W.Knows.rights (H.shared host.old))) ((shown (H.Host.held host.old)).rows class).deferred.second }
+    requires empty { vec_len numbers ≡ 0 }
+    requires room { length ((shown (H.Host.held host.old)).rows class).deferred.second
+        ≤ vec_capacity numbers }
+    ensures gone { OnOk result (Loses (map number_of ((shown (H.Host.held host.old)).rows class).deferred.second) (H.W.Knows.rights (H.shared host.old)) (H.W.Knows.rights (H.shared host.new))) }
+    ensures sent { OnOk result (SentBack R.log class (H.Host.held host.old) (H.Host.held host.new)) }
+    ensures alike { OnOk result (Alike (H.W.Knows.known (H.shared host.old)) (H.W.Knows.known (H.shared host.new))) }
+    ensures grace { OnOk result ((H.W.Knows.known (H.shared host.new)).grace ≡ (H.W.Knows.known (H.shared host.old)).grace) }
+    ensures parcels { OnOk result ((H.W.Knows.known (H.shared host.new)).parcels ≡ (H.W.Knows.known (H.shared host.old)).parcels) }
+    ensures does { OnOk result (ClosesBy H.W.Knows.does (H.shared host.old) (H.shared host.new)) }
+    ensures rest { OnOk result (StaysAtRest H.W.Knows.rest (H.shared host.old) (H.shared host.new)) }
+    ensures goes { OnOk result (Goes H.Host.face H.Host.pending H.stays host.old host.new) }
+    ensures at_end { OnOk result (AtEnd R.log R.counts H.Host.sound H.Host.tests H.Host.face H.Host.held host.new) }
+    ensures refused { OnErr result (H.Host.held host.new ≡ H.Host.held host.old) }
+{
+    let mut numbers = numbers;
+    let level = host.level();
+    let units = host.caches().second_out(level, class)?;
+    write_numbers(&mut numbers, &units);
+    host.world().put_back(units);
+    host.caches().returned(level, class, numbers);
+    Ok(())
+}
+
+/// The tracing batch of a class, whose units may leave, goes back to the stock. Want of memory is the only refusal, and leaves the
+/// caches as they were.
 fn send_back<R: Recorder, H: Ended<R>>(
     alloc: Global,
     host: &mut H,
@@ -141,16 +200,10 @@ fn send_back<R: Recorder, H: Ended<R>>(
     ensures rest { OnOk result (StaysAtRest H.W.Knows.rest (H.shared host.old) (H.shared host.new)) }
     ensures goes { OnOk result (Goes H.Host.face H.Host.pending H.stays host.old host.new) }
     ensures at_end { OnOk result (AtEnd R.log R.counts H.Host.sound H.Host.tests H.Host.face H.Host.held host.new) }
+    ensures refused { OnErr result (H.Host.held host.new ≡ H.Host.held host.old) }
 {
-    let level = host.level();
-    let units = host.caches().second_out(level, class)?;
-    let Ok(numbers) = numbers_of(alloc, &units) else {
-        give_up_units(units);
-        return Err(NoMemory);
-    };
-    host.world().put_back(units);
-    host.caches().returned(level, class, numbers);
-    Ok(())
+    let numbers = room_for_return(alloc, host, class)?;
+    send_back_now(host, class, numbers)
 }
 
 /// Whether neither a class's lists nor these parcels hold a unit.
@@ -170,7 +223,7 @@ fn hold_nothing<R: Recorder, H: Ended<R>>(
 }
 
 /// All units of a class's lists and of these parcels become a tracing batch, a tracing period passes, and they go back to the
-/// stock. Want of memory is the only refusal.
+/// stock. Want of memory is the only refusal: they are the batch then, and the return isn't recorded.
 fn sweep_all<R: Recorder, H: Ended<R>>(
     alloc: Global,
     host: &mut H,
@@ -188,6 +241,8 @@ fn sweep_all<R: Recorder, H: Ended<R>>(
     ensures does { OnOk result (ClosesBy H.W.Knows.does (H.shared host.old) (H.shared host.new)) }
     ensures rest { OnOk result ((n : ℕ) → n % 2 ≡ 0 → MovesNumber H.W.Knows.rest Tracing n (n + 2) (H.shared host.old) (H.shared host.new)) }
     ensures at_end { OnOk result (AtEnd R.log R.counts H.Host.sound H.Host.tests H.Host.face H.Host.held host.new) }
+    ensures memory { OnErr result (Unreturned R.log R.counts class
+        (flat_map (λ p. p.items) parcels.items) (H.Host.held host.old) (H.Host.held host.new)) }
 {
     gather_all(host, class, parcels);
     send_back(alloc, host, class)
@@ -195,9 +250,11 @@ fn sweep_all<R: Recorder, H: Ended<R>>(
 
 /// All units that this processor holds of a class, in the lists of its cache and in its inbox, go back to the stock, so that none
 /// of them is its own any more; nothing is recorded where it holds none. They become one tracing batch, and a tracing period
-/// passes the batch's stamp, since some of them may still wait for one. Want of memory is the only refusal. Units may be lost
-/// then, and the desk is fit for nothing more. From `free_mem_alloc` and `drain_mem_cache` of kernel/bpf/memalloc.c, which empty
-/// all lists of a cache after the periods that are in progress; the tracing period of each sweep is this project's own.
+/// passes the batch's stamp, since some of them may still wait for one. Want of memory is the only refusal: it stopped before it
+/// had recorded anything, or before its return, and no unit has left the lists. Parcels that were received before anything was
+/// recorded are lost then, and the desk is fit for nothing more. From `free_mem_alloc` and `drain_mem_cache` of
+/// kernel/bpf/memalloc.c, which empty all lists of a cache after the periods that are in progress; the tracing period of each
+/// sweep is this project's own.
 pub fn sweep<R: Recorder, H: Ended<R>>(
     alloc: Global,
     host: &mut H,
@@ -211,6 +268,8 @@ pub fn sweep<R: Recorder, H: Ended<R>>(
     ensures does { OnOk result (ClosesBy H.W.Knows.does (H.shared host.old) (H.shared host.new)) }
     ensures rest { OnOk result ((n : ℕ) → n % 2 ≡ 0 → (m : ℕ) × ((m % 2 ≡ 0) × MovesNumber H.W.Knows.rest Tracing n m (H.shared host.old) (H.shared host.new))) }
     ensures at_end { OnOk result (AtEnd R.log R.counts H.Host.sound H.Host.tests H.Host.face H.Host.held host.new) }
+    ensures memory { OnErr result (StopsSweep R.log R.counts H.Host.face H.Host.held
+        (λ h. H.W.Knows.known (H.shared h)) class host.old host.new) }
 {
     let parcels = empty_inbox(alloc, host, class)?;
     if hold_nothing(host, class, &parcels) {

@@ -1,6 +1,6 @@
 //! The parcels of an inbox.
 
-ghost use Rattle.std.specs.Prelude.{◌≡◌, ◌≤◌, ◌++◌, [], ℕ, List, IfOk, OnOk, length, map};
+ghost use Rattle.std.specs.Prelude.{◌≡◌, ◌≤◌, ◌++◌, [], ℕ, List, OnOk, length, map, vec_capacity, vec_len};
 ghost use Rattle.std.specs.List.{flat_map};
 ghost use Rattle.bm_grace.specs.Rest.{StaysAtRest};
 ghost use Rattle.bm_post.specs.Rights.{Lasting, numbers};
@@ -13,7 +13,6 @@ use bm_grace::Knows;
 use bm_page::Unit;
 use bm_post::Post;
 use bm_word::NoMemory;
-use std::alloc::Global;
 
 /// Ends units.
 pub(crate) fn give_up_units(units: Vec<Unit>) {
@@ -58,13 +57,15 @@ pub(crate) fn receive_all<P: Post>(
     Ok(())
 }
 
-/// The numbers of units. Want of memory is the only refusal.
-pub(crate) fn numbers_of(alloc: Global, units: &Vec<Unit>) -> Result<Vec<u16>, NoMemory>
-    ensures { IfOk result (λ numbers. numbers.items ≡ map number_of units.now.items) }
+/// The numbers of units, into a list that is empty and has room for them.
+pub(crate) fn write_numbers(numbers: &mut Vec<u16>, units: &Vec<Unit>)
+    requires empty { vec_len numbers.old ≡ 0 }
+    requires room { length units.now.items ≤ vec_capacity numbers.old }
+    ensures { numbers.new.items ≡ map number_of units.now.items }
 {
-    let mut numbers = Vec::new(alloc);
     for unit in units {
-        numbers.push(unit.number())?;
+        if let Err(_refused) = numbers.push(unit.number()) {
+            unreachable!();
+        }
     }
-    Ok(numbers)
 }

@@ -1,6 +1,6 @@
 //! The whole closing of a processor on a desk: its periods end, and then its classes are swept.
 
-ghost use Rattle.std.specs.Prelude.{◌≡◌, ◌≢◌, ◌⊎◌, ◌%◌, ◌<◌, ◌≤◌, ℕ, [], length, OnOk, IfSome};
+ghost use Rattle.std.specs.Prelude.{◌≡◌, ◌≢◌, ◌⊎◌, ◌%◌, ◌<◌, ◌≤◌, ℕ, [], length, OnErr, OnOk, IfSome};
 ghost use Rattle.std.specs.Option.{option_map};
 ghost use Rattle.bm_journal.specs.declared.ids.Domain.TheVariants.{Tracing};
 ghost use Rattle.bm_journal.specs.declared.ids.Domain.{Domain as DomainValue};
@@ -19,6 +19,7 @@ ghost use Rattle.bm_law_logs.specs.SweepsTold.{SweepsTold};
 ghost use Rattle.bm_closing.specs.AtEnd.{AtEnd, ended_at};
 ghost use Rattle.bm_closing.specs.Closes.{ClosesBy};
 ghost use Rattle.bm_closing.specs.EndsBegun.{EndsBegun};
+ghost use Rattle.bm_closing.specs.Stops.{StopsEach};
 ghost use Rattle.bm_closing.specs.SweepsEach.{SweepsEach, all_emptied};
 
 use crate::Ended;
@@ -59,8 +60,9 @@ pub fn end_periods<R: Recorder, H: Ended<R>>(host: &mut H)
 }
 
 /// The second phase of a closing, behind the first one of each processor: sweeps each of these classes of this processor, in their
-/// order (see `sweep`). Want of memory is the only refusal. Units may be lost then, and the desk is fit for nothing more. From
-/// `drain_mem_cache` and `bpf_mem_alloc_destroy` of kernel/bpf/memalloc.c; the order is this project's own.
+/// order (see `sweep`). Want of memory is the only refusal: one class's sweep stopped (see there), those before it are swept, and
+/// those behind it are as they were. The desk is fit for nothing more then. From `drain_mem_cache` and `bpf_mem_alloc_destroy` of
+/// kernel/bpf/memalloc.c; the order is this project's own.
 pub fn sweep_each<R: Recorder, H: Ended<R>>(
     alloc: Global,
     host: &mut H,
@@ -73,6 +75,8 @@ pub fn sweep_each<R: Recorder, H: Ended<R>>(
     ensures does { OnOk result (ClosesBy H.W.Knows.does (H.shared host.old) (H.shared host.new)) }
     ensures rest { OnOk result ((d : DomainValue) → (n : ℕ) × (H.W.Knows.rest (H.shared host.new) d n × (n % 2 ≡ 0))) }
     ensures at_end { OnOk result (AtEnd R.log R.counts H.Host.sound H.Host.tests H.Host.face H.Host.held host.new) }
+    ensures memory { OnErr result (StopsEach R.log R.counts H.Host.face H.Host.pending H.stays
+        H.Host.held (λ h. H.W.Knows.known (H.shared h)) classes.now host.old host.new) }
 {
     for class in classes {
         sweep(alloc, host, *class)?;

@@ -8,6 +8,7 @@ use Rattle.bm_law_order.specs.Act as act
 use Rattle.bm_law_order.specs.Chunk as chunk
 use Rattle.bm_work.specs.Owed.{Whatever}
 use Rattle.bm_work.proofs.Owing.{shows}
+use Rattle.bm_work.proofs.Sides.{on-err, on-err-any}
 use Rattle.bm_closing.specs.Told.{receives_all}
 use Rattle.bm_closing.proofs.Owed.{at-end-with}
 use Rattle.bm_cache.specs.Shown.{shown}
@@ -17,7 +18,8 @@ use Rattle.bm_cache.specs.Span.{Goes}
 use Rattle.bm_closing.proofs.AtEnds.{at-end-still, when-ok, with-ok}
 use Rattle.bm_closing.proofs.Closes.{closes-join, closes-moved}
 use Rattle.bm_closing.specs.Closes.{ClosesBy}
-use Rattle.bm_closing.proofs.Swept.{all-gone, emptied-still, sweeps-none, sweeps-some}
+use Rattle.bm_closing.proofs.Stops.{stops-before, stops-swept}
+use Rattle.bm_closing.proofs.Swept.{all-gone, emptied-still, sweeps-none, sweeps-some, told-came}
 use Rattle.bm_closing.proofs.closing.sweep.Goals as goal
 
 pub returns-then-hold_nothing-clause-sweeps : goal.returns-then-hold_nothing-clause-sweeps
@@ -112,3 +114,25 @@ returns-clause-does g c =
     let r = c.sweep_all.result in
     let F : g.row.H-W.Denot → Type 0 = λ x. ClosesBy g.H.W.Knows.does x (side f) in
     with-ok r _ (λ o. closes-join g.H.W.Knows.does g.H.W.Knows.does_join (side c.args.host.now) (side b) (side f) c.in_ok-parcels.ensures.does (subst F c.hold_nothing.ensures.handled.shared_is (when-ok r _ o c.sweep_all.ensures.does)))
+
+pub returns-in_err-parcels-clause-memory : goal.returns-in_err-parcels-clause-memory
+returns-in_err-parcels-clause-memory g c =
+    let K = λ (h : g.row.H.Denot). g.H.W.Knows.known (g.H.Desk.shared h) in
+    on-err-any c.from_residual.result (stops-before g.R.Recorder.log g.R.Recorder.counts g.H.Host.face g.H.Host.held K c.args.class c.args.host.now c.empty_inbox.new.host c.in_err-parcels.ensures.refused c.requires.at_end.fine.placed)
+
+pub returns-clause-memory : goal.returns-clause-memory
+returns-clause-memory g c =
+    let a = c.args.host.now in
+    let b = c.empty_inbox.new.host in
+    let d = c.hold_nothing.new.host in
+    let f = c.sweep_all.new.host in
+    let i = c.args.class in
+    let us = flat_map (λ p. p.items) c.in_ok-parcels.parcels.items in
+    let K = λ (h : g.row.H.Denot). g.H.W.Knows.known (g.H.Desk.shared h) in
+    let R = λ (h : g.row.H.Denot). g.H.W.Knows.rights (g.H.Desk.shared h) in
+    let q = c.hold_nothing.ensures in
+    let e = c.in_ok-parcels.ensures.emptied in
+    let told = told-came g.R.Recorder.log g.H.Host.face g.H.Host.pending g.H.Desk.stays g.H.Host.held K g.met.H.Desk.stays_join R i us a b e in
+    let S : Caches g.row.R.Denot → Type 0 = λ x. 0 < length (seven_lists ((shown x).rows i) ++ us) in
+    let some : S (g.H.Host.held d) = subst S (sym q.same) (q.something c.if-hold_nothing.false) in
+    on-err c.sweep_all.result (λ u. stops-swept g.R.Recorder.log g.R.Recorder.counts g.H.Host.face g.H.Host.held K i us a d f (q.same ∙ e.held) told some u) c.sweep_all.ensures.memory
