@@ -21,6 +21,7 @@ use Rattle.bm_law_work.specs.Parts.{Part, Nothing, Say, Then}
 use Rattle.bm_work.specs.Stops.{Or}
 use Rattle.bm_work.specs.Works.{Stopped}
 use Rattle.bm_law_scenario.specs.Closing.{AreSweeps, SweepOf}
+use Rattle.bm_closing.specs.EndsBegun.{EndsBegun}
 use Rattle.bm_closing.specs.SweepsEach.{SweepsEach}
 
 -- All entries of a sweep of these units but its return: with the return behind them they are a
@@ -33,7 +34,7 @@ abbrev pub SweepStop : ℕ → List ℕ → Part
 SweepStop c [] = Nothing
 SweepStop c (u ∷ us) = Or Nothing (Say 0 (LacksReturn c (u ∷ us)))
 
--- the sweep of a class stops, whose units are those of its lists and, behind them, some others
+-- the sweep of a class stops, of the units of its lists and, behind them, of those from its inbox
 abbrev pub ClassStop : ℕ → Part
 ClassStop c s part = (inbox : List ℕ) × SweepStop c (seven_lists (s.rows c) ++ inbox) s part
 
@@ -85,3 +86,15 @@ pub record StopsEach {H R : Type 0} (log : R → Option Log) (counts : R → Cou
   pub middle : H
   pub sweeps : SweepsEach log faces waits stays holds known done before middle
   pub stops : StopsSweep log counts faces holds known class middle now
+
+-- A closing stopped for want of memory: the periods in progress ended, which moved no unit, and the
+-- sweeps of the classes stopped.
+pub record StopsClosing {H R : Type 0} (log : R → Option Log) (counts : R → Counts) (faces : H → Face)
+    (waits : H → ℕ) (stays : H → H → Type 0) (holds : H → Caches R) (known : H → Known)
+    (cs : List ℕ) (before now : H) : Type 0 where
+  pub middle : H
+  pub ends : GrewBy (EndsBegun (known before)) (seen number_of (shown (holds before)))
+      (log (holds before).recorder) (log (holds middle).recorder)
+  pub alone : Alone 0 (log (holds before).recorder) (log (holds middle).recorder)
+  pub lists : shown (holds middle) ≡ shown (holds before)
+  pub stops : StopsEach log counts faces waits stays holds known cs middle now

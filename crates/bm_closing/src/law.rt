@@ -26,7 +26,7 @@ pub fn closing_law()
 {}
 
 /// A gathering whose period passes its stamp is a sweep that lacks its return. Wrong neighbours: with the return behind it, without
-/// the stamp, of another class, and of other units.
+/// the stamp, of another class, of other units, and where the number that was seen doesn't reach the stamp.
 pub fn stop_law()
     ensures gathered { (c : ℕ) (units : List ℕ) (w : WaitedValue) → w.period.domain ≡ Tracing →
         w.stamp ≤ w.seen → LacksReturn c units (gathering c units w) }
@@ -38,4 +38,6 @@ pub fn stop_law()
         LacksReturn c units (gathering k units w) → k ≡ c }
     ensures named { (c : ℕ) (units others : List ℕ) (w : WaitedValue) →
         LacksReturn c units (gathering c others w) → others ≡ units }
+    ensures waited { (c : ℕ) (units : List ℕ) (w : WaitedValue) →
+        LacksReturn c units (gathering c units w) → w.stamp ≤ w.seen }
 {}

@@ -19,7 +19,7 @@ ghost use Rattle.bm_law_logs.specs.SweepsTold.{SweepsTold};
 ghost use Rattle.bm_closing.specs.AtEnd.{AtEnd, ended_at};
 ghost use Rattle.bm_closing.specs.Closes.{ClosesBy};
 ghost use Rattle.bm_closing.specs.EndsBegun.{EndsBegun};
-ghost use Rattle.bm_closing.specs.Stops.{StopsEach};
+ghost use Rattle.bm_closing.specs.Stops.{StopsClosing, StopsEach};
 ghost use Rattle.bm_closing.specs.SweepsEach.{SweepsEach, all_emptied};
 
 use crate::Ended;
@@ -87,9 +87,10 @@ pub fn sweep_each<R: Recorder, H: Ended<R>>(
 /// Closes a processor whose scripts have ended. The period of the plain domain that it has in progress ends, and then that of the
 /// tracing domain. Then each class is swept, in the order of the list: all units that the processor holds of it, in the lists of
 /// its cache and in its inbox, go back to the stock, and other classes stay as they are. No handler runs. Want of memory is the
-/// only refusal. Units may be lost then, and the desk is fit for nothing more. From `free_mem_alloc`, `drain_mem_cache` and
-/// `bpf_mem_alloc_destroy` of kernel/bpf/memalloc.c, which wait for the periods that are in progress and then empty all lists of
-/// each cache; that each processor ends its own periods, the order, and the tracing period of each sweep are this project's own.
+/// only refusal: the periods have ended, and one class's sweep stopped (see `sweep_each`). The desk is fit for nothing more then.
+/// From `free_mem_alloc`, `drain_mem_cache` and `bpf_mem_alloc_destroy` of kernel/bpf/memalloc.c, which wait for the periods that
+/// are in progress and then empty all lists of each cache; that each processor ends its own periods, the order, and the tracing
+/// period of each sweep are this project's own.
 pub fn close<R: Recorder, H: Ended<R>>(
     alloc: Global,
     host: &mut H,
@@ -110,6 +111,8 @@ pub fn close<R: Recorder, H: Ended<R>>(
     ensures does { OnOk result (ClosesBy H.W.Knows.does (H.shared host.old) (H.shared host.new)) }
     ensures rest { OnOk result ((d : DomainValue) → (n : ℕ) × (H.W.Knows.rest (H.shared host.new) d n × (n % 2 ≡ 0))) }
     ensures at_end { OnOk result (AtEnd R.log R.counts H.Host.sound H.Host.tests H.Host.face H.Host.held host.new) }
+    ensures memory { OnErr result (StopsClosing R.log R.counts H.Host.face H.Host.pending H.stays
+        H.Host.held (λ h. H.W.Knows.known (H.shared h)) classes.now host.old host.new) }
 {
     end_periods(host);
     sweep_each(alloc, host, classes)

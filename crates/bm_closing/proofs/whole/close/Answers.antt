@@ -1,6 +1,7 @@
 use Rattle.bm_law_scenario.specs.Closing.{AreSweeps}
 use Rattle.bm_law.proofs.Alone.{Alone-join}
 use Rattle.bm_work_lists.proofs.Grown.{grew-then}
+use Rattle.bm_work.proofs.Sides.{on-err}
 use Rattle.bm_closing.specs.EndsBegun.{EndsBegun}
 use Rattle.bm_closing.proofs.AtEnds.{when-ok, with-ok}
 use Rattle.bm_closing.proofs.Closes.{closes-join}
@@ -49,3 +50,8 @@ returns-clause-does g c =
 
 pub end_periods-requires-clause-rest : goal.end_periods-requires-clause-rest
 end_periods-requires-clause-rest g c d = let r = c.requires.rest d in (r.0, r.1.0)
+
+pub returns-clause-memory : goal.returns-clause-memory
+returns-clause-memory g c =
+    let e = c.end_periods.ensures in
+    on-err c.sweep_each.result (λ s. record { middle = c.end_periods.new.host; ends = e.ends; alone = e.alone; lists = e.lists; stops = s }) c.sweep_each.ensures.memory
