@@ -89,9 +89,9 @@ pub record StopsEach {H R : Type 0} (log : R → Option Log) (counts : R → Cou
 
 -- A closing stopped for want of memory: the periods in progress ended, which moved no unit, and the
 -- sweeps of the classes stopped.
-pub record StopsClosing {H R : Type 0} (log : R → Option Log) (counts : R → Counts) (faces : H → Face)
-    (waits : H → ℕ) (stays : H → H → Type 0) (holds : H → Caches R) (known : H → Known)
-    (cs : List ℕ) (before now : H) : Type 0 where
+pub record StopsClosing {H R : Type 0} (log : R → Option Log) (counts : R → Counts)
+    (faces : H → Face) (waits : H → ℕ) (stays : H → H → Type 0) (holds : H → Caches R)
+    (known : H → Known) (cs : List ℕ) (before now : H) : Type 0 where
   pub middle : H
   pub ends : GrewBy (EndsBegun (known before)) (seen number_of (shown (holds before)))
       (log (holds before).recorder) (log (holds middle).recorder)
