@@ -5,3 +5,13 @@ pub mod Ungraphed
 pub mod Owned
 pub mod HandedOver
 pub mod Visited
+pub mod OutsideBlock
+pub mod LoanCalls
+pub mod LenderWorks
+pub mod BorrowerWorks
+pub mod LenderLog
+pub mod BorrowerLog
+pub mod LoanLogs
+pub mod LoanOrder
+pub mod LoanLaws
+pub mod WrongLoans
