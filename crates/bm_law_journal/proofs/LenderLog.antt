@@ -1,11 +1,12 @@
 -- The log of the processor that lends a unit is lawful.
-use Rattle.std.proofs.Common.{◌≡◌, ℕ, inl, inr, true, false, List, [], ◌∷◌, ◌++◌, None, refl, sym, ap, subst, lit≤}
+use Rattle.std.proofs.Common.{Bool, ◌≡◌, ℕ, inl, inr, true, false, List, [], ◌∷◌, ◌++◌, None, refl, sym, ap, lit≤}
 use Rattle.std.proofs.lemmas.Bool.Decides.{eqb_tells}
 use Rattle.bm_class.specs.Sizes.{class_of_size}
 use Rattle.bm_journal.specs.declared.ids.Domain.TheVariants.{Plain, Tracing}
 use Rattle.bm_journal.specs.declared.units.Units.TheVariants.{Whole}
 use Rattle.bm_journal.specs.declared.entry.Entry.{Entry}
 use Rattle.bm_journal.specs.declared.entry.Entry.TheVariants as entry
+use Rattle.bm_lang.specs.declared.scenario.Action.{Yield}
 use Rattle.bm_law.specs.State.{State, opening}
 use Rattle.bm_law.specs.Lists.{Leaves, Log, after}
 use Rattle.bm_law.specs.Null.{Nothing, NullLaw, RepliesFit}
@@ -20,25 +21,25 @@ use Rattle.bm_law_scenario.specs.Grammar.{IsLog}
 use Rattle.bm_law_scenario.specs.Held.{no_names}
 use Rattle.bm_law_scenario.specs.Lawful.{LawfulLog}
 use Rattle.bm_law_scenario.specs.Parcels.{sends_alone}
-use Rattle.bm_law_scenario.specs.Runs.{Run, RunsBlock}
+use Rattle.bm_law_scenario.specs.Runs.{Enclosed, Followed, Leaving, RunsAction, RunsBlock}
 use Rattle.bm_law_scenario.specs.SectionWords.{SectionWords}
-use Rattle.bm_law_scenario.specs.WorkedJournal.{block_of, drops_x, drops_x_unless_null, vector_of}
-use Rattle.bm_law_scenario.specs.WorkedSlots.{call_of, exchanges, puts_x, puts_x_unless_null}
+use Rattle.bm_law_scenario.specs.WorkedJournal.{block_of, drops_x, drops_x_unless_null}
+use Rattle.bm_law_scenario.specs.WorkedSlots.{call_of, exchanges, puts_x}
 use Rattle.bm_law_scenario.specs.Works.{UntilDown}
 use Rattle.bm_law_scenario.proofs.Ordinary.{all-ordinary, says, stands, then-of}
 use Rattle.bm_law_scenario.proofs.Unplanned.{done-ordinary}
-use Rattle.bm_law_journal.specs.WorkedLoan.{big_id, finds_empty, last_words, lender, lender_entries, lends, loan, makes_again, makes_x_of, receives, sealed, stays_inside, sweeps_unit, the_unit, wide_id, works_in_vain, yields}
+use Rattle.bm_law_journal.specs.WorkedLoan.{lends_statements, finds_empty, last_words, lender, lender_entries, lends, loan, makes_again, makes_x_of, receives, sealed, sweeps_unit, the_unit, wide_id, works_in_vain, yields}
 use Rattle.bm_law_journal.proofs.LoanCalls.{d, drop-wide-runs, first-unit, given_away, given_away-nothing, holding, holding_wide, new-runs, new-wide-runs, puts-runs, wide_given_up, wide_given_up-nothing}
 use Rattle.bm_law_journal.proofs.LenderWorks.{again_begins, again_body, again_part, again_stops, asks, asks_again, at_again, at_lends, first-work, last-work, lends_begins, lends_body, lends_part, lends_stops, receiving-work, second-work}
-use Rattle.bm_law_journal.proofs.OutsideBlock.{RunsListIn, block-runs-in}
+use Rattle.bm_law_journal.proofs.OutsideBlock.{runs-block}
 
 -- ---- what the log says of itself
 
-abbrev last : State ℕ
+abbrev pub last : State ℕ
 last = after (opening 0) lender
 
-leaves : Leaves 0 lender last
-leaves = leaves-lists 0 lender last refl
+pub lender-leaves : Leaves 0 lender last
+lender-leaves = leaves-lists 0 lender last refl
 
 emptied : Emptied last
 emptied = record {
@@ -48,11 +49,11 @@ emptied = record {
 }
 
 replies : RepliesFit Nothing (own_entries 0 lender)
-replies = (tt, (tt, (tt, (refl, (tt, (tt, (tt, (tt, (tt, (refl, (tt, (tt, (tt, (tt, (tt, (tt, (tt, (tt, (tt, (tt, (tt, (tt, (tt, (tt, (tt, (tt, (tt, (tt, (tt, (tt, (tt, (tt, (tt, (tt, (tt, (tt, (tt, (tt, (tt, (refl, (tt, (tt, (tt, (tt, (tt, (refl, (tt, (tt, (tt, (tt, (tt, (tt, (tt, (tt, (tt, (tt, (tt, (tt, (tt, (tt, (tt, (tt, (tt, (tt, (tt, (tt, (tt, (tt, (tt, (tt, (tt, (tt, (tt, (tt, (tt, (tt, (tt, (tt, tt))))))))))))))))))))))))))))))))))))))))))))))))))))))))))))))))))))))))))))))
+replies = search tt
 
 null : NullLaw 0 lender
 null = record {
-  pops = pops-fit (opening 0) lender leaves.named;
+  pops = pops-fit (opening 0) lender lender-leaves.named;
   replies = λ l. elim (eqb_tells 0 l) [ inl y ↦ rw (← y.1) replies | inr y ↦ rw y.0 tt ];
 }
 
@@ -84,39 +85,47 @@ lends_inside = after lends_put (ordinary (entry.In Plain 1 ∷ []))
 abbrev one_yield : List Entry
 one_yield = entry.Yield ∷ []
 
+abbrev leaves_it : List Entry
+leaves_it = entry.Out Plain 2 ∷ []
+
+-- the object is put into the slot, and o holds null
 puts-inner : RunsBlock d 0 false until (block_of (puts_x 10) (lit≤ tt) 10) holding given_away lends_worked (ordinary puts)
-puts-inner =
-    let list : RunsListIn d false until (puts_x 10) holding given_away lends_worked (ordinary puts) = (
-      given_away,
-      then-of _ _ lends_worked puts []
-          (given_away, then-of _ _ lends_worked puts [] (says _ _ _ puts-runs) (refl, (0, (refl, refl))))
-          (given_away, then-of _ _ _ [] [] (given_away, then-of _ _ _ [] [] (refl, refl) (refl, (0, (refl, refl)))) (refl, refl)),
-    ) in
-    subst (λ (run : Run). run holding given_away lends_worked (ordinary puts)) (sym (block-runs-in d false until (vector_of (puts_x 10) (lit≤ tt)) 10)) list
+puts-inner = runs-block d false until (puts_x 10) (lit≤ tt) 10 _ _ _ _ (
+  given_away,
+  then-of _ _ lends_worked puts []
+      (given_away, then-of _ _ _ puts [] (says _ _ _ puts-runs) (refl, (0, (refl, refl))))
+      (given_away, then-of _ _ _ [] [] (given_away, then-of _ _ _ [] [] (refl, refl) (refl, (0, (refl, refl)))) (refl, refl)),
+)
+
+-- it yields, inside and outside
+yields-runs : (i : Bool) (s : State ℕ) → UntilDown (10 ∷ []) (after s (ordinary one_yield)) [] →
+    Followed (RunsAction d 0 i until Yield) (Leaving until) given_away given_away s (ordinary one_yield)
+yields-runs i s none = (given_away, then-of _ _ s one_yield [] (refl, stands _ _) (refl, none))
 
 yields-inner : RunsBlock d 0 true until (block_of (yields 11 ∷ []) (lit≤ tt) 11) given_away given_away lends_inside (ordinary one_yield)
-yields-inner =
-    let list : RunsListIn d true until (yields 11 ∷ []) given_away given_away lends_inside (ordinary one_yield) =
-    (given_away, then-of _ _ lends_inside one_yield [] (given_away, then-of _ _ _ one_yield [] (refl, stands _ _) (refl, (0, (refl, refl)))) (refl, refl)) in
-    subst (λ (run : Run). run given_away given_away lends_inside (ordinary one_yield)) (sym (block-runs-in d true until (vector_of (yields 11 ∷ []) (lit≤ tt)) 11)) list
+yields-inner = runs-block d true until (yields 11 ∷ []) (lit≤ tt) 11 _ _ _ _
+    (given_away, then-of _ _ lends_inside one_yield [] (yields-runs true _ (0, (refl, refl))) (refl, refl))
 
 lends-runs : RunsBlock d 0 false until lends no_names given_away at_lends (ordinary lends_body)
-lends-runs =
-    let list : RunsListIn d false until (makes_x_of big_id 9 ∷ puts_x_unless_null 10 ∷ stays_inside 11 ∷ yields 12 ∷ []) no_names given_away at_lends (ordinary lends_body) = (
-      holding,
-      then-of _ _ at_lends (asks ++ works_in_vain 0) (puts ++ (held_up ++ one_yield))
-          (holding, then-of _ _ _ asks (works_in_vain 0) (says _ _ _ new-runs) (refl, first-work)) (
-            given_away,
-            then-of _ _ _ puts (held_up ++ one_yield)
-                (given_away, then-of _ _ _ puts [] puts-inner (refl, (0, (refl, refl)))) (
-                  given_away,
-                  then-of _ _ _ held_up one_yield
-                      (given_away, then-of _ _ _ held_up [] (1, then-of _ _ _ (entry.In Plain 1 ∷ []) (entry.Yield ∷ entry.Out Plain 2 ∷ []) (stands _ _) (then-of _ _ _ one_yield (entry.Out Plain 2 ∷ []) yields-inner (stands _ _))) (refl, (0, (refl, refl))))
-                      (given_away, then-of _ _ _ one_yield [] (given_away, then-of _ _ _ one_yield [] (refl, stands _ _) (refl, (0, (refl, refl)))) (refl, refl)),
-                ),
-          ),
-    ) in
-    subst (λ (run : Run). run no_names given_away at_lends (ordinary lends_body)) (sym (block-runs-in d false until (vector_of (makes_x_of big_id 9 ∷ puts_x_unless_null 10 ∷ stays_inside 11 ∷ yields 12 ∷ []) (lit≤ tt)) 13)) list
+lends-runs = runs-block d false until lends_statements (lit≤ tt) 13 _ _ _ _ (
+  holding,
+  then-of _ _ at_lends (asks ++ works_in_vain 0) (puts ++ (held_up ++ one_yield))
+      (holding, then-of _ _ _ asks (works_in_vain 0) (says _ _ _ new-runs) (refl, first-work)) (
+        given_away,
+        then-of _ _ _ puts (held_up ++ one_yield)
+            (given_away, then-of _ _ _ puts [] puts-inner (refl, (0, (refl, refl)))) (
+              given_away,
+              then-of _ _ _ held_up one_yield
+                  (given_away, then-of _ _ _ held_up [] (1, inside) (refl, (0, (refl, refl))))
+                  (given_away, then-of _ _ _ one_yield [] (yields-runs false _ (0, (refl, refl))) (refl, refl)),
+            ),
+      ),
+)
+  where
+    inside : Enclosed 0 (RunsBlock d 0 true until (block_of (yields 11 ∷ []) (lit≤ tt) 11)) 1 given_away given_away lends_put (ordinary held_up)
+    inside =
+        then-of _ _ _ (entry.In Plain 1 ∷ []) (one_yield ++ leaves_it) (stands _ _)
+        (then-of _ _ _ one_yield leaves_it yields-inner (stands _ _))
 
 -- ---- the second one
 
@@ -127,20 +136,20 @@ abbrev again_worked : State ℕ
 again_worked = after at_again (ordinary (asks_again ++ works_in_vain 0))
 
 drops-inner : RunsBlock d 0 true until (block_of (drops_x 16 ∷ []) (lit≤ tt) 16) holding_wide wide_given_up again_worked (ordinary drops)
-drops-inner =
-    let list : RunsListIn d true until (drops_x 16 ∷ []) holding_wide wide_given_up again_worked (ordinary drops) =
-    (wide_given_up, then-of _ _ _ drops [] (wide_given_up, then-of _ _ _ drops [] (says _ _ _ (inr (drop-wide-runs again_worked refl))) (refl, (0, (refl, refl)))) (refl, refl)) in
-    subst (λ (run : Run). run holding_wide wide_given_up again_worked (ordinary drops)) (sym (block-runs-in d true until (vector_of (drops_x 16 ∷ []) (lit≤ tt)) 16)) list
+drops-inner = runs-block d true until (drops_x 16 ∷ []) (lit≤ tt) 16 _ _ _ _ (
+  wide_given_up,
+  then-of _ _ _ drops []
+      (wide_given_up, then-of _ _ _ drops [] (says _ _ _ (inr (drop-wide-runs again_worked refl))) (refl, (0, (refl, refl))))
+      (refl, refl),
+)
 
 again-runs : RunsBlock d 0 true until makes_again no_names wide_given_up at_again (ordinary again_body)
-again-runs =
-    let list : RunsListIn d true until (makes_x_of wide_id 15 ∷ drops_x_unless_null 16 ∷ []) no_names wide_given_up at_again (ordinary again_body) = (
-      holding_wide,
-      then-of _ _ at_again (asks_again ++ works_in_vain 0) drops
-          (holding_wide, then-of _ _ _ asks_again (works_in_vain 0) (says _ _ _ new-wide-runs) (refl, second-work))
-          (wide_given_up, then-of _ _ _ drops [] (wide_given_up, then-of _ _ _ drops [] drops-inner (refl, (0, (refl, refl)))) (refl, refl)),
-    ) in
-    subst (λ (run : Run). run no_names wide_given_up at_again (ordinary again_body)) (sym (block-runs-in d true until (vector_of (makes_x_of wide_id 15 ∷ drops_x_unless_null 16 ∷ []) (lit≤ tt)) 17)) list
+again-runs = runs-block d true until (makes_x_of wide_id 15 ∷ drops_x_unless_null 16 ∷ []) (lit≤ tt) 17 _ _ _ _ (
+  holding_wide,
+  then-of _ _ at_again (asks_again ++ works_in_vain 0) drops
+      (holding_wide, then-of _ _ _ asks_again (works_in_vain 0) (says _ _ _ new-wide-runs) (refl, second-work))
+      (wide_given_up, then-of _ _ _ drops [] (wide_given_up, then-of _ _ _ drops [] drops-inner (refl, (0, (refl, refl)))) (refl, refl)),
+)
 
 -- ---- the closing
 
@@ -202,7 +211,7 @@ lender-lawful = record {
   is_log = lender-is;
   words = words;
   last = last;
-  lists = leaves;
+  lists = lender-leaves;
   emptied = emptied;
   null = null;
   parcels = λ q. absurd (not-alone q);

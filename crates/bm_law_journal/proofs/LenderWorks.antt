@@ -15,6 +15,23 @@ use Rattle.bm_law_scenario.specs.Works.{UntilDown, WorkBehind}
 use Rattle.bm_law_scenario.proofs.Ordinary.{says, then-of}
 use Rattle.bm_law_journal.specs.WorkedLoan.{finds_none, holds_up, makes_and_drops, makes_and_puts, receives, sealed, takes_last, works_in_vain}
 
+-- ---- the entries of works, one step each
+
+abbrev pub works : List Entry
+works = entry.Work 10 ∷ []
+
+abbrev pub no_parcel : List Entry
+no_parcel = entry.Receive 10 (Whole []) ∷ []
+
+abbrev pub reads : ℕ → List Entry
+reads k = entry.Read 10 k ∷ []
+
+abbrev pub gathers : List Entry
+gathers = entry.Enter 10 1 ∷ entry.TakeDelayed 10 (Whole []) ∷ []
+
+abbrev pub leaves : List Entry
+leaves = entry.Leave 10 0 ∷ []
+
 -- ---- its log, cut where work stands
 
 abbrev pub lends_begins : List Entry
@@ -80,26 +97,54 @@ unfolding size_of_class low_of_size high_of_size batch_of_size
 first-work = (
   1,
   then-of _ _ _ (works_in_vain 0) [] (
-      then-of _ _ _ (entry.Work 10 ∷ []) (entry.Receive 10 (Whole []) ∷ entry.Read 10 0 ∷ finds_none 3 ++ work_ends) (says _ _ _ refl)
-      (then-of _ _ _ (entry.Receive 10 (Whole []) ∷ []) (entry.Read 10 0 ∷ finds_none 3 ++ work_ends) ([], then-of _ _ _ (entry.Receive 10 (Whole []) ∷ []) [] (says _ _ _ refl) refl)
-      (then-of _ _ _ (entry.Read 10 0 ∷ finds_none 3) work_ends (0, then-of _ _ _ (entry.Read 10 0 ∷ []) (finds_none 3) (says _ _ _ refl) ([], omega arith, then-of _ _ _ (finds_none 3) [] (says _ _ _ refl) refl))
-      (then-of _ _ _ work_ends [] (then-of _ _ _ [] work_ends refl (then-of _ _ _ (entry.Enter 10 1 ∷ entry.TakeDelayed 10 (Whole []) ∷ []) (entry.Leave 10 0 ∷ []) (says _ _ _ ([], refl)) (then-of _ _ _ [] (entry.Leave 10 0 ∷ []) refl (then-of _ _ _ (entry.Leave 10 0 ∷ []) [] (says _ _ _ (0, refl)) refl)))) (then-of _ _ _ [] [] refl refl))))
+      then-of _ _ _ works (no_parcel ++ (reads 0 ++ (finds_none 3 ++ work_ends))) (says _ _ _ refl)
+      (then-of _ _ _ no_parcel (reads 0 ++ (finds_none 3 ++ work_ends))
+      ([], then-of _ _ _ no_parcel [] (says _ _ _ refl) refl)
+      (then-of _ _ _ (reads 0 ++ finds_none 3) work_ends (
+        0,
+        then-of _ _ _ (reads 0) (finds_none 3) (says _ _ _ refl)
+            ([], omega arith, then-of _ _ _ (finds_none 3) [] (says _ _ _ refl) refl),
+      )
+      (then-of _ _ _ work_ends []
+      (then-of _ _ _ [] work_ends refl
+      (then-of _ _ _ gathers leaves (says _ _ _ ([], refl))
+      (then-of _ _ _ [] leaves refl (then-of _ _ _ leaves [] (says _ _ _ (0, refl)) refl))))
+      (then-of _ _ _ [] [] refl refl))))
       ) (refl, refl),
 )
 
 -- behind the script: a parcel, whose unit comes back
+abbrev parcel : List Entry
+parcel = entry.Receive 10 (Whole (0 ∷ [])) ∷ []
+
+abbrev brings : List Entry
+brings = entry.Ready 10 0 ∷ pushes 0
+
+abbrev refill : List Entry
+refill = reads 0 ++ (brings ++ finds_none 2)
+
 pub receiving-work : WorkBehind (10 ∷ []) lends_ended (ordinary receives)
 unfolding size_of_class low_of_size high_of_size batch_of_size
 receiving-work =
     then-of _ _ _ receives [] (then-of _ _ _ receives [] (
-    then-of _ _ _ (entry.Work 10 ∷ []) (entry.Receive 10 (Whole (0 ∷ [])) ∷ entry.Receive 10 (Whole []) ∷ entry.Read 10 0 ∷ entry.Ready 10 0 ∷ pushes 0 ++ finds_none 2 ++ work_ends) (says _ _ _ refl)
-    (then-of _ _ _ (entry.Receive 10 (Whole (0 ∷ [])) ∷ entry.Receive 10 (Whole []) ∷ []) (entry.Read 10 0 ∷ entry.Ready 10 0 ∷ pushes 0 ++ finds_none 2 ++ work_ends) (0 ∷ [], then-of _ _ _ (entry.Receive 10 (Whole (0 ∷ [])) ∷ []) (entry.Receive 10 (Whole []) ∷ []) (says _ _ _ refl) ([], then-of _ _ _ (entry.Receive 10 (Whole []) ∷ []) [] (says _ _ _ refl) refl))
-    (then-of _ _ _ (entry.Read 10 0 ∷ entry.Ready 10 0 ∷ pushes 0 ++ finds_none 2) work_ends (
-      0,
-      then-of _ _ _ (entry.Read 10 0 ∷ []) (entry.Ready 10 0 ∷ pushes 0 ++ finds_none 2) (says _ _ _ refl)
-          (then-of _ _ _ (entry.Ready 10 0 ∷ pushes 0) (finds_none 2) (then-of _ _ _ (entry.Ready 10 0 ∷ []) (pushes 0) (says _ _ _ refl) (says _ _ _ (1, 0, refl))) ([], omega arith, then-of _ _ _ (finds_none 2) [] (says _ _ _ refl) refl)),
+    then-of _ _ _ works (parcel ++ (no_parcel ++ (refill ++ work_ends))) (says _ _ _ refl)
+    (then-of _ _ _ (parcel ++ no_parcel) (refill ++ work_ends) (
+      0 ∷ [],
+      then-of _ _ _ parcel no_parcel (says _ _ _ refl)
+          ([], then-of _ _ _ no_parcel [] (says _ _ _ refl) refl),
     )
-    (then-of _ _ _ work_ends [] (then-of _ _ _ [] work_ends refl (then-of _ _ _ (entry.Enter 10 1 ∷ entry.TakeDelayed 10 (Whole []) ∷ []) (entry.Leave 10 0 ∷ []) (says _ _ _ ([], refl)) (then-of _ _ _ [] (entry.Leave 10 0 ∷ []) refl (then-of _ _ _ (entry.Leave 10 0 ∷ []) [] (says _ _ _ (0, refl)) refl)))) (then-of _ _ _ [] [] refl refl))))
+    (then-of _ _ _ refill work_ends (
+      0,
+      then-of _ _ _ (reads 0) (brings ++ finds_none 2) (says _ _ _ refl)
+          (then-of _ _ _ brings (finds_none 2)
+          (then-of _ _ _ (entry.Ready 10 0 ∷ []) (pushes 0) (says _ _ _ refl) (says _ _ _ (1, 0, refl)))
+          ([], omega arith, then-of _ _ _ (finds_none 2) [] (says _ _ _ refl) refl)),
+    )
+    (then-of _ _ _ work_ends []
+    (then-of _ _ _ [] work_ends refl
+    (then-of _ _ _ gathers leaves (says _ _ _ ([], refl))
+    (then-of _ _ _ [] leaves refl (then-of _ _ _ leaves [] (says _ _ _ (0, refl)) refl))))
+    (then-of _ _ _ [] [] refl refl))))
     ) refl) (0, (refl, refl))
 
 -- behind the second call
@@ -108,10 +153,19 @@ unfolding size_of_class low_of_size high_of_size batch_of_size
 second-work = (
   1,
   then-of _ _ _ (works_in_vain 0) [] (
-      then-of _ _ _ (entry.Work 10 ∷ []) (entry.Receive 10 (Whole []) ∷ entry.Read 10 0 ∷ finds_none 3 ++ work_ends) (says _ _ _ refl)
-      (then-of _ _ _ (entry.Receive 10 (Whole []) ∷ []) (entry.Read 10 0 ∷ finds_none 3 ++ work_ends) ([], then-of _ _ _ (entry.Receive 10 (Whole []) ∷ []) [] (says _ _ _ refl) refl)
-      (then-of _ _ _ (entry.Read 10 0 ∷ finds_none 3) work_ends (0, then-of _ _ _ (entry.Read 10 0 ∷ []) (finds_none 3) (says _ _ _ refl) ([], omega arith, then-of _ _ _ (finds_none 3) [] (says _ _ _ refl) refl))
-      (then-of _ _ _ work_ends [] (then-of _ _ _ [] work_ends refl (then-of _ _ _ (entry.Enter 10 1 ∷ entry.TakeDelayed 10 (Whole []) ∷ []) (entry.Leave 10 0 ∷ []) (says _ _ _ ([], refl)) (then-of _ _ _ [] (entry.Leave 10 0 ∷ []) refl (then-of _ _ _ (entry.Leave 10 0 ∷ []) [] (says _ _ _ (0, refl)) refl)))) (then-of _ _ _ [] [] refl refl))))
+      then-of _ _ _ works (no_parcel ++ (reads 0 ++ (finds_none 3 ++ work_ends))) (says _ _ _ refl)
+      (then-of _ _ _ no_parcel (reads 0 ++ (finds_none 3 ++ work_ends))
+      ([], then-of _ _ _ no_parcel [] (says _ _ _ refl) refl)
+      (then-of _ _ _ (reads 0 ++ finds_none 3) work_ends (
+        0,
+        then-of _ _ _ (reads 0) (finds_none 3) (says _ _ _ refl)
+            ([], omega arith, then-of _ _ _ (finds_none 3) [] (says _ _ _ refl) refl),
+      )
+      (then-of _ _ _ work_ends []
+      (then-of _ _ _ [] work_ends refl
+      (then-of _ _ _ gathers leaves (says _ _ _ ([], refl))
+      (then-of _ _ _ [] leaves refl (then-of _ _ _ leaves [] (says _ _ _ (0, refl)) refl))))
+      (then-of _ _ _ [] [] refl refl))))
       ) (refl, refl),
 )
 
@@ -120,8 +174,17 @@ pub last-work : WorkBehind (10 ∷ []) again_ended (ordinary (works_in_vain 1))
 unfolding size_of_class low_of_size high_of_size batch_of_size
 last-work =
     then-of _ _ _ (works_in_vain 1) [] (then-of _ _ _ (works_in_vain 1) [] (
-    then-of _ _ _ (entry.Work 10 ∷ []) (entry.Receive 10 (Whole []) ∷ entry.Read 10 1 ∷ finds_none 3 ++ work_ends) (says _ _ _ refl)
-    (then-of _ _ _ (entry.Receive 10 (Whole []) ∷ []) (entry.Read 10 1 ∷ finds_none 3 ++ work_ends) ([], then-of _ _ _ (entry.Receive 10 (Whole []) ∷ []) [] (says _ _ _ refl) refl)
-    (then-of _ _ _ (entry.Read 10 1 ∷ finds_none 3) work_ends (1, then-of _ _ _ (entry.Read 10 1 ∷ []) (finds_none 3) (says _ _ _ refl) ([], omega arith, then-of _ _ _ (finds_none 3) [] (says _ _ _ refl) refl))
-    (then-of _ _ _ work_ends [] (then-of _ _ _ [] work_ends refl (then-of _ _ _ (entry.Enter 10 1 ∷ entry.TakeDelayed 10 (Whole []) ∷ []) (entry.Leave 10 0 ∷ []) (says _ _ _ ([], refl)) (then-of _ _ _ [] (entry.Leave 10 0 ∷ []) refl (then-of _ _ _ (entry.Leave 10 0 ∷ []) [] (says _ _ _ (0, refl)) refl)))) (then-of _ _ _ [] [] refl refl))))
+    then-of _ _ _ works (no_parcel ++ (reads 1 ++ (finds_none 3 ++ work_ends))) (says _ _ _ refl)
+    (then-of _ _ _ no_parcel (reads 1 ++ (finds_none 3 ++ work_ends))
+    ([], then-of _ _ _ no_parcel [] (says _ _ _ refl) refl)
+    (then-of _ _ _ (reads 1 ++ finds_none 3) work_ends (
+      1,
+      then-of _ _ _ (reads 1) (finds_none 3) (says _ _ _ refl)
+          ([], omega arith, then-of _ _ _ (finds_none 3) [] (says _ _ _ refl) refl),
+    )
+    (then-of _ _ _ work_ends []
+    (then-of _ _ _ [] work_ends refl
+    (then-of _ _ _ gathers leaves (says _ _ _ ([], refl))
+    (then-of _ _ _ [] leaves refl (then-of _ _ _ leaves [] (says _ _ _ (0, refl)) refl))))
+    (then-of _ _ _ [] [] refl refl))))
     ) refl) (0, (refl, refl))

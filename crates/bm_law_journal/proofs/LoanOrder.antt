@@ -1,5 +1,5 @@
 -- The journal in which a unit is lent, entry by entry of its one order.
-use Rattle.std.specs.Prelude.{◌<◌, ℕ, zero, suc, [], ◌∷◌, codes}
+use Rattle.std.specs.Prelude.{◌<◌, ℕ, zero, suc, List, [], ◌∷◌, codes}
 use Rattle.std.proofs.Common.{refl, arith, inl, inr, lit<, lit≤}
 use Rattle.bm_class.specs.Sizes.{size_of_class}
 use Rattle.bm_page.specs.Stock.{any_out, fetched, given, is_stock_of, least_below, next_unit, returned, unit_given}
@@ -15,8 +15,10 @@ use Rattle.bm_law_places.specs.Placed.{IsPlaced}
 use Rattle.bm_law_places.specs.World.{SweepsInbox, outset, world_after}
 use Rattle.bm_law_places.proofs.Logs.{parts-name}
 use Rattle.bm_law_places.proofs.Standing.{all-placed, found-in-parts}
-use Rattle.bm_law_journal.specs.WorkedLoan.{loan_logs}
+use Rattle.bm_law_journal.specs.WorkedLoan.{found_first, loan_logs, logs_seeing}
 use Rattle.bm_law_journal.specs.WorkedTurns.{turns}
+use Rattle.bm_law_journal.proofs.BorrowerLog.{borrower-leaves}
+use Rattle.bm_law_journal.proofs.LenderLog.{lender-leaves}
 use Rattle.bm_law_journal.proofs.Lent.{one-waits}
 
 abbrev pub loan_order : Order
@@ -32,15 +34,15 @@ loan-polled = (tt, (tt, (tt, (tt, (tt, (tt, (tt, (tt, (tt, (tt, (tt, (tt, (tt, (
 pub loan-sealed : IsSealed loan_order
 loan-sealed = (tt, (tt, (tt, (tt, (tt, (tt, (tt, (tt, (tt, (tt, (refl, (tt, (tt, (tt, (tt, (tt, (tt, (tt, (tt, (tt, (tt, (tt, (tt, (tt, (tt, (tt, (tt, (tt, (tt, (tt, (tt, (tt, (tt, (tt, (tt, (tt, (tt, (tt, (tt, (tt, (tt, (tt, (tt, (tt, (tt, (tt, (tt, (tt, (tt, (tt, (tt, (tt, (tt, (tt, (tt, (tt, (tt, (tt, (tt, (tt, (tt, (tt, (tt, (tt, (tt, (tt, (tt, (tt, (tt, (tt, (tt, (tt, (tt, (tt, (tt, (tt, (tt, (tt, (tt, (tt, (tt, (tt, (tt, (tt, (tt, (tt, (tt, (tt, (tt, (tt, (tt, (tt, ((refl, lit≤ tt), (tt, (tt, (tt, (tt, (tt, (tt, (tt, (tt, (tt, (tt, (tt, (tt, (tt, (tt, (tt, (tt, (tt, (tt, (tt, (tt, (tt, (tt, (tt, (tt, (tt, (tt, (tt, (tt, (tt, (tt, (tt, (tt, tt)))))))))))))))))))))))))))))))))))))))))))))))))))))))))))))))))))))))))))))))))))))))))))))))))))))))))))))))))))))))))))))
 
-pub loan-owned : IsOwned loan_order
-loan-owned = (tt, (tt, (tt, (tt, (tt, (tt, (tt, (tt, (tt, (tt, (record { asked = record { type_name = codes "big"; values = [] }; is = refl }, (tt, (tt, (tt, (tt, (tt, (tt, (tt, (record { was_is = refl; by_is = refl; alive = record { held = record { maker = 0; count = 1 }; holds = refl; now_is = refl } }, (tt, (tt, (tt, (tt, (record { was_is = refl; by_is = refl; alive = tt }, (tt, (tt, (tt, (tt, (tt, (tt, (tt, (tt, (tt, (tt, (tt, (tt, (tt, (tt, (tt, (tt, (tt, (tt, (tt, (tt, (tt, (tt, (tt, (tt, (tt, (tt, (tt, (tt, (tt, (tt, (tt, (tt, (tt, (tt, (tt, (tt, (tt, (tt, (tt, (tt, (tt, (tt, (tt, (tt, (tt, (tt, (tt, (tt, (tt, (tt, (tt, (tt, (tt, (tt, (tt, (tt, (tt, (tt, (tt, (tt, (tt, (tt, (tt, (tt, (tt, (tt, (tt, (tt, (record { asked = record { type_name = codes "wide"; values = [] }; is = refl }, (tt, (tt, (tt, (tt, (tt, (tt, (tt, (tt, (tt, (tt, (tt, (tt, (tt, (tt, (tt, (tt, (tt, (tt, (tt, (tt, (tt, (tt, (tt, (tt, (tt, (record { was_is = refl; by_is = refl; alive = tt }, (tt, (tt, (tt, (tt, (tt, (tt, tt)))))))))))))))))))))))))))))))))))))))))))))))))))))))))))))))))))))))))))))))))))))))))))))))))))))))))))))))))))))))))))))
+pub loan-owned : (first : List ℕ) → IsOwned (whole turns (logs_seeing first))
+loan-owned first = (tt, (tt, (tt, (tt, (tt, (tt, (tt, (tt, (tt, (tt, (record { asked = record { type_name = codes "big"; values = [] }; is = refl }, (tt, (tt, (tt, (tt, (tt, (tt, (tt, (record { was_is = refl; by_is = refl; alive = record { held = record { maker = 0; count = 1 }; holds = refl; now_is = refl } }, (tt, (tt, (tt, (tt, (record { was_is = refl; by_is = refl; alive = tt }, (tt, (tt, (tt, (tt, (tt, (tt, (tt, (tt, (tt, (tt, (tt, (tt, (tt, (tt, (tt, (tt, (tt, (tt, (tt, (tt, (tt, (tt, (tt, (tt, (tt, (tt, (tt, (tt, (tt, (tt, (tt, (tt, (tt, (tt, (tt, (tt, (tt, (tt, (tt, (tt, (tt, (tt, (tt, (tt, (tt, (tt, (tt, (tt, (tt, (tt, (tt, (tt, (tt, (tt, (tt, (tt, (tt, (tt, (tt, (tt, (tt, (tt, (tt, (tt, (tt, (tt, (tt, (tt, (record { asked = record { type_name = codes "wide"; values = [] }; is = refl }, (tt, (tt, (tt, (tt, (tt, (tt, (tt, (tt, (tt, (tt, (tt, (tt, (tt, (tt, (tt, (tt, (tt, (tt, (tt, (tt, (tt, (tt, (tt, (tt, (tt, (record { was_is = refl; by_is = refl; alive = tt }, (tt, (tt, (tt, (tt, (tt, (tt, tt)))))))))))))))))))))))))))))))))))))))))))))))))))))))))))))))))))))))))))))))))))))))))))))))))))))))))))))))))))))))))))))
 
 below : AllBelow 2 loan_order
-below = (lit< tt, (lit< tt, (lit< tt, (lit< tt, (lit< tt, (lit< tt, (lit< tt, (lit< tt, (lit< tt, (lit< tt, (lit< tt, (lit< tt, (lit< tt, (lit< tt, (lit< tt, (lit< tt, (lit< tt, (lit< tt, (lit< tt, (lit< tt, (lit< tt, (lit< tt, (lit< tt, (lit< tt, (lit< tt, (lit< tt, (lit< tt, (lit< tt, (lit< tt, (lit< tt, (lit< tt, (lit< tt, (lit< tt, (lit< tt, (lit< tt, (lit< tt, (lit< tt, (lit< tt, (lit< tt, (lit< tt, (lit< tt, (lit< tt, (lit< tt, (lit< tt, (lit< tt, (lit< tt, (lit< tt, (lit< tt, (lit< tt, (lit< tt, (lit< tt, (lit< tt, (lit< tt, (lit< tt, (lit< tt, (lit< tt, (lit< tt, (lit< tt, (lit< tt, (lit< tt, (lit< tt, (lit< tt, (lit< tt, (lit< tt, (lit< tt, (lit< tt, (lit< tt, (lit< tt, (lit< tt, (lit< tt, (lit< tt, (lit< tt, (lit< tt, (lit< tt, (lit< tt, (lit< tt, (lit< tt, (lit< tt, (lit< tt, (lit< tt, (lit< tt, (lit< tt, (lit< tt, (lit< tt, (lit< tt, (lit< tt, (lit< tt, (lit< tt, (lit< tt, (lit< tt, (lit< tt, (lit< tt, (lit< tt, (lit< tt, (lit< tt, (lit< tt, (lit< tt, (lit< tt, (lit< tt, (lit< tt, (lit< tt, (lit< tt, (lit< tt, (lit< tt, (lit< tt, (lit< tt, (lit< tt, (lit< tt, (lit< tt, (lit< tt, (lit< tt, (lit< tt, (lit< tt, (lit< tt, (lit< tt, (lit< tt, (lit< tt, (lit< tt, (lit< tt, (lit< tt, (lit< tt, (lit< tt, (lit< tt, (lit< tt, (lit< tt, tt)))))))))))))))))))))))))))))))))))))))))))))))))))))))))))))))))))))))))))))))))))))))))))))))))))))))))))))))))))))))))))))
+below = search lit<
 
 names : (p : ℕ) → p < 2 → AllName (opening p) (part_of p loan_order)
-names zero lt = (tt, (tt, (tt, (tt, (refl, (refl, ((refl, refl), (refl, (tt, (refl, (tt, (tt, (refl, (tt, (refl, (refl, (refl, (tt, (tt, (tt, (tt, (tt, (tt, (tt, (tt, (tt, (tt, (refl, (refl, (refl, (refl, ((refl, refl), (refl, (tt, (refl, (refl, (refl, (tt, (tt, (tt, (refl, (refl, ((refl, refl), (refl, (tt, (refl, (tt, (tt, (refl, (tt, (refl, (refl, (refl, (tt, (tt, (tt, (refl, (refl, ((refl, refl), (refl, (tt, (tt, (tt, (tt, (refl, (tt, (refl, (refl, (refl, (tt, (tt, (tt, (refl, (refl, (tt, (tt, (tt, ((refl, refl), tt))))))))))))))))))))))))))))))))))))))))))))))))))))))))))))))))))))))))))))))
-names (suc zero) lt = (tt, (tt, (tt, (tt, (tt, (tt, (tt, (refl, (refl, (refl, (tt, (tt, (tt, (refl, (tt, (refl, (refl, ((refl, refl), (refl, (refl, (tt, (tt, (tt, (tt, (refl, (tt, (tt, (tt, (refl, (refl, (refl, (tt, (tt, (tt, (tt, (tt, (tt, (tt, (refl, (tt, (tt, (tt, ((refl, refl), (refl, (refl, (refl, (tt, tt)))))))))))))))))))))))))))))))))))))))))))))))
+names zero lt = lender-leaves.named
+names (suc zero) lt = (borrower-leaves found_first).named
 names (suc (suc p)) lt = absurd (omega (arith, lt))
 
 sweeps : AllFit world_after SweepsInbox loan_order (outset 2 1)

@@ -1,8 +1,10 @@
--- A worked journal, whole and with its scenario, in which a unit is lent: one processor makes an object and hands it to the other one through
--- a slot; the other one frees it with delay; a section of the former holds up the grace period that the unit waits for; then the unit goes
--- home as a parcel, and there an object of another type is made of it. There is one page, and it has one unit of this class, 10, whose units
--- have 4096 bytes; below two free units a cache is short, and a refill asks for three.
-use Rattle.std.specs.Prelude.{ℕ, true, refl, Option, Some, None, List, [], ◌∷◌, ◌++◌, codes}
+-- A worked journal, whole and with its scenario, in which a unit is lent: one processor makes an
+-- object and hands it to the other one through a slot; the other one frees it with delay; a section
+-- of the former holds up the grace period that the unit waits for; then the unit goes home as a
+-- parcel, and there an object of another type is made of it. There is one page, and it has one unit
+-- of this class, 10, whose units have 4096 bytes; below two free units a cache is short, and a
+-- refill asks for three.
+use Rattle.std.specs.Prelude.{◌≡◌, ◌+◌, ℕ, true, refl, Option, Some, None, List, [], ◌∷◌, ◌++◌, codes}
 use Rattle.std.proofs.Common.{lit≤}
 use Rattle.bm_journal.specs.declared.ids.Domain.TheVariants.{Plain, Tracing}
 use Rattle.bm_journal.specs.declared.ids.ObjId.{ObjId}
@@ -28,7 +30,8 @@ use Rattle.bm_law_scenario.specs.Worked.{plain_type}
 use Rattle.bm_law_scenario.specs.WorkedDeferred.{work_ends, work_reads}
 use Rattle.bm_law_scenario.specs.WorkedJournal.{block_of, drops_x_unless_null, script_of, x_name}
 use Rattle.bm_law_scenario.specs.WorkedSlots.{call_of, desk, exchanges, puts_x_unless_null, takes_x}
-use Rattle.bm_law_journal.specs.WorkedTurns.{turns}
+use Rattle.bm_law_journal.specs.Lawful.{Laid, Lawful}
+use Rattle.bm_law_journal.specs.WorkedTurns.{HasTurns, turns}
 
 -- ---- the scenario
 
@@ -56,11 +59,15 @@ abbrev pub yields : ℕ → Statement
 yields line = record { line = line; action = Yield }
 
 abbrev pub stays_inside : ℕ → Statement
-stays_inside line = record { line = line; action = Section (block_of (yields line ∷ []) (lit≤ tt) line) }
+stays_inside line =
+    record { line = line; action = Section (block_of (yields line ∷ []) (lit≤ tt) line) }
 
 -- `new x big`, `if x { xchg o desk x if o { drop o } }`, `section { yield }`, `yield`
+abbrev pub lends_statements : List Statement
+lends_statements = makes_x_of big_id 9 ∷ puts_x_unless_null 10 ∷ stays_inside 11 ∷ yields 12 ∷ []
+
 abbrev pub lends : Block
-lends = block_of (makes_x_of big_id 9 ∷ puts_x_unless_null 10 ∷ stays_inside 11 ∷ yields 12 ∷ []) (lit≤ tt) 13
+lends = block_of lends_statements (lit≤ tt) 13
 
 -- `new x wide`, `if x { drop x }`
 abbrev pub makes_again : Block
@@ -89,7 +96,8 @@ waits_script = script_of 22 (codes "waits") waits
 
 -- `run 0 lends`, `run 0 again`, `run 1 takes`, `run 1 waits`
 abbrev pub runs_of : (line processor script : ℕ) → RunLine
-runs_of line processor script = record { line = line; processor = processor; script = record { 0 = script } }
+runs_of line processor script =
+    record { line = line; processor = processor; script = record { 0 = script } }
 
 -- .. `turns { 0 1 0 1 }`; what is left of processor 0 comes after them
 abbrev pub loan : Parts
@@ -109,7 +117,9 @@ loan = record {
 
 -- the one unit of Free is taken, and given by this reply; Free is short then, so the flag is raised
 abbrev pub takes_last : Entry → List Entry
-takes_last reply = entry.Enter 10 1 ∷ entry.Pop 10 0 ∷ entry.Count 10 0 ∷ entry.Leave 10 0 ∷ entry.Raise 10 ∷ reply ∷ []
+takes_last reply =
+    entry.Enter 10 1 ∷ entry.Pop 10 0 ∷ entry.Count 10 0 ∷ entry.Leave 10 0 ∷
+    entry.Raise 10 ∷ reply ∷ []
 
 -- so many units are asked of the stock, which has none
 abbrev pub finds_none : ℕ → List Entry
@@ -123,36 +133,48 @@ refills_none k = work_reads k ++ finds_none 3
 abbrev pub works_in_vain : ℕ → List Entry
 works_in_vain k = refills_none k ++ work_ends
 
--- a plain script in a section of its own, whose word is w inside, then w + 1
-abbrev pub runs_plainly : List ℕ → (w after : ℕ) → List Entry → List Entry
-runs_plainly name w after own = entry.Script name ∷ entry.In Plain w ∷ own ++ entry.Out Plain after ∷ entry.Done name ∷ []
+-- a plain script does this in its section, whose word is w inside
+abbrev pub runs_plainly : List ℕ → (w : ℕ) → List Entry → List Entry
+runs_plainly name w own =
+    entry.Script name ∷ entry.In Plain w ∷ own ++ entry.Out Plain (w + 1) ∷ entry.Done name ∷ []
 
 -- ---- processor 0
 
+-- unit 0 in its first life
 abbrev pub the_unit : Option ObjId
 the_unit = Some (record { unit = 0; life = 1 })
 
 -- it makes an object of the unit, and puts it into the slot, in which nothing was
 abbrev pub makes_and_puts : List Entry
-makes_and_puts = entry.New (codes "big") [] ∷ takes_last (entry.Given 0 1) ++ works_in_vain 0 ++ exchanges the_unit None None
+makes_and_puts =
+    entry.New (codes "big") [] ∷ takes_last (entry.Given 0 1) ++ works_in_vain 0 ++
+    exchanges the_unit None None
 
--- it yields in a plain section; in its second turn it leaves that, and does this before it yields again
+-- it yields in a plain section; in its second turn it leaves that, and does this before it yields
+-- again
 abbrev pub holds_up : List Entry → List Entry
 holds_up before = entry.In Plain 1 ∷ entry.Yield ∷ entry.Out Plain 2 ∷ before ++ entry.Yield ∷ []
 
 abbrev pub lends_with : List Entry → List Entry
-lends_with before = entry.Script (codes "lends") ∷ entry.In Tracing 1 ∷ (makes_and_puts ++ holds_up before) ++ entry.Out Tracing 2 ∷ entry.Done (codes "lends") ∷ []
+lends_with before =
+    entry.Script (codes "lends") ∷ entry.In Tracing 1 ∷
+    (makes_and_puts ++ holds_up before) ++
+    entry.Out Tracing 2 ∷ entry.Done (codes "lends") ∷ []
 
--- the work behind the script, in its third turn, finds the parcel: the unit comes back into Free, and two more are asked of the stock
+-- the work behind the script, in its third turn, finds the parcel: the unit comes back into Free,
+-- and two more are asked of the stock
 abbrev pub receives : List Entry
-receives = entry.Work 10 ∷ entry.Receive 10 (Whole (0 ∷ [])) ∷ entry.Receive 10 (Whole []) ∷ entry.Read 10 0 ∷ entry.Ready 10 0 ∷ pushes 0 ++ finds_none 2 ++ work_ends
+receives =
+    entry.Work 10 ∷ entry.Receive 10 (Whole (0 ∷ [])) ∷ entry.Receive 10 (Whole []) ∷
+    entry.Read 10 0 ∷ entry.Ready 10 0 ∷ pushes 0 ++ finds_none 2 ++ work_ends
 
 -- it makes an object of the other type, which is given by this reply, and frees it plainly
 abbrev pub makes_and_drops : Entry → List Entry
-makes_and_drops reply = entry.New (codes "wide") [] ∷ takes_last reply ++ works_in_vain 0 ++ frees 0 2 0
+makes_and_drops reply =
+    entry.New (codes "wide") [] ∷ takes_last reply ++ works_in_vain 0 ++ frees 0 2 0
 
 abbrev pub again_with : Entry → List Entry
-again_with reply = runs_plainly (codes "again") 3 4 (makes_and_drops reply) ++ works_in_vain 1
+again_with reply = runs_plainly (codes "again") 3 (makes_and_drops reply) ++ works_in_vain 1
 
 -- in the closing it finds the slot empty, as the other one's exchange left it, and sweeps the unit
 abbrev pub finds_empty : List Entry
@@ -168,7 +190,9 @@ abbrev pub sealed : Entry
 sealed = entry.GivenAfter 0 2 2 2
 
 abbrev pub lender_entries : (before : List Entry) → (reply : Entry) → List Entry
-lender_entries before reply = opens (0 ∷ []) ++ (lends_with before ++ receives ++ again_with reply) ++ entry.Ended ∷ entry.Close ∷ finds_empty ++ sweeps_unit
+lender_entries before reply =
+    opens (0 ∷ []) ++ (lends_with before ++ receives ++ again_with reply) ++
+    entry.Ended ∷ entry.Close ∷ finds_empty ++ sweeps_unit
 
 abbrev pub lender_with : (before : List Entry) → (reply : Entry) → Log
 lender_with before reply = ordinary (lender_entries before reply)
@@ -178,13 +202,15 @@ lender = lender_with [] sealed
 
 -- ---- processor 1
 
--- it takes the object, and gives it up: the unit is freed with delay, to this home, and the flag is raised
+-- it takes the object, and gives it up: the unit is freed with delay, to this home, and the flag is
+-- raised
 abbrev pub drops_to : ℕ → List Entry
 drops_to home = delays 0 1 home ++ entry.Raise 10 ∷ []
 
 -- the work behind that makes a batch of it, which takes its stamp
 abbrev pub takes_and_drops : ℕ → List Entry
-takes_and_drops home = exchanges None the_unit (call_of 0 2) ++ drops_to home ++ refills_none 0 ++ batches 0 2
+takes_and_drops home =
+    exchanges None the_unit (call_of 0 2) ++ drops_to home ++ refills_none 0 ++ batches 0 2
 
 -- the work behind the script begins a period, and does this
 abbrev pub begins_with : List Entry → List Entry
@@ -198,42 +224,55 @@ goes_on = entry.Pass 10 Plain 1 ∷ []
 abbrev pub polls_with : List Entry → List Entry
 polls_with own = refills_none 0 ++ own ++ work_ends
 
--- the period ends with these later words
-abbrev pub ends_with : List ℕ → Entry
-ends_with later = ends Plain 2 (1 ∷ 2 ∷ []) later
+-- the period ends with these words, first and later ones
+abbrev pub ends_with : (first later : List ℕ) → Entry
+ends_with first later = ends Plain 2 first later
 
--- it ends with the word of processor 0 that has changed, and the batch goes to a processor
+-- it ends with these first words and with the word of processor 0 that has changed since, and the
+-- batch goes to a processor
+abbrev pub sends_seeing : (first : List ℕ) → (to : ℕ) → List Entry
+sends_seeing first to = ends_with first (2 ∷ 4 ∷ []) ∷ sends 0 2 to
+
+-- the words that it found at its begin, when processor 0 was in its section
+abbrev pub found_first : List ℕ
+found_first = 1 ∷ 2 ∷ []
+
 abbrev pub sends_to : ℕ → List Entry
-sends_to to = ends_with (2 ∷ 4 ∷ []) ∷ sends 0 2 to
+sends_to to = sends_seeing found_first to
 
 abbrev pub borrower_scripts : (home : ℕ) → (first second : List Entry) → List Entry
 borrower_scripts home first second =
-    runs_plainly (codes "takes") 1 2 (takes_and_drops home) ++ begins_with first ++
-    runs_plainly (codes "waits") 3 4 (entry.Yield ∷ []) ++ polls_with second
+    runs_plainly (codes "takes") 1 (takes_and_drops home) ++ begins_with first ++
+    runs_plainly (codes "waits") 3 (entry.Yield ∷ []) ++ polls_with second
 
 abbrev pub borrower_entries : (home : ℕ) → (first second : List Entry) → List Entry
-borrower_entries home first second = opens [] ++ borrower_scripts home first second ++ entry.Ended ∷ []
+borrower_entries home first second =
+    opens [] ++ borrower_scripts home first second ++ entry.Ended ∷ []
 
 abbrev pub borrower_with : (home : ℕ) → (first second : List Entry) → Log
 borrower_with home first second = ordinary (borrower_entries home first second)
 
+abbrev pub borrower_seeing : (first : List ℕ) → Log
+borrower_seeing first = borrower_with 0 goes_on (sends_seeing first 0)
+
 abbrev pub borrower : Log
-borrower = borrower_with 0 goes_on (sends_to 0)
+borrower = borrower_seeing found_first
 
 -- ---- the journal
 
-abbrev pub loan_logs : List Log
-loan_logs = lender ∷ borrower ∷ []
+-- the period ends with these first words
+abbrev pub logs_seeing : (first : List ℕ) → List Log
+logs_seeing first = lender ∷ borrower_seeing first ∷ []
 
-abbrev pub loan_journal : Journal
-loan_journal = record {
+abbrev pub journal_seeing : (first : List ℕ) → Journal
+journal_seeing first = record {
   processors = 2;
   pages = 1;
   types = codes "big" ∷ codes "wide" ∷ [];
   maps = desk ∷ [];
   scripts = codes "lends" ∷ codes "again" ∷ codes "takes" ∷ codes "waits" ∷ [];
   classes = (10, record { low = 2; high = 6; batch = 3 }) ∷ [];
-  logs = loan_logs;
+  logs = logs_seeing first;
   graphs = [];
   totals = 75 ∷ 2 ∷ 0 ∷ 0 ∷ 2 ∷ 0 ∷ 0 ∷ 3 ∷ 0 ∷ 0 ∷ 0 ∷ 0 ∷ 3 ∷ 7 ∷ 1 ∷ 1 ∷ 1 ∷ 1 ∷ 0 ∷ [];
   maps_differ = refl;
@@ -241,19 +280,37 @@ loan_journal = record {
   units_whole = refl;
 }
 
+abbrev pub loan_logs : List Log
+loan_logs = logs_seeing found_first
+
+abbrev pub loan_journal : Journal
+loan_journal = journal_seeing found_first
+
 -- ---- wrong ones
 
--- The period ends with the word that processor 0 had at its begin, inside of its section: one number is another one.
-abbrev pub ended_unchanged : List Log
-ended_unchanged = lender ∷ borrower_with 0 goes_on (ends_with (1 ∷ 4 ∷ []) ∷ sends 0 2 0) ∷ []
+-- No journal of these logs is lawful, whatever its scenario; and none is laid with two processors,
+-- one page and these turns.
+pub record AreRefused (logs : List Log) : Type 0 where
+  pub unlawful : (s : Parts) (j : Journal) → j.logs ≡ logs → ¬ Lawful s j
+  pub unlaid : (s : Parts) (j : Journal) → HasTurns turns logs s j → ¬ Laid s j
 
--- It ends directly behind its begin, in the section that was there then, and the batch is sent there.
+-- The period ends with the word that processor 0 had at its begin, inside of its section: one
+-- number is another one.
+abbrev pub ended_unchanged : List Log
+ended_unchanged =
+    lender ∷ borrower_with 0 goes_on (ends_with found_first (1 ∷ 4 ∷ []) ∷ sends 0 2 0) ∷ []
+
+-- It ends directly behind its begin, in the section that was there then, and the batch is sent
+-- there.
 abbrev pub ended_in_section : List Log
-ended_in_section = lender ∷ borrower_with 0 (ends_with (1 ∷ 2 ∷ []) ∷ sends 0 2 0) [] ∷ []
+ended_in_section =
+    lender ∷ borrower_with 0 (ends_with found_first (1 ∷ 2 ∷ []) ∷ sends 0 2 0) [] ∷ []
 
 -- Processor 0 ends it, which didn't begin it.
 abbrev pub ended_by_other : List Log
-ended_by_other = lender_with (ends_with (2 ∷ 3 ∷ []) ∷ []) sealed ∷ borrower_with 0 goes_on (sends 0 2 0) ∷ []
+ended_by_other =
+    lender_with (ends_with found_first (2 ∷ 3 ∷ []) ∷ []) sealed ∷
+    borrower_with 0 goes_on (sends 0 2 0) ∷ []
 
 -- The unit is given again without a seal.
 abbrev pub given_unsealed : List Log
@@ -261,7 +318,9 @@ given_unsealed = lender_with [] (entry.Given 0 2) ∷ borrower ∷ []
 
 -- Its batch is sent while the period goes on.
 abbrev pub sent_in_period : List Log
-sent_in_period = lender ∷ borrower_with 0 (sends 0 1 0) (ends_with (2 ∷ 4 ∷ []) ∷ entry.Pass 10 Plain 2 ∷ []) ∷ []
+sent_in_period =
+    lender ∷ borrower_with 0 (sends 0 1 0)
+    (ends_with found_first (2 ∷ 4 ∷ []) ∷ entry.Pass 10 Plain 2 ∷ []) ∷ []
 
 -- Processor 1 frees the unit as if it had given it.
 abbrev pub freed_to_itself : List Log
@@ -270,3 +329,8 @@ freed_to_itself = lender ∷ borrower_with 1 goes_on (sends_to 0) ∷ []
 -- It sends the parcel to itself, and processor 0 receives it.
 abbrev pub sent_to_itself : List Log
 sent_to_itself = lender ∷ borrower_with 0 goes_on (sends_to 1) ∷ []
+
+-- Lawful, but not laid: the period ends as if processor 0 had been in no section at its begin. One
+-- number is another one, of which the logs by themselves don't tell, but their order does.
+abbrev pub seen_outside : Journal
+seen_outside = journal_seeing (2 ∷ 2 ∷ [])

@@ -5,7 +5,8 @@
 //! - `Laid` is what the one order of its entries says, which the scenario's turns make.
 //! - `worked_lawful`, `worked_laid`: a journal that is lawful, and one that is laid, made by hand, and logs that no such journal has.
 //! - `worked_turns`: a journal of two processors that take turns, which is laid, and wrong ones beside it.
-//! - `worked_loan`: a whole journal with its scenario in which one processor lends a unit to the other, which is lawful and laid, and wrong ones beside it.
+//! - `worked_loan`: a whole journal with its scenario, in which one processor lends a unit to the
+//!   other, which is lawful and laid, and wrong ones beside it.
 //! - `worked_visits`: a journal in which an object is put into a list, and taken from there in the closing, which is lawful and laid, and wrong ones beside it.
 //! - `worked_handover`: a journal in which one processor hands an object to the other through a slot, which is lawful and laid, and wrong ones beside it.
 //!
