@@ -12,7 +12,7 @@
 //! - `sweep` takes all units of a class, from its seven lists and then from its inbox, waits for a tracing period, and gives them
 //!   back.
 //!
-//! `bm_run` calls `close` after its last script, and tests call its parts.
+//! Runs close by `close_all`, whose crew takes the phases by `end_periods` and `sweep_each`; tests call `close` and its parts.
 //!
 //! The closing leaves exactly its part of a log (`Closing` of `bm_law_scenario`): each sweep names exactly the units of the lists
 //! and then those of the inbox, and returns exactly these, after a pass that has reached its stamp. Out of memory is the only
