@@ -1,7 +1,7 @@
 #!/usr/bin/env python3
 """Compares `read_journal` with a second reader, which judges the same texts.
 
-No command reads journals, so tools/read_texts.rt is the program that does: it reads texts, each behind a line with its length, and
+No command reads journals, so tools/read_texts.rt.txt is the program that does: it reads texts, each behind a line with its length, and
 prints for each a line, `OK` or the line of the fault; `OK` only where the text of the journal read is the text again. Into the folder
 go files of such texts, and beside each, as NAME.stdout, what the second reader says of them. Then the program is built, without
 proofs, in a copy of the repository's crates below the folder, and `rt try --cases` runs it on each file and compares.
@@ -171,7 +171,7 @@ def make_program(built: Path) -> Path:
     shutil.copy(top / "HANDLES", built)
     crate = built / "crates" / "read_texts"
     (crate / "src").mkdir(parents=True)
-    shutil.copy(TOOLS / "read_texts.rt", crate / "src" / "main.rt")
+    shutil.copy(TOOLS / "read_texts.rt.txt", crate / "src" / "main.rt")
     (built / "crates.txt").write_text((top / "crates.txt").read_text() + "read_texts: bm_journal bm_journal_reader bm_text\n")
     return crate
 
