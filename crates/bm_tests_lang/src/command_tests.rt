@@ -19,7 +19,7 @@ const USAGE: Result<Command, CommandFault> = Err(CommandFault::Usage);
 
 #[test]
 fn words_and_their_commands(rt: HostRuntime) {
-    let table: [(&[&str], Result<Command, CommandFault>); 46] = [
+    let table: [(&[&str], Result<Command, CommandFault>); 45] = [
         // The commands.
         (&["replay"], REPLAY),
         (&["replay", "--totals"], TOTALS),
