@@ -83,6 +83,22 @@ pub(crate) fn agrees(
     assert_eq!(rt; called.out.as_slice(), out.as_bytes(), "{note}");
 }
 
+// Bytes are refused with this status and this line, nothing is printed, and no journal is answered.
+pub(crate) fn bytes_are_refused(
+    rt: &impl Abort,
+    alloc: Global,
+    words: &[&str],
+    bytes: &[u8],
+    status: u8,
+    line: &str,
+    note: &str,
+) -> Result<(), Fail> {
+    let called = call(alloc, words, bytes)?;
+    agrees(rt, &called, status, "", line, note);
+    assert!(rt; !called.answered, "{note}");
+    Ok(())
+}
+
 // A call is done, and what it wrote ends so.
 pub(crate) fn ends_with(rt: &impl Abort, called: &Called, end: &str, note: &str) {
     assert_eq!(rt; called.status, 0, "{note}");

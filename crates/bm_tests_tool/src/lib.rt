@@ -2,6 +2,8 @@
 #![tactic(auto)]
 
 #[cfg(test)]
+mod broken_tests;
+#[cfg(test)]
 mod calls;
 #[cfg(test)]
 mod deferred_tests;
