@@ -32,8 +32,12 @@ impl<R: Recorder> Caches<R> {
     pub fn take_ready(&mut self, level: Level, class: Class) -> bool
         requires placed { Placed R.log R.counts self.old }
         requires quiet { is_waiting ((shown self.old).sides level).mark ≡ false }
-        ensures some { result ≡ true → (u : Token) × (rest : List Token) × (((shown self.old).rows class).deferred.ready ≡ u ∷ rest) × Took R.log level (Entry.Ready class u.number) [] self.old self.new }
-        ensures none { result ≡ false → (((shown self.old).rows class).deferred.ready ≡ []) × (self.new ≡ self.old) }
+        ensures some { result ≡ true
+            → (u : Token) × (rest : List Token)
+            × (((shown self.old).rows class).deferred.ready ≡ u ∷ rest)
+            × Took R.log level (Entry.Ready class u.number) [] self.old self.new }
+        ensures none { result ≡ false
+            → (((shown self.old).rows class).deferred.ready ≡ []) × (self.new ≡ self.old) }
         ensures placed { Placed R.log R.counts self.new }
     {
         let row = class.index() as usize;
@@ -57,8 +61,12 @@ impl<R: Recorder> Caches<R> {
     pub fn take_second(&mut self, level: Level, class: Class) -> bool
         requires placed { Placed R.log R.counts self.old }
         requires quiet { is_waiting ((shown self.old).sides level).mark ≡ false }
-        ensures some { result ≡ true → (u : Token) × (rest : List Token) × (((shown self.old).rows class).deferred.second ≡ u ∷ rest) × Took R.log level (Entry.Second class u.number) [] self.old self.new }
-        ensures none { result ≡ false → (((shown self.old).rows class).deferred.second ≡ []) × (self.new ≡ self.old) }
+        ensures some { result ≡ true
+            → (u : Token) × (rest : List Token)
+            × (((shown self.old).rows class).deferred.second ≡ u ∷ rest)
+            × Took R.log level (Entry.Second class u.number) [] self.old self.new }
+        ensures none { result ≡ false
+            → (((shown self.old).rows class).deferred.second ≡ []) × (self.new ≡ self.old) }
         ensures placed { Placed R.log R.counts self.new }
     {
         let row = class.index() as usize;
@@ -83,7 +91,8 @@ impl<R: Recorder> Caches<R> {
         requires placed { Placed R.log R.counts self.old }
         requires quiet { is_waiting ((shown self.old).sides level).mark ≡ false }
         ensures answer { result ≡ length (((shown self.old).rows class).extra) }
-        ensures step { TookList R.log level (Entry.TakeExtra class) (map number_of (((shown self.old).rows class).extra)) self.old self.new }
+        ensures step { TookList R.log level (Entry.TakeExtra class)
+            (map number_of (((shown self.old).rows class).extra)) self.old self.new }
         ensures placed { Placed R.log R.counts self.new }
     {
         let row = class.index() as usize;
@@ -100,7 +109,8 @@ impl<R: Recorder> Caches<R> {
     pub fn take_extra_delayed(&mut self, level: Level, class: Class) -> usize
         requires placed { Placed R.log R.counts self.old }
         ensures answer { result ≡ length (((shown self.old).rows class).extra_delayed) }
-        ensures step { TookList R.log level (Entry.TakeDelayed class) (map number_of (((shown self.old).rows class).extra_delayed)) self.old self.new }
+        ensures step { TookList R.log level (Entry.TakeDelayed class)
+            (map number_of (((shown self.old).rows class).extra_delayed)) self.old self.new }
         ensures placed { Placed R.log R.counts self.new }
     {
         let row = class.index() as usize;
@@ -119,7 +129,8 @@ impl<R: Recorder> Caches<R> {
         requires some { 0 < length ((shown self.old).rows class).delayed }
         requires none { ((shown self.old).rows class).deferred.plain ≡ None }
         ensures answer { result ≡ length (((shown self.old).rows class).delayed) }
-        ensures step { TookList R.log level (Entry.Batch class) (map number_of (((shown self.old).rows class).delayed)) self.old self.new }
+        ensures step { TookList R.log level (Entry.Batch class)
+            (map number_of (((shown self.old).rows class).delayed)) self.old self.new }
         ensures placed { Placed R.log R.counts self.new }
     {
         let row = class.index() as usize;
@@ -138,7 +149,8 @@ impl<R: Recorder> Caches<R> {
         requires some { 0 < length ((shown self.old).rows class).deferred.ready }
         requires none { ((shown self.old).rows class).deferred.tracing ≡ None }
         ensures answer { result ≡ length (((shown self.old).rows class).deferred.ready) }
-        ensures step { TookList R.log level (Entry.BeginSecond class) (map number_of (((shown self.old).rows class).deferred.ready)) self.old self.new }
+        ensures step { TookList R.log level (Entry.BeginSecond class)
+            (map number_of (((shown self.old).rows class).deferred.ready)) self.old self.new }
         ensures placed { Placed R.log R.counts self.new }
     {
         let row = class.index() as usize;

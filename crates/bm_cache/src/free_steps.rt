@@ -23,8 +23,12 @@ impl<R: Recorder> Caches<R> {
         requires active { 0 < ((shown self.old).rows class).active }
         requires none { waiting class (shown self.old) ≡ 0 }
         requires quiet { is_waiting ((shown self.old).sides level).mark ≡ false }
-        ensures some { result ≡ true → (u : Token) × (rest : List Token) × (((shown self.old).rows class).free ≡ u ∷ rest) × Took R.log level (Entry.Pop class u.number) [] self.old self.new }
-        ensures none { result ≡ false → (((shown self.old).rows class).free ≡ []) × Took R.log level (Entry.PopNone class) [] self.old self.new }
+        ensures some { result ≡ true
+            → (u : Token) × (rest : List Token) × (((shown self.old).rows class).free ≡ u ∷ rest)
+            × Took R.log level (Entry.Pop class u.number) [] self.old self.new }
+        ensures none { result ≡ false
+            → (((shown self.old).rows class).free ≡ [])
+            × Took R.log level (Entry.PopNone class) [] self.old self.new }
         ensures placed { Placed R.log R.counts self.new }
     {
         let row = class.index() as usize;
@@ -69,8 +73,11 @@ impl<R: Recorder> Caches<R> {
         requires active { 0 < ((shown self.old).rows class).active }
         requires none { waiting class (shown self.old) ≡ 0 }
         requires quiet { is_waiting ((shown self.old).sides level).mark ≡ false }
-        requires held { (u : Token) × (rest : List Token) × (((shown self.old).sides level).hand ≡ u ∷ rest) × (u.class ≡ class) }
-        ensures pushed { (u : Token) × (rest : List Token) × (((shown self.old).sides level).hand ≡ u ∷ rest) × Took R.log level (Entry.Push class u.number) [] self.old self.new }
+        requires held { (u : Token) × (rest : List Token)
+            × (((shown self.old).sides level).hand ≡ u ∷ rest) × (u.class ≡ class) }
+        ensures pushed { (u : Token) × (rest : List Token)
+            × (((shown self.old).sides level).hand ≡ u ∷ rest)
+            × Took R.log level (Entry.Push class u.number) [] self.old self.new }
         ensures placed { Placed R.log R.counts self.new }
     {
         let row = class.index() as usize;
@@ -108,8 +115,11 @@ impl<R: Recorder> Caches<R> {
     pub(crate) fn push_delayed(&mut self, level: Level, class: Class)
         requires placed { Placed R.log R.counts self.old }
         requires quiet { is_waiting ((shown self.old).sides level).mark ≡ false }
-        requires held { (u : Token) × (rest : List Token) × (((shown self.old).sides level).hand ≡ u ∷ rest) × (u.class ≡ class) }
-        ensures pushed { (u : Token) × (rest : List Token) × (((shown self.old).sides level).hand ≡ u ∷ rest) × Took R.log level (Entry.Delayed class u.number) [] self.old self.new }
+        requires held { (u : Token) × (rest : List Token)
+            × (((shown self.old).sides level).hand ≡ u ∷ rest) × (u.class ≡ class) }
+        ensures pushed { (u : Token) × (rest : List Token)
+            × (((shown self.old).sides level).hand ≡ u ∷ rest)
+            × Took R.log level (Entry.Delayed class u.number) [] self.old self.new }
         ensures placed { Placed R.log R.counts self.new }
     {
         let row = class.index() as usize;
@@ -131,7 +141,8 @@ impl<R: Recorder> Caches<R> {
         requires quiet { is_waiting ((shown self.old).sides level).mark ≡ false }
         requires lives { unit.life + 1 < 2 ^ 32 }
         requires fresh { stands unit.number (seen number_of (shown self.old)) ≡ 0 }
-        ensures step { Took R.log level (Entry.Free unit.number unit.home) (unit ∷ []) self.old self.new }
+        ensures step { Took R.log level (Entry.Free unit.number unit.home) (unit ∷ []) self.old
+            self.new }
         ensures placed { Placed R.log R.counts self.new }
     {
         let side = level.number() as usize;
@@ -147,7 +158,8 @@ impl<R: Recorder> Caches<R> {
         requires quiet { is_waiting ((shown self.old).sides level).mark ≡ false }
         requires lives { unit.life + 1 < 2 ^ 32 }
         requires fresh { stands unit.number (seen number_of (shown self.old)) ≡ 0 }
-        ensures step { Took R.log level (Entry.Delay unit.number unit.home) (unit ∷ []) self.old self.new }
+        ensures step { Took R.log level (Entry.Delay unit.number unit.home) (unit ∷ []) self.old
+            self.new }
         ensures placed { Placed R.log R.counts self.new }
     {
         let side = level.number() as usize;

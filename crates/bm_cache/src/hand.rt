@@ -98,7 +98,8 @@ impl Hand {
     pub(crate) fn take_all(&mut self, rows: &mut Rows, row: usize, stack: Stack)
         requires row { row < 11 }
         requires eleven { length rows.old ≡ 11 }
-        requires room { length self.old.hand + length (list_at stack (row_at rows.old row)) ≤ 65536 }
+        requires room { length self.old.hand + length (list_at stack (row_at rows.old row))
+            ≤ 65536 }
         ensures side { self.new ≡ record {
           hand = self.old.hand ++ list_at stack (row_at rows.old row);
           mark = mark.Quiet;
@@ -140,7 +141,8 @@ impl Hand {
 
     /// The unit that came first leaves.
     pub(crate) fn give_out(&mut self) -> Option<Unit>
-        ensures unit { MatchOption result (self.old.hand ≡ []) (λ u. self.old.hand ≡ u ∷ self.new.hand) }
+        ensures unit { MatchOption result (self.old.hand ≡ [])
+            (λ u. self.old.hand ≡ u ∷ self.new.hand) }
         ensures side { self.new ≡ record self.old { hand = drop 1 self.old.hand } }
     {
         self.units.pop_front()
@@ -148,7 +150,8 @@ impl Hand {
 
     /// The unit that came first leaves, and the last step waits for `mark` from now on.
     pub(crate) fn hand_over(&mut self, mark: Mark) -> Option<Unit>
-        ensures unit { MatchOption result (self.old.hand ≡ []) (λ u. self.old.hand ≡ u ∷ self.new.hand) }
+        ensures unit { MatchOption result (self.old.hand ≡ [])
+            (λ u. self.old.hand ≡ u ∷ self.new.hand) }
         ensures side { self.new ≡ record { hand = drop 1 self.old.hand; mark = mark } }
     {
         self.mark = mark;

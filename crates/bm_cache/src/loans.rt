@@ -23,7 +23,8 @@ impl<R: Recorder> Caches<R> {
     pub fn hand_out(&mut self, level: Level, class: Class) -> Result<Vec<Unit>, NoMemory>
         requires placed { Placed R.log R.counts self.old }
         ensures units { IfOk result (λ us. us.items ≡ ((shown self.old).sides level).hand) }
-        ensures lent { OnOk result (Lends R.log R.counts (with_hand level [] (shown self.old)) self.old self.new) }
+        ensures lent { OnOk result
+            (Lends R.log R.counts (with_hand level [] (shown self.old)) self.old self.new) }
         ensures from { OnOk result (self.new.first_lent ≡ false) }
         ensures refused { OnErr result (self.new ≡ self.old) }
     {
@@ -39,8 +40,10 @@ impl<R: Recorder> Caches<R> {
     /// no other call may come between. The refusal is want of memory and changes nothing.
     pub fn first_out(&mut self, level: Level, class: Class) -> Result<Vec<Unit>, NoMemory>
         requires placed { Placed R.log R.counts self.old }
-        ensures units { IfOk result (λ us. us.items ≡ ((shown self.old).rows class).deferred.first) }
-        ensures lent { OnOk result (Lends R.log R.counts (with_first class [] (shown self.old)) self.old self.new) }
+        ensures units { IfOk result
+            (λ us. us.items ≡ ((shown self.old).rows class).deferred.first) }
+        ensures lent { OnOk result
+            (Lends R.log R.counts (with_first class [] (shown self.old)) self.old self.new) }
         ensures from { OnOk result (self.new.first_lent ≡ true) }
         ensures refused { OnErr result (self.new ≡ self.old) }
     {
@@ -66,7 +69,8 @@ impl<R: Recorder> Caches<R> {
 
     /// Puts the units of `first_out` back in First, in the same order.
     pub fn first_in(&mut self, level: Level, class: Class, units: Vec<Unit>)
-        requires lent { (s : State Token) × FirstIsLent R.log R.counts class units.items s self.old }
+        requires lent { (s : State Token)
+            × FirstIsLent R.log R.counts class units.items s self.old }
         ensures back { PutBack (with_first class units.items (shown self.old)) self.old self.new }
         ensures placed { Placed R.log R.counts self.new }
     {
@@ -78,11 +82,15 @@ impl<R: Recorder> Caches<R> {
     /// Ends the loan of `hand_out` or `first_out`, whose units have these numbers, in order: they went to a processor as
     /// one parcel. Where they came out of First no plain batch is in progress any more.
     pub fn sent(&mut self, level: Level, class: Class, to: u8, numbers: Vec<u16>)
-        requires lent { (s : State Token) × SendIsLent R.log R.counts level class numbers.items s self.old }
+        requires lent { (s : State Token)
+            × SendIsLent R.log R.counts level class numbers.items s self.old }
         requires quiet { is_waiting ((shown self.old).sides level).mark ≡ false }
         requires target { to ≡ ((shown self.old).rows class).target }
-        ensures lists { (s : State Token) → SendIsLent R.log R.counts level class numbers.items s self.old → shown self.new ≡ effect level (Entry.Send class to (Whole numbers.items)) [] s }
-        ensures step { Recorded R.log level (Entry.Send class to (Whole numbers.items)) self.old self.new }
+        ensures lists { (s : State Token)
+            → SendIsLent R.log R.counts level class numbers.items s self.old
+            → shown self.new ≡ effect level (Entry.Send class to (Whole numbers.items)) [] s }
+        ensures step { Recorded R.log level (Entry.Send class to (Whole numbers.items)) self.old
+            self.new }
         ensures placed { Placed R.log R.counts self.new }
     {
         if self.first_lent {
@@ -95,11 +103,15 @@ impl<R: Recorder> Caches<R> {
     /// The same where the units came out of the hand.
     fn send_hand(&mut self, level: Level, class: Class, to: u8, numbers: Vec<u16>)
         requires hand { self.old.first_lent ≡ false }
-        requires lent { (s : State Token) × SendIsLent R.log R.counts level class numbers.items s self.old }
+        requires lent { (s : State Token)
+            × SendIsLent R.log R.counts level class numbers.items s self.old }
         requires quiet { is_waiting ((shown self.old).sides level).mark ≡ false }
         requires target { to ≡ ((shown self.old).rows class).target }
-        ensures lists { (s : State Token) → SendIsLent R.log R.counts level class numbers.items s self.old → shown self.new ≡ effect level (Entry.Send class to (Whole numbers.items)) [] s }
-        ensures step { Recorded R.log level (Entry.Send class to (Whole numbers.items)) self.old self.new }
+        ensures lists { (s : State Token)
+            → SendIsLent R.log R.counts level class numbers.items s self.old
+            → shown self.new ≡ effect level (Entry.Send class to (Whole numbers.items)) [] s }
+        ensures step { Recorded R.log level (Entry.Send class to (Whole numbers.items)) self.old
+            self.new }
         ensures placed { Placed R.log R.counts self.new }
     {
         let _class = class.index();
@@ -115,11 +127,15 @@ impl<R: Recorder> Caches<R> {
     /// The same where the units came out of First.
     fn send_first(&mut self, level: Level, class: Class, to: u8, numbers: Vec<u16>)
         requires first { self.old.first_lent ≡ true }
-        requires lent { (s : State Token) × SendIsLent R.log R.counts level class numbers.items s self.old }
+        requires lent { (s : State Token)
+            × SendIsLent R.log R.counts level class numbers.items s self.old }
         requires quiet { is_waiting ((shown self.old).sides level).mark ≡ false }
         requires target { to ≡ ((shown self.old).rows class).target }
-        ensures lists { (s : State Token) → SendIsLent R.log R.counts level class numbers.items s self.old → shown self.new ≡ effect level (Entry.Send class to (Whole numbers.items)) [] s }
-        ensures step { Recorded R.log level (Entry.Send class to (Whole numbers.items)) self.old self.new }
+        ensures lists { (s : State Token)
+            → SendIsLent R.log R.counts level class numbers.items s self.old
+            → shown self.new ≡ effect level (Entry.Send class to (Whole numbers.items)) [] s }
+        ensures step { Recorded R.log level (Entry.Send class to (Whole numbers.items)) self.old
+            self.new }
         ensures placed { Placed R.log R.counts self.new }
     {
         let row = class.index() as usize;

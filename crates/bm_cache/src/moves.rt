@@ -55,8 +55,10 @@ impl<R: Recorder> Caches<R> {
     pub fn take_parcel(&mut self, level: Level, class: Class, units: Vec<Unit>)
         requires placed { Placed R.log R.counts self.old }
         requires sit { All (Sits class) units.items }
-        requires fresh { (n : ℕ) → stands n (seen number_of (shown self.old)) + times n (map number_of units.items) ≤ 1 }
-        ensures step { TookUnits R.log level (Entry.Receive class) (map number_of units.items) units.items self.old self.new }
+        requires fresh { (n : ℕ)
+            → stands n (seen number_of (shown self.old)) + times n (map number_of units.items) ≤ 1 }
+        ensures step { TookUnits R.log level (Entry.Receive class) (map number_of units.items)
+            units.items self.old self.new }
         ensures placed { Placed R.log R.counts self.new }
     {
         let row = class.index() as usize;
@@ -72,8 +74,10 @@ impl<R: Recorder> Caches<R> {
         requires placed { Placed R.log R.counts self.old }
         requires quiet { is_waiting ((shown self.old).sides level).mark ≡ false }
         requires sit { All (Sits class) units.items }
-        requires fresh { (n : ℕ) → stands n (seen number_of (shown self.old)) + times n (map number_of units.items) ≤ 1 }
-        ensures step { TookUnits R.log level (Entry.Fetch class want) (map number_of units.items) units.items self.old self.new }
+        requires fresh { (n : ℕ)
+            → stands n (seen number_of (shown self.old)) + times n (map number_of units.items) ≤ 1 }
+        ensures step { TookUnits R.log level (Entry.Fetch class want) (map number_of units.items)
+            units.items self.old self.new }
         ensures placed { Placed R.log R.counts self.new }
     {
         let _class = class.index();

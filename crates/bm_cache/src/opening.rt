@@ -37,10 +37,12 @@ impl<R: Recorder> Caches<R> {
     ) -> Result<Caches<R>, (Vec<(Class, Vec<Unit>)>, R)>
         requires ascend { Ascending (map (λ f. (f.0, f.1.items)) units.items) }
         requires sit { FillsSit (map (λ f. (f.0, f.1.items)) units.items) }
-        requires once { (n : ℕ) → times n (numbers_in (map (λ f. (f.0, f.1.items)) units.items)) ≤ 1 }
+        requires once { (n : ℕ)
+            → times n (numbers_in (map (λ f. (f.0, f.1.items)) units.items)) ≤ 1 }
         requires counts { R.counts recorder ≡ no_counts }
         requires log { IfSome (R.log recorder) (λ es. es ≡ []) }
-        ensures opened { IfOk result (λ c. Opened R.log R.counts processor (map (λ f. (f.0, f.1.items)) units.items) c) }
+        ensures opened { IfOk result
+            (λ c. Opened R.log R.counts processor (map (λ f. (f.0, f.1.items)) units.items) c) }
         ensures refused { IfErr result (λ back. (back.0 ≡ units) × (back.1 ≡ recorder)) }
     {
         let Ok(numbers) = all_numbers(alloc, &units) else {
@@ -74,9 +76,14 @@ impl<R: Recorder> Caches<R> {
     fn fill_all(&mut self, units: Vec<(Class, Vec<Unit>)>, numbers: Vec<Vec<u16>>)
         requires placed { Placed R.log R.counts self.old }
         requires sit { FillsSit (map (λ f. (f.0, f.1.items)) units.items) }
-        requires fresh { (n : ℕ) → stands n (seen number_of (shown self.old)) + times n (numbers_in (map (λ f. (f.0, f.1.items)) units.items)) ≤ 1 }
-        requires numbers { map (λ v. v.items) numbers.items ≡ map (λ f. map number_of f.1.items) units.items }
-        ensures { Filled R.log R.counts (map (λ f. (f.0, f.1.items)) units.items) self.old self.new }
+        requires fresh { (n : ℕ)
+            → stands n (seen number_of (shown self.old))
+            + times n (numbers_in (map (λ f. (f.0, f.1.items)) units.items))
+            ≤ 1 }
+        requires numbers { map (λ v. v.items) numbers.items
+            ≡ map (λ f. map number_of f.1.items) units.items }
+        ensures { Filled R.log R.counts (map (λ f. (f.0, f.1.items)) units.items) self.old
+            self.new }
     {
         let mut rest = VecDeque::from_vec(units);
         let mut names = VecDeque::from_vec(numbers);
@@ -93,10 +100,12 @@ impl<R: Recorder> Caches<R> {
     fn fill(&mut self, class: Class, units: Vec<Unit>, numbers: Vec<u16>)
         requires placed { Placed R.log R.counts self.old }
         requires sit { All (Sits class) units.items }
-        requires fresh { (n : ℕ) → stands n (seen number_of (shown self.old)) + times n (map number_of units.items) ≤ 1 }
+        requires fresh { (n : ℕ)
+            → stands n (seen number_of (shown self.old)) + times n (map number_of units.items) ≤ 1 }
         requires numbers { numbers.items ≡ map number_of units.items }
         ensures class { class < 11 }
-        ensures step { Took R.log 0 (Entry.Fill class (named units.items)) units.items self.old self.new }
+        ensures step { Took R.log 0 (Entry.Fill class (named units.items)) units.items self.old
+            self.new }
         ensures placed { Placed R.log R.counts self.new }
     {
         let row = class.index() as usize;
@@ -110,7 +119,9 @@ impl<R: Recorder> Caches<R> {
 
 /// The numbers of each list of units.
 fn all_numbers(alloc: Global, units: &Vec<(Class, Vec<Unit>)>) -> Result<Vec<Vec<u16>>, NoMemory>
-    ensures { IfOk result (λ numbers. map (λ v. v.items) numbers.items ≡ map (λ f. map number_of f.1.items) units.now.items) }
+    ensures { IfOk result
+        (λ numbers. map (λ v. v.items) numbers.items
+        ≡ map (λ f. map number_of f.1.items) units.now.items) }
 {
     let mut numbers = Vec::with_capacity(alloc, units.len())?;
     for (_class, list) in units {

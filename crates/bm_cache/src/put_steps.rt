@@ -36,9 +36,14 @@ impl<R: Recorder> Caches<R> {
         requires placed { Placed R.log R.counts self.old }
         requires saw { ((shown self.old).sides level).mark ≡ mark.Saw class seen }
         requires longer { seen ≤ length ((shown self.old).rows class).extra }
-        requires held { (u : Token) × (rest : List Token) × (((shown self.old).sides level).hand ≡ u ∷ rest) × (u.class ≡ class) }
-        ensures put { result ≡ true → (u : Token) × (rest : List Token) × (((shown self.old).sides level).hand ≡ u ∷ rest) × Took R.log level (Entry.Put class u.number) [] self.old self.new }
-        ensures lost { result ≡ false → (seen < length ((shown self.old).rows class).extra) × Took R.log level (Entry.Lost class) [] self.old self.new }
+        requires held { (u : Token) × (rest : List Token)
+            × (((shown self.old).sides level).hand ≡ u ∷ rest) × (u.class ≡ class) }
+        ensures put { result ≡ true
+            → (u : Token) × (rest : List Token) × (((shown self.old).sides level).hand ≡ u ∷ rest)
+            × Took R.log level (Entry.Put class u.number) [] self.old self.new }
+        ensures lost { result ≡ false
+            → (seen < length ((shown self.old).rows class).extra)
+            × Took R.log level (Entry.Lost class) [] self.old self.new }
         ensures placed { Placed R.log R.counts self.new }
     {
         let row = class.index() as usize;
@@ -84,9 +89,14 @@ impl<R: Recorder> Caches<R> {
         requires placed { Placed R.log R.counts self.old }
         requires saw { ((shown self.old).sides level).mark ≡ mark.SawDelayed class seen }
         requires longer { seen ≤ length ((shown self.old).rows class).extra_delayed }
-        requires held { (u : Token) × (rest : List Token) × (((shown self.old).sides level).hand ≡ u ∷ rest) × (u.class ≡ class) }
-        ensures put { result ≡ true → (u : Token) × (rest : List Token) × (((shown self.old).sides level).hand ≡ u ∷ rest) × Took R.log level (Entry.PutDelayed class u.number) [] self.old self.new }
-        ensures lost { result ≡ false → (seen < length ((shown self.old).rows class).extra_delayed) × Took R.log level (Entry.LostDelayed class) [] self.old self.new }
+        requires held { (u : Token) × (rest : List Token)
+            × (((shown self.old).sides level).hand ≡ u ∷ rest) × (u.class ≡ class) }
+        ensures put { result ≡ true
+            → (u : Token) × (rest : List Token) × (((shown self.old).sides level).hand ≡ u ∷ rest)
+            × Took R.log level (Entry.PutDelayed class u.number) [] self.old self.new }
+        ensures lost { result ≡ false
+            → (seen < length ((shown self.old).rows class).extra_delayed)
+            × Took R.log level (Entry.LostDelayed class) [] self.old self.new }
         ensures placed { Placed R.log R.counts self.new }
     {
         let row = class.index() as usize;

@@ -40,7 +40,9 @@ impl<R> Caches<R> {
 
     /// The least class for which deferred work is asked for. None exactly where no flag is up.
     pub fn lowest_raised(&self) -> Option<Class>
-        ensures { MatchOption result ((k : ℕ) → k < 11 → ((shown self.now).rows k).raised ≡ false) (λ c. (((shown self.now).rows c).raised ≡ true) × ((k : ℕ) → k < c → ((shown self.now).rows k).raised ≡ false)) }
+        ensures { MatchOption result ((k : ℕ) → k < 11 → ((shown self.now).rows k).raised ≡ false)
+            (λ c. (((shown self.now).rows c).raised ≡ true)
+            × ((k : ℕ) → k < c → ((shown self.now).rows k).raised ≡ false)) }
     {
         for class in Class::all() {
             if self.raised(class) {

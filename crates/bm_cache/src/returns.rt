@@ -53,8 +53,15 @@ impl<R: Recorder> Caches<R> {
         requires placed { Placed R.log R.counts self.old }
         requires none { waiting class (shown self.old) ≡ 0 }
         requires sit { All (Sits class) (flat_map (λ p. p.items) parcels.items) }
-        requires fresh { (n : ℕ) → stands n (seen number_of (shown self.old)) + times n (map number_of (flat_map (λ p. p.items) parcels.items)) ≤ 1 }
-        ensures step { TookUnits R.log level (Entry.Sweep class) (map number_of (seven_lists ((shown self.old).rows class) ++ flat_map (λ p. p.items) parcels.items)) (flat_map (λ p. p.items) parcels.items) self.old self.new }
+        requires fresh { (n : ℕ)
+            → stands n (seen number_of (shown self.old))
+            + times n (map number_of (flat_map (λ p. p.items) parcels.items))
+            ≤ 1 }
+        ensures step { TookUnits R.log level (Entry.Sweep class)
+            (map number_of
+            (seven_lists ((shown self.old).rows class)
+            ++ flat_map (λ p. p.items) parcels.items))
+            (flat_map (λ p. p.items) parcels.items) self.old self.new }
         ensures placed { Placed R.log R.counts self.new }
     {
         let row = class.index() as usize;
@@ -69,8 +76,10 @@ impl<R: Recorder> Caches<R> {
     /// call may come between. The refusal is want of memory and changes nothing.
     pub fn second_out(&mut self, level: Level, class: Class) -> Result<Vec<Unit>, NoMemory>
         requires placed { Placed R.log R.counts self.old }
-        ensures units { IfOk result (λ us. us.items ≡ ((shown self.old).rows class).deferred.second) }
-        ensures lent { OnOk result (Lends R.log R.counts (with_second class [] (shown self.old)) self.old self.new) }
+        ensures units { IfOk result
+            (λ us. us.items ≡ ((shown self.old).rows class).deferred.second) }
+        ensures lent { OnOk result
+            (Lends R.log R.counts (with_second class [] (shown self.old)) self.old self.new) }
         ensures refused { OnErr result (self.new ≡ self.old) }
     {
         let row = class.index() as usize;
@@ -83,9 +92,11 @@ impl<R: Recorder> Caches<R> {
     /// Ends the loan of `second_out`, whose units have these numbers, in order: they went back to the stock, and the
     /// tracing batch is no more in progress.
     pub fn returned(&mut self, level: Level, class: Class, numbers: Vec<u16>)
-        requires lent { (s : State Token) × SecondIsLent R.log R.counts class numbers.items s self.old }
+        requires lent { (s : State Token)
+            × SecondIsLent R.log R.counts class numbers.items s self.old }
         requires progress { IsTrue (is_some ((shown self.old).rows class).deferred.tracing) }
-        ensures step { Ended R.log level (Entry.Return class (Whole numbers.items)) self.old self.new }
+        ensures step { Ended R.log level (Entry.Return class (Whole numbers.items)) self.old
+            self.new }
         ensures placed { Placed R.log R.counts self.new }
     {
         let row = class.index() as usize;

@@ -50,4 +50,6 @@ Nowhere n rows = (c : ℕ) → in_row n (seen_row number_of (row_at rows c)) ≡
 
 -- these units stand in no row, and none of them twice
 abbrev pub AreFresh : List UnitState → List (Row UnitState) → Type 0
-AreFresh us rows = (n : ℕ) → (c : ℕ) → in_row n (seen_row number_of (row_at rows c)) + times n (map number_of us) ≤ 1
+AreFresh us rows =
+    (n : ℕ) → (c : ℕ)
+    → in_row n (seen_row number_of (row_at rows c)) + times n (map number_of us) ≤ 1

@@ -39,15 +39,32 @@ filled us r = record r { free = reverse us ++ r.free; count = r.count + length u
 
 -- all of Delayed on First, as the plain batch in progress
 abbrev pub batched : {A : Type 0} → Row A → Row A
-batched r = record r { delayed = []; deferred = record r.deferred { first = r.delayed ++ r.deferred.first; plain = Some 0 } }
+batched r =
+    record r {
+      delayed = [];
+      deferred = record r.deferred { first = r.delayed ++ r.deferred.first; plain = Some 0 };
+    }
 
 -- all of Ready on Second, as the tracing batch in progress
 abbrev pub second_begun : {A : Type 0} → Row A → Row A
-second_begun r = record r { deferred = record r.deferred { ready = []; second = r.deferred.ready ++ r.deferred.second; tracing = Some 0 } }
+second_begun r =
+    record r {
+      deferred =
+          record r.deferred
+          { ready = []; second = r.deferred.ready ++ r.deferred.second; tracing = Some 0 };
+    }
 
 -- Second alone has units, and they are the tracing batch in progress.
 abbrev pub swept_to : {A : Type 0} → List A → Row A → Row A
-swept_to us r = record r { free = []; extra = []; delayed = []; extra_delayed = []; count = 0; deferred = record r.deferred { first = []; ready = []; second = us; tracing = Some 0 } }
+swept_to us r =
+    record r {
+      free = [];
+      extra = [];
+      delayed = [];
+      extra_delayed = [];
+      count = 0;
+      deferred = record r.deferred { first = []; ready = []; second = us; tracing = Some 0 };
+    }
 
 -- the row of these lists, by their heads, and of these numbers
 abbrev pub row_of : List (List ℕ) → ℕ → ℕ → Bool → ℕ → Option ℕ → Option ℕ → Row ℕ

@@ -36,7 +36,8 @@ impl Model for Rows {
 
     ghost view = { λ r. rows_of r.places.items r.lines.items };
 
-    ghost invariant = { λ r. Housed r.places.items r.lines.items × (65536 ≤ vec_capacity r.places) };
+    ghost invariant = { λ r. Housed r.places.items r.lines.items
+        × (65536 ≤ vec_capacity r.places) };
 }
 
 impl Rows {
@@ -192,7 +193,8 @@ impl Rows {
     pub fn push_all(&mut self, row: usize, stack: Stack, units: Vec<Unit>)
         requires row { row < 11 }
         requires fresh { AreFresh units.items self.old }
-        ensures { self.new ≡ on_row_at row (on_list stack (λ us. reverse units.items ++ us)) self.old }
+        ensures { self.new
+            ≡ on_row_at row (on_list stack (λ us. reverse units.items ++ us)) self.old }
     {
         // For the prover: the value opened, which tells that there are eleven rows.
         let _places = &self.places;

@@ -34,12 +34,17 @@ IsBinding (Some (name, state)) b = b ≡ Some (record { name = name.now; state =
 -- the start of an `if`: the rule that it breaks, or the log before it. The name isn't null from then on, and the log that is
 -- begun leads back to the states before
 abbrev pub IsEntered : Result (Vec Change Global) Stop → ℕ → NameLog → NameLog → List ℕ → Type 0
-IsEntered (Ok outer) line old new x = (doubtful ((names_in old).state x) ≡ None) × (outer.items ≡ old.changes.items) × (names_in new ≡ put (names_in old) x (non_null ((names_in old).state x))) × Starts new (names_in old).state
-IsEntered (Err (stop.Broken l rule)) line old new x = (doubtful ((names_in old).state x) ≡ Some rule) × (l ≡ line)
+IsEntered (Ok outer) line old new x =
+    (doubtful ((names_in old).state x) ≡ None) × (outer.items ≡ old.changes.items)
+    × (names_in new ≡ put (names_in old) x (non_null ((names_in old).state x)))
+    × Starts new (names_in old).state
+IsEntered (Err (stop.Broken l rule)) line old new x =
+    (doubtful ((names_in old).state x) ≡ Some rule) × (l ≡ line)
 IsEntered (Err stop.NoMemory) line old new x = Unit {0}
 
 -- between the blocks of an `if` that began at the states f: a log that leads from there to the first block's end
-pub record IsOther (first : Vec Change Global) (old new : NameLog) (x : List ℕ) (f : List ℕ → NameState) : Type 0 where
+pub record IsOther (first : Vec Change Global) (old new : NameLog) (x : List ℕ)
+    (f : List ℕ → NameState) : Type 0 where
   pub names : names_in new ≡ put (at_states (names_in old) f) x Spent
   pub start : Starts new f
   pub leads : Leads first.items (at_states (names_in old) f) (names_in old).state
@@ -53,7 +58,8 @@ IsBound (Err stop.NoMemory) old new line b = Unit {0}
 -- the first broken rule of a script
 abbrev pub IsScriptJudged : Result (Unit {0}) Stop → Parts → Script → Type 0
 IsScriptJudged (Ok done) scenario script = Accepted scenario script
-IsScriptJudged (Err (stop.Broken line rule)) scenario script = first_broken_rule scenario script ≡ Some (record { line = line; rule = rule })
+IsScriptJudged (Err (stop.Broken line rule)) scenario script =
+    first_broken_rule scenario script ≡ Some (record { line = line; rule = rule })
 IsScriptJudged (Err stop.NoMemory) scenario script = Unit {0}
 
 -- why a scenario isn't checked

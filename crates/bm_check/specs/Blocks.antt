@@ -55,13 +55,18 @@ last_line body (Some' block) = end_line block
 
 -- the ends of the statements with blocks
 abbrev pub after_if : ℕ → HeldLock → Names → Place → Outcome
-after_if line l first p = unless_broken line (need (not (branches_clash first p.names)) rule.BranchesAgree) (Reaches (at (joined first p.names) l))
+after_if line l first p =
+    unless_broken line (need (not (branches_clash first p.names)) rule.BranchesAgree)
+    (Reaches (at (joined first p.names) l))
 
 abbrev pub after_repeat : ℕ → HeldLock → Names → Place → Outcome
-after_repeat line l start p = unless_broken line (need (not (body_changes start p.names)) rule.RepeatAgrees) (Reaches (at (repeated start p.names) l))
+after_repeat line l start p =
+    unless_broken line (need (not (body_changes start p.names)) rule.RepeatAgrees)
+    (Reaches (at (repeated start p.names) l))
 
 abbrev pub after_statement : ℕ → HeldLock → Action → Row → Outcome
-after_statement line l a r = unless_broken line (broken_by r) (Reaches (at (names_after r) (lock_after l a)))
+after_statement line l a r =
+    unless_broken line (broken_by r) (Reaches (at (names_after r) (lock_after l a)))
 
 -- an `if` runs its first block with the name known not to be null, and the other, which may be absent, with the name spent
 abbrev mutual
@@ -69,9 +74,11 @@ abbrev mutual
   judged_action e p line (If' x body otherwise) =
       unless_broken line (broken_by (row_of e p.lock p.names (If' x body otherwise)))
       (and_then (judged_block e (at (put p.names x (non_null (p.names.state x))) p.lock) body)
-      (λ first. and_then (judged_else e (at (put (back_to p.names first.names) x Spent) p.lock) otherwise)
+      (λ first.
+      and_then (judged_else e (at (put (back_to p.names first.names) x Spent) p.lock) otherwise)
       (after_if (last_line body otherwise) p.lock first.names)))
-  judged_action e p line (Repeat count body) = and_then (judged_block e p body) (after_repeat (end_line body) p.lock p.names)
+  judged_action e p line (Repeat count body) =
+      and_then (judged_block e p body) (after_repeat (end_line body) p.lock p.names)
   judged_action e p line (Section body) = judged_block e p body
   judged_action e p line a = after_statement line p.lock a (row_of e p.lock p.names a)
 
@@ -86,4 +93,5 @@ abbrev mutual
 
   pub judged_row : Setting → Place → {m : _} → Row_of-Statement m → Outcome
   judged_row e p end_of-Statement = Reaches p
-  judged_row e p (more_of-Statement line action rest) = and_then (judged_action e p line action) (λ q. judged_row e q rest)
+  judged_row e p (more_of-Statement line action rest) =
+      and_then (judged_action e p line action) (λ q. judged_row e q rest)

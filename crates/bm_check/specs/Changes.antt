@@ -40,7 +40,8 @@ abbrev pub KeepsStart : NameLog → NameLog → Type 0
 KeepsStart old new = (f : List ℕ → NameState) → Starts old f → Starts new f
 
 -- back at the start, with an empty log there and one that leads forth again
-pub record IsBack (forth : Vec Change Global) (old new : NameLog) (f : List ℕ → NameState) : Type 0 where
+pub record IsBack (forth : Vec Change Global) (old new : NameLog) (f : List ℕ → NameState) :
+    Type 0 where
   pub names : names_in new ≡ at_states (names_in old) f
   pub empty : new.changes.items ≡ []
   pub leads : Leads forth.items (names_in new) (names_in old).state
@@ -60,12 +61,15 @@ met_at m f c = record { name = c.name; state = outcome m (f c.name.now) c.state 
 abbrev pub some_break : Meeting → (List ℕ → NameState) → Names → Bool
 some_break m g n = some_name (λ x. breaks m (g x) (n.state x)) n
 
-pub record IsMet (m : Meeting) (outcomes : Vec Change Global) (n : Names) (f g : List ℕ → NameState) (new : NameLog) : Type 0 where
+pub record IsMet (m : Meeting) (outcomes : Vec Change Global) (n : Names) (f g : List ℕ → NameState)
+    (new : NameLog) : Type 0 where
   pub none : some_break m g n ≡ false
   pub names : names_in new ≡ at_states n f
   pub leads : Leads outcomes.items (at_states n f) (λ x. outcome m (g x) (n.state x))
 
 -- two parts of a text begin at the states f; the first one ends at g, and the second one at those of n
-abbrev pub IsMeeting : Meeting → Option (Vec Change Global) → Names → (List ℕ → NameState) → (List ℕ → NameState) → NameLog → Type 0
+abbrev pub IsMeeting :
+    Meeting → Option (Vec Change Global) → Names → (List ℕ → NameState) → (List ℕ → NameState)
+    → NameLog → Type 0
 IsMeeting m None n f g new = some_break m g n ≡ true
 IsMeeting m (Some outcomes) n f g new = IsMet m outcomes n f g new

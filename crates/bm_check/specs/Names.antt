@@ -46,11 +46,13 @@ abbrev pub branches_clash : Names → Names → Bool
 branches_clash first second = some_name (λ x. clashes (first.state x) (second.state x)) second
 
 abbrev pub joined : Names → Names → Names
-joined first second = record { met = second.met; state = λ x. joined_state (first.state x) (second.state x) }
+joined first second =
+    record { met = second.met; state = λ x. joined_state (first.state x) (second.state x) }
 
 -- the start and the end of a repeated body
 abbrev pub body_changes : Names → Names → Bool
 body_changes start end = some_name (λ x. not (agrees (start.state x) (end.state x))) end
 
 abbrev pub repeated : Names → Names → Names
-repeated start end = record { met = end.met; state = λ x. repeated_state (start.state x) (end.state x) }
+repeated start end =
+    record { met = end.met; state = λ x. repeated_state (start.state x) (end.state x) }

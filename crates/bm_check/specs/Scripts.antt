@@ -12,7 +12,10 @@ use Rattle.bm_check.specs.Blocks.{Outcome, Broken, Reaches, at, and_then, unless
 
 -- a script's block, begun without names and locks; at its end nothing is owned, or rule 4 is broken there
 abbrev pub judged_script : Parts → Script → Outcome
-judged_script scenario s = and_then (judged_block (setting_of scenario s.kind) (at no_names Nothing) s.body) (λ p. unless_broken (end_line s.body) (need (not (owns_some p.names)) rule.NothingOwned) (Reaches p))
+judged_script scenario s =
+    and_then (judged_block (setting_of scenario s.kind) (at no_names Nothing) s.body)
+    (λ p. unless_broken (end_line s.body) (need (not (owns_some p.names)) rule.NothingOwned)
+    (Reaches p))
 
 pub record BrokenRule : Type 0 where
   pub line : ℕ
@@ -30,14 +33,17 @@ abbrev pub Accepted : Parts → Script → Type 0
 Accepted scenario s = first_broken_rule scenario s ≡ None
 
 abbrev pub AllAccepted : Parts → Type 0
-AllAccepted scenario = (i : ℕ) (s : Script) → slice_get scenario.scripts i ≡ Some s → Accepted scenario s
+AllAccepted scenario =
+    (i : ℕ) (s : Script) → slice_get scenario.scripts i ≡ Some s → Accepted scenario s
 
 -- the first script in the text's order that isn't accepted, with its first broken rule
 pub record IsRejected (scenario : Parts) (script line : ℕ) (r : Rule) : Type 0 where
   pub broken : Script
   pub here : slice_get scenario.scripts script ≡ Some broken
   pub first_rule : first_broken_rule scenario broken ≡ Some (record { line = line; rule = r })
-  pub before : (i : ℕ) (s : Script) → i < script → slice_get scenario.scripts i ≡ Some s → Accepted scenario s
+  pub before :
+      (i : ℕ) (s : Script) → i < script → slice_get scenario.scripts i ≡ Some s
+      → Accepted scenario s
 
 -- what a checked scenario keeps: all its scripts are accepted, and no limit is exceeded
 pub record IsChecked (scenario : Parts) : Type 0 where

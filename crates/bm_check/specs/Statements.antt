@@ -151,26 +151,39 @@ abbrev pub pushed : Setting → MapId → NameState → NameState
 pushed e g s = option_map_or (λ t. if is_counted e t then Spent else Soft t g) (type_in s) Spent
 
 abbrev pub pushes : Setting → HeldLock → Names → MapId → List ℕ → Row
-pushes e l n g x = row (option_or (under_lock_of g l) (owning (holds_type e g) (n.state x))) (put n x (pushed e g (n.state x))) None
+pushes e l n g x =
+    row (option_or (under_lock_of g l) (owning (holds_type e g) (n.state x)))
+    (put n x (pushed e g (n.state x))) None
 
 abbrev pub pops : Setting → HeldLock → Names → List ℕ → MapId → Row
-pops e l n x g = row (option_or (under_lock_of g l) (declared e g)) (soft_ended n) (binds_of x (type_of_map e g) Maybe)
+pops e l n x g =
+    row (option_or (under_lock_of g l) (declared e g)) (soft_ended n)
+    (binds_of x (type_of_map e g) Maybe)
 
 -- THE TABLE: needs, names left, name bound. A block's own statements are in the judgement on blocks
 abbrev pub row_of : Setting → HeldLock → Names → Action → Row
 row_of e l n (New x t values) = row (outside_locks l) n (binds x (Maybe t))
-row_of e l n (Drop x) = row (option_or (outside_locks l) (owning any_type (n.state x))) (put n x Spent) None
-row_of e l n (Acquire y x) = row (owning (is_counted e) (n.state x)) n (binds_of y (type_in (n.state x)) Owned)
+row_of e l n (Drop x) =
+    row (option_or (outside_locks l) (owning any_type (n.state x))) (put n x Spent) None
+row_of e l n (Acquire y x) =
+    row (owning (is_counted e) (n.state x)) n (binds_of y (type_in (n.state x)) Owned)
 row_of e l n (Get x f) = row (reading (has_field e f) (n.state x)) n None
-row_of e l n (Exchange y s (Some x)) = row (option_or (outside_locks l) (owning (holds_type e s) (n.state x))) (put n x Spent) (binds_of y (type_of_map e s) Maybe)
-row_of e l n (Exchange y s None) = row (option_or (outside_locks l) (declared e s)) n (binds_of y (type_of_map e s) Maybe)
+row_of e l n (Exchange y s (Some x)) =
+    row (option_or (outside_locks l) (owning (holds_type e s) (n.state x))) (put n x Spent)
+    (binds_of y (type_of_map e s) Maybe)
+row_of e l n (Exchange y s None) =
+    row (option_or (outside_locks l) (declared e s)) n (binds_of y (type_of_map e s) Maybe)
 row_of e l n (PushFront q x) = pushes e l n q x
 row_of e l n (PushBack q x) = pushes e l n q x
 row_of e l n (Add t x) = pushes e l n t x
 row_of e l n (PopFront x q) = pops e l n x q
 row_of e l n (PopBack x q) = pops e l n x q
-row_of e l n (First x t) = row (option_or (under_lock_of t l) (declared e t)) n (binds_of x (type_of_map e t) (λ u. MaybeSoft u t))
-row_of e l n (Remove y t x) = row (option_or (under_lock_of t l) (option_or (non_owning t (n.state x)) (declared e t))) (soft_ended n) (binds_of y (type_of_map e t) Maybe)
+row_of e l n (First x t) =
+    row (option_or (under_lock_of t l) (declared e t)) n
+    (binds_of x (type_of_map e t) (λ u. MaybeSoft u t))
+row_of e l n (Remove y t x) =
+    row (option_or (under_lock_of t l) (option_or (non_owning t (n.state x)) (declared e t)))
+    (soft_ended n) (binds_of y (type_of_map e t) Maybe)
 row_of e l n (Lock g) = row (option_or (no_handler e) (no_second_lock l)) n None
 row_of e l n Unlock = row (option_or (some_lock l) (lock_from_here l)) (soft_ended n) None
 row_of e l n Yield = row (option_or (no_handler e) (outside_locks l)) n None

@@ -19,14 +19,16 @@ abbrev pub words_of : List (Bor (List ℕ)) → List (List ℕ)
 words_of keys = map (λ k. k.now) keys
 
 abbrev pub names_with : NameTable → List NameState → Names
-names_with t states = record { met = words_of t.names.keys; state = looked_up (words_of t.names.keys) states }
+names_with t states =
+    record { met = words_of t.names.keys; state = looked_up (words_of t.names.keys) states }
 
 abbrev pub names_of : NameTable → Names
 names_of t = names_with t t.states.items
 
 -- every name that is a non-owning reference is on a list
 abbrev pub AreListed : List (Bor (List ℕ)) → Names → Type 0
-AreListed soft n = (x : List ℕ) → is_soft (n.state x) ≡ true → list_any (λ k. bytes_eq x k.now) soft ≡ true
+AreListed soft n =
+    (x : List ℕ) → is_soft (n.state x) ≡ true → list_any (λ k. bytes_eq x k.now) soft ≡ true
 
 -- a name that gets a state is listed where that is such a reference
 abbrev pub listed : List (Bor (List ℕ)) → Bor (List ℕ) → NameState → List (Bor (List ℕ))

@@ -74,10 +74,14 @@ abbrev pub Refers : Value → TypeId → Type 0
 Refers v t = (v ≡ Owning t) ⊎ ((g : MapId) × (v ≡ NonOwning t g))
 
 abbrev pub Pushes : Setting → Store → MapId → List ℕ → (Store → Type 0) → Type 0
-Pushes e s g x Q = HoldsLock s g × Gives s x (λ t. holds_type e g t ≡ true) (λ t. Q (with_value s x (if is_counted e t then Empty else NonOwning t g)))
+Pushes e s g x Q =
+    HoldsLock s g
+    × Gives s x (λ t. holds_type e g t ≡ true)
+    (λ t. Q (with_value s x (if is_counted e t then Empty else NonOwning t g)))
 
 abbrev pub Pops : Setting → Store → List ℕ → MapId → (TypeId → Value) → (Store → Type 0) → Type 0
-Pops e s x g v Q = HoldsLock s g × ((t : TypeId) × (type_of_map e g ≡ Some t) × Answered s x (v t) Q)
+Pops e s x g v Q =
+    HoldsLock s g × ((t : TypeId) × (type_of_map e g ≡ Some t) × Answered s x (v t) Q)
 
 abbrev pub Exchanges : Setting → Store → List ℕ → MapId → (Store → Type 0) → Type 0
 Exchanges e s y g Q = (t : TypeId) × (type_of_map e g ≡ Some t) × Answered s y (Owning t) Q
@@ -93,9 +97,12 @@ abbrev mutual
   pub SafeAction : Setting → Store → Action → (Store → Type 0) → Type 0
   SafeAction e s (New x t values) Q = NoLock s × Answered s x (Owning t) Q
   SafeAction e s (Drop x) Q = NoLock s × Gives s x (λ t. Unit {0}) (λ t. Q (with_value s x Empty))
-  SafeAction e s (Acquire y x) Q = Gives s x (λ t. is_counted e t ≡ true) (λ t. MayBind s y × Q (with_value s y (Owning t)))
+  SafeAction e s (Acquire y x) Q =
+      Gives s x (λ t. is_counted e t ≡ true) (λ t. MayBind s y × Q (with_value s y (Owning t)))
   SafeAction e s (Get x f) Q = (t : TypeId) × Refers (s.value x) t × (has_field e f t ≡ true) × Q s
-  SafeAction e s (Exchange y g (Some x)) Q = NoLock s × Gives s x (λ t. holds_type e g t ≡ true) (λ t. Exchanges e (with_value s x Empty) y g Q)
+  SafeAction e s (Exchange y g (Some x)) Q =
+      NoLock s
+      × Gives s x (λ t. holds_type e g t ≡ true) (λ t. Exchanges e (with_value s x Empty) y g Q)
   SafeAction e s (Exchange y g None) Q = NoLock s × Exchanges e s y g Q
   SafeAction e s (PushFront q x) Q = Pushes e s q x Q
   SafeAction e s (PushBack q x) Q = Pushes e s q x Q
@@ -103,7 +110,9 @@ abbrev mutual
   SafeAction e s (PopFront x q) Q = Pops e (soft_ended s) x q Owning Q
   SafeAction e s (PopBack x q) Q = Pops e (soft_ended s) x q Owning Q
   SafeAction e s (First x t) Q = Pops e s x t (λ u. NonOwning u t) Q
-  SafeAction e s (Remove y t x) Q = ((s.value x ≡ Null) ⊎ ((u : TypeId) × (s.value x ≡ NonOwning u t))) × Pops e (soft_ended s) y t Owning Q
+  SafeAction e s (Remove y t x) Q =
+      ((s.value x ≡ Null) ⊎ ((u : TypeId) × (s.value x ≡ NonOwning u t)))
+      × Pops e (soft_ended s) y t Owning Q
   SafeAction e s (Lock g) Q = NotHandler e × NoLock s × Q (with_lock s (Here g))
   SafeAction e s Unlock Q = (g : MapId) × (s.lock ≡ Here g) × Q (with_lock (soft_ended s) Nothing)
   SafeAction e s Yield Q = NotHandler e × NoLock s × Q s
@@ -119,11 +128,14 @@ abbrev mutual
   SafeElse e s (Some' body) Q = SafeBlock e s body Q
 
   pub SafeBlock : Setting → Store → Block → (Store → Type 0) → Type 0
-  SafeBlock e s (Block' shape row line) Q = SafeRow e (with_lock s (from_inside s.lock)) row (λ r. (r.lock ≡ from_inside s.lock) × Q (with_lock r s.lock))
+  SafeBlock e s (Block' shape row line) Q =
+      SafeRow e (with_lock s (from_inside s.lock)) row
+      (λ r. (r.lock ≡ from_inside s.lock) × Q (with_lock r s.lock))
 
   pub SafeRow : Setting → Store → {m : _} → Row_of-Statement m → (Store → Type 0) → Type 0
   SafeRow e s end_of-Statement Q = Q s
-  SafeRow e s (more_of-Statement line action rest) Q = SafeAction e s action (λ r. SafeRow e r rest Q)
+  SafeRow e s (more_of-Statement line action rest) Q =
+      SafeAction e s action (λ r. SafeRow e r rest Q)
 
 -- a value is what a state says
 abbrev pub Fits : NameState → Value → Type 0
@@ -148,8 +160,13 @@ pub record OwnsNothing (s : Store) : Type 0 where
 
 -- THE LAW: along an accepted script, whatever the replies, each statement finds what it needs, and at the end nothing is owned
 abbrev pub AcceptedIsSafe : Type 0
-AcceptedIsSafe = (scenario : Parts) (script : Script) → Accepted scenario script → SafeBlock (setting_of scenario script.kind) empty_store script.body OwnsNothing
+AcceptedIsSafe =
+    (scenario : Parts) (script : Script) → Accepted scenario script
+    → SafeBlock (setting_of scenario script.kind) empty_store script.body OwnsNothing
 
 -- .. and for a single statement: begun with values that are what the states say, it finds what it needs, and leaves such values
 abbrev pub StatesAreRight : Type 0
-StatesAreRight = (e : Setting) (p : Place) (line : ℕ) (a : Action) (q : Place) → judged_action e p line a ≡ Reaches q → Covered p.names → (s : Store) → Stands p s → SafeAction e s a (Stands q)
+StatesAreRight =
+    (e : Setting) (p : Place) (line : ℕ) (a : Action) (q : Place)
+    → judged_action e p line a ≡ Reaches q → Covered p.names → (s : Store) → Stands p s
+    → SafeAction e s a (Stands q)

@@ -25,10 +25,14 @@ abbrev pub new_job : Action
 new_job = New x job (1 ∷ [])
 
 abbrev pub one : ScriptKind → Action → Outcome
-one kind a = judged_row (record { types = []; maps = []; kind = kind }) (at no_names Nothing) (more_of-Statement 5 a end_of-Statement)
+one kind a =
+    judged_row (record { types = []; maps = []; kind = kind }) (at no_names Nothing)
+    (more_of-Statement 5 a end_of-Statement)
 
 abbrev pub two : Action → Action → Outcome
-two a b = judged_row (record { types = []; maps = []; kind = Plain }) (at no_names Nothing) (more_of-Statement 5 a (more_of-Statement 6 b end_of-Statement))
+two a b =
+    judged_row (record { types = []; maps = []; kind = Plain }) (at no_names Nothing)
+    (more_of-Statement 5 a (more_of-Statement 6 b end_of-Statement))
 
 pub record WorkedStatements : Type 0 where
   pub bound : one Plain new_job ≡ Reaches (at (put no_names x (Maybe job)) Nothing)

@@ -33,13 +33,20 @@ abbrev pub field : List ℕ
 field = 102 ∷ []
 
 abbrev pub job_type : TypeDeclaration
-job_type = record { line = 1; name = 106 ∷ []; counted = false; node = None; fields = field ∷ []; pad = None }
+job_type =
+    record
+    { line = 1; name = 106 ∷ []; counted = false; node = None; fields = field ∷ []; pad = None }
 
 abbrev pub map_of : MapKind → List ℕ → MapDeclaration
 map_of kind name = record { line = 2; kind = kind; name = name; type_id = job }
 
 abbrev pub with_list_and_tree : Setting
-with_list_and_tree = record { types = job_type ∷ []; maps = map_of map.List (113 ∷ []) ∷ map_of map.Tree (116 ∷ []) ∷ []; kind = Plain }
+with_list_and_tree =
+    record {
+      types = job_type ∷ [];
+      maps = map_of map.List (113 ∷ []) ∷ map_of map.Tree (116 ∷ []) ∷ [];
+      kind = Plain;
+    }
 
 -- statements under the lock of a map, by a script that owns an object under x
 abbrev pub three : MapId → Action → Action → Action → Outcome
@@ -50,11 +57,14 @@ three g a b c =
 abbrev pub four : MapId → Action → Action → Action → Action → Outcome
 four g a b c d =
     judged_row with_list_and_tree (at (put no_names x (Owned job)) (Here g))
-    (more_of-Statement 5 a (more_of-Statement 6 b (more_of-Statement 7 c (more_of-Statement 8 d end_of-Statement))))
+    (more_of-Statement 5 a
+    (more_of-Statement 6 b (more_of-Statement 7 c (more_of-Statement 8 d end_of-Statement))))
 
 -- one statement under the lock of a map, where x leads into the list q
 abbrev pub one_soft : MapId → Action → Outcome
-one_soft g a = judged_row with_list_and_tree (at (put no_names x (Soft job q)) (Here g)) (more_of-Statement 5 a end_of-Statement)
+one_soft g a =
+    judged_row with_list_and_tree (at (put no_names x (Soft job q)) (Here g))
+    (more_of-Statement 5 a end_of-Statement)
 
 abbrev pub reads : Action
 reads = Get x field
@@ -72,11 +82,13 @@ pub record WorkedReferences : Type 0 where
   pub stays_ended : four q (PushBack q x) Unlock (Lock q) reads ≡ Broken 8 rule.NotSpent
   -- a pop may take out any object that a name leads to, and so ends all
   pub ends_with_a_pop : three q (PushBack q x) (PopFront y q) reads ≡ Broken 7 rule.NotSpent
-  pub ends_with_a_pop_of_the_back : three q (PushBack q x) (PopBack y q) reads ≡ Broken 7 rule.NotSpent
+  pub ends_with_a_pop_of_the_back :
+      three q (PushBack q x) (PopBack y q) reads ≡ Broken 7 rule.NotSpent
   -- a removal too, and what it takes out is taken out once
   pub ends_with_a_removal : three t (Add t x) (Remove y t x) reads ≡ Broken 7 rule.NotSpent
   pub taken_out : left (three t (Add t x) (First y t) (Remove z t y)) z ≡ Some (Maybe job)
-  pub taken_out_once : four t (Add t x) (First y t) (Remove z t y) (Remove (123 ∷ []) t x) ≡ Broken 8 rule.NotSpent
+  pub taken_out_once :
+      four t (Add t x) (First y t) (Remove z t y) (Remove (123 ∷ []) t x) ≡ Broken 8 rule.NotSpent
   -- it owns nothing that could be put in, or be given up after the unlock, and leads into its own list or tree alone
   pub not_put_in : one_soft q (PushBack q x) ≡ Broken 5 rule.RightKind
   pub not_given_up : three q (PushBack q x) Unlock (Drop x) ≡ Broken 7 rule.NotSpent

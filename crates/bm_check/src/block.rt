@@ -62,7 +62,8 @@ fn enter_other<'a>(
     log: &mut NameLog<'a>,
     name: &'a Name,
 ) -> Result<Vec<Change<'a>>, Stop>
-    ensures ok { IfOk result (λ first. (f : _) → Starts log.old f → IsOther first log.old log.new name.now f) }
+    ensures ok { IfOk result
+        (λ first. (f : _) → Starts log.old f → IsOther first log.old log.new name.now f) }
     ensures err { IfErr result (λ stop. stop ≡ NoMemory) }
 {
     let first = log.go_back(alloc)?;
@@ -78,8 +79,14 @@ fn leave<'a>(
     first: Vec<Change<'a>>,
     outer: Vec<Change<'a>>,
 ) -> Result<HeldLock, Stop>
-    ensures judged { (f g : _) → Starts log.old f → Leads first.entry.items (at_states (names_in log.old) f) g → IsJudged result (names_in log.new) (after_meeting end.meeting end.line end.lock (at_states (names_in log.old) g) (spec.at (names_in log.old) end.lock)) }
-    ensures kept { OnOk result ((f g h : _) → Starts log.old f → Leads first.entry.items (at_states (names_in log.old) f) g → Leads outer.entry.items (at_states (names_in log.old) f) h → Starts log.new h) }
+    ensures judged { (f g : _) → Starts log.old f
+        → Leads first.entry.items (at_states (names_in log.old) f) g
+        → IsJudged result (names_in log.new)
+        (after_meeting end.meeting end.line end.lock (at_states (names_in log.old) g)
+        (spec.at (names_in log.old) end.lock)) }
+    ensures kept { OnOk result
+        ((f g h : _) → Starts log.old f → Leads first.entry.items (at_states (names_in log.old) f) g
+        → Leads outer.entry.items (at_states (names_in log.old) f) h → Starts log.new h) }
 {
     match log.meet(alloc, first, end.meeting)? {
         Some(outcomes) => {
@@ -103,7 +110,9 @@ pub fn judge_block<'a>(
     lock: HeldLock,
     block: &'a Block,
 ) -> Result<HeldLock, Stop>
-    ensures judged { IsJudged result (names_in log.new) (spec.judged_block (setting_of setting.now.scenario.now setting.now.kind) (spec.at (names_in log.old) lock) block.now) }
+    ensures judged { IsJudged result (names_in log.new)
+        (spec.judged_block (setting_of setting.now.scenario.now setting.now.kind)
+        (spec.at (names_in log.old) lock) block.now) }
     ensures kept { OnOk result (KeepsStart log.old log.new) }
 {
     let mut held = lock.from_inside();
@@ -128,7 +137,9 @@ fn judge_action<'a>(
     line: u32,
     action: &'a Action,
 ) -> Result<HeldLock, Stop>
-    ensures judged { IsJudged result (names_in log.new) (spec.judged_action (setting_of setting.now.scenario.now setting.now.kind) (spec.at (names_in log.old) lock) line action.now) }
+    ensures judged { IsJudged result (names_in log.new)
+        (spec.judged_action (setting_of setting.now.scenario.now setting.now.kind)
+        (spec.at (names_in log.old) lock) line action.now) }
     ensures kept { OnOk result (KeepsStart log.old log.new) }
 {
     match action {

@@ -62,7 +62,8 @@ impl<'a> NameLog<'a> {
     pub fn put(&mut self, name: &'a [u8], state: NameState) -> Result<(), Stop>
         ensures ok { OnOk result (names_in self.new ≡ spec.put (names_in self.old) name.now state) }
         ensures kept { OnOk result (KeepsStart self.old self.new) }
-        ensures soft { OnOk result (is_soft state ≡ false → self.new.soft.items ≡ self.old.soft.items) }
+        ensures soft { OnOk result
+            (is_soft state ≡ false → self.new.soft.items ≡ self.old.soft.items) }
         ensures err { IfErr result (λ stop. stop ≡ NoMemory) }
     {
         let before = self.table.state(name);
@@ -76,7 +77,8 @@ impl<'a> NameLog<'a> {
 
     // Ends a name's non-owning reference, if it is one.
     fn spend_soft(&mut self, name: &'a [u8]) -> Result<(), Stop>
-        ensures ok { OnOk result (spec.soft_ended (names_in self.new) ≡ spec.soft_ended (names_in self.old)) }
+        ensures ok { OnOk result
+            (spec.soft_ended (names_in self.new) ≡ spec.soft_ended (names_in self.old)) }
         ensures spent { OnOk result (is_soft ((names_in self.new).state name.now) ≡ false) }
         ensures kept { OnOk result (KeepsStart self.old self.new) }
         ensures soft { OnOk result (self.new.soft.items ≡ self.old.soft.items) }
@@ -104,7 +106,9 @@ impl<'a> NameLog<'a> {
 
     /// Gives the names of a log its states, the last one first.
     pub fn apply(&mut self, changes: Vec<Change<'a>>) -> Result<(), Stop>
-        ensures ok { OnOk result ((f : _) → Leads changes.entry.items (names_in self.old) f → names_in self.new ≡ at_states (names_in self.old) f) }
+        ensures ok { OnOk result
+            ((f : _) → Leads changes.entry.items (names_in self.old) f
+            → names_in self.new ≡ at_states (names_in self.old) f) }
         ensures kept { OnOk result (KeepsStart self.old self.new) }
         ensures err { IfErr result (λ stop. stop ≡ NoMemory) }
     {
@@ -126,7 +130,8 @@ impl<'a> NameLog<'a> {
 
     /// Goes back to the states at the log's start, with an empty log there, and gives the log that leads forth again.
     pub fn go_back(&mut self, alloc: Global) -> Result<Vec<Change<'a>>, Stop>
-        ensures ok { IfOk result (λ forth. (f : _) → Starts self.old f → IsBack forth self.old self.new f) }
+        ensures ok { IfOk result
+            (λ forth. (f : _) → Starts self.old f → IsBack forth self.old self.new f) }
         ensures err { IfErr result (λ stop. stop ≡ NoMemory) }
     {
         let changes = self.begin(alloc);
@@ -136,7 +141,9 @@ impl<'a> NameLog<'a> {
 
     // Adds the states that the names of a log have now.
     fn add_ends(&self, changes: &[Change<'a>], ends: &mut Vec<Change<'a>>) -> Result<(), Stop>
-        ensures ok { OnOk result (ends.new.items ≡ ends.old.items ++ map (end_of (names_in self.now).state) changes.now) }
+        ensures ok { OnOk result
+            (ends.new.items
+            ≡ ends.old.items ++ map (end_of (names_in self.now).state) changes.now) }
         ensures err { IfErr result (λ stop. stop ≡ NoMemory) }
     {
         for change in changes {
@@ -167,7 +174,8 @@ impl<'a> NameLog<'a> {
         ends: &[Change<'a>],
         meeting: Meeting,
     ) -> Result<Vec<Change<'a>>, Stop>
-        ensures ok { IfOk result (λ outcomes. outcomes.items ≡ map (met_at meeting (names_in self.now).state) ends.now) }
+        ensures ok { IfOk result
+            (λ outcomes. outcomes.items ≡ map (met_at meeting (names_in self.now).state) ends.now) }
         ensures err { IfErr result (λ stop. stop ≡ NoMemory) }
     {
         let mut outcomes = Vec::new(alloc);
@@ -182,7 +190,9 @@ impl<'a> NameLog<'a> {
 
     // The states that the names which changed in either part have now.
     fn ends(&self, alloc: Global, first: &[Change<'a>]) -> Result<Vec<Change<'a>>, Stop>
-        ensures ok { IfOk result (λ ends. ends.items ≡ map (end_of (names_in self.now).state) (self.now.changes.items ++ first.now)) }
+        ensures ok { IfOk result
+            (λ ends. ends.items
+            ≡ map (end_of (names_in self.now).state) (self.now.changes.items ++ first.now)) }
         ensures err { IfErr result (λ stop. stop ≡ NoMemory) }
     {
         let mut ends = Vec::new(alloc);
@@ -200,7 +210,10 @@ impl<'a> NameLog<'a> {
         first: Vec<Change<'a>>,
         meeting: Meeting,
     ) -> Result<Option<Vec<Change<'a>>>, Stop>
-        ensures ok { IfOk result (λ met. (f g : _) → Starts self.old f → Leads first.entry.items (at_states (names_in self.old) f) g → IsMeeting meeting met (names_in self.old) f g self.new) }
+        ensures ok { IfOk result
+            (λ met. (f g : _) → Starts self.old f
+            → Leads first.entry.items (at_states (names_in self.old) f) g
+            → IsMeeting meeting met (names_in self.old) f g self.new) }
         ensures err { IfErr result (λ stop. stop ≡ NoMemory) }
     {
         let ends = self.ends(alloc, first.as_slice())?;

@@ -30,7 +30,8 @@ pub fn is_handler(setting: &Setting) -> bool
 
 /// The type of the objects that a map holds.
 pub fn type_of_map(setting: &Setting, map: MapId) -> Option<TypeId>
-    ensures { result ≡ spec.type_of_map (spec.setting_of setting.now.scenario.now setting.now.kind) map }
+    ensures { result
+        ≡ spec.type_of_map (spec.setting_of setting.now.scenario.now setting.now.kind) map }
 {
     match setting.scenario.maps.as_slice().get(map.0) {
         Some(declaration) => Some(declaration.type_id),
@@ -40,7 +41,8 @@ pub fn type_of_map(setting: &Setting, map: MapId) -> Option<TypeId>
 
 // Whether a map holds objects of a type.
 fn holds_type(setting: &Setting, map: MapId, type_id: TypeId) -> bool
-    ensures { result ≡ spec.holds_type (spec.setting_of setting.now.scenario.now setting.now.kind) map type_id }
+    ensures { result
+        ≡ spec.holds_type (spec.setting_of setting.now.scenario.now setting.now.kind) map type_id }
 {
     match type_of_map(setting, map) {
         Some(held) => held.0 == type_id.0,
@@ -50,7 +52,8 @@ fn holds_type(setting: &Setting, map: MapId, type_id: TypeId) -> bool
 
 /// Whether objects of a type carry a reference count.
 pub fn is_counted(setting: &Setting, type_id: TypeId) -> bool
-    ensures { result ≡ spec.is_counted (spec.setting_of setting.now.scenario.now setting.now.kind) type_id }
+    ensures { result
+        ≡ spec.is_counted (spec.setting_of setting.now.scenario.now setting.now.kind) type_id }
 {
     match setting.scenario.types.as_slice().get(type_id.0) {
         Some(declaration) => declaration.counted,
@@ -72,7 +75,9 @@ fn is_among(names: &[Name], name: &Name) -> bool
 
 // Whether a type has a field.
 fn has_field(setting: &Setting, field: &Name, type_id: TypeId) -> bool
-    ensures { result ≡ spec.has_field (spec.setting_of setting.now.scenario.now setting.now.kind) field.now type_id }
+    ensures { result
+        ≡ spec.has_field (spec.setting_of setting.now.scenario.now setting.now.kind) field.now
+        type_id }
 {
     match setting.scenario.types.as_slice().get(type_id.0) {
         Some(declaration) => is_among(declaration.fields.as_slice(), field),
@@ -82,7 +87,10 @@ fn has_field(setting: &Setting, field: &Name, type_id: TypeId) -> bool
 
 /// Whether a name stands for an object of the type that a map holds.
 pub fn fits_map(setting: &Setting, map: MapId, state: NameState) -> bool
-    ensures { result ≡ option_map_or (spec.holds_type (spec.setting_of setting.now.scenario.now setting.now.kind) map) (type_in state) false }
+    ensures { result
+        ≡ option_map_or
+        (spec.holds_type (spec.setting_of setting.now.scenario.now setting.now.kind) map)
+        (type_in state) false }
 {
     match state.type_in() {
         Some(type_id) => holds_type(setting, map, type_id),
@@ -92,7 +100,10 @@ pub fn fits_map(setting: &Setting, map: MapId, state: NameState) -> bool
 
 /// Whether a name stands for an object of a counted type.
 pub fn fits_counted(setting: &Setting, state: NameState) -> bool
-    ensures { result ≡ option_map_or (spec.is_counted (spec.setting_of setting.now.scenario.now setting.now.kind)) (type_in state) false }
+    ensures { result
+        ≡ option_map_or
+        (spec.is_counted (spec.setting_of setting.now.scenario.now setting.now.kind))
+        (type_in state) false }
 {
     match state.type_in() {
         Some(type_id) => is_counted(setting, type_id),
@@ -102,7 +113,10 @@ pub fn fits_counted(setting: &Setting, state: NameState) -> bool
 
 /// Whether a name stands for an object of a type that has a field.
 pub fn fits_field(setting: &Setting, field: &Name, state: NameState) -> bool
-    ensures { result ≡ option_map_or (spec.has_field (spec.setting_of setting.now.scenario.now setting.now.kind) field.now) (type_in state) false }
+    ensures { result
+        ≡ option_map_or
+        (spec.has_field (spec.setting_of setting.now.scenario.now setting.now.kind) field.now)
+        (type_in state) false }
 {
     match state.type_in() {
         Some(type_id) => has_field(setting, field, type_id),

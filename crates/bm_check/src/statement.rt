@@ -111,7 +111,8 @@ pub fn doubtful(state: NameState) -> Option<Rule>
 }
 
 fn declared(setting: &Setting, map: MapId) -> Option<Rule>
-    ensures { result ≡ spec.declared (spec.setting_of setting.now.scenario.now setting.now.kind) map }
+    ensures { result
+        ≡ spec.declared (spec.setting_of setting.now.scenario.now setting.now.kind) map }
 {
     need(type_of_map(setting, map).is_some(), Rule::RightKind)
 }
@@ -123,20 +124,27 @@ fn pushes(
     graph: MapId,
     name: &Name,
 ) -> Option<Rule>
-    ensures { result ≡ (spec.pushes (spec.setting_of setting.now.scenario.now setting.now.kind) lock (names_of table.now) graph name.now).needs }
+    ensures { result
+        ≡ (spec.pushes (spec.setting_of setting.now.scenario.now setting.now.kind) lock
+        (names_of table.now) graph name.now).needs }
 {
     let state = table.state(name.as_bytes());
     under_lock_of(graph, lock).or(owning(state, fits_map(setting, graph, state)))
 }
 
 fn pops(setting: &Setting, lock: HeldLock, graph: MapId) -> Option<Rule>
-    ensures { result ≡ option_or (spec.under_lock_of graph lock) (spec.declared (spec.setting_of setting.now.scenario.now setting.now.kind) graph) }
+    ensures { result
+        ≡ option_or (spec.under_lock_of graph lock)
+        (spec.declared (spec.setting_of setting.now.scenario.now setting.now.kind) graph) }
 {
     under_lock_of(graph, lock).or(declared(setting, graph))
 }
 
 fn removes(setting: &Setting, lock: HeldLock, tree: MapId, state: NameState) -> Option<Rule>
-    ensures { result ≡ option_or (spec.under_lock_of tree lock) (option_or (spec.non_owning tree state) (spec.declared (spec.setting_of setting.now.scenario.now setting.now.kind) tree)) }
+    ensures { result
+        ≡ option_or (spec.under_lock_of tree lock)
+        (option_or (spec.non_owning tree state)
+        (spec.declared (spec.setting_of setting.now.scenario.now setting.now.kind) tree)) }
 {
     under_lock_of(tree, lock).or(used(state, leads_into(state, tree)).or(declared(setting, tree)))
 }
@@ -148,7 +156,10 @@ fn exchanges(
     slot: MapId,
     given: &Option<Name>,
 ) -> Option<Rule>
-    ensures { (y : _) → result ≡ (spec.row_of (spec.setting_of setting.now.scenario.now setting.now.kind) lock (names_of table.now) (Exchange y slot given.now)).needs }
+    ensures { (y : _)
+        → result
+        ≡ (spec.row_of (spec.setting_of setting.now.scenario.now setting.now.kind) lock
+        (names_of table.now) (Exchange y slot given.now)).needs }
 {
     match given {
         Some(name) => {
@@ -161,7 +172,9 @@ fn exchanges(
 
 /// The first need of a statement that isn't met, but for that of the name which it binds.
 pub fn needs(setting: &Setting, lock: HeldLock, table: &NameTable, action: &Action) -> Option<Rule>
-    ensures { result ≡ (spec.row_of (spec.setting_of setting.now.scenario.now setting.now.kind) lock (names_of table.now) action.now).needs }
+    ensures { result
+        ≡ (spec.row_of (spec.setting_of setting.now.scenario.now setting.now.kind) lock
+        (names_of table.now) action.now).needs }
 {
     match action {
         Action::New { .. } => outside_locks(lock),
@@ -201,7 +214,8 @@ pub fn needs(setting: &Setting, lock: HeldLock, table: &NameTable, action: &Acti
 
 // What a push leaves of the name that it pushes.
 fn pushed(setting: &Setting, graph: MapId, state: NameState) -> NameState
-    ensures { result ≡ spec.pushed (spec.setting_of setting.now.scenario.now setting.now.kind) graph state }
+    ensures { result
+        ≡ spec.pushed (spec.setting_of setting.now.scenario.now setting.now.kind) graph state }
 {
     match state.type_in() {
         Some(type_id) => {
@@ -221,7 +235,11 @@ fn push<'a>(
     graph: MapId,
     name: &'a Name,
 ) -> Result<(), Stop>
-    ensures ok { OnOk result ((l : _) → names_in log.new ≡ (spec.pushes (spec.setting_of setting.now.scenario.now setting.now.kind) l (names_in log.old) graph name.now).leaves) }
+    ensures ok { OnOk result
+        ((l : _)
+        → names_in log.new
+        ≡ (spec.pushes (spec.setting_of setting.now.scenario.now setting.now.kind) l
+        (names_in log.old) graph name.now).leaves) }
     ensures kept { OnOk result (KeepsStart log.old log.new) }
     ensures err { IfErr result (λ stop. stop ≡ NoMemory) }
 {
@@ -231,7 +249,11 @@ fn push<'a>(
 
 /// Spends what a statement spends.
 pub fn leave<'a>(setting: &Setting, log: &mut NameLog<'a>, action: &'a Action) -> Result<(), Stop>
-    ensures ok { OnOk result ((l : _) → names_in log.new ≡ (spec.row_of (spec.setting_of setting.now.scenario.now setting.now.kind) l (names_in log.old) action.now).leaves) }
+    ensures ok { OnOk result
+        ((l : _)
+        → names_in log.new
+        ≡ (spec.row_of (spec.setting_of setting.now.scenario.now setting.now.kind) l
+        (names_in log.old) action.now).leaves) }
     ensures kept { OnOk result (KeepsStart log.old log.new) }
     ensures err { IfErr result (λ stop. stop ≡ NoMemory) }
 {
@@ -252,7 +274,9 @@ pub fn leave<'a>(setting: &Setting, log: &mut NameLog<'a>, action: &'a Action) -
 
 // What is bound to an object of the type that a map holds, or to null.
 fn maybe_of(setting: &Setting, map: MapId) -> Option<NameState>
-    ensures { result ≡ option_map Maybe (spec.type_of_map (spec.setting_of setting.now.scenario.now setting.now.kind) map) }
+    ensures { result
+        ≡ option_map Maybe
+        (spec.type_of_map (spec.setting_of setting.now.scenario.now setting.now.kind) map) }
 {
     match type_of_map(setting, map) {
         Some(type_id) => Some(NameState::Maybe(type_id)),
@@ -262,7 +286,9 @@ fn maybe_of(setting: &Setting, map: MapId) -> Option<NameState>
 
 // What `first` binds.
 fn maybe_soft_of(setting: &Setting, tree: MapId) -> Option<NameState>
-    ensures { result ≡ option_map (λ u. MaybeSoft u tree) (spec.type_of_map (spec.setting_of setting.now.scenario.now setting.now.kind) tree) }
+    ensures { result
+        ≡ option_map (λ u. MaybeSoft u tree)
+        (spec.type_of_map (spec.setting_of setting.now.scenario.now setting.now.kind) tree) }
 {
     match type_of_map(setting, tree) {
         Some(type_id) => Some(NameState::MaybeSoft(type_id, tree)),
@@ -295,7 +321,10 @@ pub fn binding<'a>(
     table: &NameTable,
     action: &'a Action,
 ) -> Option<(&'a [u8], NameState)>
-    ensures { (l : _) → IsBinding result (spec.row_of (spec.setting_of setting.now.scenario.now setting.now.kind) l (names_of table.now) action.now).bound }
+    ensures { (l : _)
+        → IsBinding result
+        (spec.row_of (spec.setting_of setting.now.scenario.now setting.now.kind) l
+        (names_of table.now) action.now).bound }
 {
     match action {
         Action::New { name, type_id, .. } => Some((name.as_bytes(), NameState::Maybe(*type_id))),
@@ -315,7 +344,8 @@ fn bind<'a>(
     line: u32,
     bound: Option<(&'a [u8], NameState)>,
 ) -> Result<(), Stop>
-    ensures bound { (b : Option spec.Binding) → IsBinding bound.entry b → IsBound result (names_in log.old) (names_in log.new) line b }
+    ensures bound { (b : Option spec.Binding) → IsBinding bound.entry b
+        → IsBound result (names_in log.old) (names_in log.new) line b }
     ensures kept { OnOk result (KeepsStart log.old log.new) }
 {
     if let Some((name, state)) = bound {
@@ -348,7 +378,10 @@ pub fn simple<'a>(
     line: u32,
     action: &'a Action,
 ) -> Result<HeldLock, Stop>
-    ensures judged { IsJudged result (names_in log.new) (after_statement line lock action.now (spec.row_of (spec.setting_of setting.now.scenario.now setting.now.kind) lock (names_in log.old) action.now)) }
+    ensures judged { IsJudged result (names_in log.new)
+        (after_statement line lock action.now
+        (spec.row_of (spec.setting_of setting.now.scenario.now setting.now.kind) lock
+        (names_in log.old) action.now)) }
     ensures kept { OnOk result (KeepsStart log.old log.new) }
 {
     if let Some(rule) = needs(setting, lock, &log.table, action) {

@@ -23,7 +23,8 @@ emptied c boxes = on_inbox c (λ parcels. []) boxes
 -- All parcels of a class came, behind units that had come before. They weren't mine before, and else the same are mine. Where
 -- parcels are told they were these, each holds a unit, and none is left. What is known of grace periods and of objects is as it
 -- was.
-pub record Came (class : ℕ) (units units' : List UnitState) (rights rights' : Rights) (known known' : Known) : Type 0 where
+pub record Came (class : ℕ) (units units' : List UnitState) (rights rights' : Rights)
+    (known known' : Known) : Type 0 where
   pub came : List UnitState
   pub units_are : units' ≡ units ++ came
   pub stay : (n : ℕ) → rights.mine n ≡ true → rights'.mine n ≡ true

@@ -7,7 +7,8 @@ use Rattle.bm_cache.specs.Span.{Face, Fine}
 use Rattle.bm_cache.specs.declared.caches.Caches.{Caches}
 
 -- It is at the level of ordinary code, no call is in a cache or has anything in hand, and each unit stands where it suits.
-pub record AtEnd {H R : Type 0} (log : R → Option Log) (counts : R → Counts) (is_sound : H → Type 0) (tests : H → Tests) (faces : H → Face) (holds : H → Caches R) (h : H) : Type 0 where
+pub record AtEnd {H R : Type 0} (log : R → Option Log) (counts : R → Counts) (is_sound : H → Type 0)
+    (tests : H → Tests) (faces : H → Face) (holds : H → Caches R) (h : H) : Type 0 where
   pub sound : is_sound h
   pub ordinary : (faces h).level ≡ 0
   pub fine : Fine log counts (tests h) (faces h).processors 0 (holds h)

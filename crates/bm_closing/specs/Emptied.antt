@@ -13,7 +13,10 @@ use Rattle.bm_cache.specs.declared.caches.Caches.{Caches}
 use Rattle.bm_closing.specs.Arrived.{Arrived, Came}
 
 -- These units came from it, and stand nowhere in the caches, which are as they were.
-pub record Emptied {H R : Type 0} (faces : H → Face) (waits : H → ℕ) (stays : H → H → Type 0) (holds : H → Caches R) (known : H → Known) (rights : H → Rights) (c : ℕ) (units : List UnitState) (before now : H) : Type 0 where
+pub record Emptied {H R : Type 0} (faces : H → Face) (waits : H → ℕ) (stays : H → H → Type 0)
+    (holds : H → Caches R) (known : H → Known) (rights : H → Rights) (c : ℕ)
+    (units : List UnitState) (before now : H) :
+    Type 0 where
   pub held : holds now ≡ holds before
   pub arrived : Arrived c (rights now) units
   pub came : Came c [] units (rights before) (rights now) (known before) (known now)

@@ -7,4 +7,6 @@ use Rattle.bm_law_scenario.specs.Closing.{EndsOne}
 
 -- first that of the plain domain, and then that of the tracing one
 abbrev pub EndsBegun : Known → Part
-EndsBegun known = Then (EndsOne Plain (begun_by (side Plain known).number)) (EndsOne Tracing (begun_by (side Tracing known).number))
+EndsBegun known =
+    Then (EndsOne Plain (begun_by (side Plain known).number))
+    (EndsOne Tracing (begun_by (side Tracing known).number))

@@ -20,10 +20,16 @@ swept c units s = map number_of (seven_lists (s.rows c) ++ units)
 -- the entries by which they become a batch that waits for a period, and the period passes
 abbrev pub gathering : ℕ → List ℕ → Waited → List Entry
 gathering c numbers w =
-    entry.Sweep c (Whole numbers) ∷ entry.Stamp c Tracing w.stamp ∷ entry.Begin Tracing w.begun ∷ entry.Finish w.period ∷ entry.Pass c Tracing w.seen ∷ []
+    entry.Sweep c (Whole numbers) ∷ entry.Stamp c Tracing w.stamp ∷ entry.Begin Tracing w.begun
+    ∷ entry.Finish w.period ∷ entry.Pass c Tracing w.seen ∷ []
 
 -- The units of the lists of a class, and those that came, became a batch, and its period has passed.
-pub record Gathered {R : Type 0} (log : R → Option Log) (c : ℕ) (units : List Token) (w : Waited) (before now : Caches R) : Type 0 where
-  pub gained : Adds 0 (gathering c (swept c units (shown before)) w) (log before.recorder) (log now.recorder)
-  pub lists : shown now ≡ effect 0 (entry.Stamp c Tracing w.stamp) [] (effect 0 (entry.Sweep c (Whole (swept c units (shown before)))) units (shown before))
+pub record Gathered {R : Type 0} (log : R → Option Log) (c : ℕ) (units : List Token) (w : Waited)
+    (before now : Caches R) : Type 0 where
+  pub gained :
+      Adds 0 (gathering c (swept c units (shown before)) w) (log before.recorder) (log now.recorder)
+  pub lists :
+      shown now
+      ≡ effect 0 (entry.Stamp c Tracing w.stamp) []
+      (effect 0 (entry.Sweep c (Whole (swept c units (shown before)))) units (shown before))
   pub processor : now.processor ≡ before.processor

@@ -7,6 +7,10 @@ use Rattle.bm_world.specs.Told.{told_boxes}
 
 -- Processor p has no period in progress where it had none, may begin as many as before, and has the same parcels in its inboxes.
 pub record LeavesOther (p : ℕ) (before now : SideState) : Type 0 where
-  pub none : (d : Domain) → (side_in p (domain_in d before.grace)).number ≡ 0 → (side_in p (domain_in d now.grace)).number ≡ 0
-  pub begins : (d : Domain) → (side_in p (domain_in d now.grace)).begins ≡ (side_in p (domain_in d before.grace)).begins
+  pub none :
+      (d : Domain) → (side_in p (domain_in d before.grace)).number ≡ 0
+      → (side_in p (domain_in d now.grace)).number ≡ 0
+  pub begins :
+      (d : Domain)
+      → (side_in p (domain_in d now.grace)).begins ≡ (side_in p (domain_in d before.grace)).begins
   pub parcels : (c : ℕ) → told_boxes now.post p c ≡ told_boxes before.post p c

@@ -18,9 +18,15 @@ use Rattle.bm_closing.specs.Arrived.{emptied}
 
 -- All units of a class's lists and of its inbox went back to the stock, by a sweep where there were any, and by nothing at all
 -- where there were none. The other classes are as before, at most one tracing period has begun, and no section and no object.
-pub record Sweeps {H R : Type 0} (log : R → Option Log) (faces : H → Face) (waits : H → ℕ) (stays : H → H → Type 0) (holds : H → Caches R) (known : H → Known) (c : ℕ) (before now : H) : Type 0 where
+pub record Sweeps {H R : Type 0} (log : R → Option Log) (faces : H → Face) (waits : H → ℕ)
+    (stays : H → H → Type 0) (holds : H → Caches R) (known : H → Known) (c : ℕ)
+    (before now : H) :
+    Type 0 where
   pub inbox : List ℕ
-  pub phrase : GrewBy (SweepWhere c (seven_lists ((seen number_of (shown (holds before))).rows c) ++ inbox)) (seen number_of (shown (holds before))) (log (holds before).recorder) (log (holds now).recorder)
+  pub phrase :
+      GrewBy (SweepWhere c (seven_lists ((seen number_of (shown (holds before))).rows c) ++ inbox))
+      (seen number_of (shown (holds before))) (log (holds before).recorder)
+      (log (holds now).recorder)
   pub alone : Alone 0 (log (holds before).recorder) (log (holds now).recorder)
   pub parcels : IfSome (known before).parcels (λ boxes. inbox ≡ concat (boxes c))
   pub none_waited : IfSome (known before).parcels (λ boxes. inbox ≡ [] → boxes c ≡ [])

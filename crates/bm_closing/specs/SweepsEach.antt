@@ -25,9 +25,17 @@ all_emptied (c ∷ cs) boxes = all_emptied cs (emptied c boxes)
 
 -- All units of these classes went back to the stock, of the lists and of the inboxes, class by class. The other classes are as
 -- before, at most one tracing period a class has begun, and no section and no object.
-pub record SweepsEach {H R : Type 0} (log : R → Option Log) (faces : H → Face) (waits : H → ℕ) (stays : H → H → Type 0) (holds : H → Caches R) (known : H → Known) (cs : List ℕ) (before now : H) : Type 0 where
-  pub told : IfSome (known before).parcels (λ boxes. GrewBy (SweepsTold cs boxes) (seen number_of (shown (holds before))) (log (holds before).recorder) (log (holds now).recorder))
-  pub sweeps : GrewBy (AreSweeps cs) (seen number_of (shown (holds before))) (log (holds before).recorder) (log (holds now).recorder)
+pub record SweepsEach {H R : Type 0} (log : R → Option Log) (faces : H → Face) (waits : H → ℕ)
+    (stays : H → H → Type 0) (holds : H → Caches R) (known : H → Known) (cs : List ℕ)
+    (before now : H) :
+    Type 0 where
+  pub told :
+      IfSome (known before).parcels
+      (λ boxes. GrewBy (SweepsTold cs boxes) (seen number_of (shown (holds before)))
+      (log (holds before).recorder) (log (holds now).recorder))
+  pub sweeps :
+      GrewBy (AreSweeps cs) (seen number_of (shown (holds before))) (log (holds before).recorder)
+      (log (holds now).recorder)
   pub alone : Alone 0 (log (holds before).recorder) (log (holds now).recorder)
   pub none_left : (known now).parcels ≡ option_map (all_emptied cs) (known before).parcels
   pub empty : (k : ℕ) → 0 < times k cs → seven_lists ((shown (holds now)).rows k) ≡ []
@@ -36,4 +44,5 @@ pub record SweepsEach {H R : Type 0} (log : R → Option Log) (faces : H → Fac
   pub goes : Goes faces waits stays before now
   pub alike : Alike (known before) (known now)
   pub plain_begins : (known now).grace.plain.begins ≡ (known before).grace.plain.begins
-  pub tracing_begins : (known before).grace.tracing.begins ≤ (known now).grace.tracing.begins + length cs
+  pub tracing_begins :
+      (known before).grace.tracing.begins ≤ (known now).grace.tracing.begins + length cs

@@ -16,8 +16,17 @@ use Rattle.bm_work.specs.Goes.{Alike}
 use Rattle.bm_law_scenario.specs.Closing.{SweepOf}
 
 -- They went back by a sweep, and the inboxes and the other classes are as before.
-pub record Swept {H R : Type 0} (log : R → Option Log) (faces : H → Face) (waits : H → ℕ) (stays : H → H → Type 0) (holds : H → Caches R) (known : H → Known) (c : ℕ) (units : List UnitState) (before now : H) : Type 0 where
-  pub phrase : GrewBy (Say 0 (SweepOf c (seven_lists ((seen number_of (shown (holds before))).rows c) ++ numbers units))) (seen number_of (shown (holds before))) (log (holds before).recorder) (log (holds now).recorder)
+pub record Swept {H R : Type 0} (log : R → Option Log) (faces : H → Face) (waits : H → ℕ)
+    (stays : H → H → Type 0) (holds : H → Caches R) (known : H → Known) (c : ℕ)
+    (units : List UnitState) (before now : H) :
+    Type 0 where
+  pub phrase :
+      GrewBy
+      (Say 0
+      (SweepOf c
+      (seven_lists ((seen number_of (shown (holds before))).rows c) ++ numbers units)))
+      (seen number_of (shown (holds before))) (log (holds before).recorder)
+      (log (holds now).recorder)
   pub alone : Alone 0 (log (holds before).recorder) (log (holds now).recorder)
   pub empty : seven_lists ((shown (holds now)).rows c) ≡ []
   pub others : (k : ℕ) → k ≢ c → (shown (holds now)).rows k ≡ (shown (holds before)).rows k

@@ -25,9 +25,13 @@ abbrev pub receives_all : ℕ → List (List ℕ) → List Act
 receives_all c parcels = map (act.Receives c) parcels ++ act.Receives c [] ∷ []
 
 -- parcels came behind those that had come before, and there may be more
-abbrev pub ReceivesSome : {W : Type 0} → (List Act → W → W → Type 0) → ℕ → (before now : List (List ℕ)) → W → W → Type 0
-ReceivesSome does c before now a b = (came : List (List ℕ)) × (now ≡ before ++ came) × does (map (act.Receives c) came) a b
+abbrev pub ReceivesSome :
+    {W : Type 0} → (List Act → W → W → Type 0) → ℕ → (before now : List (List ℕ)) → W → W → Type 0
+ReceivesSome does c before now a b =
+    (came : List (List ℕ)) × (now ≡ before ++ came) × does (map (act.Receives c) came) a b
 
 -- .. and there are none
-abbrev pub ReceivesAll : {W : Type 0} → (List Act → W → W → Type 0) → ℕ → (before now : List (List ℕ)) → W → W → Type 0
-ReceivesAll does c before now a b = (came : List (List ℕ)) × (now ≡ before ++ came) × does (receives_all c came) a b
+abbrev pub ReceivesAll :
+    {W : Type 0} → (List Act → W → W → Type 0) → ℕ → (before now : List (List ℕ)) → W → W → Type 0
+ReceivesAll does c before now a b =
+    (came : List (List ℕ)) × (now ≡ before ++ came) × does (receives_all c came) a b

@@ -15,4 +15,6 @@ pub record WaitedAt (n : ℕ) (w : Waited) : Type 0 where
 
 -- what was mine and waited is ripe
 abbrev pub AllRipe : Rights → Rights → Type 0
-AllRipe before now = (n life : ℕ) → before.mine n ≡ true → before.due n life None ≡ true → now.ripe n life None ≡ true
+AllRipe before now =
+    (n life : ℕ) → before.mine n ≡ true → before.due n life None ≡ true
+    → now.ripe n life None ≡ true

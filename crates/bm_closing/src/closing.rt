@@ -52,21 +52,36 @@ use std::alloc::Global;
 /// open anywhere. No handler runs. From `rcu_barrier_tasks_trace` in `free_mem_alloc` of kernel/bpf/memalloc.c, which waits for
 /// the periods that are in progress; that each processor ends its own is this project's own.
 pub fn end_period<R: Recorder, H: Ended<R>>(host: &mut H, domain: Domain)
-    requires at_end { AtEnd R.log R.counts H.Host.sound H.Host.tests H.Host.face H.Host.held host.old }
+    requires at_end { AtEnd R.log R.counts H.Host.sound H.Host.tests H.Host.face H.Host.held
+        host.old }
     requires rest { (n : ℕ) × H.W.Knows.rest (H.shared host.old) domain n }
-    ensures ends { GrewBy (EndsOne domain (begun_by (side domain (H.W.Knows.known (H.shared host.old))).number)) (seen number_of (shown (H.Host.held host.old))) (R.log (H.Host.held host.old).recorder) (R.log (H.Host.held host.new).recorder) }
-    ensures alone { Alone 0 (R.log (H.Host.held host.old).recorder) (R.log (H.Host.held host.new).recorder) }
+    ensures ends { GrewBy
+        (EndsOne domain (begun_by (side domain (H.W.Knows.known (H.shared host.old))).number))
+        (seen number_of (shown (H.Host.held host.old))) (R.log (H.Host.held host.old).recorder)
+        (R.log (H.Host.held host.new).recorder) }
+    ensures alone { Alone 0 (R.log (H.Host.held host.old).recorder)
+        (R.log (H.Host.held host.new).recorder) }
     ensures lists { shown (H.Host.held host.new) ≡ shown (H.Host.held host.old) }
     ensures processor { (H.Host.held host.new).processor ≡ (H.Host.held host.old).processor }
     ensures ended { (side domain (H.W.Knows.known (H.shared host.new))).number ≡ 0 }
-    ensures other { (d : DomainValue) → d ≢ domain → side d (H.W.Knows.known (H.shared host.new)) ≡ side d (H.W.Knows.known (H.shared host.old)) }
-    ensures begins { (d : DomainValue) → (side d (H.W.Knows.known (H.shared host.new))).begins ≡ (side d (H.W.Knows.known (H.shared host.old))).begins }
-    ensures alike { Alike (H.W.Knows.known (H.shared host.old)) (H.W.Knows.known (H.shared host.new)) }
-    ensures parcels { (H.W.Knows.known (H.shared host.new)).parcels ≡ (H.W.Knows.known (H.shared host.old)).parcels }
+    ensures other { (d : DomainValue) → d ≢ domain
+        → side d (H.W.Knows.known (H.shared host.new))
+        ≡ side d (H.W.Knows.known (H.shared host.old)) }
+    ensures begins { (d : DomainValue)
+        → (side d (H.W.Knows.known (H.shared host.new))).begins
+        ≡ (side d (H.W.Knows.known (H.shared host.old))).begins }
+    ensures alike { Alike (H.W.Knows.known (H.shared host.old))
+        (H.W.Knows.known (H.shared host.new)) }
+    ensures parcels { (H.W.Knows.known (H.shared host.new)).parcels
+        ≡ (H.W.Knows.known (H.shared host.old)).parcels }
     ensures does { ClosesBy H.W.Knows.does (H.shared host.old) (H.shared host.new) }
-    ensures rest { (n : ℕ) → MovesNumber H.W.Knows.rest domain n (ended_at (side domain (H.W.Knows.known (H.shared host.old))).number n) (H.shared host.old) (H.shared host.new) }
+    ensures rest { (n : ℕ)
+        → MovesNumber H.W.Knows.rest domain n
+        (ended_at (side domain (H.W.Knows.known (H.shared host.old))).number n)
+        (H.shared host.old) (H.shared host.new) }
     ensures goes { Goes H.Host.face H.Host.pending H.stays host.old host.new }
-    ensures at_end { AtEnd R.log R.counts H.Host.sound H.Host.tests H.Host.face H.Host.held host.new }
+    ensures at_end { AtEnd R.log R.counts H.Host.sound H.Host.tests H.Host.face H.Host.held
+        host.new }
 {
     if !host.world().driving(domain) {
         return;
@@ -83,13 +98,22 @@ fn empty_inbox<R: Recorder, H: Ended<R>>(
     host: &mut H,
     class: Class,
 ) -> Result<Vec<Vec<Unit>>, NoMemory>
-    requires at_end { AtEnd R.log R.counts H.Host.sound H.Host.tests H.Host.face H.Host.held host.old }
-    ensures some { IfOk result (λ parcels. length parcels.items ≤ length (flat_map (λ p. p.items) parcels.items)) }
-    ensures emptied { IfOk result (λ parcels. Emptied H.Host.face H.Host.pending H.stays H.Host.held (λ h. H.W.Knows.known (H.shared h)) (λ h. H.W.Knows.rights (H.shared h)) class (flat_map (λ p. p.items) parcels.items) host.old host.new) }
+    requires at_end { AtEnd R.log R.counts H.Host.sound H.Host.tests H.Host.face H.Host.held
+        host.old }
+    ensures some { IfOk result
+        (λ parcels. length parcels.items ≤ length (flat_map (λ p. p.items) parcels.items)) }
+    ensures emptied { IfOk result
+        (λ parcels. Emptied H.Host.face H.Host.pending H.stays H.Host.held
+        (λ h. H.W.Knows.known (H.shared h)) (λ h. H.W.Knows.rights (H.shared h)) class
+        (flat_map (λ p. p.items) parcels.items) host.old host.new) }
     ensures does { OnOk result (ClosesBy H.W.Knows.does (H.shared host.old) (H.shared host.new)) }
-    ensures rest { OnOk result (StaysAtRest H.W.Knows.rest (H.shared host.old) (H.shared host.new)) }
-    ensures at_end { OnOk result (AtEnd R.log R.counts Whatever H.Host.tests H.Host.face H.Host.held host.new) }
-    ensures owes { IfOk result (λ parcels. H.owes (receives_all class (map (λ p. numbers p.items) parcels.items)) [] host.new) }
+    ensures rest { OnOk result
+        (StaysAtRest H.W.Knows.rest (H.shared host.old) (H.shared host.new)) }
+    ensures at_end { OnOk result
+        (AtEnd R.log R.counts Whatever H.Host.tests H.Host.face H.Host.held host.new) }
+    ensures owes { IfOk result
+        (λ parcels. H.owes (receives_all class (map (λ p. numbers p.items) parcels.items)) []
+        host.new) }
     ensures refused { OnErr result (H.Host.held host.new ≡ H.Host.held host.old) }
 {
     let mut parcels = Vec::new(alloc);
@@ -104,23 +128,40 @@ fn empty_inbox<R: Recorder, H: Ended<R>>(
 /// them may leave then.
 fn gather_all<R: Recorder, H: Ended<R>>(host: &mut H, class: Class, parcels: Vec<Vec<Unit>>)
     requires at_end { AtEnd R.log R.counts Whatever H.Host.tests H.Host.face H.Host.held host.old }
-    requires owes { H.owes (receives_all class (map (λ p. numbers p.items) parcels.items)) [] host.old }
-    requires arrived { Arrived class (H.W.Knows.rights (H.shared host.old)) (flat_map (λ p. p.items) parcels.items) }
-    requires apart { (n : ℕ) → stands n (seen number_of (shown (H.Host.held host.old))) + times n (map number_of (flat_map (λ p. p.items) parcels.items)) ≤ 1 }
+    requires owes { H.owes (receives_all class (map (λ p. numbers p.items) parcels.items)) []
+        host.old }
+    requires arrived { Arrived class (H.W.Knows.rights (H.shared host.old))
+        (flat_map (λ p. p.items) parcels.items) }
+    requires apart { (n : ℕ)
+        → stands n (seen number_of (shown (H.Host.held host.old)))
+        + times n (map number_of (flat_map (λ p. p.items) parcels.items))
+        ≤ 1 }
     requires rest { (n : ℕ) × (H.W.Knows.rest (H.shared host.old) Tracing n × (n % 2 ≡ 0)) }
     requires room { 0 < (side Tracing (H.W.Knows.known (H.shared host.old))).begins }
-    ensures gathered { (w : WaitedValue) × ((n : ℕ) → H.W.Knows.rest (H.shared host.old) Tracing n → n % 2 ≡ 0 → WaitedAt n w) × Gathered R.log class (flat_map (λ p. p.items) parcels.items) w (H.Host.held host.old) (H.Host.held host.new) }
-    ensures progress { IsTrue (is_some ((shown (H.Host.held host.new)).rows class).deferred.tracing) }
-    ensures fit { All (MayLeave (H.W.Knows.rights (H.shared host.new))) ((shown (H.Host.held host.new)).rows class).deferred.second }
-    ensures mine { AreSame (H.W.Knows.rights (H.shared host.old)) (H.W.Knows.rights (H.shared host.new)) }
-    ensures alike { Alike (H.W.Knows.known (H.shared host.old)) (H.W.Knows.known (H.shared host.new)) }
-    ensures plain { (side Plain (H.W.Knows.known (H.shared host.new))).begins ≡ (side Plain (H.W.Knows.known (H.shared host.old))).begins }
-    ensures begins { (side Tracing (H.W.Knows.known (H.shared host.old))).begins ≤ (side Tracing (H.W.Knows.known (H.shared host.new))).begins + 1 }
-    ensures parcels { (H.W.Knows.known (H.shared host.new)).parcels ≡ (H.W.Knows.known (H.shared host.old)).parcels }
+    ensures gathered { (w : WaitedValue)
+        × ((n : ℕ) → H.W.Knows.rest (H.shared host.old) Tracing n → n % 2 ≡ 0 → WaitedAt n w)
+        × Gathered R.log class (flat_map (λ p. p.items) parcels.items) w (H.Host.held host.old)
+        (H.Host.held host.new) }
+    ensures progress { IsTrue
+        (is_some ((shown (H.Host.held host.new)).rows class).deferred.tracing) }
+    ensures fit { All (MayLeave (H.W.Knows.rights (H.shared host.new)))
+        ((shown (H.Host.held host.new)).rows class).deferred.second }
+    ensures mine { AreSame (H.W.Knows.rights (H.shared host.old))
+        (H.W.Knows.rights (H.shared host.new)) }
+    ensures alike { Alike (H.W.Knows.known (H.shared host.old))
+        (H.W.Knows.known (H.shared host.new)) }
+    ensures plain { (side Plain (H.W.Knows.known (H.shared host.new))).begins
+        ≡ (side Plain (H.W.Knows.known (H.shared host.old))).begins }
+    ensures begins { (side Tracing (H.W.Knows.known (H.shared host.old))).begins
+        ≤ (side Tracing (H.W.Knows.known (H.shared host.new))).begins + 1 }
+    ensures parcels { (H.W.Knows.known (H.shared host.new)).parcels
+        ≡ (H.W.Knows.known (H.shared host.old)).parcels }
     ensures does { ClosesBy H.W.Knows.does (H.shared host.old) (H.shared host.new) }
-    ensures rest { (n : ℕ) → n % 2 ≡ 0 → MovesNumber H.W.Knows.rest Tracing n (n + 2) (H.shared host.old) (H.shared host.new) }
+    ensures rest { (n : ℕ) → n % 2 ≡ 0
+        → MovesNumber H.W.Knows.rest Tracing n (n + 2) (H.shared host.old) (H.shared host.new) }
     ensures goes { Goes H.Host.face H.Host.pending H.stays host.old host.new }
-    ensures at_end { AtEnd R.log R.counts H.Host.sound H.Host.tests H.Host.face H.Host.held host.new }
+    ensures at_end { AtEnd R.log R.counts H.Host.sound H.Host.tests H.Host.face H.Host.held
+        host.new }
 {
     let waited = wait_period(host.world());
     gather(host.caches(), class, parcels, waited);
@@ -155,21 +196,34 @@ fn send_back_now<R: Recorder, H: Ended<R>>(
     class: Class,
     numbers: Vec<u16>,
 ) -> Result<(), NoMemory>
-    requires at_end { AtEnd R.log R.counts H.Host.sound H.Host.tests H.Host.face H.Host.held host.old }
-    requires progress { IsTrue (is_some ((shown (H.Host.held host.old)).rows class).deferred.tracing) }
-    requires fit { All (MayLeave (H.W.Knows.rights (H.shared host.old))) ((shown (H.Host.held host.old)).rows class).deferred.second }
+    requires at_end { AtEnd R.log R.counts H.Host.sound H.Host.tests H.Host.face H.Host.held
+        host.old }
+    requires progress { IsTrue
+        (is_some ((shown (H.Host.held host.old)).rows class).deferred.tracing) }
+    requires fit { All (MayLeave (H.W.Knows.rights (H.shared host.old)))
+        ((shown (H.Host.held host.old)).rows class).deferred.second }
     requires empty { vec_len numbers ≡ 0 }
     requires room { length ((shown (H.Host.held host.old)).rows class).deferred.second
         ≤ vec_capacity numbers }
-    ensures gone { OnOk result (Loses (map number_of ((shown (H.Host.held host.old)).rows class).deferred.second) (H.W.Knows.rights (H.shared host.old)) (H.W.Knows.rights (H.shared host.new))) }
-    ensures sent { OnOk result (SentBack R.log class (H.Host.held host.old) (H.Host.held host.new)) }
-    ensures alike { OnOk result (Alike (H.W.Knows.known (H.shared host.old)) (H.W.Knows.known (H.shared host.new))) }
-    ensures grace { OnOk result ((H.W.Knows.known (H.shared host.new)).grace ≡ (H.W.Knows.known (H.shared host.old)).grace) }
-    ensures parcels { OnOk result ((H.W.Knows.known (H.shared host.new)).parcels ≡ (H.W.Knows.known (H.shared host.old)).parcels) }
+    ensures gone { OnOk result
+        (Loses (map number_of ((shown (H.Host.held host.old)).rows class).deferred.second)
+        (H.W.Knows.rights (H.shared host.old)) (H.W.Knows.rights (H.shared host.new))) }
+    ensures sent { OnOk result
+        (SentBack R.log class (H.Host.held host.old) (H.Host.held host.new)) }
+    ensures alike { OnOk result
+        (Alike (H.W.Knows.known (H.shared host.old)) (H.W.Knows.known (H.shared host.new))) }
+    ensures grace { OnOk result
+        ((H.W.Knows.known (H.shared host.new)).grace
+        ≡ (H.W.Knows.known (H.shared host.old)).grace) }
+    ensures parcels { OnOk result
+        ((H.W.Knows.known (H.shared host.new)).parcels
+        ≡ (H.W.Knows.known (H.shared host.old)).parcels) }
     ensures does { OnOk result (ClosesBy H.W.Knows.does (H.shared host.old) (H.shared host.new)) }
-    ensures rest { OnOk result (StaysAtRest H.W.Knows.rest (H.shared host.old) (H.shared host.new)) }
+    ensures rest { OnOk result
+        (StaysAtRest H.W.Knows.rest (H.shared host.old) (H.shared host.new)) }
     ensures goes { OnOk result (Goes H.Host.face H.Host.pending H.stays host.old host.new) }
-    ensures at_end { OnOk result (AtEnd R.log R.counts H.Host.sound H.Host.tests H.Host.face H.Host.held host.new) }
+    ensures at_end { OnOk result
+        (AtEnd R.log R.counts H.Host.sound H.Host.tests H.Host.face H.Host.held host.new) }
     ensures refused { OnErr result (H.Host.held host.new ≡ H.Host.held host.old) }
 {
     let mut numbers = numbers;
@@ -188,18 +242,31 @@ fn send_back<R: Recorder, H: Ended<R>>(
     host: &mut H,
     class: Class,
 ) -> Result<(), NoMemory>
-    requires at_end { AtEnd R.log R.counts H.Host.sound H.Host.tests H.Host.face H.Host.held host.old }
-    requires progress { IsTrue (is_some ((shown (H.Host.held host.old)).rows class).deferred.tracing) }
-    requires fit { All (MayLeave (H.W.Knows.rights (H.shared host.old))) ((shown (H.Host.held host.old)).rows class).deferred.second }
-    ensures gone { OnOk result (Loses (map number_of ((shown (H.Host.held host.old)).rows class).deferred.second) (H.W.Knows.rights (H.shared host.old)) (H.W.Knows.rights (H.shared host.new))) }
-    ensures sent { OnOk result (SentBack R.log class (H.Host.held host.old) (H.Host.held host.new)) }
-    ensures alike { OnOk result (Alike (H.W.Knows.known (H.shared host.old)) (H.W.Knows.known (H.shared host.new))) }
-    ensures grace { OnOk result ((H.W.Knows.known (H.shared host.new)).grace ≡ (H.W.Knows.known (H.shared host.old)).grace) }
-    ensures parcels { OnOk result ((H.W.Knows.known (H.shared host.new)).parcels ≡ (H.W.Knows.known (H.shared host.old)).parcels) }
+    requires at_end { AtEnd R.log R.counts H.Host.sound H.Host.tests H.Host.face H.Host.held
+        host.old }
+    requires progress { IsTrue
+        (is_some ((shown (H.Host.held host.old)).rows class).deferred.tracing) }
+    requires fit { All (MayLeave (H.W.Knows.rights (H.shared host.old)))
+        ((shown (H.Host.held host.old)).rows class).deferred.second }
+    ensures gone { OnOk result
+        (Loses (map number_of ((shown (H.Host.held host.old)).rows class).deferred.second)
+        (H.W.Knows.rights (H.shared host.old)) (H.W.Knows.rights (H.shared host.new))) }
+    ensures sent { OnOk result
+        (SentBack R.log class (H.Host.held host.old) (H.Host.held host.new)) }
+    ensures alike { OnOk result
+        (Alike (H.W.Knows.known (H.shared host.old)) (H.W.Knows.known (H.shared host.new))) }
+    ensures grace { OnOk result
+        ((H.W.Knows.known (H.shared host.new)).grace
+        ≡ (H.W.Knows.known (H.shared host.old)).grace) }
+    ensures parcels { OnOk result
+        ((H.W.Knows.known (H.shared host.new)).parcels
+        ≡ (H.W.Knows.known (H.shared host.old)).parcels) }
     ensures does { OnOk result (ClosesBy H.W.Knows.does (H.shared host.old) (H.shared host.new)) }
-    ensures rest { OnOk result (StaysAtRest H.W.Knows.rest (H.shared host.old) (H.shared host.new)) }
+    ensures rest { OnOk result
+        (StaysAtRest H.W.Knows.rest (H.shared host.old) (H.shared host.new)) }
     ensures goes { OnOk result (Goes H.Host.face H.Host.pending H.stays host.old host.new) }
-    ensures at_end { OnOk result (AtEnd R.log R.counts H.Host.sound H.Host.tests H.Host.face H.Host.held host.new) }
+    ensures at_end { OnOk result
+        (AtEnd R.log R.counts H.Host.sound H.Host.tests H.Host.face H.Host.held host.new) }
     ensures refused { OnErr result (H.Host.held host.new ≡ H.Host.held host.old) }
 {
     let numbers = room_for_return(alloc, host, class)?;
@@ -213,11 +280,19 @@ fn hold_nothing<R: Recorder, H: Ended<R>>(
     parcels: &Vec<Vec<Unit>>,
 ) -> bool
     requires some { length parcels.now.items ≤ length (flat_map (λ p. p.items) parcels.now.items) }
-    ensures nothing { result ≡ true → (seven_lists ((shown (H.Host.held host.old)).rows class) ≡ []) × (parcels.now.items ≡ []) }
-    ensures something { result ≡ false → 0 < length (seven_lists ((shown (H.Host.held host.old)).rows class) ++ flat_map (λ p. p.items) parcels.now.items) }
+    ensures nothing { result ≡ true
+        → (seven_lists ((shown (H.Host.held host.old)).rows class) ≡ [])
+        × (parcels.now.items ≡ []) }
+    ensures something { result ≡ false
+        → 0
+        < length
+        (seven_lists ((shown (H.Host.held host.old)).rows class)
+        ++ flat_map (λ p. p.items) parcels.now.items) }
     ensures same { H.Host.held host.new ≡ H.Host.held host.old }
-    ensures handled { Handled H.Host.face H.Host.pending H.stays H.shared H.Host.tests host.old host.new }
-    ensures owes { (done : List Act) (es : List EntryValue) → H.owes done es host.old → H.owes done es host.new }
+    ensures handled { Handled H.Host.face H.Host.pending H.stays H.shared H.Host.tests host.old
+        host.new }
+    ensures owes { (done : List Act) (es : List EntryValue) → H.owes done es host.old
+        → H.owes done es host.new }
 {
     units_of(host.caches(), class) == 0 && parcels.is_empty()
 }
@@ -231,16 +306,30 @@ fn sweep_all<R: Recorder, H: Ended<R>>(
     parcels: Vec<Vec<Unit>>,
 ) -> Result<(), NoMemory>
     requires at_end { AtEnd R.log R.counts Whatever H.Host.tests H.Host.face H.Host.held host.old }
-    requires owes { H.owes (receives_all class (map (λ p. numbers p.items) parcels.items)) [] host.old }
-    requires arrived { Arrived class (H.W.Knows.rights (H.shared host.old)) (flat_map (λ p. p.items) parcels.items) }
-    requires apart { (n : ℕ) → stands n (seen number_of (shown (H.Host.held host.old))) + times n (map number_of (flat_map (λ p. p.items) parcels.items)) ≤ 1 }
+    requires owes { H.owes (receives_all class (map (λ p. numbers p.items) parcels.items)) []
+        host.old }
+    requires arrived { Arrived class (H.W.Knows.rights (H.shared host.old))
+        (flat_map (λ p. p.items) parcels.items) }
+    requires apart { (n : ℕ)
+        → stands n (seen number_of (shown (H.Host.held host.old)))
+        + times n (map number_of (flat_map (λ p. p.items) parcels.items))
+        ≤ 1 }
     requires rest { (n : ℕ) × (H.W.Knows.rest (H.shared host.old) Tracing n × (n % 2 ≡ 0)) }
     requires room { 0 < (side Tracing (H.W.Knows.known (H.shared host.old))).begins }
-    ensures gone { OnOk result (Loses (swept class (flat_map (λ p. p.items) parcels.items) (shown (H.Host.held host.old))) (H.W.Knows.rights (H.shared host.old)) (H.W.Knows.rights (H.shared host.new))) }
-    ensures swept { OnOk result (Swept R.log H.Host.face H.Host.pending H.stays H.Host.held (λ h. H.W.Knows.known (H.shared h)) class (flat_map (λ p. p.items) parcels.items) host.old host.new) }
+    ensures gone { OnOk result
+        (Loses (swept class (flat_map (λ p. p.items) parcels.items) (shown (H.Host.held host.old)))
+        (H.W.Knows.rights (H.shared host.old)) (H.W.Knows.rights (H.shared host.new))) }
+    ensures swept { OnOk result
+        (Swept R.log H.Host.face H.Host.pending H.stays H.Host.held
+        (λ h. H.W.Knows.known (H.shared h)) class (flat_map (λ p. p.items) parcels.items)
+        host.old host.new) }
     ensures does { OnOk result (ClosesBy H.W.Knows.does (H.shared host.old) (H.shared host.new)) }
-    ensures rest { OnOk result ((n : ℕ) → n % 2 ≡ 0 → MovesNumber H.W.Knows.rest Tracing n (n + 2) (H.shared host.old) (H.shared host.new)) }
-    ensures at_end { OnOk result (AtEnd R.log R.counts H.Host.sound H.Host.tests H.Host.face H.Host.held host.new) }
+    ensures rest { OnOk result
+        ((n : ℕ) → n % 2 ≡ 0
+        → MovesNumber H.W.Knows.rest Tracing n (n + 2) (H.shared host.old)
+        (H.shared host.new)) }
+    ensures at_end { OnOk result
+        (AtEnd R.log R.counts H.Host.sound H.Host.tests H.Host.face H.Host.held host.new) }
     ensures memory { OnErr result (Unreturned R.log R.counts class
         (flat_map (λ p. p.items) parcels.items) (H.Host.held host.old) (H.Host.held host.new)) }
 {
@@ -260,14 +349,25 @@ pub fn sweep<R: Recorder, H: Ended<R>>(
     host: &mut H,
     class: Class,
 ) -> Result<(), NoMemory>
-    requires at_end { AtEnd R.log R.counts H.Host.sound H.Host.tests H.Host.face H.Host.held host.old }
+    requires at_end { AtEnd R.log R.counts H.Host.sound H.Host.tests H.Host.face H.Host.held
+        host.old }
     requires rest { (n : ℕ) × (H.W.Knows.rest (H.shared host.old) Tracing n × (n % 2 ≡ 0)) }
     requires room { 0 < (side Tracing (H.W.Knows.known (H.shared host.old))).begins }
-    ensures gone { OnOk result (Loses (map number_of (seven_lists ((shown (H.Host.held host.old)).rows class))) (H.W.Knows.rights (H.shared host.old)) (H.W.Knows.rights (H.shared host.new))) }
-    ensures sweeps { OnOk result (Sweeps R.log H.Host.face H.Host.pending H.stays H.Host.held (λ h. H.W.Knows.known (H.shared h)) class host.old host.new) }
+    ensures gone { OnOk result
+        (Loses (map number_of (seven_lists ((shown (H.Host.held host.old)).rows class)))
+        (H.W.Knows.rights (H.shared host.old)) (H.W.Knows.rights (H.shared host.new))) }
+    ensures sweeps { OnOk result
+        (Sweeps R.log H.Host.face H.Host.pending H.stays H.Host.held
+        (λ h. H.W.Knows.known (H.shared h)) class host.old host.new) }
     ensures does { OnOk result (ClosesBy H.W.Knows.does (H.shared host.old) (H.shared host.new)) }
-    ensures rest { OnOk result ((n : ℕ) → n % 2 ≡ 0 → (m : ℕ) × ((m % 2 ≡ 0) × MovesNumber H.W.Knows.rest Tracing n m (H.shared host.old) (H.shared host.new))) }
-    ensures at_end { OnOk result (AtEnd R.log R.counts H.Host.sound H.Host.tests H.Host.face H.Host.held host.new) }
+    ensures rest { OnOk result
+        ((n : ℕ) → n % 2 ≡ 0
+        → (m : ℕ)
+        × ((m % 2 ≡ 0)
+        × MovesNumber H.W.Knows.rest Tracing n m (H.shared host.old)
+        (H.shared host.new))) }
+    ensures at_end { OnOk result
+        (AtEnd R.log R.counts H.Host.sound H.Host.tests H.Host.face H.Host.held host.new) }
     ensures memory { OnErr result (StopsSweep R.log R.counts H.Host.face H.Host.held
         (λ h. H.W.Knows.known (H.shared h)) class host.old host.new) }
 {

@@ -41,8 +41,12 @@ pub(crate) fn gather<R: Recorder>(
     requires placed { Placed R.log R.counts caches.old }
     requires ready { Ready 0 (shown caches.old) }
     requires sit { All (Sits class) (flat_map (λ p. p.items) parcels.items) }
-    requires fresh { (n : ℕ) → stands n (seen number_of (shown caches.old)) + times n (map number_of (flat_map (λ p. p.items) parcels.items)) ≤ 1 }
-    ensures gathered { Gathered R.log class (flat_map (λ p. p.items) parcels.items) waited caches.old caches.new }
+    requires fresh { (n : ℕ)
+        → stands n (seen number_of (shown caches.old))
+        + times n (map number_of (flat_map (λ p. p.items) parcels.items))
+        ≤ 1 }
+    ensures gathered { Gathered R.log class (flat_map (λ p. p.items) parcels.items) waited
+        caches.old caches.new }
     ensures progress { IsTrue (is_some ((shown caches.new).rows class).deferred.tracing) }
     ensures placed { Placed R.log R.counts caches.new }
 {

@@ -39,14 +39,22 @@ pub(crate) fn receive_all<P: Post>(
     class: Class,
     parcels: &mut Vec<Vec<Unit>>,
 ) -> Result<(), NoMemory>
-    requires arrived { Arrived class (P.Knows.rights post.old) (flat_map (λ p. p.items) parcels.old.items) }
+    requires arrived { Arrived class (P.Knows.rights post.old)
+        (flat_map (λ p. p.items) parcels.old.items) }
     requires some { length parcels.old.items ≤ length (flat_map (λ p. p.items) parcels.old.items) }
-    ensures some { OnOk result (length parcels.new.items ≤ length (flat_map (λ p. p.items) parcels.new.items)) }
-    ensures arrived { OnOk result (Arrived class (P.Knows.rights post.new) (flat_map (λ p. p.items) parcels.new.items)) }
-    ensures came { OnOk result (Came class (flat_map (λ p. p.items) parcels.old.items) (flat_map (λ p. p.items) parcels.new.items) (P.Knows.rights post.old) (P.Knows.rights post.new) (P.Knows.known post.old) (P.Knows.known post.new)) }
+    ensures some { OnOk result
+        (length parcels.new.items ≤ length (flat_map (λ p. p.items) parcels.new.items)) }
+    ensures arrived { OnOk result
+        (Arrived class (P.Knows.rights post.new) (flat_map (λ p. p.items) parcels.new.items)) }
+    ensures came { OnOk result
+        (Came class (flat_map (λ p. p.items) parcels.old.items)
+        (flat_map (λ p. p.items) parcels.new.items) (P.Knows.rights post.old)
+        (P.Knows.rights post.new) (P.Knows.known post.old) (P.Knows.known post.new)) }
     ensures lasts { OnOk result (Lasting [] (P.Knows.rights post.old) (P.Knows.rights post.new)) }
     ensures rest { OnOk result (StaysAtRest P.Knows.rest post.old post.new) }
-    ensures does { OnOk result (ReceivesAll P.Knows.does class (map (λ p. numbers p.items) parcels.old.items) (map (λ p. numbers p.items) parcels.new.items) post.old post.new) }
+    ensures does { OnOk result
+        (ReceivesAll P.Knows.does class (map (λ p. numbers p.items) parcels.old.items)
+        (map (λ p. numbers p.items) parcels.new.items) post.old post.new) }
 {
     while let Some(units) = post.receive(class) {
         if let Err(refused) = parcels.push(units) {

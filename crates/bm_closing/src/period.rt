@@ -31,13 +31,16 @@ pub(crate) fn end_driven<W: Grace>(world: &mut W, domain: Domain) -> Period
     ensures domain { result.domain ≡ domain }
     ensures number { result.number ≡ (side domain (W.Knows.known world.old)).number + 1 }
     ensures ended { (side domain (W.Knows.known world.new)).number ≡ 0 }
-    ensures other { (d : DomainValue) → d ≢ domain → side d (W.Knows.known world.new) ≡ side d (W.Knows.known world.old) }
+    ensures other { (d : DomainValue) → d ≢ domain
+        → side d (W.Knows.known world.new) ≡ side d (W.Knows.known world.old) }
     ensures alike { Alike (W.Knows.known world.old) (W.Knows.known world.new) }
-    ensures begins { (d : DomainValue) → (side d (W.Knows.known world.new)).begins ≡ (side d (W.Knows.known world.old)).begins }
+    ensures begins { (d : DomainValue)
+        → (side d (W.Knows.known world.new)).begins ≡ (side d (W.Knows.known world.old)).begins }
     ensures parcels { (W.Knows.known world.new).parcels ≡ (W.Knows.known world.old).parcels }
     ensures rest { (n : ℕ) → MovesNumber W.Knows.rest domain n (n + 1) world.old world.new }
     ensures ages { Ages (W.Knows.rights world.old) (W.Knows.rights world.new) }
-    ensures does { (words : List ℕ) × W.Knows.does (act.Looks domain words ∷ act.Finishes result ∷ []) world.old world.new }
+    ensures does { (words : List ℕ)
+        × W.Knows.does (act.Looks domain words ∷ act.Finishes result ∷ []) world.old world.new }
 {
     match world.look(domain) {
         Look::All => {}
@@ -53,8 +56,10 @@ fn begin_tracing<W: Grace>(world: &mut W, even: u32)
     requires room { 0 < (side Tracing (W.Knows.known world.old)).begins }
     ensures number { (side Tracing (W.Knows.known world.new)).number ≡ even + 1 }
     ensures alike { Alike (W.Knows.known world.old) (W.Knows.known world.new) }
-    ensures plain { (side Plain (W.Knows.known world.new)).begins ≡ (side Plain (W.Knows.known world.old)).begins }
-    ensures begins { (side Tracing (W.Knows.known world.old)).begins ≤ (side Tracing (W.Knows.known world.new)).begins + 1 }
+    ensures plain { (side Plain (W.Knows.known world.new)).begins
+        ≡ (side Plain (W.Knows.known world.old)).begins }
+    ensures begins { (side Tracing (W.Knows.known world.old)).begins
+        ≤ (side Tracing (W.Knows.known world.new)).begins + 1 }
     ensures parcels { (W.Knows.known world.new).parcels ≡ (W.Knows.known world.old).parcels }
     ensures rest { MovesNumber W.Knows.rest Tracing even (even + 1) world.old world.new }
     ensures ages { Ages (W.Knows.rights world.old) (W.Knows.rights world.new) }
@@ -72,10 +77,13 @@ pub(crate) fn wait_period<W: Grace>(world: &mut W) -> Waited
     requires rest { (n : ℕ) × (W.Knows.rest world.old Tracing n × (n % 2 ≡ 0)) }
     requires room { 0 < (side Tracing (W.Knows.known world.old)).begins }
     ensures waited { (n : ℕ) → W.Knows.rest world.old Tracing n → n % 2 ≡ 0 → WaitedAt n result }
-    ensures rest { (n : ℕ) → n % 2 ≡ 0 → MovesNumber W.Knows.rest Tracing n (n + 2) world.old world.new }
+    ensures rest { (n : ℕ) → n % 2 ≡ 0
+        → MovesNumber W.Knows.rest Tracing n (n + 2) world.old world.new }
     ensures alike { Alike (W.Knows.known world.old) (W.Knows.known world.new) }
-    ensures plain { (side Plain (W.Knows.known world.new)).begins ≡ (side Plain (W.Knows.known world.old)).begins }
-    ensures begins { (side Tracing (W.Knows.known world.old)).begins ≤ (side Tracing (W.Knows.known world.new)).begins + 1 }
+    ensures plain { (side Plain (W.Knows.known world.new)).begins
+        ≡ (side Plain (W.Knows.known world.old)).begins }
+    ensures begins { (side Tracing (W.Knows.known world.old)).begins
+        ≤ (side Tracing (W.Knows.known world.new)).begins + 1 }
     ensures parcels { (W.Knows.known world.new).parcels ≡ (W.Knows.known world.old).parcels }
     ensures ripe { AllRipe (W.Knows.rights world.old) (W.Knows.rights world.new) }
     ensures ages { Ages (W.Knows.rights world.old) (W.Knows.rights world.new) }

@@ -35,15 +35,23 @@ use std::alloc::Global;
 /// of the tracing one (see `end_period`). All stays at rest, and the number of a domain is one greater where its period was this
 /// processor's, and else as it was. It is even then if it was before, or if the period was this processor's.
 pub fn end_periods<R: Recorder, H: Ended<R>>(host: &mut H)
-    requires at_end { AtEnd R.log R.counts H.Host.sound H.Host.tests H.Host.face H.Host.held host.old }
+    requires at_end { AtEnd R.log R.counts H.Host.sound H.Host.tests H.Host.face H.Host.held
+        host.old }
     requires rest { (d : DomainValue) → (n : ℕ) × H.W.Knows.rest (H.shared host.old) d n }
-    ensures ends { GrewBy (EndsBegun (H.W.Knows.known (H.shared host.old))) (seen number_of (shown (H.Host.held host.old))) (R.log (H.Host.held host.old).recorder) (R.log (H.Host.held host.new).recorder) }
-    ensures alone { Alone 0 (R.log (H.Host.held host.old).recorder) (R.log (H.Host.held host.new).recorder) }
+    ensures ends { GrewBy (EndsBegun (H.W.Knows.known (H.shared host.old)))
+        (seen number_of (shown (H.Host.held host.old))) (R.log (H.Host.held host.old).recorder)
+        (R.log (H.Host.held host.new).recorder) }
+    ensures alone { Alone 0 (R.log (H.Host.held host.old).recorder)
+        (R.log (H.Host.held host.new).recorder) }
     ensures lists { shown (H.Host.held host.new) ≡ shown (H.Host.held host.old) }
     ensures processor { (H.Host.held host.new).processor ≡ (H.Host.held host.old).processor }
-    ensures begins { (d : DomainValue) → (side d (H.W.Knows.known (H.shared host.new))).begins ≡ (side d (H.W.Knows.known (H.shared host.old))).begins }
-    ensures alike { Alike (H.W.Knows.known (H.shared host.old)) (H.W.Knows.known (H.shared host.new)) }
-    ensures parcels { (H.W.Knows.known (H.shared host.new)).parcels ≡ (H.W.Knows.known (H.shared host.old)).parcels }
+    ensures begins { (d : DomainValue)
+        → (side d (H.W.Knows.known (H.shared host.new))).begins
+        ≡ (side d (H.W.Knows.known (H.shared host.old))).begins }
+    ensures alike { Alike (H.W.Knows.known (H.shared host.old))
+        (H.W.Knows.known (H.shared host.new)) }
+    ensures parcels { (H.W.Knows.known (H.shared host.new)).parcels
+        ≡ (H.W.Knows.known (H.shared host.old)).parcels }
     ensures ended { (d : DomainValue) → (side d (H.W.Knows.known (H.shared host.new))).number ≡ 0 }
     ensures does { ClosesBy H.W.Knows.does (H.shared host.old) (H.shared host.new) }
     ensures rest { (d : DomainValue) (n : ℕ) → H.W.Knows.rest (H.shared host.old) d n →
@@ -53,7 +61,8 @@ pub fn end_periods<R: Recorder, H: Ended<R>>(host: &mut H)
         let own = (side d (H.W.Knows.known (H.shared host.old))).number in
         (n % 2 ≡ 0) ⊎ (own ≢ 0) → ended_at own n % 2 ≡ 0 }
     ensures goes { Goes H.Host.face H.Host.pending H.stays host.old host.new }
-    ensures at_end { AtEnd R.log R.counts H.Host.sound H.Host.tests H.Host.face H.Host.held host.new }
+    ensures at_end { AtEnd R.log R.counts H.Host.sound H.Host.tests H.Host.face H.Host.held
+        host.new }
 {
     end_period(host, Domain::Plain);
     end_period(host, Domain::Tracing);
@@ -68,13 +77,20 @@ pub fn sweep_each<R: Recorder, H: Ended<R>>(
     host: &mut H,
     classes: &[Class],
 ) -> Result<(), NoMemory>
-    requires at_end { AtEnd R.log R.counts H.Host.sound H.Host.tests H.Host.face H.Host.held host.old }
-    requires rest { (d : DomainValue) → (n : ℕ) × (H.W.Knows.rest (H.shared host.old) d n × (n % 2 ≡ 0)) }
-    requires room { length classes.now ≤ (side Tracing (H.W.Knows.known (H.shared host.old))).begins }
-    ensures sweeps { OnOk result (SweepsEach R.log H.Host.face H.Host.pending H.stays H.Host.held (λ h. H.W.Knows.known (H.shared h)) classes.now host.old host.new) }
+    requires at_end { AtEnd R.log R.counts H.Host.sound H.Host.tests H.Host.face H.Host.held
+        host.old }
+    requires rest { (d : DomainValue)
+        → (n : ℕ) × (H.W.Knows.rest (H.shared host.old) d n × (n % 2 ≡ 0)) }
+    requires room { length classes.now
+        ≤ (side Tracing (H.W.Knows.known (H.shared host.old))).begins }
+    ensures sweeps { OnOk result
+        (SweepsEach R.log H.Host.face H.Host.pending H.stays H.Host.held
+        (λ h. H.W.Knows.known (H.shared h)) classes.now host.old host.new) }
     ensures does { OnOk result (ClosesBy H.W.Knows.does (H.shared host.old) (H.shared host.new)) }
-    ensures rest { OnOk result ((d : DomainValue) → (n : ℕ) × (H.W.Knows.rest (H.shared host.new) d n × (n % 2 ≡ 0))) }
-    ensures at_end { OnOk result (AtEnd R.log R.counts H.Host.sound H.Host.tests H.Host.face H.Host.held host.new) }
+    ensures rest { OnOk result
+        ((d : DomainValue) → (n : ℕ) × (H.W.Knows.rest (H.shared host.new) d n × (n % 2 ≡ 0))) }
+    ensures at_end { OnOk result
+        (AtEnd R.log R.counts H.Host.sound H.Host.tests H.Host.face H.Host.held host.new) }
     ensures memory { OnErr result (StopsEach R.log R.counts H.Host.face H.Host.pending H.stays
         H.Host.held (λ h. H.W.Knows.known (H.shared h)) classes.now host.old host.new) }
 {
@@ -96,21 +112,46 @@ pub fn close<R: Recorder, H: Ended<R>>(
     host: &mut H,
     classes: &[Class],
 ) -> Result<(), NoMemory>
-    requires at_end { AtEnd R.log R.counts H.Host.sound H.Host.tests H.Host.face H.Host.held host.old }
-    requires rest { (d : DomainValue) → (n : ℕ) × (H.W.Knows.rest (H.shared host.old) d n × (ended_at (side d (H.W.Knows.known (H.shared host.old))).number n % 2 ≡ 0)) }
-    requires room { length classes.now ≤ (side Tracing (H.W.Knows.known (H.shared host.old))).begins }
-    ensures closes { OnOk result (IfSome (H.W.Knows.known (H.shared host.old)).parcels (λ boxes. GrewBy (Then (EndsBegun (H.W.Knows.known (H.shared host.old))) (SweepsTold classes.now boxes)) (seen number_of (shown (H.Host.held host.old))) (R.log (H.Host.held host.old).recorder) (R.log (H.Host.held host.new).recorder))) }
-    ensures sweeps { OnOk result (GrewBy (Then (EndsBegun (H.W.Knows.known (H.shared host.old))) (AreSweeps classes.now)) (seen number_of (shown (H.Host.held host.old))) (R.log (H.Host.held host.old).recorder) (R.log (H.Host.held host.new).recorder)) }
-    ensures alone { OnOk result (Alone 0 (R.log (H.Host.held host.old).recorder) (R.log (H.Host.held host.new).recorder)) }
-    ensures empty { OnOk result ((c : ℕ) → 0 < times c classes.now → seven_lists ((shown (H.Host.held host.new)).rows c) ≡ []) }
-    ensures others { OnOk result ((c : ℕ) → times c classes.now ≡ 0 → (shown (H.Host.held host.new)).rows c ≡ (shown (H.Host.held host.old)).rows c) }
-    ensures none_left { OnOk result ((H.W.Knows.known (H.shared host.new)).parcels ≡ option_map (all_emptied classes.now) (H.W.Knows.known (H.shared host.old)).parcels) }
-    ensures processor { OnOk result ((H.Host.held host.new).processor ≡ (H.Host.held host.old).processor) }
-    ensures alike { OnOk result (Alike (H.W.Knows.known (H.shared host.old)) (H.W.Knows.known (H.shared host.new))) }
+    requires at_end { AtEnd R.log R.counts H.Host.sound H.Host.tests H.Host.face H.Host.held
+        host.old }
+    requires rest { (d : DomainValue)
+        → (n : ℕ)
+        × (H.W.Knows.rest (H.shared host.old) d n
+        × (ended_at (side d (H.W.Knows.known (H.shared host.old))).number n % 2 ≡ 0)) }
+    requires room { length classes.now
+        ≤ (side Tracing (H.W.Knows.known (H.shared host.old))).begins }
+    ensures closes { OnOk result
+        (IfSome (H.W.Knows.known (H.shared host.old)).parcels
+        (λ boxes. GrewBy
+        (Then (EndsBegun (H.W.Knows.known (H.shared host.old)))
+        (SweepsTold classes.now boxes))
+        (seen number_of (shown (H.Host.held host.old)))
+        (R.log (H.Host.held host.old).recorder) (R.log (H.Host.held host.new).recorder))) }
+    ensures sweeps { OnOk result
+        (GrewBy (Then (EndsBegun (H.W.Knows.known (H.shared host.old))) (AreSweeps classes.now))
+        (seen number_of (shown (H.Host.held host.old))) (R.log (H.Host.held host.old).recorder)
+        (R.log (H.Host.held host.new).recorder)) }
+    ensures alone { OnOk result
+        (Alone 0 (R.log (H.Host.held host.old).recorder) (R.log (H.Host.held host.new).recorder)) }
+    ensures empty { OnOk result
+        ((c : ℕ) → 0 < times c classes.now
+        → seven_lists ((shown (H.Host.held host.new)).rows c) ≡ []) }
+    ensures others { OnOk result
+        ((c : ℕ) → times c classes.now ≡ 0
+        → (shown (H.Host.held host.new)).rows c ≡ (shown (H.Host.held host.old)).rows c) }
+    ensures none_left { OnOk result
+        ((H.W.Knows.known (H.shared host.new)).parcels
+        ≡ option_map (all_emptied classes.now) (H.W.Knows.known (H.shared host.old)).parcels) }
+    ensures processor { OnOk result
+        ((H.Host.held host.new).processor ≡ (H.Host.held host.old).processor) }
+    ensures alike { OnOk result
+        (Alike (H.W.Knows.known (H.shared host.old)) (H.W.Knows.known (H.shared host.new))) }
     ensures goes { OnOk result (Goes H.Host.face H.Host.pending H.stays host.old host.new) }
     ensures does { OnOk result (ClosesBy H.W.Knows.does (H.shared host.old) (H.shared host.new)) }
-    ensures rest { OnOk result ((d : DomainValue) → (n : ℕ) × (H.W.Knows.rest (H.shared host.new) d n × (n % 2 ≡ 0))) }
-    ensures at_end { OnOk result (AtEnd R.log R.counts H.Host.sound H.Host.tests H.Host.face H.Host.held host.new) }
+    ensures rest { OnOk result
+        ((d : DomainValue) → (n : ℕ) × (H.W.Knows.rest (H.shared host.new) d n × (n % 2 ≡ 0))) }
+    ensures at_end { OnOk result
+        (AtEnd R.log R.counts H.Host.sound H.Host.tests H.Host.face H.Host.held host.new) }
     ensures memory { OnErr result (StopsClosing R.log R.counts H.Host.face H.Host.pending H.stays
         H.Host.held (λ h. H.W.Knows.known (H.shared h)) classes.now host.old host.new) }
 {

@@ -8,7 +8,9 @@ use Rattle.bm_command.specs.declared.command.Reading.TheVariants.{Replay, Check}
 
 -- a command's word, with neither help nor a version of its own
 abbrev pub bare_shape : Shape → Shape
-bare_shape shape = record shape { disable_help_flag = true; disable_help_subcommand = true; disable_version_flag = true }
+bare_shape shape =
+    record shape
+    { disable_help_flag = true; disable_help_subcommand = true; disable_version_flag = true }
 
 -- such a word alone
 abbrev pub bare_app : Text → App
@@ -16,17 +18,22 @@ bare_app word = record (new_app word) { top = bare_shape (new_app word).top }
 
 -- the flag `--totals`: it takes no value, and is set where it stands
 abbrev pub totals_rule : Rule
-totals_rule = record (new_rule (codes "totals")) { long = Some (codes "totals"); action = Some SetTrue }
+totals_rule =
+    record (new_rule (codes "totals")) { long = Some (codes "totals"); action = Some SetTrue }
 
 -- the program's own word, which isn't among the words that are read; a command must follow
 abbrev pub program_app : App
 program_app = record (bare_app (codes "bpfmem")) {
-  top = record (bare_app (codes "bpfmem")).top { no_binary_name = true; subcommand_required = true };
+  top =
+      record (bare_app (codes "bpfmem")).top { no_binary_name = true; subcommand_required = true };
 }
 
 -- the whole: the program has no flag of its own, and the commands stand below it
 abbrev pub grammar_app : App
-grammar_app = with_subcommand (with_subcommand program_app (with_rule (bare_app (codes "replay")) totals_rule).top) (bare_app (codes "check")).top
+grammar_app =
+    with_subcommand
+    (with_subcommand program_app (with_rule (bare_app (codes "replay")) totals_rule).top)
+    (bare_app (codes "check")).top
 
 -- `replay`, by the text that was read for its flag
 abbrev pub replay_by : Option Text → Option Reading

@@ -62,7 +62,8 @@ gen_by None start text = None
 -- which is a number below 2^64
 abbrev pub gen_of : List (List ℕ) → List (List ℕ) → Option Command
 gen_of [] (count ∷ start ∷ []) = gen_by (count_of count) (number_of start) false
-gen_of (flag ∷ []) (count ∷ start ∷ []) = if bytes_eq flag (codes "--text") then gen_by (count_of count) (number_of start) true else None
+gen_of (flag ∷ []) (count ∷ start ∷ []) =
+    if bytes_eq flag (codes "--text") then gen_by (count_of count) (number_of start) true else None
 gen_of _ _ = None
 
 -- the command that the words behind `gen` are, where they are one

@@ -19,7 +19,9 @@ pub fn are_reading(words: &[&str]) -> bool
 
 // Whether the words behind `replay` are its own.
 fn are_of_replay(rest: &[&str]) -> bool
-    ensures { result ≡ is_some (replay_of (filter is_flag (texts rest.now)) (filter is_argument (texts rest.now))) }
+    ensures { result
+        ≡ is_some
+        (replay_of (filter is_flag (texts rest.now)) (filter is_argument (texts rest.now))) }
 {
     match rest {
         [] => true,

@@ -21,7 +21,8 @@ highest_level (line ∷ lines) = max line.level (highest_level lines)
 
 -- of the handlers that may interrupt it, one of the highest level
 abbrev pub is_foremost : ℕ → ℕ → List AtLine → AtLine → Bool
-is_foremost n l left line = may_interrupt n l line && (line.level == highest_level (filter (may_interrupt n l) left))
+is_foremost n l left line =
+    may_interrupt n l line && (line.level == highest_level (filter (may_interrupt n l) left))
 
 -- The handler that is due before step n of code of level l, where these are the ones that haven't run, in the order of the
 -- text: of those that may interrupt it, the first one of the highest level. None is due once the processor has ended.
@@ -32,7 +33,8 @@ due_handler false n l left = find (is_foremost n l left) left
 -- those that haven't run once the due one has begun
 abbrev pub left_after : Bool → ℕ → ℕ → List AtLine → List AtLine
 left_after true n l left = left
-left_after false n l left = before_first (is_foremost n l left) left ++ after_first (is_foremost n l left) left
+left_after false n l left =
+    before_first (is_foremost n l left) left ++ after_first (is_foremost n l left) left
 
 -- The same in other words: a line whose step has come, of a level above the code's. Of those whose step has come, each one
 -- before it is of a lower level, and none behind it of a higher one.

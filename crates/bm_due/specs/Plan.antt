@@ -18,9 +18,12 @@ plan_after n l plan = record plan { left = left_after plan.ended n l plan.left }
 
 -- the least step of the handlers above a level; the greatest number of its type where there are none
 abbrev pub least_above : ℕ → List AtLine → ℕ
-least_above l lines = fold (λ least line. if nat_lt l line.level then min least line.step else least) (2 ^ 64 - 1) lines
+least_above l lines =
+    fold (λ least line. if nat_lt l line.level then min least line.step else least) (2 ^ 64 - 1)
+    lines
 
 -- The levels are those that there are, and beside the handlers stand the least steps above the levels 0 to 3.
 pub record IsPlan (left : List AtLine) (least : List ℕ) : Type 0 where
   pub levels : All (λ line. line.level ≤ 3) left
-  pub least_is : least ≡ least_above 0 left ∷ least_above 1 left ∷ least_above 2 left ∷ least_above 3 left ∷ []
+  pub least_is :
+      least ≡ least_above 0 left ∷ least_above 1 left ∷ least_above 2 left ∷ least_above 3 left ∷ []

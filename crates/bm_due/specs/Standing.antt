@@ -72,13 +72,16 @@ is_called names l name line = nat_eq l line.level && is_name name (slice_get nam
 abbrev pub begun : List (List ℕ) → ℕ → List ℕ → Option AtLine → Standing → Option Standing
 begun names l name None s = None
 begun names l name (Some line) s =
-    if is_called names l name line then Some (record s { running = line ∷ s.running; left = left_in s; resumes = false }) else None
+    if is_called names l name line
+    then Some (record s { running = line ∷ s.running; left = left_in s; resumes = false })
+    else None
 
 -- The innermost handler goes back, and no step of it was about to be taken.
 abbrev pub returned : List (List ℕ) → ℕ → List ℕ → List AtLine → Standing → Option Standing
 returned names l name [] s = None
 returned names l name (line ∷ lines) s =
-    if is_called names l name line && not s.resumes then Some (record s { running = lines; resumes = true }) else None
+    if is_called names l name line && not s.resumes
+    then Some (record s { running = lines; resumes = true }) else None
 
 -- The processor ends, where no handler runs.
 abbrev pub stopped : ℕ → List AtLine → Standing → Option Standing
@@ -88,7 +91,8 @@ stopped l (line ∷ lines) s = None
 -- The code that runs takes a step, before which no handler is due.
 abbrev pub stepped : ℕ → Standing → Option Standing
 stepped l s =
-    if nat_eq l (level_of s.running) && is_none (due_in s) then Some (record s { steps = s.steps + 1; resumes = false }) else None
+    if nat_eq l (level_of s.running) && is_none (due_in s)
+    then Some (record s { steps = s.steps + 1; resumes = false }) else None
 
 -- The code that runs leaves another entry, and was not about to take a step.
 abbrev pub stayed : ℕ → Standing → Option Standing
@@ -106,7 +110,8 @@ after_kind names l Stays s = stayed l s
 abbrev pub standing_after : List (List ℕ) → Log → Option Standing → Option Standing
 standing_after names [] s = s
 standing_after names (e ∷ es) None = None
-standing_after names (e ∷ es) (Some s) = standing_after names es (after_kind names e.0 (kind_of e.1) s)
+standing_after names (e ∷ es) (Some s) =
+    standing_after names es (after_kind names e.0 (kind_of e.1) s)
 
 -- no handler runs
 abbrev pub is_nobody : List AtLine → Bool
@@ -125,4 +130,5 @@ handlers_stand names lines log = is_ordinary (standing_after names log (Some (at
 -- In the log of processor p, each handler stands directly before a step where it is the due one, and before no step a
 -- handler is due; each has gone back.
 abbrev pub HandlersStand : Parts → ℕ → Log → Type 0
-HandlersStand s p log = handlers_stand (map (λ (x : Script). x.name) s.scripts) (planned_for p s) log ≡ true
+HandlersStand s p log =
+    handlers_stand (map (λ (x : Script). x.name) s.scripts) (planned_for p s) log ≡ true

@@ -13,7 +13,8 @@ use Rattle.bm_law.specs.Worked.{made, script_ends, swept_back}
 
 -- a line `at 0 STEP LEVEL SCRIPT`
 abbrev pub at_step : ℕ → ℕ → ℕ → AtLine
-at_step step level script = record { line = 1; processor = 0; step = step; level = level; script = record { 0 = script } }
+at_step step level script =
+    record { line = 1; processor = 0; step = step; level = level; script = record { 0 = script } }
 
 -- the names of the scripts 0 to 4
 abbrev pub script_names : List (List ℕ)
@@ -27,7 +28,9 @@ interrupted body = record {
   deferred = false;
   types = [];
   maps = [];
-  scripts = record { line = 1; name = codes "main"; kind = kind.Plain; body = body } ∷ record { line = 1; name = codes "h"; kind = kind.Handler; body = body } ∷ [];
+  scripts =
+      record { line = 1; name = codes "main"; kind = kind.Plain; body = body }
+      ∷ record { line = 1; name = codes "h"; kind = kind.Handler; body = body } ∷ [];
   runs = [];
   ats = at_step 3 1 1 ∷ record (at_step 1 2 1) { processor = 1 } ∷ [];
   turns = None;
@@ -113,12 +116,14 @@ twelve_steps = up_to_the_twelfth ++ unit_given
 -- Three handlers, the second of which is planned for the second step of the first one, and the third for that of the second.
 abbrev pub three_in_turn : Log
 three_in_turn =
-    unit_taken ++ asks_around (codes "h") 1 [] (asks_around (codes "g") 2 [] (asks (codes "f") 3)) ++ unit_given
+    unit_taken ++ asks_around (codes "h") 1 [] (asks_around (codes "g") 2 [] (asks (codes "f") 3))
+    ++ unit_given
 
 -- Four handlers before one step: the highest level first, and of one level the first in the text.
 abbrev pub four_at_once : Log
 four_at_once =
-    unit_taken ++ idles (codes "f") 3 ++ idles (codes "g") 2 ++ idles (codes "e") 2 ++ idles (codes "h") 1 ++ unit_given
+    unit_taken ++ idles (codes "f") 3 ++ idles (codes "g") 2 ++ idles (codes "e") 2
+    ++ idles (codes "h") 1 ++ unit_given
 
 -- The number of the step is read anew: the first handler takes three steps, so that the second one is due behind it.
 abbrev pub read_anew : Log
@@ -150,7 +155,8 @@ last_first = unit_taken ++ idles (codes "e") 2 ++ idles (codes "g") 2 ++ unit_gi
 -- Each within the one below, where all of them are due before the first one begins.
 abbrev pub three_levels : Log
 three_levels =
-    unit_taken ++ asks_around (codes "h") 1 (asks_around (codes "g") 2 (asks (codes "f") 3) []) [] ++ unit_given
+    unit_taken ++ asks_around (codes "h") 1 (asks_around (codes "g") 2 (asks (codes "f") 3) []) []
+    ++ unit_given
 
 -- at the level of the handler that it interrupts
 abbrev pub own_level : Log
@@ -162,7 +168,9 @@ twice = unit_taken ++ idles (codes "h") 1 ++ idles (codes "h") 1 ++ unit_given
 
 -- The number of the step is read once, before the first handler: the second one waits for the next step.
 abbrev pub read_once : Log
-read_once = unit_taken ++ asks (codes "h") 1 ++ (0, entry.Count 0 3) ∷ idles (codes "g") 1 ++ (0, entry.Leave 0 0) ∷ (0, entry.Raise 0) ∷ (0, entry.Given 3 1) ∷ []
+read_once =
+    unit_taken ++ asks (codes "h") 1 ++ (0, entry.Count 0 3) ∷ idles (codes "g") 1
+    ++ (0, entry.Leave 0 0) ∷ (0, entry.Raise 0) ∷ (0, entry.Given 3 1) ∷ []
 
 -- in the closing
 abbrev pub after_the_end : Log
@@ -178,8 +186,11 @@ abbrev pub never_back : Log
 never_back = unit_taken ++ (1, entry.Handler (codes "h")) ∷ []
 
 abbrev pub back_as_another : Log
-back_as_another = unit_taken ++ (1, entry.Handler (codes "h")) ∷ (1, entry.Back (codes "g")) ∷ unit_given
+back_as_another =
+    unit_taken ++ (1, entry.Handler (codes "h")) ∷ (1, entry.Back (codes "g")) ∷ unit_given
 
 -- an entry of the interrupted code amid the handler's
 abbrev pub amid : Log
-amid = unit_taken ++ (1, entry.Handler (codes "h")) ∷ (0, entry.Count 0 3) ∷ (1, entry.Back (codes "h")) ∷ (0, entry.Leave 0 0) ∷ []
+amid =
+    unit_taken ++ (1, entry.Handler (codes "h")) ∷ (0, entry.Count 0 3)
+    ∷ (1, entry.Back (codes "h")) ∷ (0, entry.Leave 0 0) ∷ []

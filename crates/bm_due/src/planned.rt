@@ -46,9 +46,11 @@ impl Model for Planned {
 impl Planned {
     /// The handlers that a scenario plans for a processor, none of which has run. Want of memory is the only refusal.
     pub fn create(alloc: Global, scenario: &Scenario, processor: u32) -> Result<Planned, NoMemory>
-        ensures plan { IfOk result (λ p. p ≡ record { left = planned_for processor scenario.now; ended = false }) }
+        ensures plan { IfOk result
+            (λ p. p ≡ record { left = planned_for processor scenario.now; ended = false }) }
         // Each is a handler script of the scenario, at a level from 1 to 3.
-        ensures fine { IfOk result (λ p. All (FineAt scenario.now.processors (declared scenario.now).scripts) p.left) }
+        ensures fine { IfOk result
+            (λ p. All (FineAt scenario.now.processors (declared scenario.now).scripts) p.left) }
     {
         let left = lines_of(alloc, scenario.parts().ats.as_slice(), processor)?;
         let least = least_steps(left.as_slice());
@@ -69,7 +71,8 @@ impl Planned {
         ensures above { IfSome result (λ due. level < due.level) }
         // The number of the step may stay at the greatest one of its type.
         ensures greatest { (n : ℕ) → step ≡ min n (2 ^ 64 - 1) →
-            (result ≡ option_map told_of (due_of n level self.old)) × (self.new ≡ plan_after n level self.old) }
+            (result ≡ option_map told_of (due_of n level self.old))
+            × (self.new ≡ plan_after n level self.old) }
     {
         if self.ended || step < self.least[level.number() as usize] {
             return None;
@@ -124,7 +127,8 @@ fn level_of(line: &AtLine) -> Level
 
 // The place of the line that is due, also where the number of the step stays at the greatest one of its type.
 fn foremost(lines: &[AtLine], step: u64, level: Level) -> Option<usize>
-    ensures { (n : ℕ) → step ≡ min n (2 ^ 64 - 1) → result ≡ position (is_foremost n level lines.now) lines.now }
+    ensures { (n : ℕ) → step ≡ min n (2 ^ 64 - 1)
+        → result ≡ position (is_foremost n level lines.now) lines.now }
 {
     let mut place = None;
     let mut highest = level.number() as u32;
@@ -152,7 +156,9 @@ fn least_above(lines: &[AtLine], level: u32) -> u64
 
 // The least steps of the lines above each level.
 fn least_steps(lines: &[AtLine]) -> [u64; 4]
-    ensures { result ≡ least_above 0 lines.now ∷ least_above 1 lines.now ∷ least_above 2 lines.now ∷ least_above 3 lines.now ∷ [] }
+    ensures { result
+        ≡ least_above 0 lines.now ∷ least_above 1 lines.now ∷ least_above 2 lines.now
+        ∷ least_above 3 lines.now ∷ [] }
 {
     [
         least_above(lines, 0),

@@ -13,9 +13,12 @@ ghost use Rattle.bm_due.specs.Worked.{at_step, four_planned, interrupted, script
 pub fn worked_due()
     ensures highest { due_handler false 4 0 four_planned ≡ Some (at_step 4 3 3) }
     ensures first { due_handler false 3 0 four_planned ≡ Some (at_step 3 2 2) }
-    ensures used_up { left_after false 3 0 four_planned ≡ at_step 3 1 1 ∷ at_step 4 3 3 ∷ at_step 3 2 4 ∷ [] }
-    ensures second { due_handler false 3 0 (left_after false 3 0 four_planned) ≡ Some (at_step 3 2 4) }
-    ensures last { due_handler false 3 0 (at_step 3 1 1 ∷ at_step 4 3 3 ∷ []) ≡ Some (at_step 3 1 1) }
+    ensures used_up { left_after false 3 0 four_planned
+        ≡ at_step 3 1 1 ∷ at_step 4 3 3 ∷ at_step 3 2 4 ∷ [] }
+    ensures second { due_handler false 3 0 (left_after false 3 0 four_planned)
+        ≡ Some (at_step 3 2 4) }
+    ensures last { due_handler false 3 0 (at_step 3 1 1 ∷ at_step 4 3 3 ∷ [])
+        ≡ Some (at_step 3 1 1) }
     ensures above { due_handler false 3 1 four_planned ≡ Some (at_step 3 2 2) }
     ensures passed { due_handler false 9 2 four_planned ≡ Some (at_step 4 3 3) }
     ensures at_once { due_handler false 1 0 (at_step 0 1 1 ∷ []) ≡ Some (at_step 0 1 1) }
@@ -35,17 +38,26 @@ pub fn worked_standing()
     ensures between { handlers_stand script_names (at_step 3 1 1 ∷ []) between ≡ true }
     ensures busy { handlers_stand script_names (at_step 3 1 1 ∷ []) nested_busy ≡ true }
     ensures twelve { handlers_stand script_names (at_step 3 1 1 ∷ []) twelve_steps ≡ true }
-    ensures in_turn { handlers_stand script_names (at_step 3 1 1 ∷ at_step 4 2 2 ∷ at_step 5 3 3 ∷ []) three_in_turn ≡ true }
-    ensures three_frees { handlers_stand (codes "main" ∷ codes "h1" ∷ codes "h2" ∷ []) (at_step 13 1 1 ∷ at_step 15 2 2 ∷ []) nested_frees ≡ true }
-    ensures four { handlers_stand script_names (at_step 3 1 1 ∷ at_step 3 2 2 ∷ at_step 3 3 3 ∷ at_step 3 2 4 ∷ []) four_at_once ≡ true }
-    ensures anew { handlers_stand script_names (at_step 3 1 1 ∷ at_step 5 1 2 ∷ []) read_anew ≡ true }
-    ensures not_reached { handlers_stand script_names (at_step 10 1 1 ∷ []) made_and_dropped ≡ true }
+    ensures in_turn { handlers_stand script_names
+        (at_step 3 1 1 ∷ at_step 4 2 2 ∷ at_step 5 3 3 ∷ []) three_in_turn
+        ≡ true }
+    ensures three_frees { handlers_stand (codes "main" ∷ codes "h1" ∷ codes "h2" ∷ [])
+        (at_step 13 1 1 ∷ at_step 15 2 2 ∷ []) nested_frees
+        ≡ true }
+    ensures four { handlers_stand script_names
+        (at_step 3 1 1 ∷ at_step 3 2 2 ∷ at_step 3 3 3 ∷ at_step 3 2 4 ∷ []) four_at_once
+        ≡ true }
+    ensures anew { handlers_stand script_names (at_step 3 1 1 ∷ at_step 5 1 2 ∷ []) read_anew
+        ≡ true }
+    ensures not_reached { handlers_stand script_names (at_step 10 1 1 ∷ []) made_and_dropped
+        ≡ true }
 {}
 
 /// The handlers that a scenario plans for each of its two processors, and the same log on both.
 pub fn worked_plans()
     ensures first { (body : Block) → planned_for 0 (interrupted body) ≡ at_step 3 1 1 ∷ [] }
-    ensures second { (body : Block) → planned_for 1 (interrupted body) ≡ record (at_step 1 2 1) { processor = 1 } ∷ [] }
+    ensures second { (body : Block)
+        → planned_for 1 (interrupted body) ≡ record (at_step 1 2 1) { processor = 1 } ∷ [] }
     ensures stands { (body : Block) → HandlersStand (interrupted body) 0 between }
     ensures another { (body : Block) → ¬ HandlersStand (interrupted body) 1 between }
 {}
@@ -53,15 +65,22 @@ pub fn worked_plans()
 /// Logs whose handlers don't.
 pub fn wrong_standing()
     ensures held_back { handlers_stand script_names (at_step 3 1 1 ∷ []) held_back ≡ false }
-    ensures not_run { handlers_stand script_names (at_step 3 1 1 ∷ at_step 3 1 2 ∷ []) between ≡ false }
+    ensures not_run { handlers_stand script_names (at_step 3 1 1 ∷ at_step 3 1 2 ∷ []) between
+        ≡ false }
     ensures early { handlers_stand script_names (at_step 4 1 1 ∷ []) between ≡ false }
     ensures before_a_call { handlers_stand script_names (at_step 1 1 1 ∷ []) before_a_call ≡ false }
-    ensures lowest { handlers_stand script_names (at_step 3 1 1 ∷ at_step 3 2 2 ∷ []) lowest_first ≡ false }
-    ensures last { handlers_stand script_names (at_step 3 2 2 ∷ at_step 3 2 4 ∷ []) last_first ≡ false }
-    ensures nested { handlers_stand script_names (at_step 3 1 1 ∷ at_step 3 2 2 ∷ at_step 3 3 3 ∷ []) three_levels ≡ false }
-    ensures own_level { handlers_stand script_names (at_step 3 1 1 ∷ at_step 4 1 2 ∷ []) own_level ≡ false }
+    ensures lowest { handlers_stand script_names (at_step 3 1 1 ∷ at_step 3 2 2 ∷ []) lowest_first
+        ≡ false }
+    ensures last { handlers_stand script_names (at_step 3 2 2 ∷ at_step 3 2 4 ∷ []) last_first
+        ≡ false }
+    ensures nested { handlers_stand script_names
+        (at_step 3 1 1 ∷ at_step 3 2 2 ∷ at_step 3 3 3 ∷ []) three_levels
+        ≡ false }
+    ensures own_level { handlers_stand script_names (at_step 3 1 1 ∷ at_step 4 1 2 ∷ []) own_level
+        ≡ false }
     ensures twice { handlers_stand script_names (at_step 3 1 1 ∷ []) twice ≡ false }
-    ensures once { handlers_stand script_names (at_step 3 1 1 ∷ at_step 5 1 2 ∷ []) read_once ≡ false }
+    ensures once { handlers_stand script_names (at_step 3 1 1 ∷ at_step 5 1 2 ∷ []) read_once
+        ≡ false }
     ensures ended { handlers_stand script_names (at_step 6 1 1 ∷ []) after_the_end ≡ false }
     ensures another { handlers_stand script_names (at_step 3 1 1 ∷ []) another_script ≡ false }
     ensures never_back { handlers_stand script_names (at_step 3 1 1 ∷ []) never_back ≡ false }

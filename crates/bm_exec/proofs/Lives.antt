@@ -1,7 +1,7 @@
 -- An object that lives, as its side tells it.
 use Rattle.std.proofs.Common.{◌≡◌, ℕ, List, Some, ap, refl, sym, ◌∙◌}
 use Rattle.bm_page.specs.UnitState.{UnitState}
-use Rattle.bm_world.specs.Lives.{HasLife, life_of_unit}
+use Rattle.bm_grace.specs.Living.{HasLife, life_of_unit}
 use Rattle.bm_exec.specs.Living.{Living, Lives, LivesAs}
 
 some-is : {A : Type 0} (x y : A) → Some x ≡ Some y → x ≡ y

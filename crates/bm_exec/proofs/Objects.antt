@@ -13,7 +13,7 @@ use Rattle.bm_check.specs.declared.name_state.HeldLock.{HeldLock}
 use Rattle.bm_check.specs.Values as safe
 use Rattle.bm_exec.specs.Runnable.{Classes, has_fields}
 use Rattle.bm_exec.specs.Stores.{store_of, value_of}
-use Rattle.bm_world.specs.Lives.{with_references}
+use Rattle.bm_grace.specs.Living.{with_references}
 use Rattle.bm_exec.specs.Living.{Adds, Begins, Holds, IsHeld, IsMade, IsReached, IsToPut, Lives, Living, Referring, TakenOut, TakesOut, count_in, less_of, let_go, new_life, one_less, recounted, refers, reply_of, with_life, without}
 use Rattle.bm_check.specs.Values.{is_owning}
 use Rattle.std.proofs.lemmas.Bool.Decides.{Decides-eqb}

@@ -26,20 +26,29 @@ use Rattle.bm_exec.specs.declared.names.NameTable.{NameTable}
 -- that holds an object holds one that lives, and no name holds a non-owning reference; each statement that is left may run; they are never stuck, and at
 -- their end nothing is owned; only ordinary code runs a script that isn't a handler's; no lock is held; each block that ends a section is in one; and no
 -- work is left to run for the classes w.
-pub record CanGoOn (d : Declared) (l : ℕ) (z : Around) (w : Option (List ℕ)) (s : State ℕ) (lives : Lives) (names : NameTable) (blocks : List Open) : Type 0 where
+pub record CanGoOn (d : Declared) (l : ℕ) (z : Around) (w : Option (List ℕ)) (s : State ℕ)
+    (lives : Lives) (names : NameTable) (blocks : List Open) : Type 0 where
   pub holds : (base : Lives) × Holds d.types base lives (names_of names)
   pub sees_nothing : SeesNothing (names_of names)
   pub may : stack_meets (may_run d (has_name names)) blocks ≡ true
-  pub accepted : (e : Setting) × (e.types ≡ d.types) × (e.maps ≡ d.maps) × (is_handler e.kind ≡ false → l ≡ 0) × IsSafe e (names_of names) blocks
+  pub accepted :
+      (e : Setting) × (e.types ≡ d.types) × (e.maps ≡ d.maps) × (is_handler e.kind ≡ false → l ≡ 0)
+      × IsSafe e (names_of names) blocks
   pub unlocked : lock_of blocks ≡ NoLock
   pub sections : (base : Around) × Sectioned base z blocks
   pub down : Behind w s []
 
 -- These blocks are a script's of this kind, before its first statement, and no name holds anything: where no work is left to run it can go on,
 -- what they run is the script's block, and they cost what it does.
-pub record IsAtStart (d : Declared) (kind : ScriptKind) (body : Block) (names : NameTable) (blocks : List Open) : Type 0 where
-  pub can : (l : ℕ) (z : Around) (w : Option (List ℕ)) (s : State ℕ) (lives : Lives) → (is_handler kind ≡ false → l ≡ 0) → Behind w s [] → CanGoOn d l z w s lives names blocks
-  pub runs : (l : ℕ) (z : Around) (w : Option (List ℕ)) (last : Names) (s : State ℕ) (part : Log) → RunsStack d l z w blocks (names_of names) last s part → RunsBlock (under None d) l (is_inside z) (Behind w) body no_names last s part
+pub record IsAtStart (d : Declared) (kind : ScriptKind) (body : Block) (names : NameTable)
+    (blocks : List Open) : Type 0 where
+  pub can :
+      (l : ℕ) (z : Around) (w : Option (List ℕ)) (s : State ℕ) (lives : Lives)
+      → (is_handler kind ≡ false → l ≡ 0) → Behind w s [] → CanGoOn d l z w s lives names blocks
+  pub runs :
+      (l : ℕ) (z : Around) (w : Option (List ℕ)) (last : Names) (s : State ℕ) (part : Log)
+      → RunsStack d l z w blocks (names_of names) last s part
+      → RunsBlock (under None d) l (is_inside z) (Behind w) body no_names last s part
   pub holds : (lives : Lives) → Holds d.types lives lives (names_of names)
   pub sections : (z : Around) → Sectioned z z blocks
   pub cost : stack_cost blocks ≡ block_cost body

@@ -40,7 +40,8 @@ RunsStatement d l i w a =
 abbrev pub RunsList : Declared → ℕ → (inside : Bool) → Option (List ℕ) → List Statement → Run
 RunsList d l i w [] = Done
 RunsList d l i w (s ∷ ss) =
-    Followed (RunsStatement d l i w s.action) (RunsList (under (lock_after d.lock s.action) d) l i w ss)
+    Followed (RunsStatement d l i w s.action)
+    (RunsList (under (lock_after d.lock s.action) d) l i w ss)
 
 abbrev pub SafeList : Setting → Store → List Statement → (Store → Type 0) → Type 0
 SafeList e s [] Q = Q s

@@ -7,7 +7,7 @@ use Rattle.bm_journal.specs.declared.ids.Tag.{Tag}
 use Rattle.bm_lang.specs.declared.scenario.TypeDeclaration.{TypeDeclaration}
 use Rattle.bm_lang.specs.declared.scenario.TypeId.{TypeId}
 pub use Rattle.bm_grace.specs.Known.{Living, Lives}
-pub use Rattle.bm_world.specs.Lives.{count_in, recounted, type_in, values_in, with_life}
+pub use Rattle.bm_grace.specs.Living.{count_in, recounted, type_in, values_in, with_life}
 use Rattle.bm_law.specs.Lists.{Log}
 use Rattle.bm_law.specs.Spans.{Records}
 use Rattle.bm_law.specs.State.{State}
@@ -21,7 +21,10 @@ pub record LivesAs (lives : Lives) (c u n : ℕ) : Type 0 where
   pub type : ℕ
   pub count : ℕ
   pub values : List ℕ
-  pub is : lives u ≡ Some (record { class = c; life = n; home = home; type = type; count = count; values = values })
+  pub is :
+      lives u
+      ≡ Some
+      (record { class = c; life = n; home = home; type = type; count = count; values = values })
 
 -- the home of the life that a unit has
 abbrev pub home_of : Option Living → Option ℕ
@@ -34,7 +37,8 @@ reply_of (Some o) = Some (o.unit, o.life)
 
 -- a new object of class c and of type t, with one reference
 abbrev pub new_life : (c t life home : ℕ) → (values : List ℕ) → Living
-new_life c t life home values = record { class = c; life = life; home = home; type = t; count = 1; values = values }
+new_life c t life home values =
+    record { class = c; life = life; home = home; type = t; count = 1; values = values }
 
 -- the life that a reply begins, where its unit had none
 pub record BeginsLife (c t : ℕ) (values : List ℕ) (lives lives' : Lives) (o : ObjId) : Type 0 where
@@ -49,21 +53,24 @@ Begins c t values lives lives' None = lives' ≡ lives
 Begins c t values lives lives' (Some o) = BeginsLife c t values lives lives' o
 
 -- A call for an object of class c and of type t, which has this name: its entries, its reply, and the object that lives now.
-pub record Created (l c t : ℕ) (name values : List ℕ) (log log' : Option Log) (lives lives' : Lives) (reply : Option ObjId) : Type 0 where
+pub record Created (l c t : ℕ) (name values : List ℕ) (log log' : Option Log) (lives lives' : Lives)
+    (reply : Option ObjId) : Type 0 where
   pub own : List Entry
   pub records : Records l (entry.New name values ∷ own) log log'
   pub allocates : Allocates c own (reply_of reply)
   pub begins : Begins c t values lives lives' reply
 
 -- A call for one more reference to an object: its entry, which names how many there were, those of slots too, and that names hold one more.
-pub record Acquired (l : ℕ) (o : ObjId) (log log' : Option Log) (lives lives' : Lives) : Type 0 where
+pub record Acquired (l : ℕ) (o : ObjId) (log log' : Option Log) (lives lives' : Lives) :
+    Type 0 where
   pub seen : ℕ
   pub some : 0 < seen
   pub records : Records l (entry.Acquire o.unit o.life seen ∷ []) log log'
   pub more : lives' ≡ recounted o.unit (count_in (lives o.unit) + 1) lives
 
 -- A field of an object is read, by its place: its entry, which names the value that the object has there.
-pub record HasRead (l : ℕ) (o : ObjId) (place : ℕ) (log log' : Option Log) (lives : Lives) : Type 0 where
+pub record HasRead (l : ℕ) (o : ObjId) (place : ℕ) (log log' : Option Log) (lives : Lives) :
+    Type 0 where
   pub value : ℕ
   pub records : Records l (entry.Get o.unit o.life place value ∷ []) log log'
   pub found : slice_get (values_in (lives o.unit)) place ≡ Some value
@@ -92,7 +99,8 @@ pub record GivenUp (l : ℕ) (o : ObjId) (log log' : Option Log) (lives lives' :
 
 -- The last reference to an object of a counted type, or of another one, is given up, with these lists before: its entries, of which the
 -- free goes to the object's home, and that the object lives no more.
-pub record Disposed (l : ℕ) (counted : Bool) (c : ℕ) (o : ObjId) (s : State ℕ) (log log' : Option Log) (lives lives' : Lives) : Type 0 where
+pub record Disposed (l : ℕ) (counted : Bool) (c : ℕ) (o : ObjId) (s : State ℕ)
+    (log log' : Option Log) (lives lives' : Lives) : Type 0 where
   pub home : ℕ
   pub own : List Entry
   pub records : Records l (entry.Drop o.unit o.life ∷ entry.Last ∷ own) log log'
@@ -102,7 +110,9 @@ pub record Disposed (l : ℕ) (counted : Bool) (c : ℕ) (o : ObjId) (s : State 
   pub ends : lives' ≡ let_go o.unit lives
 
 -- a reference is given up: it is the last, or others are left, as only objects of a counted type have them
-abbrev pub LetGo : (l : ℕ) (counted : Bool) (c : ℕ) (o : ObjId) (s : State ℕ) (log log' : Option Log) (lives lives' : Lives) → Type 0
+abbrev pub LetGo :
+    (l : ℕ) (counted : Bool) (c : ℕ) (o : ObjId) (s : State ℕ) (log log' : Option Log)
+    (lives lives' : Lives) → Type 0
 LetGo l counted c o s log log' lives lives' =
     Disposed l counted c o s log log' lives lives'
     ⊎ ((counted ≡ true) × GivenUp l o log log' lives lives')
@@ -127,7 +137,8 @@ without (Some o) lives = let_go o.unit lives
 
 -- A reference that a slot of type t held is taken: it is to an object of that type, of which names hold one reference more now. Where some hold one
 -- already, they hold it to this object.
-pub record TakenOut (types : List TypeDeclaration) (t : ℕ) (between lives' : Lives) (o : ObjId) : Type 0 where
+pub record TakenOut (types : List TypeDeclaration) (t : ℕ) (between lives' : Lives) (o : ObjId) :
+    Type 0 where
   pub object : Living
   pub life_is : object.life ≡ o.life
   pub type_is : object.type ≡ t
@@ -139,7 +150,8 @@ pub record TakenOut (types : List TypeDeclaration) (t : ℕ) (between lives' : L
   pub now_is : lives' ≡ with_life o.unit (Some object) between
 
 -- what a slot held is taken, if it held anything
-abbrev pub TakesOut : (types : List TypeDeclaration) (t : ℕ) (between lives' : Lives) → Option ObjId → Type 0
+abbrev pub TakesOut :
+    (types : List TypeDeclaration) (t : ℕ) (between lives' : Lives) → Option ObjId → Type 0
 TakesOut types t between lives' None = lives' ≡ between
 TakesOut types t between lives' (Some o) = TakenOut types t between lives' o
 
@@ -149,7 +161,9 @@ IsToPut t lives None = Unit {0}
 IsToPut t lives (Some o) = (c : ℕ) × (a : LivesAs lives c o.unit o.life) × (a.type ≡ t)
 
 -- An exchange of what a slot of type t holds: its entry, which names the slot, what it puts there, what it found and the exchange that had put that.
-pub record Exchanged (l : ℕ) (types : List TypeDeclaration) (t : ℕ) (name : List ℕ) (put : Option ObjId) (log log' : Option Log) (lives lives' : Lives) (was : Option ObjId) : Type 0 where
+pub record Exchanged (l : ℕ) (types : List TypeDeclaration) (t : ℕ) (name : List ℕ)
+    (put : Option ObjId) (log log' : Option Log) (lives lives' : Lives) (was : Option ObjId) :
+    Type 0 where
   pub by : Option Tag
   pub records : Records l (entry.Xchg name put was by ∷ []) log log'
   pub takes : TakesOut types t (without put lives) lives' was
@@ -164,11 +178,13 @@ refers u (Soft t graph v n) = false
 -- So many names hold references to unit u: where they let go of them one after the other, none is left.
 abbrev pub Referring : (u count : ℕ) → Names → Type 0
 Referring u zero names = (x : List ℕ) → refers u (names x) ≡ false
-Referring u (suc count) names = (x : List ℕ) × (refers u (names x) ≡ true) × Referring u count (with_name x Nothing names)
+Referring u (suc count) names =
+    (x : List ℕ) × (refers u (names x) ≡ true) × Referring u count (with_name x Nothing names)
 
 -- A name holds unit u in its life n: it lives so, as an object of that type and of its class, with a value for each field of the type, of
 -- which there are at most eight. Where the type carries no count of references, this is the only one.
-pub record IsHeld (types : List TypeDeclaration) (lives : Lives) (t : TypeId) (u n : ℕ) : Type 0 where
+pub record IsHeld (types : List TypeDeclaration) (lives : Lives) (t : TypeId) (u n : ℕ) :
+    Type 0 where
   pub class : ℕ
   pub declared : TypeDeclaration
   pub of_class : OfClass types t.0 class declared
@@ -193,5 +209,6 @@ pub record IsReached (u : ℕ) (others all : Option Living) (names : Names) : Ty
 -- The names of a script, beside which other names have references to the objects of `base`: each name that holds an object holds one that lives,
 -- and to each object names hold the references of the others and those of the script. What slots hold isn't counted.
 pub record Holds (types : List TypeDeclaration) (base lives : Lives) (names : Names) : Type 0 where
-  pub living : (x : List ℕ) (t : TypeId) (u n : ℕ) → names x ≡ Object t u n → IsHeld types lives t u n
+  pub living :
+      (x : List ℕ) (t : TypeId) (u n : ℕ) → names x ≡ Object t u n → IsHeld types lives t u n
   pub reached : (u : ℕ) → IsReached u (base u) (lives u) names

@@ -26,14 +26,24 @@ body_meets q (Some body) = list_meets q (block_list body.now)
 -- each statement that open blocks have still to run, or run again; the innermost block is first
 abbrev pub stack_meets : Test → List Open → Bool
 stack_meets p [] = true
-stack_meets p (o ∷ os) = list_meets (p (suc (length os))) o.rest.now && (body_meets (p (suc (length os))) o.body && stack_meets p os)
+stack_meets p (o ∷ os) =
+    list_meets (p (suc (length os))) o.rest.now
+    && (body_meets (p (suc (length os))) o.body && stack_meets p os)
 
 -- a test that the statements of a block meet if the one meets it that opens the block
 pub record Inherits (p : Test) : Type 0 where
-  pub first : (d : ℕ) (x : List ℕ) (body : Block) (otherwise : Held-Action-If-2) → p d (If' x body otherwise) ≡ true → list_meets (p (suc d)) (block_list body) ≡ true
-  pub other : (d : ℕ) (x : List ℕ) (body other : Block) → p d (If' x body (Some' other)) ≡ true → list_meets (p (suc d)) (block_list other) ≡ true
-  pub within : (d : ℕ) (body : Block) → p d (Section body) ≡ true → list_meets (p (suc d)) (block_list body) ≡ true
-  pub again : (d n : ℕ) (body : Block) → p d (Repeat n body) ≡ true → list_meets (p (suc d)) (block_list body) ≡ true
+  pub first :
+      (d : ℕ) (x : List ℕ) (body : Block) (otherwise : Held-Action-If-2)
+      → p d (If' x body otherwise) ≡ true → list_meets (p (suc d)) (block_list body) ≡ true
+  pub other :
+      (d : ℕ) (x : List ℕ) (body other : Block) → p d (If' x body (Some' other)) ≡ true
+      → list_meets (p (suc d)) (block_list other) ≡ true
+  pub within :
+      (d : ℕ) (body : Block) → p d (Section body) ≡ true
+      → list_meets (p (suc d)) (block_list body) ≡ true
+  pub again :
+      (d n : ℕ) (body : Block) → p d (Repeat n body) ≡ true
+      → list_meets (p (suc d)) (block_list body) ≡ true
 
 -- A statement with so many blocks around it can run on a frame: it is one of those that run so far, it opens no more blocks than there
 -- is room for, and the names that it binds are in a table.

@@ -48,7 +48,8 @@ has_key types (Some m) = has_some_field (slice_get types m.type_id.0)
 
 abbrev mutual
   pub can_run_action : Declared → Action → Bool
-  can_run_action d (New x t values) = has_fields (slice_get d.types t.0) (length values) && nat_le (length values) 8
+  can_run_action d (New x t values) =
+      has_fields (slice_get d.types t.0) (length values) && nat_le (length values) 8
   can_run_action d (Drop x) = true
   can_run_action d (If' x body otherwise) = can_run_block d body && can_run_else d otherwise
   can_run_action d (Repeat n body) = can_run_block d body
@@ -56,14 +57,16 @@ abbrev mutual
   can_run_action d (Acquire y x) = true
   can_run_action d (Get x field) = true
   can_run_action d (Exchange y slot x) = is_slot (slice_get d.maps slot.0)
-  can_run_action d (Lock graph) = is_graph false (slice_get d.maps graph.0) || is_graph true (slice_get d.maps graph.0)
+  can_run_action d (Lock graph) =
+      is_graph false (slice_get d.maps graph.0) || is_graph true (slice_get d.maps graph.0)
   can_run_action d Unlock = true
   can_run_action d Yield = true
   can_run_action d (PushFront list x) = is_graph false (slice_get d.maps list.0)
   can_run_action d (PushBack list x) = is_graph false (slice_get d.maps list.0)
   can_run_action d (PopFront x list) = is_graph false (slice_get d.maps list.0)
   can_run_action d (PopBack x list) = is_graph false (slice_get d.maps list.0)
-  can_run_action d (Add tree x) = is_graph true (slice_get d.maps tree.0) && has_key d.types (slice_get d.maps tree.0)
+  can_run_action d (Add tree x) =
+      is_graph true (slice_get d.maps tree.0) && has_key d.types (slice_get d.maps tree.0)
   can_run_action d (First x tree) = is_graph true (slice_get d.maps tree.0)
   can_run_action d (Remove y tree x) = is_graph true (slice_get d.maps tree.0)
 

@@ -24,7 +24,9 @@ RunsBody d l i w (Some body) = RunsBlock d l i (Behind w) body.now
 
 -- the end of the section that a statement began
 abbrev pub Leaves : ℕ → Around → Run
-Leaves l z names after s part = (w : ℕ) × (z.begun ≡ Some w) × Leaving (Stand l (entry.Out Plain (w + 1) ∷ [])) names after s part
+Leaves l z names after s part =
+    (w : ℕ) × (z.begun ≡ Some w)
+    × Leaving (Stand l (entry.Out Plain (w + 1) ∷ [])) names after s part
 
 -- a block, and the end of its section, if it is one's
 abbrev pub ClosedBy : Bool → ℕ → Around → Run → Run
@@ -47,7 +49,8 @@ under_lock lock (o ∷ os) = record o { lock = lock } ∷ os
 
 -- The rest of a block's statements, under the lock that is held in it, and then the whole block some more times, each time under the lock that is held
 -- around it.
-abbrev pub RunsRest : Declared → ℕ → (inside : Bool) → Option (List ℕ) → (around : HeldLock) → Open → Run
+abbrev pub RunsRest :
+    Declared → ℕ → (inside : Bool) → Option (List ℕ) → (around : HeldLock) → Open → Run
 RunsRest d l i w k o =
     Followed (RunsList (under (locked_in o.lock) d) l i w o.rest.now)
     (Times (RunsBody (under (locked_in k) d) l i w o.body) o.repeats)
@@ -66,12 +69,14 @@ RunsAround d l z w (o ∷ os) =
 -- open blocks, the innermost first
 abbrev pub RunsStack : Declared → ℕ → Around → Option (List ℕ) → List Open → Run
 RunsStack d l z w [] = Done
-RunsStack d l z w (o ∷ os) = Followed (RunsOpen d l z w (lock_of os) o) (RunsAround d l (outer o z) w os)
+RunsStack d l z w (o ∷ os) =
+    Followed (RunsOpen d l z w (lock_of os) o) (RunsAround d l (outer o z) w os)
 
 -- A block that leaves a section is in one that was begun; and around all open blocks it is as at the script's beginning.
 abbrev pub Sectioned : (base z : Around) → List Open → Type 0
 Sectioned base z [] = z ≡ base
-Sectioned base z (o ∷ os) = (o.leaves ≡ true → (w : ℕ) × (z.begun ≡ Some w)) × Sectioned base (outer o z) os
+Sectioned base z (o ∷ os) =
+    (o.leaves ≡ true → (w : ℕ) × (z.begun ≡ Some w)) × Sectioned base (outer o z) os
 
 -- A lock that is taken in a block is given back in it: at its end the lock that is held is that from around it.
 abbrev pub Closes : (around : HeldLock) → (safe.Store → Type 0) → safe.Store → Type 0
@@ -81,8 +86,10 @@ abbrev pub SafeBody : Setting → Option (Bor Block) → safe.Store → (safe.St
 SafeBody e None s Q = Q s
 SafeBody e (Some body) s Q = safe.SafeBlock e s body.now Q
 
-abbrev pub SafeOpen : Setting → (around : HeldLock) → safe.Store → Open → (safe.Store → Type 0) → Type 0
-SafeOpen e k s o Q = SafeList e s o.rest.now (Closes k (λ r. safe.Times o.repeats (λ r. SafeBody e o.body r) r Q))
+abbrev pub SafeOpen :
+    Setting → (around : HeldLock) → safe.Store → Open → (safe.Store → Type 0) → Type 0
+SafeOpen e k s o Q =
+    SafeList e s o.rest.now (Closes k (λ r. safe.Times o.repeats (λ r. SafeBody e o.body r) r Q))
 
 -- at the end nothing is owned, and no lock is held
 abbrev pub SafeStack : Setting → safe.Store → List Open → Type 0

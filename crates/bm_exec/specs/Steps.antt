@@ -46,9 +46,14 @@ IsSafe e names os = SafeStack e (store_of names (lock_of os)) os
 -- Blocks ended or began again: what is run from now on is what was to be run. Where a block ends nothing stands after its
 -- statement, for the last one in it left that so. The lock that is held stays the same.
 pub record Passed (before now : List Open) : Type 0 where
-  pub runs : (d : Declared) (l : ℕ) (z : Around) (w : Option (List ℕ)) (e : Setting) (names after : Names) (s : State ℕ) (part : Log) → IsSafe e names before → Quiet (lock_of before) w s → RunsStack d l z w now names after s part → RunsStack d l z w before names after s part
+  pub runs :
+      (d : Declared) (l : ℕ) (z : Around) (w : Option (List ℕ)) (e : Setting) (names after : Names)
+      (s : State ℕ) (part : Log) → IsSafe e names before → Quiet (lock_of before) w s
+      → RunsStack d l z w now names after s part → RunsStack d l z w before names after s part
   pub safe : (e : Setting) (names : Names) → IsSafe e names before → IsSafe e names now
-  pub locked : (e : Setting) (names : Names) → IsSafe e names before → locked_in (lock_of now) ≡ locked_in (lock_of before)
+  pub locked :
+      (e : Setting) (names : Names) → IsSafe e names before
+      → locked_in (lock_of now) ≡ locked_in (lock_of before)
   pub meets : (p : Test) → stack_meets p before ≡ true → stack_meets p now ≡ true
   pub sections : (base z : Around) → Sectioned base z before → Sectioned base z now
   pub cost : stack_cost now ≤ stack_cost before
@@ -61,13 +66,22 @@ left_by a os = under_lock (lock_after (lock_of os) a) os
 -- a statement that the innermost block runs, under the lock that is held in it, and then these blocks
 abbrev pub RunsNext : Declared → ℕ → Around → Option (List ℕ) → Action → List Open → Run
 RunsNext d l z w a os =
-    Followed (RunsStatement (under (locked_in (lock_of os)) d) l (is_inside z) w a) (RunsStack d l z w (left_by a os))
+    Followed (RunsStatement (under (locked_in (lock_of os)) d) l (is_inside z) w a)
+    (RunsStack d l z w (left_by a os))
 
 -- A statement was taken: it runs first, and the rest runs after it. Its own block is still open.
 pub record Taken (before now : List Open) (s : Statement) : Type 0 where
-  pub runs : (d : Declared) (l : ℕ) (z : Around) (w : Option (List ℕ)) (e : Setting) (names after : Names) (t : State ℕ) (part : Log) → IsSafe e names before → Quiet (lock_of before) w t → RunsNext d l z w s.action now names after t part → RunsStack d l z w before names after t part
-  pub safe : (e : Setting) (names : Names) → IsSafe e names before → SafeAction e (store_of names (lock_of now)) s.action (λ r. SafeStack e r now)
-  pub locked : (e : Setting) (names : Names) → IsSafe e names before → locked_in (lock_of now) ≡ locked_in (lock_of before)
+  pub runs :
+      (d : Declared) (l : ℕ) (z : Around) (w : Option (List ℕ)) (e : Setting) (names after : Names)
+      (t : State ℕ) (part : Log) → IsSafe e names before → Quiet (lock_of before) w t
+      → RunsNext d l z w s.action now names after t part
+      → RunsStack d l z w before names after t part
+  pub safe :
+      (e : Setting) (names : Names) → IsSafe e names before
+      → SafeAction e (store_of names (lock_of now)) s.action (λ r. SafeStack e r now)
+  pub locked :
+      (e : Setting) (names : Names) → IsSafe e names before
+      → locked_in (lock_of now) ≡ locked_in (lock_of before)
   pub meets_action : (p : Test) → stack_meets p before ≡ true → p (length now) s.action ≡ true
   pub meets : (p : Test) → stack_meets p before ≡ true → stack_meets p now ≡ true
   pub sections : (base z : Around) → Sectioned base z before → Sectioned base z now
@@ -77,19 +91,34 @@ pub record Taken (before now : List Open) (s : Statement) : Type 0 where
 
 -- A block has ended that has a section of its own: this section ends next, and then the rest runs.
 pub record Closing (before now : List Open) : Type 0 where
-  pub runs : (d : Declared) (l : ℕ) (z : Around) (w : Option (List ℕ)) (e : Setting) (names after : Names) (s : State ℕ) (one two : Log) → IsSafe e names before → Quiet (lock_of before) w s → Quiet (lock_of before) w (lists_after s one) → Leaves l z names names s one → RunsStack d l (with_begun None z) w now names after (lists_after s one) two → RunsStack d l z w before names after s (one ++ two)
+  pub runs :
+      (d : Declared) (l : ℕ) (z : Around) (w : Option (List ℕ)) (e : Setting) (names after : Names)
+      (s : State ℕ) (one two : Log) → IsSafe e names before → Quiet (lock_of before) w s
+      → Quiet (lock_of before) w (lists_after s one) → Leaves l z names names s one
+      → RunsStack d l (with_begun None z) w now names after (lists_after s one) two
+      → RunsStack d l z w before names after s (one ++ two)
   pub safe : (e : Setting) (names : Names) → IsSafe e names before → IsSafe e names now
-  pub locked : (e : Setting) (names : Names) → IsSafe e names before → locked_in (lock_of now) ≡ locked_in (lock_of before)
+  pub locked :
+      (e : Setting) (names : Names) → IsSafe e names before
+      → locked_in (lock_of now) ≡ locked_in (lock_of before)
   pub meets : (p : Test) → stack_meets p before ≡ true → stack_meets p now ≡ true
-  pub sections : (base z : Around) → Sectioned base z before → ((w : ℕ) × (z.begun ≡ Some w)) × Sectioned base (with_begun None z) now
+  pub sections :
+      (base z : Around) → Sectioned base z before
+      → ((w : ℕ) × (z.begun ≡ Some w)) × Sectioned base (with_begun None z) now
   pub cost : stack_cost now ≤ stack_cost before
   pub weight : weight now < weight before
 
 -- All ended: nothing is left to run, and no lock is held.
 pub record Ended (before : List Open) : Type 0 where
-  pub runs : (d : Declared) (l : ℕ) (z : Around) (w : Option (List ℕ)) (e : Setting) (names : Names) (s : State ℕ) → IsSafe e names before → Quiet (lock_of before) w s → RunsStack d l z w before names names s []
-  pub safe : (e : Setting) (names : Names) → IsSafe e names before → (x : List ℕ) → is_owning (value_of (names x)) ≡ false
-  pub locked : (e : Setting) (names : Names) → IsSafe e names before → locked_in (lock_of before) ≡ None
+  pub runs :
+      (d : Declared) (l : ℕ) (z : Around) (w : Option (List ℕ)) (e : Setting) (names : Names)
+      (s : State ℕ) → IsSafe e names before → Quiet (lock_of before) w s
+      → RunsStack d l z w before names names s []
+  pub safe :
+      (e : Setting) (names : Names) → IsSafe e names before → (x : List ℕ)
+      → is_owning (value_of (names x)) ≡ false
+  pub locked :
+      (e : Setting) (names : Names) → IsSafe e names before → locked_in (lock_of before) ≡ None
   pub sections : (base z : Around) → Sectioned base z before → z ≡ base
 
 abbrev pub Stepped : List Open → List Open → Next → Type 0
@@ -99,7 +128,8 @@ Stepped before now next.End = Ended before
 
 -- One more block was opened: it has these statements still to run, and then the whole of it so many times; it sees the lock as one from around it;
 -- and with it a section ends, or none.
-pub record Pushed (before now : List Open) (rest : List Statement) (n : ℕ) (leaves : Bool) (body : Block) : Type 0 where
+pub record Pushed (before now : List Open) (rest : List Statement) (n : ℕ) (leaves : Bool)
+    (body : Block) : Type 0 where
   pub top : Open
   pub now_is : now ≡ top ∷ before
   pub rest_is : top.rest.now ≡ rest

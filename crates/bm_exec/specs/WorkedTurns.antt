@@ -6,7 +6,9 @@ use Rattle.bm_law.specs.Lists.{Log}
 
 -- A drop, between whose lines a handler of level 2 runs that does nothing.
 abbrev pub a_drop : Log
-a_drop = (0, entry.Drop 0 1) ∷ (0, entry.Last) ∷ (2, entry.Handler []) ∷ (2, entry.Back []) ∷ (0, entry.Free 0 0) ∷ []
+a_drop =
+    (0, entry.Drop 0 1) ∷ (0, entry.Last) ∷ (2, entry.Handler []) ∷ (2, entry.Back [])
+    ∷ (0, entry.Free 0 0) ∷ []
 
 abbrev pub a_drop_then_yield : Log
 a_drop_then_yield = a_drop ++ (0, entry.Yield) ∷ []

@@ -28,7 +28,8 @@ fn bound_name(action: &Action) -> Option<&Name>
 // Puts the name that a statement binds by itself in the table.
 fn add_bound(table: &mut NameTable, action: &Action) -> Result<(), NoMemory>
     ensures bound { OnOk result (passes (has_name table.new) (bound_by action.now) ≡ true) }
-    ensures names { OnOk result ((x : List ℕ) → has_name table.old x ≡ true → has_name table.new x ≡ true) }
+    ensures names { OnOk result
+        ((x : List ℕ) → has_name table.old x ≡ true → has_name table.new x ≡ true) }
     ensures held { OnOk result (names_of table.new ≡ names_of table.old) }
 {
     match bound_name(action) {
@@ -41,7 +42,8 @@ fn add_bound(table: &mut NameTable, action: &Action) -> Result<(), NoMemory>
 #[cycle(binding)]
 fn add_block(table: &mut NameTable, block: &Block) -> Result<(), NoMemory>
     ensures bound { OnOk result (binds_among (has_name table.new) block.now ≡ true) }
-    ensures names { OnOk result ((x : List ℕ) → has_name table.old x ≡ true → has_name table.new x ≡ true) }
+    ensures names { OnOk result
+        ((x : List ℕ) → has_name table.old x ≡ true → has_name table.new x ≡ true) }
     ensures held { OnOk result (names_of table.new ≡ names_of table.old) }
 {
     for statement in &block.statements {
@@ -53,7 +55,8 @@ fn add_block(table: &mut NameTable, block: &Block) -> Result<(), NoMemory>
 #[cycle(binding)]
 fn add_action(table: &mut NameTable, action: &Action) -> Result<(), NoMemory>
     ensures bound { OnOk result (binds_by (has_name table.new) action.now ≡ true) }
-    ensures names { OnOk result ((x : List ℕ) → has_name table.old x ≡ true → has_name table.new x ≡ true) }
+    ensures names { OnOk result
+        ((x : List ℕ) → has_name table.old x ≡ true → has_name table.new x ≡ true) }
     ensures held { OnOk result (names_of table.new ≡ names_of table.old) }
 {
     match action {
@@ -93,7 +96,9 @@ impl NameTable {
     /// A table for some scripts: each name that one of them binds is there, and holds nothing. Want of memory is the only
     /// refusal.
     pub fn for_scripts(alloc: Global, scripts: &[Script]) -> Result<NameTable, NoMemory>
-        ensures bound { IfOk result (λ table. list_all (λ (s : Script). binds_among (has_name table) s.body) scripts.now ≡ true) }
+        ensures bound { IfOk result
+            (λ table. list_all (λ (s : Script). binds_among (has_name table) s.body) scripts.now
+            ≡ true) }
         ensures none { IfOk result (λ table. names_of table ≡ no_names) }
     {
         let mut table = NameTable::new(alloc);

@@ -39,7 +39,8 @@ pub struct Frame<'s> {
 impl<'s> Frame<'s> {
     /// A frame that stands before the first statement of a script.
     pub fn start(script: &'s Script) -> Frame<'s>
-        ensures pushed { Pushed [] (reverse result.blocks.items) (block_list script.now.body) 0 false script.now.body }
+        ensures pushed { Pushed [] (reverse result.blocks.items) (block_list script.now.body) 0
+            false script.now.body }
     {
         let mut blocks = ArrayVec::new();
         open_block(&mut blocks, &script.body, false);
@@ -132,7 +133,8 @@ pub fn set_lock<'s>(blocks: &mut ArrayVec<Open<'s>, 16>, lock: HeldLock)
 /// Opens a block, which runs once; a section ends with it, or none.
 pub fn open_block<'s>(blocks: &mut ArrayVec<Open<'s>, 16>, block: &'s Block, leaves: bool)
     requires room { array_vec_len blocks.old < 16 }
-    ensures pushed { Pushed (reverse blocks.old.items) (reverse blocks.new.items) (block_list block.now) 0 leaves block.now }
+    ensures pushed { Pushed (reverse blocks.old.items) (reverse blocks.new.items)
+        (block_list block.now) 0 leaves block.now }
 {
     let rest = statements_of(block);
     let lock = held_lock(blocks).from_inside();
@@ -148,7 +150,8 @@ pub fn open_block<'s>(blocks: &mut ArrayVec<Open<'s>, 16>, block: &'s Block, lea
 /// Opens a block, which runs so many times.
 pub fn repeat_block<'s>(blocks: &mut ArrayVec<Open<'s>, 16>, repeats: u32, block: &'s Block)
     requires room { array_vec_len blocks.old < 16 }
-    ensures pushed { Pushed (reverse blocks.old.items) (reverse blocks.new.items) [] repeats false block.now }
+    ensures pushed { Pushed (reverse blocks.old.items) (reverse blocks.new.items) [] repeats false
+        block.now }
 {
     let lock = held_lock(blocks).from_inside();
     blocks.push(Open {

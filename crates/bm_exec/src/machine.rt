@@ -72,7 +72,8 @@ pub trait Machine {
         requires sound { sound self.old }
         requires room { asked self.old + 2 < 2 ^ 22 }
         requires made { IsMade (declared self.old).types class type_id.0 values }
-        ensures created { Created (level self.old) class type_id.0 name values (log self.old) (log self.new) (lives self.old) (lives self.new) result }
+        ensures created { Created (level self.old) class type_id.0 name values (log self.old)
+            (log self.new) (lives self.old) (lives self.new) result }
         ensures sound { sound self.new }
         ensures level { level self.new ≡ level self.old }
         ensures asked { asked self.new ≤ asked self.old + 2 }
@@ -89,8 +90,10 @@ pub trait Machine {
         requires sound { sound self.old }
         requires room { asked self.old + 2 < 2 ^ 22 }
         requires living { (c : ℕ) × LivesAs (lives self.old) c object.unit object.life }
-        requires counted { IsCounted (declared self.old).types (type_in (lives self.old object.unit)) }
-        ensures acquired { Acquired (level self.old) object (log self.old) (log self.new) (lives self.old) (lives self.new) }
+        requires counted { IsCounted (declared self.old).types
+            (type_in (lives self.old object.unit)) }
+        ensures acquired { Acquired (level self.old) object (log self.old) (log self.new)
+            (lives self.old) (lives self.new) }
         ensures lists { lists self.new ≡ lists self.old }
         ensures sound { sound self.new }
         ensures level { level self.new ≡ level self.old }
@@ -108,7 +111,8 @@ pub trait Machine {
         requires room { asked self.old + 1 < 2 ^ 22 }
         requires living { (c : ℕ) × LivesAs (lives self.old) c object.unit object.life }
         requires there { is_some (slice_get (values_in (lives self.old object.unit)) place) ≡ true }
-        ensures read { HasRead (level self.old) object place (log self.old) (log self.new) (lives self.old) }
+        ensures read { HasRead (level self.old) object place (log self.old) (log self.new)
+            (lives self.old) }
         ensures lists { lists self.new ≡ lists self.old }
         ensures lives { lives self.new ≡ lives self.old }
         ensures sound { sound self.new }
@@ -127,7 +131,8 @@ pub trait Machine {
         requires sound { sound self.old }
         requires room { asked self.old + 1 < 2 ^ 22 }
         requires living { (c : ℕ) × LivesAs (lives self.old) c object.unit object.life }
-        requires typed { HasType (declared self.old).types (type_in (lives self.old object.unit)) counted }
+        requires typed { HasType (declared self.old).types (type_in (lives self.old object.unit))
+            counted }
         ensures disposed { (c : ℕ) → LivesAs (lives self.old) c object.unit object.life
             → LetGo (level self.old) counted c object (lists self.old) (log self.old) (log self.new)
             (lives self.old) (lives self.new) }
@@ -347,8 +352,11 @@ pub trait Machine {
     fn enter(&mut self)
         requires sound { sound self.old }
         requires room { asked self.old + 2 < 2 ^ 22 }
-        ensures entered { is_inside (around self.old) ≡ false → Entered (level self.old) (around self.old) (around self.new) (log self.old) (log self.new) }
-        ensures inner { is_inside (around self.old) ≡ true → (around self.new ≡ around self.old) × (log self.new ≡ log self.old) }
+        ensures entered { is_inside (around self.old) ≡ false
+            → Entered (level self.old) (around self.old) (around self.new) (log self.old)
+            (log self.new) }
+        ensures inner { is_inside (around self.old) ≡ true
+            → (around self.new ≡ around self.old) × (log self.new ≡ log self.old) }
         ensures lists { lists self.new ≡ lists self.old }
         ensures lives { lives self.new ≡ lives self.old }
         ensures sound { sound self.new }
@@ -365,8 +373,11 @@ pub trait Machine {
     fn leave(&mut self)
         requires sound { sound self.old }
         requires room { asked self.old < 2 ^ 22 }
-        ensures left { (w : ℕ) → (around self.old).begun ≡ Some w → HasLeft (level self.old) (around self.old) (around self.new) (log self.old) (log self.new) }
-        ensures outer { (around self.old).begun ≡ None → (around self.new ≡ around self.old) × (log self.new ≡ log self.old) }
+        ensures left { (w : ℕ) → (around self.old).begun ≡ Some w
+            → HasLeft (level self.old) (around self.old) (around self.new) (log self.old)
+            (log self.new) }
+        ensures outer { (around self.old).begun ≡ None
+            → (around self.new ≡ around self.old) × (log self.new ≡ log self.old) }
         ensures lists { lists self.new ≡ lists self.old }
         ensures lives { lives self.new ≡ lives self.old }
         ensures sound { sound self.new }
@@ -400,7 +411,8 @@ pub trait Machine {
     fn settle(&mut self) -> Result<(), NoMemory>
         requires sound { sound self.old }
         requires room { asked self.old + 1 < 2 ^ 22 }
-        ensures settled { OnOk result (GrewBy (Behind (behind self.old)) (lists self.old) (log self.old) (log self.new)) }
+        ensures settled { OnOk result
+            (GrewBy (Behind (behind self.old)) (lists self.old) (log self.old) (log self.new)) }
         ensures down { OnOk result (Behind (behind self.old) (lists self.new) []) }
         ensures yields { OnOk result (Unyielding (level self.old) (log self.old) (log self.new)) }
         ensures sound { OnOk result (sound self.new) }

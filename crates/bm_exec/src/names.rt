@@ -75,11 +75,14 @@ impl NameTable {
 
     /// Lets a name hold this. Want of memory is the only refusal, for a name that isn't there yet, and then nothing changes.
     pub fn put(&mut self, name: &[u8], holding: Holding) -> Result<(), NoMemory>
-        ensures ok { OnOk result (names_of self.new ≡ with_name name.now (held_of holding) (names_of self.old)) }
+        ensures ok { OnOk result
+            (names_of self.new ≡ with_name name.now (held_of holding) (names_of self.old)) }
         ensures known { has_name self.old name.now ≡ true → IsOk result }
-        ensures same { has_name self.old name.now ≡ true → self.new.names.keys ≡ self.old.names.keys }
+        ensures same { has_name self.old name.now ≡ true
+            → self.new.names.keys ≡ self.old.names.keys }
         ensures there { OnOk result (has_name self.new name.now ≡ true) }
-        ensures names { OnOk result ((x : List ℕ) → has_name self.old x ≡ true → has_name self.new x ≡ true) }
+        ensures names { OnOk result
+            ((x : List ℕ) → has_name self.old x ≡ true → has_name self.new x ≡ true) }
     {
         match self.names.get_index_of(name) {
             Some(place) => {
@@ -102,7 +105,8 @@ impl NameTable {
     /// Lets a name be there. It holds what it held. Want of memory is the only refusal, and then nothing changes.
     pub fn add(&mut self, name: &[u8]) -> Result<(), NoMemory>
         ensures there { OnOk result (has_name self.new name.now ≡ true) }
-        ensures names { OnOk result ((x : List ℕ) → has_name self.old x ≡ true → has_name self.new x ≡ true) }
+        ensures names { OnOk result
+            ((x : List ℕ) → has_name self.old x ≡ true → has_name self.new x ≡ true) }
         ensures held { OnOk result (names_of self.new ≡ names_of self.old) }
     {
         if self.names.contains(name) {

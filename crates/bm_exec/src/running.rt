@@ -88,11 +88,20 @@ fn perform_new<'s, M: Machine>(
     requires declared { M.declared machine.old ≡ declared_of types.now }
     requires classes { Classes types.now.declared.now types.now.classes.now }
     requires room { M.asked machine.old + 3 < 2 ^ 22 }
-    requires holds { (base : Lives) × Holds types.now.declared.now base (M.lives machine.old) (names_of names.old) }
-    requires can { can_run_action (declared_of types.now) (action.New name.now type_id values.now) ≡ true }
+    requires holds { (base : Lives)
+        × Holds types.now.declared.now base (M.lives machine.old) (names_of names.old) }
+    requires can { can_run_action (declared_of types.now) (action.New name.now type_id values.now)
+        ≡ true }
     requires free { is_owning (value_of (names_of names.old name.now)) ≡ false }
     requires there { has_name names.old name.now ≡ true }
-    ensures performed { OnOk result ((os : List Open) → lock_of os ≡ held_lock_is.Nothing → Performed (declared_of types.now) (M.level machine.old) (M.around machine.old) (M.around machine.old) (M.behind machine.old) (M.lists machine.old) (M.lists machine.new) (M.guarded machine.old) (M.guarded machine.old) (action.New name.now type_id values.now) (names_of names.old) (names_of names.new) os os (M.lives machine.old) (M.lives machine.new) (M.asked machine.old) (M.asked machine.new) (M.log machine.old) (M.log machine.new)) }
+    ensures performed { OnOk result
+        ((os : List Open) → lock_of os ≡ held_lock_is.Nothing
+        → Performed (declared_of types.now) (M.level machine.old) (M.around machine.old)
+        (M.around machine.old) (M.behind machine.old) (M.lists machine.old)
+        (M.lists machine.new) (M.guarded machine.old) (M.guarded machine.old)
+        (action.New name.now type_id values.now) (names_of names.old) (names_of names.new)
+        os os (M.lives machine.old) (M.lives machine.new) (M.asked machine.old)
+        (M.asked machine.new) (M.log machine.old) (M.log machine.new)) }
     ensures sound { OnOk result (M.sound machine.new) }
     ensures level { OnOk result (M.level machine.new ≡ M.level machine.old) }
     ensures processor { OnOk result (M.processor machine.new ≡ M.processor machine.old) }
@@ -102,7 +111,8 @@ fn perform_new<'s, M: Machine>(
     ensures asked { OnOk result (M.asked machine.new ≤ M.asked machine.old + 3) }
     ensures around { OnOk result (M.around machine.new ≡ M.around machine.old) }
     ensures keeps { OnOk result (M.keeps machine.old machine.new) }
-    ensures yields { OnOk result (Unyielding (M.level machine.old) (M.log machine.old) (M.log machine.new)) }
+    ensures yields { OnOk result
+        (Unyielding (M.level machine.old) (M.log machine.old) (M.log machine.new)) }
     ensures known { names.new.names.keys ≡ names.old.names.keys }
     ensures bare { M.behind machine.old ≡ None → IsOk result }
 {
@@ -133,12 +143,21 @@ fn perform_acquire<'s, M: Machine>(
     requires sound { M.sound machine.old }
     requires declared { M.declared machine.old ≡ declared_of types.now }
     requires room { M.asked machine.old + 2 < 2 ^ 22 }
-    requires holds { (base : Lives) × Holds types.now.declared.now base (M.lives machine.old) (names_of names.old) }
+    requires holds { (base : Lives)
+        × Holds types.now.declared.now base (M.lives machine.old) (names_of names.old) }
     requires owned { is_owning (value_of (names_of names.old of.now)) ≡ true }
-    requires counted { (t : TypeIdValue) → value_of (names_of names.old of.now) ≡ Owning t → IsCounted types.now.declared.now t.0 }
+    requires counted { (t : TypeIdValue) → value_of (names_of names.old of.now) ≡ Owning t
+        → IsCounted types.now.declared.now t.0 }
     requires free { is_owning (value_of (names_of names.old name.now)) ≡ false }
     requires there { has_name names.old name.now ≡ true }
-    ensures performed { (os : List Open) → Quiet (lock_of os) (M.behind machine.old) (M.lists machine.old) → Performed (declared_of types.now) (M.level machine.old) (M.around machine.old) (M.around machine.new) (M.behind machine.old) (M.lists machine.old) (M.lists machine.new) (M.guarded machine.old) (M.guarded machine.old) (action.Acquire name.now of.now) (names_of names.old) (names_of names.new) os os (M.lives machine.old) (M.lives machine.new) (M.asked machine.old) (M.asked machine.new) (M.log machine.old) (M.log machine.new) }
+    ensures performed { (os : List Open)
+        → Quiet (lock_of os) (M.behind machine.old) (M.lists machine.old)
+        → Performed (declared_of types.now) (M.level machine.old) (M.around machine.old)
+        (M.around machine.new) (M.behind machine.old) (M.lists machine.old)
+        (M.lists machine.new) (M.guarded machine.old) (M.guarded machine.old)
+        (action.Acquire name.now of.now) (names_of names.old) (names_of names.new) os os
+        (M.lives machine.old) (M.lives machine.new) (M.asked machine.old) (M.asked machine.new)
+        (M.log machine.old) (M.log machine.new) }
     ensures sound { M.sound machine.new }
     ensures level { M.level machine.new ≡ M.level machine.old }
     ensures processor { M.processor machine.new ≡ M.processor machine.old }
@@ -244,9 +263,17 @@ fn perform_drop<'s, M: Machine>(
     requires declared { M.declared machine.old ≡ declared_of types.now }
     requires classes { Classes types.now.declared.now types.now.classes.now }
     requires room { M.asked machine.old + 2 < 2 ^ 22 }
-    requires holds { (base : Lives) × Holds types.now.declared.now base (M.lives machine.old) (names_of names.old) }
+    requires holds { (base : Lives)
+        × Holds types.now.declared.now base (M.lives machine.old) (names_of names.old) }
     requires owned { is_owning (value_of (names_of names.old name.now)) ≡ true }
-    ensures performed { OnOk result ((os : List Open) → lock_of os ≡ held_lock_is.Nothing → Performed (declared_of types.now) (M.level machine.old) (M.around machine.old) (M.around machine.old) (M.behind machine.old) (M.lists machine.old) (M.lists machine.new) (M.guarded machine.old) (M.guarded machine.old) (action.Drop name.now) (names_of names.old) (names_of names.new) os os (M.lives machine.old) (M.lives machine.new) (M.asked machine.old) (M.asked machine.new) (M.log machine.old) (M.log machine.new)) }
+    ensures performed { OnOk result
+        ((os : List Open) → lock_of os ≡ held_lock_is.Nothing
+        → Performed (declared_of types.now) (M.level machine.old) (M.around machine.old)
+        (M.around machine.old) (M.behind machine.old) (M.lists machine.old)
+        (M.lists machine.new) (M.guarded machine.old) (M.guarded machine.old)
+        (action.Drop name.now) (names_of names.old) (names_of names.new) os os
+        (M.lives machine.old) (M.lives machine.new) (M.asked machine.old)
+        (M.asked machine.new) (M.log machine.old) (M.log machine.new)) }
     ensures sound { OnOk result (M.sound machine.new) }
     ensures level { OnOk result (M.level machine.new ≡ M.level machine.old) }
     ensures processor { OnOk result (M.processor machine.new ≡ M.processor machine.old) }
@@ -256,7 +283,8 @@ fn perform_drop<'s, M: Machine>(
     ensures asked { OnOk result (M.asked machine.new ≤ M.asked machine.old + 2) }
     ensures around { OnOk result (M.around machine.new ≡ M.around machine.old) }
     ensures keeps { OnOk result (M.keeps machine.old machine.new) }
-    ensures yields { OnOk result (Unyielding (M.level machine.old) (M.log machine.old) (M.log machine.new)) }
+    ensures yields { OnOk result
+        (Unyielding (M.level machine.old) (M.log machine.old) (M.log machine.new)) }
     ensures known { names.new.names.keys ≡ names.old.names.keys }
     ensures bare { M.behind machine.old ≡ None → IsOk result }
 {
@@ -314,7 +342,9 @@ fn perform_exchange<'s, M: Machine>(
     requires free { is_owning (value_of (names_without given.now (names_of names.old) name.now))
         ≡ false }
     requires there { has_name names.old name.now ≡ true }
-    ensures performed { (os : List Open) → Quiet (lock_of os) (M.behind machine.old) (M.lists machine.old) → Performed (declared_of types.now) (M.level machine.old)
+    ensures performed { (os : List Open)
+        → Quiet (lock_of os) (M.behind machine.old) (M.lists machine.old)
+        → Performed (declared_of types.now) (M.level machine.old)
         (M.around machine.old) (M.around machine.new) (M.behind machine.old)
         (M.lists machine.old) (M.lists machine.new) (M.guarded machine.old) (M.guarded machine.old)
         (action.Exchange name.now slot given.now)
@@ -658,7 +688,13 @@ fn perform_section<'s, M: Machine>(frame: &mut Frame<'s>, machine: &mut M, body:
     requires down { Quiet (lock_of (reverse frame.old.blocks.items))
         (M.behind machine.old) (M.lists machine.old) }
     requires open { 0 < length (reverse frame.old.blocks.items) }
-    ensures performed { (d : Declared) (names : Names) → Performed d (M.level machine.old) (M.around machine.old) (M.around machine.new) (M.behind machine.old) (M.lists machine.old) (M.lists machine.new) (M.guarded machine.old) (M.guarded machine.old) (action.Section body.now) names names (reverse frame.old.blocks.items) (reverse frame.new.blocks.items) (M.lives machine.old) (M.lives machine.new) (M.asked machine.old) (M.asked machine.new) (M.log machine.old) (M.log machine.new) }
+    ensures performed { (d : Declared) (names : Names)
+        → Performed d (M.level machine.old) (M.around machine.old) (M.around machine.new)
+        (M.behind machine.old) (M.lists machine.old) (M.lists machine.new)
+        (M.guarded machine.old) (M.guarded machine.old) (action.Section body.now) names names
+        (reverse frame.old.blocks.items) (reverse frame.new.blocks.items) (M.lives machine.old)
+        (M.lives machine.new) (M.asked machine.old) (M.asked machine.new) (M.log machine.old)
+        (M.log machine.new) }
     ensures sound { M.sound machine.new }
     ensures level { M.level machine.new ≡ M.level machine.old }
     ensures processor { M.processor machine.new ≡ M.processor machine.old }
@@ -697,8 +733,11 @@ fn perform<'s, M: Machine>(
     requires declared { M.declared machine.old ≡ declared_of types.now }
     requires classes { Classes types.now.declared.now types.now.classes.now }
     requires room { M.asked machine.old + 3 < 2 ^ 22 }
-    requires holds { (base : Lives) × Holds types.now.declared.now base (M.lives machine.old) (names_of names.old) }
-    requires may { may_run (declared_of types.now) (has_name names.old) (length (reverse frame.old.blocks.items)) statement.now.action ≡ true }
+    requires holds { (base : Lives)
+        × Holds types.now.declared.now base (M.lives machine.old) (names_of names.old) }
+    requires may { may_run (declared_of types.now) (has_name names.old)
+        (length (reverse frame.old.blocks.items)) statement.now.action
+        ≡ true }
     requires down { Quiet (lock_of (reverse frame.old.blocks.items))
         (M.behind machine.old) (M.lists machine.old) }
     requires open { 0 < length (reverse frame.old.blocks.items) }
@@ -710,7 +749,14 @@ fn perform<'s, M: Machine>(
         (M.guarded machine.old) (lock_of (reverse frame.old.blocks.items))
         × SafeAction e (store_of (names_of names.old) (lock_of (reverse frame.old.blocks.items)))
         statement.now.action (λ r. SafeStack e r (reverse frame.old.blocks.items)) }
-    ensures performed { OnOk result (Performed (declared_of types.now) (M.level machine.old) (M.around machine.old) (M.around machine.new) (M.behind machine.old) (M.lists machine.old) (M.lists machine.new) (M.guarded machine.old) (M.guarded machine.new) statement.now.action (names_of names.old) (names_of names.new) (reverse frame.old.blocks.items) (reverse frame.new.blocks.items) (M.lives machine.old) (M.lives machine.new) (M.asked machine.old) (M.asked machine.new) (M.log machine.old) (M.log machine.new)) }
+    ensures performed { OnOk result
+        (Performed (declared_of types.now) (M.level machine.old) (M.around machine.old)
+        (M.around machine.new) (M.behind machine.old) (M.lists machine.old)
+        (M.lists machine.new) (M.guarded machine.old) (M.guarded machine.new)
+        statement.now.action (names_of names.old) (names_of names.new)
+        (reverse frame.old.blocks.items) (reverse frame.new.blocks.items) (M.lives machine.old)
+        (M.lives machine.new) (M.asked machine.old) (M.asked machine.new) (M.log machine.old)
+        (M.log machine.new)) }
     ensures sound { OnOk result (M.sound machine.new) }
     ensures level { OnOk result (M.level machine.new ≡ M.level machine.old) }
     ensures processor { OnOk result (M.processor machine.new ≡ M.processor machine.old) }
@@ -720,7 +766,9 @@ fn perform<'s, M: Machine>(
         → M.guarded machine.new ≡ M.guarded machine.old) }
     ensures asked { OnOk result (M.asked machine.new ≤ M.asked machine.old + 3) }
     ensures keeps { OnOk result (M.keeps machine.old machine.new) }
-    ensures yields { OnOk result (YieldsBy (is_yield statement.now.action) (M.level machine.old) (M.log machine.old) (M.log machine.new)) }
+    ensures yields { OnOk result
+        (YieldsBy (is_yield statement.now.action) (M.level machine.old) (M.log machine.old)
+        (M.log machine.new)) }
     ensures known { names.new.names.keys ≡ names.old.names.keys }
     ensures bare { M.behind machine.old ≡ None → 0 < M.level machine.old → IsOk result }
 {
@@ -826,15 +874,29 @@ pub fn resume<'s, M: Machine>(
         (reverse frame.old.blocks.items) }
     requires unlocked { M.level machine.old ≡ 0 → (M.guarded machine.old).lock ≡ None }
     ensures turn { IsTurn result (M.level machine.old) (M.log machine.old) (M.log machine.new) }
-    ensures ended { result ≡ stopped.Ended → Ran (declared_of types.now) (M.level machine.old) (M.around machine.old) (M.behind machine.old) (M.lists machine.old) (names_of names.old) (names_of names.new) (reverse frame.old.blocks.items) (M.log machine.old) (M.log machine.new) }
-    ensures yielded { result ≡ stopped.Yielded → Went (declared_of types.now) (M.level machine.old) (M.around machine.old) (M.around machine.new) (M.behind machine.old) (M.lists machine.old) (M.lists machine.new) (M.guarded machine.old) (M.guarded machine.new) (names_of names.old) (names_of names.new) (reverse frame.old.blocks.items) (reverse frame.new.blocks.items) (M.lives machine.old) (M.lives machine.new) (M.asked machine.old) (M.asked machine.new) (M.log machine.old) (M.log machine.new) }
+    ensures ended { result ≡ stopped.Ended
+        → Ran (declared_of types.now) (M.level machine.old) (M.around machine.old)
+        (M.behind machine.old) (M.lists machine.old) (names_of names.old) (names_of names.new)
+        (reverse frame.old.blocks.items) (M.log machine.old) (M.log machine.new) }
+    ensures yielded { result ≡ stopped.Yielded
+        → Went (declared_of types.now) (M.level machine.old) (M.around machine.old)
+        (M.around machine.new) (M.behind machine.old) (M.lists machine.old)
+        (M.lists machine.new) (M.guarded machine.old) (M.guarded machine.new)
+        (names_of names.old) (names_of names.new) (reverse frame.old.blocks.items)
+        (reverse frame.new.blocks.items) (M.lives machine.old) (M.lives machine.new)
+        (M.asked machine.old) (M.asked machine.new) (M.log machine.old) (M.log machine.new) }
     ensures can { result ≡ stopped.Yielded
         → CanGoOn (declared_of types.now) (M.level machine.new) (M.around machine.new)
         (M.behind machine.new) (M.lists machine.new) (M.lives machine.new) names.new
         (reverse frame.new.blocks.items) }
-    ensures less { result ≡ stopped.Yielded → weight (reverse frame.new.blocks.items) < weight (reverse frame.old.blocks.items) }
-    ensures lives { result ≡ stopped.Ended → (base : Lives) → Holds types.now.declared.now base (M.lives machine.old) (names_of names.old) → M.lives machine.new ≡ base }
-    ensures asked { result ≡ stopped.Ended → M.asked machine.new ≤ M.asked machine.old + 3 * stack_cost (reverse frame.old.blocks.items) }
+    ensures less { result ≡ stopped.Yielded
+        → weight (reverse frame.new.blocks.items) < weight (reverse frame.old.blocks.items) }
+    ensures lives { result ≡ stopped.Ended → (base : Lives)
+        → Holds types.now.declared.now base (M.lives machine.old) (names_of names.old)
+        → M.lives machine.new ≡ base }
+    ensures asked { result ≡ stopped.Ended
+        → M.asked machine.new
+        ≤ M.asked machine.old + 3 * stack_cost (reverse frame.old.blocks.items) }
     ensures down { IfWent result (Behind (M.behind machine.old) (M.lists machine.new) []) }
     ensures sound { IfWent result (M.sound machine.new) }
     ensures level { IfWent result (M.level machine.new ≡ M.level machine.old) }
@@ -845,7 +907,9 @@ pub fn resume<'s, M: Machine>(
         → (M.guarded machine.new).lock ≡ None) }
     ensures above { IfWent result (0 < M.level machine.old
         → M.guarded machine.new ≡ M.guarded machine.old) }
-    ensures around { result ≡ stopped.Ended → (base : Around) → Sectioned base (M.around machine.old) (reverse frame.old.blocks.items) → M.around machine.new ≡ base }
+    ensures around { result ≡ stopped.Ended → (base : Around)
+        → Sectioned base (M.around machine.old) (reverse frame.old.blocks.items)
+        → M.around machine.new ≡ base }
     ensures keeps { IfWent result (M.keeps machine.old machine.new) }
     ensures known { names.new.names.keys ≡ names.old.names.keys }
     ensures bare { M.behind machine.old ≡ None → 0 < M.level machine.old → HasWent result }
@@ -881,9 +945,17 @@ fn run_on<'s, M: Machine>(
         (M.behind machine.old) (M.lists machine.old) (M.lives machine.old) names.old
         (reverse frame.old.blocks.items) }
     requires unlocked { M.level machine.old ≡ 0 → (M.guarded machine.old).lock ≡ None }
-    ensures ended { OnOk result (Ran (declared_of types.now) (M.level machine.old) (M.around machine.old) (M.behind machine.old) (M.lists machine.old) (names_of names.old) (names_of names.new) (reverse frame.old.blocks.items) (M.log machine.old) (M.log machine.new)) }
-    ensures lives { OnOk result ((base : Lives) → Holds types.now.declared.now base (M.lives machine.old) (names_of names.old) → M.lives machine.new ≡ base) }
-    ensures asked { OnOk result (M.asked machine.new ≤ M.asked machine.old + 3 * stack_cost (reverse frame.old.blocks.items)) }
+    ensures ended { OnOk result
+        (Ran (declared_of types.now) (M.level machine.old) (M.around machine.old)
+        (M.behind machine.old) (M.lists machine.old) (names_of names.old) (names_of names.new)
+        (reverse frame.old.blocks.items) (M.log machine.old) (M.log machine.new)) }
+    ensures lives { OnOk result
+        ((base : Lives)
+        → Holds types.now.declared.now base (M.lives machine.old) (names_of names.old)
+        → M.lives machine.new ≡ base) }
+    ensures asked { OnOk result
+        (M.asked machine.new
+        ≤ M.asked machine.old + 3 * stack_cost (reverse frame.old.blocks.items)) }
     ensures down { OnOk result (Behind (M.behind machine.old) (M.lists machine.new) []) }
     ensures sound { OnOk result (M.sound machine.new) }
     ensures level { OnOk result (M.level machine.new ≡ M.level machine.old) }
@@ -892,7 +964,9 @@ fn run_on<'s, M: Machine>(
     ensures through { M.through machine.new ≡ M.through machine.old }
     ensures above { OnOk result (0 < M.level machine.old
         → M.guarded machine.new ≡ M.guarded machine.old) }
-    ensures around { OnOk result ((base : Around) → Sectioned base (M.around machine.old) (reverse frame.old.blocks.items) → M.around machine.new ≡ base) }
+    ensures around { OnOk result
+        ((base : Around) → Sectioned base (M.around machine.old) (reverse frame.old.blocks.items)
+        → M.around machine.new ≡ base) }
     ensures keeps { OnOk result (M.keeps machine.old machine.new) }
     ensures known { names.new.names.keys ≡ names.old.names.keys }
     ensures bare { M.behind machine.old ≡ None → 0 < M.level machine.old → IsOk result }
@@ -930,7 +1004,9 @@ pub fn run_handler<'s, M: Machine>(
     requires types { scenario.now.types ≡ types.now.declared.now }
     requires maps { scenario.now.maps ≡ types.now.maps.now }
     requires bound { binds_among (has_name names.old) script.now.body ≡ true }
-    ensures ran { RanScript (declared_of types.now) (M.level machine.old) (is_inside (M.around machine.old)) None (M.lists machine.old) script.now (M.log machine.old) (M.log machine.new) }
+    ensures ran { RanScript (declared_of types.now) (M.level machine.old)
+        (is_inside (M.around machine.old)) None (M.lists machine.old) script.now (M.log machine.old)
+        (M.log machine.new) }
     ensures lives { M.lives machine.new ≡ M.lives machine.old }
     ensures asked { M.asked machine.new ≤ M.asked machine.old + 3 * block_cost script.now.body }
     ensures names { names.new.names.keys ≡ names.old.names.keys }

@@ -15,7 +15,8 @@ pub fn worked_turns()
     ensures ended_with_one { ¬ IsTurn stopped.Ended 0 (Some []) (Some a_drop_then_yield) }
     ensures yielded_without_one { ¬ IsTurn stopped.Yielded 0 (Some []) (Some a_drop) }
     ensures past_it { ¬ IsTurn stopped.Yielded 0 (Some []) (Some (a_drop_then_yield ++ a_drop)) }
-    ensures two { ¬ IsTurn stopped.Yielded 0 (Some []) (Some (a_drop_then_yield ++ a_drop_then_yield)) }
+    ensures two { ¬ IsTurn stopped.Yielded 0 (Some [])
+        (Some (a_drop_then_yield ++ a_drop_then_yield)) }
     ensures swept { ¬ IsTurn stopped.Ended 0 (Some []) (Some sweeps_after) }
     ensures no_yield_of_its_own { ¬ IsTurn stopped.Yielded 0 (Some []) (Some yields_above) }
 {}

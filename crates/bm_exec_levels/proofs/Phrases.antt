@@ -22,7 +22,7 @@ use Rattle.bm_law_scenario.specs.Declared.{Declared, declared_in}
 use Rattle.bm_law_scenario.specs.Handlers.{HandlerRun, InSection}
 use Rattle.bm_law_scenario.specs.Held.{Names, OwnsNothing, no_names}
 use Rattle.bm_law_scenario.specs.Runs.{RunsBlock}
-use Rattle.bm_law_scenario.specs.SectionWords.{is_outside}
+use Rattle.bm_law_lives.specs.SectionWords.{is_outside}
 use Rattle.bm_exec.specs.Bindings.{binds_among}
 use Rattle.bm_exec.specs.Running.{RanScript}
 use Rattle.bm_exec.specs.Seen.{has_name}
@@ -31,7 +31,7 @@ use Rattle.bm_lang.specs.declared.scenario.MapDeclaration.{MapDeclaration}
 use Rattle.bm_exec.specs.Named.{declared_of}
 use Rattle.bm_exec.specs.declared.running.Types.{Types}
 use Rattle.bm_exec_levels.specs.Ready.{BindsAll}
-use Rattle.bm_law_scenario.proofs.Words.{inside-odd, outside-even}
+use Rattle.bm_law_lives.proofs.Words.{inside-odd, outside-even}
 
 -- ---- its script, where it stands
 

@@ -14,7 +14,7 @@ use Rattle.bm_law.specs.State.{State}
 use Rattle.bm_law_work.specs.Grown.{GrewBy}
 use Rattle.bm_work.specs.Still.{goes-still}
 use Rattle.bm_law_scenario.specs.Handlers.{HandlerPhrase, HandlerRun}
-use Rattle.bm_law_scenario.specs.SectionWords.{word_after}
+use Rattle.bm_law_lives.specs.SectionWords.{word_after}
 use Rattle.bm_law_scenario.proofs.RanThere.{phrase-of-run}
 use Rattle.bm_exec_levels.specs.AtProcessor.{Between, CameAt, FineAt, HasPhrase, Stays, due_cost}
 use Rattle.bm_exec_levels.specs.Hosting.{goes-joined}

@@ -11,7 +11,7 @@ use Rattle.bm_grace.specs.Known.{Known}
 use Rattle.bm_law.specs.Lists.{Log}
 use Rattle.bm_law_scenario.specs.Handlers.{HandlersDone}
 use Rattle.bm_law_scenario.proofs.GoneBack.{done-back}
-use Rattle.bm_law_scenario.proofs.Words.{word-append}
+use Rattle.bm_law_lives.proofs.Words.{word-append}
 use Rattle.bm_plan.specs.Position.{AboutTo, Position, StandsAt, level_in, names_in}
 use Rattle.bm_plan.proofs.Positions.{returns-here}
 use Rattle.bm_exec_levels.specs.AtProcessor.{HasPhrase, IsAt, IsDue, lock_of, log_of}

@@ -21,9 +21,9 @@ use Rattle.bm_cache.specs.Span.{Came}
 use Rattle.bm_cache.specs.Tests.{Tests}
 use Rattle.bm_due.specs.Standing as standing
 use Rattle.bm_due.specs.Standing.{kind_of}
-use Rattle.bm_law_scenario.specs.SectionWords.{word_next}
+use Rattle.bm_law_lives.specs.SectionWords.{word_next}
 use Rattle.bm_law_scenario.proofs.GoneBack.{done-grow}
-use Rattle.bm_law_scenario.proofs.Words.{word-append}
+use Rattle.bm_law_lives.proofs.Words.{word-append}
 use Rattle.bm_plan.specs.Position.{StandsAt}
 use Rattle.bm_exec_levels.specs.AtProcessor.{CameAt, IsAt, lock_of, log_of, tests_of}
 use Rattle.bm_exec_levels.specs.Here.{Running}

@@ -16,7 +16,7 @@ use Rattle.bm_law_order.specs.Graphs.{NamedGraph}
 use Rattle.bm_cache.specs.Shown.{shown}
 use Rattle.bm_cache.specs.Tokens.{number_of}
 use Rattle.bm_law_scenario.specs.Handlers.{HandlerPhrase, RunsThere}
-use Rattle.bm_law_scenario.specs.SectionWords.{word_after}
+use Rattle.bm_law_lives.specs.SectionWords.{word_after}
 use Rattle.bm_lang.specs.declared.scenario.Parts.{Parts}
 use Rattle.bm_cache.specs.Span.{Came, Fine}
 use Rattle.bm_cache.specs.Tests.{Tests}
@@ -65,15 +65,25 @@ module _ {W : Type 0} (knows : Knows W) where
   tests_of m = tests_by (knows.rights m.side)
 
   -- Code of level l runs on it, and is there in its log, whose calls are counted and whose lock is known; and planned handlers can run.
-  pub record IsAt (P : Position → Log → Type 0) (l : ℕ) (p : Program) (m : Processor W) : Type 0 where
-    pub at : Running P l (known_of knows m).grace.processor p.scenario.now m.handlers.planned m.running.items (log_of m)
+  pub record IsAt (P : Position → Log → Type 0) (l : ℕ) (p : Program) (m : Processor W) :
+      Type 0 where
+    pub at :
+        Running P l (known_of knows m).grace.processor p.scenario.now m.handlers.planned
+        m.running.items (log_of m)
     pub tells : IfSome (log_of m) (Tells p.scenario.now (known_of knows m))
     pub counts : IfSome (log_of m) (Reckons m.calls (lock_of p m))
     pub ready : IsReady knows p m
 
   -- A handler is due before a step of code of level l, and begins with the entry that stands next.
   pub record IsDue (l : ℕ) (p : Program) (due : Due) (m : Processor W) : Type 0 where
-    pub begins : IfSome (log_of m) (λ es. (name : List ℕ) → slice_get (names_in p.scenario.now.scripts) due.script.0 ≡ Some name → StandsAt (position_of (known_of knows m).grace.processor p.scenario.now m.handlers.planned (m.running.items ++ due ∷ [])) (es ++ (due.level, entry.Handler name) ∷ []))
+    pub begins :
+        IfSome (log_of m)
+        (λ es. (name : List ℕ)
+        → slice_get (names_in p.scenario.now.scripts) due.script.0 ≡ Some name
+        → StandsAt
+        (position_of (known_of knows m).grace.processor p.scenario.now
+        m.handlers.planned (m.running.items ++ due ∷ []))
+        (es ++ (due.level, entry.Handler name) ∷ []))
     pub tells : IfSome (log_of m) (Tells p.scenario.now (known_of knows m))
     pub counts : IfSome (log_of m) (Reckons m.calls (lock_of p m))
     pub level : level_in (reverse m.running.items) ≡ l
@@ -92,7 +102,9 @@ module _ {W : Type 0} (knows : Knows W) where
     pub begins : IsDue l p due b
     pub fewer : length (left_of b) + 1 ≡ length (left_of a)
     pub asks : asked_of knows p.scenario.now b + due_cost p due ≤ asked_of knows p.scenario.now a
-    pub words : word_of knows Plain b + 2 * length (left_of b) + 2 ≤ word_of knows Plain a + 2 * length (left_of a)
+    pub words :
+        word_of knows Plain b + 2 * length (left_of b) + 2
+        ≤ word_of knows Plain a + 2 * length (left_of a)
 
   -- What code and its handlers leave as it was: the lock that is held, the handlers that run, and that a section is open or none. With those that
   -- haven't run they ask for at most so many more objects and works, and name at most so many more words. Inside a section no
@@ -104,7 +116,9 @@ module _ {W : Type 0} (knows : Knows W) where
     pub tables : length b.tables.items ≡ length a.tables.items
     pub inside : b.inside ≡ a.inside
     pub asks_most : asked_of knows p.scenario.now b ≤ asked_of knows p.scenario.now a + asks
-    pub words_most : word_of knows Plain b + 2 * length (left_of b) ≤ word_of knows Plain a + 2 * length (left_of a) + words
+    pub words_most :
+        word_of knows Plain b + 2 * length (left_of b)
+        ≤ word_of knows Plain a + 2 * length (left_of a) + words
     pub parity : (d : Domain) → word_of knows d b % 2 ≡ word_of knows d a % 2
     pub inner : word_of knows Plain a % 2 ≡ 1 → word_of knows Plain b ≡ word_of knows Plain a
     pub tracing : word_of knows Tracing b ≡ word_of knows Tracing a
@@ -137,7 +151,9 @@ module _ {W : Type 0} (knows : Knows W) where
 
   -- its caches are as calls of level l need them
   abbrev pub FineAt : ℕ → Processor W → Type 0
-  FineAt l m = Fine (λ (r : Recorded). r.told) (λ r. r.counted) (tests_of m) (known_of knows m).grace.processors l m.caches
+  FineAt l m =
+      Fine (λ (r : Recorded). r.told) (λ r. r.counted) (tests_of m)
+      (known_of knows m).grace.processors l m.caches
 
   -- calls of level l and above came between, on its caches
   abbrev pub CameAt : ℕ → Processor W → Processor W → Type 0

@@ -189,10 +189,14 @@ calls-append : (n : ℕ) (es fs : Log) → calls_over n (es ++ fs) ≡ calls_ove
 calls-append n [] fs = refl
 calls-append n (e ∷ es) fs = calls-append (calls_after n e) es fs
 
-calls-one : (es : Log) (l : ℕ) (e : Entry) (b : Bool) → is_call e ≡ b → calls_in (es ++ (l, e) ∷ []) ≡ (if b then calls_in es + 1 else calls_in es)
-calls-one es l e b h = calls-append 0 es ((l, e) ∷ []) ∙ ap (λ c. if c then calls_in es + 1 else calls_in es) h
+calls-one :
+    (es : Log) (l : ℕ) (e : Entry) (b : Bool) → is_call e ≡ b
+    → calls_in (es ++ (l, e) ∷ []) ≡ (if b then calls_in es + 1 else calls_in es)
+calls-one es l e b h =
+    calls-append 0 es ((l, e) ∷ []) ∙ ap (λ c. if c then calls_in es + 1 else calls_in es) h
 
-lock-append : (k : Option (List ℕ)) (es fs : Log) → lock_over k (es ++ fs) ≡ lock_over (lock_over k es) fs
+lock-append :
+    (k : Option (List ℕ)) (es fs : Log) → lock_over k (es ++ fs) ≡ lock_over (lock_over k es) fs
 lock-append k [] fs = refl
 lock-append k (e ∷ es) fs = lock-append (lock_after k e.1) es fs
 
@@ -215,22 +219,43 @@ either-false true b h = absurd (cc)
 either-false false b h = (refl, h)
 
 -- what a log has behind an entry that is neither a call nor a lock, behind a call, and behind a lock
-pub counts-plain : (n : ℕ) (k : Option (List ℕ)) (l : ℕ) (e : Entry) (a b : Option Log) → is_marked e ≡ false → Appends a l e b → IfSome a (Reckons n k) → IfSome b (Reckons n k)
+pub counts-plain :
+    (n : ℕ) (k : Option (List ℕ)) (l : ℕ) (e : Entry) (a b : Option Log) → is_marked e ≡ false
+    → Appends a l e b → IfSome a (Reckons n k) → IfSome b (Reckons n k)
 counts-plain n k l e a b h =
     let two = either-false (is_call e) (is_lock e) h in
-    told-more (Reckons n k) (Reckons n k) a b l e (λ es q. (calls-one es l e false two.0 ∙ q.0, lock-one es l e ∙ (unlocked e two.1 (lock_in es) ∙ q.1)))
+    told-more (Reckons n k) (Reckons n k) a b l e
+    (λ es q. (
+      calls-one es l e false two.0 ∙ q.0,
+      lock-one es l e ∙ (unlocked e two.1 (lock_in es) ∙ q.1),
+    ))
 
-pub counts-more : (n : ℕ) (k : Option (List ℕ)) (l : ℕ) (e : Entry) (a b : Option Log) → is_call e ≡ true → Appends a l e b → IfSome a (Reckons n k) → IfSome b (Reckons (n + 1) k)
-counts-more n k l e a b h = told-more (Reckons n k) (Reckons (n + 1) k) a b l e (λ es q. (calls-one es l e true h ∙ ap (λ j. j + 1) q.0, lock-one es l e ∙ (unlocked e (call-unlocked e h) (lock_in es) ∙ q.1)))
+pub counts-more :
+    (n : ℕ) (k : Option (List ℕ)) (l : ℕ) (e : Entry) (a b : Option Log) → is_call e ≡ true
+    → Appends a l e b → IfSome a (Reckons n k) → IfSome b (Reckons (n + 1) k)
+counts-more n k l e a b h =
+    told-more (Reckons n k) (Reckons (n + 1) k) a b l e
+    (λ es q. (
+      calls-one es l e true h ∙ ap (λ j. j + 1) q.0,
+      lock-one es l e ∙ (unlocked e (call-unlocked e h) (lock_in es) ∙ q.1),
+    ))
 
-pub counts-locked : (n : ℕ) (k : Option (List ℕ)) (l : ℕ) (e : Entry) (a b : Option Log) → is_call e ≡ false → Appends a l e b → IfSome a (Reckons n k) → IfSome b (Reckons n (lock_after k e))
-counts-locked n k l e a b h = told-more (Reckons n k) (Reckons n (lock_after k e)) a b l e (λ es q. (calls-one es l e false h ∙ q.0, lock-one es l e ∙ ap (λ j. lock_after j e) q.1))
+pub counts-locked :
+    (n : ℕ) (k : Option (List ℕ)) (l : ℕ) (e : Entry) (a b : Option Log) → is_call e ≡ false
+    → Appends a l e b → IfSome a (Reckons n k) → IfSome b (Reckons n (lock_after k e))
+counts-locked n k l e a b h =
+    told-more (Reckons n k) (Reckons n (lock_after k e)) a b l e
+    (λ es q. (calls-one es l e false h ∙ q.0, lock-one es l e ∙ ap (λ j. lock_after j e) q.1))
 
 -- each of the two by itself
-pub counts-of : (o : Option Log) (n : ℕ) (k : Option (List ℕ)) → IfSome o (Reckons n k) → IfSome o (λ es. calls_in es ≡ n)
+pub counts-of :
+    (o : Option Log) (n : ℕ) (k : Option (List ℕ)) → IfSome o (Reckons n k)
+    → IfSome o (λ es. calls_in es ≡ n)
 counts-of None n k h = tt
 counts-of (Some es) n k h = h.0
 
-pub locks-of : (o : Option Log) (n : ℕ) (k j : Option (List ℕ)) → k ≡ j → IfSome o (Reckons n k) → IfSome o (λ es. lock_in es ≡ j)
+pub locks-of :
+    (o : Option Log) (n : ℕ) (k j : Option (List ℕ)) → k ≡ j → IfSome o (Reckons n k)
+    → IfSome o (λ es. lock_in es ≡ j)
 locks-of None n k j e h = tt
 locks-of (Some es) n k j e h = h.1 ∙ e

@@ -9,9 +9,9 @@ use Rattle.bm_grace.specs.Known.{Known}
 use Rattle.bm_law.specs.Lists.{Log}
 use Rattle.bm_law.specs.Phrases.{given}
 use Rattle.bm_cache.specs.Steps.{is_free, is_reply, is_step}
-use Rattle.bm_law_scenario.specs.SectionWords.{word_after, word_next}
+use Rattle.bm_law_lives.specs.SectionWords.{word_after, word_next}
 use Rattle.bm_law_scenario.proofs.GoneBack.{done-grow}
-use Rattle.bm_law_scenario.proofs.Words.{word-append}
+use Rattle.bm_law_lives.proofs.Words.{word-append}
 use Rattle.bm_exec_levels.specs.Logged.{Tells}
 
 -- It ends no handler, and begins and ends no section.
@@ -57,8 +57,16 @@ inner-next d w (entry.Out k n) i = absurd i
 inner-next d w _ i = refl
 
 -- no section began or ended
-pub word-inner : (d : Domain) (log : Log) (l : ℕ) (e : Entry) → IsInner e → word_after d (log ++ (l, e) ∷ []) ≡ word_after d log
+pub word-inner :
+    (d : Domain) (log : Log) (l : ℕ) (e : Entry) → IsInner e
+    → word_after d (log ++ (l, e) ∷ []) ≡ word_after d log
 word-inner d log l e i = word-append d 0 log ((l, e) ∷ []) ∙ inner-next d (word_after d log) e i
 
-pub tells-inner : (s : Parts) (known : Known) (log : Log) (l : ℕ) (e : Entry) → IsInner e → Tells s known log → Tells s known (log ++ (l, e) ∷ [])
-tells-inner s known log l e i t = record { done = done-grow s known.grace.processor log l e (no-back e i) t.done; last = λ d. word-inner d log l e i ∙ t.last d }
+pub tells-inner :
+    (s : Parts) (known : Known) (log : Log) (l : ℕ) (e : Entry) → IsInner e → Tells s known log
+    → Tells s known (log ++ (l, e) ∷ [])
+tells-inner s known log l e i t =
+    record {
+      done = done-grow s known.grace.processor log l e (no-back e i) t.done;
+      last = λ d. word-inner d log l e i ∙ t.last d;
+    }

@@ -38,9 +38,16 @@ with_caches m c = record m { caches = c }
 abbrev pub with_side : {W : Type 0} → Processor W → W → Processor W
 with_side m w = record m { side = w }
 
-tells-sided : (s : Parts) (k n : Known) (o : Option Log) → Alike k n → IfSome o (Tells s k) → IfSome o (Tells s n)
+tells-sided :
+    (s : Parts) (k n : Known) (o : Option Log) → Alike k n → IfSome o (Tells s k)
+    → IfSome o (Tells s n)
 tells-sided s k n None a h = tt
-tells-sided s k n (Some es) a h = record { done = (let F : ℕ → Type 0 = λ p. HandlersDone s p es in subst F (sym a.processor) h.done); last = λ d. h.last d ∙ sym (a.words d) }
+tells-sided s k n (Some es) a h =
+    record {
+      done =
+          (let F : ℕ → Type 0 = λ p. HandlersDone s p es in subst F (sym a.processor) h.done);
+      last = λ d. h.last d ∙ sym (a.words d);
+    }
 
 pub goes-joined : (a b c : Known) → GoesOn a b → GoesOn b c → GoesOn a c
 goes-joined a b c x y = record {
@@ -57,7 +64,9 @@ goes-joined a b c x y = record {
 module _ {W : Type 0} (knows : Knows W) where
   -- ---- other caches
 
-  pub ready-caches : (p : Program) (m : Processor W) (c : Caches Recorded) → c.processor ≡ m.caches.processor → IsReady knows p m → IsReady knows p (with_caches m c)
+  pub ready-caches :
+      (p : Program) (m : Processor W) (c : Caches Recorded) → c.processor ≡ m.caches.processor
+      → IsReady knows p m → IsReady knows p (with_caches m c)
   ready-caches p m c same r = record {
     fits = r.fits;
     here = same ∙ r.here;
@@ -74,49 +83,82 @@ module _ {W : Type 0} (knows : Knows W) where
     stocked = r.stocked;
   }
 
-  pub at-same : (P : Position → Log → Type 0) (l : ℕ) (p : Program) (m : Processor W) (c : Caches Recorded) → c.processor ≡ m.caches.processor → c.recorder.told ≡ log_of m → IsAt knows P l p m → IsAt knows P l p (with_caches m c)
+  pub at-same :
+      (P : Position → Log → Type 0) (l : ℕ) (p : Program) (m : Processor W) (c : Caches Recorded)
+      → c.processor ≡ m.caches.processor → c.recorder.told ≡ log_of m → IsAt knows P l p m
+      → IsAt knows P l p (with_caches m c)
   at-same P l p m c same e s =
       let F : Option Log → Type 0 = λ o. IfSome o (Tells p.scenario.now (known_of knows m)) in
       record {
         at = running-same P l _ _ _ _ _ _ e s.at;
         tells = subst F (sym e) s.tells;
-        counts = (let G : Option Log → Type 0 = λ o. IfSome o (Reckons m.calls (lock_of p m)) in subst G (sym e) s.counts);
+        counts =
+            (let G : Option Log → Type 0 = λ o. IfSome o (Reckons m.calls (lock_of p m)) in
+            subst G (sym e) s.counts);
         ready = ready-caches p m c same s.ready;
       }
 
   -- a step that was asked for
-  pub at-stepped : (l : ℕ) (p : Program) (m : Processor W) (c : Caches Recorded) (e : Entry) → is_step e ≡ true → c.processor ≡ m.caches.processor → Appends (log_of m) l e c.recorder.told → IsAt knows AskedAt l p m → IsAt knows StandsAt l p (with_caches m c)
+  pub at-stepped :
+      (l : ℕ) (p : Program) (m : Processor W) (c : Caches Recorded) (e : Entry) → is_step e ≡ true
+      → c.processor ≡ m.caches.processor → Appends (log_of m) l e c.recorder.told
+      → IsAt knows AskedAt l p m → IsAt knows StandsAt l p (with_caches m c)
   at-stepped l p m c e i same a s =
       let k : Known = known_of knows m in
       let T : Log → Type 0 = Tells p.scenario.now k in
       record {
         at = stands-step l _ _ _ _ _ _ e i a s.at;
-        tells = told-more T T (log_of m) c.recorder.told l e (λ es h. tells-inner p.scenario.now k es l e (inner-step e i) h) a s.tells;
-        counts = counts-plain m.calls (lock_of p m) l e (log_of m) c.recorder.told (no-call-step e i) a s.counts;
+        tells =
+            told-more T T (log_of m) c.recorder.told l e
+            (λ es h. tells-inner p.scenario.now k es l e (inner-step e i) h) a s.tells;
+        counts =
+            counts-plain m.calls (lock_of p m) l e (log_of m) c.recorder.told (no-call-step e i) a
+            s.counts;
         ready = ready-caches p m c same s.ready;
       }
 
   -- an entry that is no step and no call
-  pub at-say : (l : ℕ) (p : Program) (m : Processor W) (c : Caches Recorded) (e : Entry) → kind_of e ≡ standing.Stays → IsInner e → is_marked e ≡ false → c.processor ≡ m.caches.processor → Appends (log_of m) l e c.recorder.told → IsAt knows StandsAt l p m → IsAt knows StandsAt l p (with_caches m c)
+  pub at-say :
+      (l : ℕ) (p : Program) (m : Processor W) (c : Caches Recorded) (e : Entry)
+      → kind_of e ≡ standing.Stays → IsInner e → is_marked e ≡ false
+      → c.processor ≡ m.caches.processor → Appends (log_of m) l e c.recorder.told
+      → IsAt knows StandsAt l p m → IsAt knows StandsAt l p (with_caches m c)
   at-say l p m c e k i none same a s =
       let n : Known = known_of knows m in
       record {
         at = stands-say l _ _ _ _ _ _ e k a s.at;
-        tells = told-more (Tells p.scenario.now n) (Tells p.scenario.now n) (log_of m) c.recorder.told l e (λ es h. tells-inner p.scenario.now n es l e i h) a s.tells;
+        tells =
+            told-more (Tells p.scenario.now n) (Tells p.scenario.now n) (log_of m) c.recorder.told l
+            e (λ es h. tells-inner p.scenario.now n es l e i h) a s.tells;
         counts = counts-plain m.calls (lock_of p m) l e (log_of m) c.recorder.told none a s.counts;
         ready = ready-caches p m c same s.ready;
       }
 
-  pub at-said : (l : ℕ) (p : Program) (m : Processor W) (c : Caches Recorded) (e : Entry) → is_reply e ≡ true → c.processor ≡ m.caches.processor → Appends (log_of m) l e c.recorder.told → IsAt knows StandsAt l p m → IsAt knows StandsAt l p (with_caches m c)
+  pub at-said :
+      (l : ℕ) (p : Program) (m : Processor W) (c : Caches Recorded) (e : Entry) → is_reply e ≡ true
+      → c.processor ≡ m.caches.processor → Appends (log_of m) l e c.recorder.told
+      → IsAt knows StandsAt l p m → IsAt knows StandsAt l p (with_caches m c)
   at-said l p m c e i = at-say l p m c e (a-reply e i) (inner-reply e i) (no-call-reply e i)
 
-  pub at-gave : (l : ℕ) (p : Program) (m : Processor W) (c : Caches Recorded) (u life : ℕ) (seal : Option (ℕ × ℕ)) → c.processor ≡ m.caches.processor → Appends (log_of m) l (given u life seal) c.recorder.told → IsAt knows StandsAt l p m → IsAt knows StandsAt l p (with_caches m c)
-  at-gave l p m c u life seal = at-say l p m c (given u life seal) (a-given u life seal) (inner-given u life seal) (no-call-given u life seal)
+  pub at-gave :
+      (l : ℕ) (p : Program) (m : Processor W) (c : Caches Recorded) (u life : ℕ)
+      (seal : Option (ℕ × ℕ)) → c.processor ≡ m.caches.processor
+      → Appends (log_of m) l (given u life seal) c.recorder.told → IsAt knows StandsAt l p m
+      → IsAt knows StandsAt l p (with_caches m c)
+  at-gave l p m c u life seal =
+      at-say l p m c (given u life seal) (a-given u life seal) (inner-given u life seal)
+      (no-call-given u life seal)
 
-  pub at-freed : (l : ℕ) (p : Program) (m : Processor W) (c : Caches Recorded) (e : Entry) (u home : ℕ) → is_free u home e ≡ true → c.processor ≡ m.caches.processor → Appends (log_of m) l e c.recorder.told → IsAt knows StandsAt l p m → IsAt knows StandsAt l p (with_caches m c)
-  at-freed l p m c e u home i = at-say l p m c e (a-free u home e i) (inner-free u home e i) (no-call-free u home e i)
+  pub at-freed :
+      (l : ℕ) (p : Program) (m : Processor W) (c : Caches Recorded) (e : Entry) (u home : ℕ)
+      → is_free u home e ≡ true → c.processor ≡ m.caches.processor
+      → Appends (log_of m) l e c.recorder.told → IsAt knows StandsAt l p m
+      → IsAt knows StandsAt l p (with_caches m c)
+  at-freed l p m c e u home i =
+      at-say l p m c e (a-free u home e i) (inner-free u home e i) (no-call-free u home e i)
 
-  pub stays-caches : (p : Program) (m : Processor W) (c : Caches Recorded) → Stays knows 0 0 p m (with_caches m c)
+  pub stays-caches :
+      (p : Program) (m : Processor W) (c : Caches Recorded) → Stays knows 0 0 p m (with_caches m c)
   stays-caches p m c = record {
     settled = refl;
     locked = refl;
@@ -138,13 +180,20 @@ module _ {W : Type 0} (knows : Knows W) where
   -- ---- another side
 
   -- what is asked for and told of sections is as it was
-  same-asked : (p : Program) (m : Processor W) (w : W) → Alike (known_of knows m) (knows.known w) → asked_of knows p.scenario.now (with_side m w) ≡ asked_of knows p.scenario.now m
-  same-asked p m w a = ap (λ (o : Objects). o.asked + m.settled + left_cost p.scenario.now (left_of m)) a.objects
+  same-asked :
+      (p : Program) (m : Processor W) (w : W) → Alike (known_of knows m) (knows.known w)
+      → asked_of knows p.scenario.now (with_side m w) ≡ asked_of knows p.scenario.now m
+  same-asked p m w a =
+      ap (λ (o : Objects). o.asked + m.settled + left_cost p.scenario.now (left_of m)) a.objects
 
-  same-word : (d : Domain) (m : Processor W) (w : W) → Alike (known_of knows m) (knows.known w) → word_of knows d (with_side m w) ≡ word_of knows d m
+  same-word :
+      (d : Domain) (m : Processor W) (w : W) → Alike (known_of knows m) (knows.known w)
+      → word_of knows d (with_side m w) ≡ word_of knows d m
   same-word d m w a = a.words d
 
-  ready-sided : (p : Program) (m : Processor W) (w : W) → Alike (known_of knows m) (knows.known w) → IsReady knows p m → IsReady knows p (with_side m w)
+  ready-sided :
+      (p : Program) (m : Processor W) (w : W) → Alike (known_of knows m) (knows.known w)
+      → IsReady knows p m → IsReady knows p (with_side m w)
   ready-sided p m w a r =
       let q = same-asked p m w a in
       let n = same-word Plain m w a in
@@ -158,15 +207,24 @@ module _ {W : Type 0} (knows : Knows W) where
         room_running = r.room_running;
         room_tables = r.room_tables;
         asks = (let F : ℕ → Type 0 = λ k. k < 2 ^ 22 in subst F (sym q) r.asks);
-        words = (let F : ℕ → Type 0 = λ k. k + 2 * length (left_of m) < 2 ^ 28 in subst F (sym n) r.words);
+        words =
+            (let F : ℕ → Type 0 = λ k. k + 2 * length (left_of m) < 2 ^ 28 in
+            subst F (sym n) r.words);
         inside = ap (λ k. k % 2) n ∙ r.inside;
-        calls = (let o = ap (λ (x : Objects). x.asked) a.objects in let c = r.calls in omega (arith, o, c));
+        calls =
+            (let o = ap (λ (x : Objects). x.asked) a.objects in
+            let c = r.calls in omega (arith, o, c));
         stocked = subst (AreStocked (declared_in p.scenario.now)) (sym a.objects) r.stocked;
       }
 
-  pub at-sided : (P : Position → Log → Type 0) (l : ℕ) (p : Program) (m : Processor W) (w : W) → Alike (known_of knows m) (knows.known w) → IsAt knows P l p m → IsAt knows P l p (with_side m w)
+  pub at-sided :
+      (P : Position → Log → Type 0) (l : ℕ) (p : Program) (m : Processor W) (w : W)
+      → Alike (known_of knows m) (knows.known w) → IsAt knows P l p m
+      → IsAt knows P l p (with_side m w)
   at-sided P l p m w a s =
-      let F : ℕ → Type 0 = λ n. Running P l n p.scenario.now m.handlers.planned m.running.items (log_of m) in
+      let F : ℕ → Type 0 =
+      λ n. Running P l n p.scenario.now m.handlers.planned m.running.items (log_of
+      m) in
       record {
         at = subst F (sym a.processor) s.at;
         tells = tells-sided p.scenario.now (known_of knows m) (knows.known w) (log_of m) a s.tells;
@@ -174,7 +232,9 @@ module _ {W : Type 0} (knows : Knows W) where
         ready = ready-sided p m w a s.ready;
       }
 
-  pub stays-sided : (p : Program) (m : Processor W) (w : W) → Alike (known_of knows m) (knows.known w) → Stays knows 0 0 p m (with_side m w)
+  pub stays-sided :
+      (p : Program) (m : Processor W) (w : W) → Alike (known_of knows m) (knows.known w)
+      → Stays knows 0 0 p m (with_side m w)
   stays-sided p m w a =
       let q = same-asked p m w a in
       let n = same-word Plain m w a in
@@ -196,7 +256,9 @@ module _ {W : Type 0} (knows : Knows W) where
   -- ---- one after the other
 
   -- of one program
-  pub stays-join : (i j k n : ℕ) (p : Program) (a b c : Processor W) → Stays knows i j p a b → Stays knows k n p b c → Stays knows (i + k) (j + n) p a c
+  pub stays-join :
+      (i j k n : ℕ) (p : Program) (a b c : Processor W) → Stays knows i j p a b
+      → Stays knows k n p b c → Stays knows (i + k) (j + n) p a c
   stays-join i j k n p a b c x y = record {
     settled = y.settled ∙ x.settled;
     locked = y.locked ∙ x.locked;
@@ -212,11 +274,17 @@ module _ {W : Type 0} (knows : Knows W) where
     processor = y.processor ∙ x.processor;
   }
 
-  pub stays-joined : (p q : Program) (a b c : Processor W) → q ≡ p → Stays knows 0 0 p a b → Stays knows 0 0 q b c → Stays knows 0 0 p a c
-  stays-joined p q a b c e x y = (let F : Program → Type 0 = λ r. Stays knows 0 0 r b c in stays-join 0 0 0 0 p a b c x (subst F e y))
+  pub stays-joined :
+      (p q : Program) (a b c : Processor W) → q ≡ p → Stays knows 0 0 p a b → Stays knows 0 0 q b c
+      → Stays knows 0 0 p a c
+  stays-joined p q a b c e x y =
+      (let F : Program → Type 0 = λ r. Stays knows 0 0 r b c in
+      stays-join 0 0 0 0 p a b c x (subst F e y))
 
   -- the lock is said of apart
-  pub stays-locked : (k : Option MapId) (i j : ℕ) (p : Program) (a b : Processor W) → Stays knows i j p a b → Stays knows i j p (record a { locked = k }) (record b { locked = k })
+  pub stays-locked :
+      (k : Option MapId) (i j : ℕ) (p : Program) (a b : Processor W) → Stays knows i j p a b
+      → Stays knows i j p (record a { locked = k }) (record b { locked = k })
   stays-locked k i j p a b x = record {
     settled = x.settled;
     locked = refl;
@@ -234,7 +302,8 @@ module _ {W : Type 0} (knows : Knows W) where
 
   -- ---- what names hold, and what is in lists and trees
 
-  pub items-joined : (a b c : Processor W) → SameItems knows a b → SameItems knows b c → SameItems knows a c
+  pub items-joined :
+      (a b c : Processor W) → SameItems knows a b → SameItems knows b c → SameItems knows a c
   items-joined a b c x y = record { graphs = y.graphs ∙ x.graphs; items = y.items ∙ x.items }
 
   pub lives-same : (m : Processor W) → SameLives knows m m
@@ -243,11 +312,21 @@ module _ {W : Type 0} (knows : Knows W) where
   pub lives-cached : (m : Processor W) (c : Caches Recorded) → SameLives knows m (with_caches m c)
   lives-cached m c = (refl, record { graphs = refl; items = refl })
 
-  pub lives-joined : (a b c : Processor W) → SameLives knows a b → SameLives knows b c → SameLives knows a c
+  pub lives-joined :
+      (a b c : Processor W) → SameLives knows a b → SameLives knows b c → SameLives knows a c
   lives-joined a b c x y = (y.0 ∙ x.0, items-joined a b c x.1 y.1)
 
-  pub lives-sided : (m : Processor W) (w : W) → Alike (known_of knows m) (knows.known w) → SameLives knows m (with_side m w)
-  lives-sided m w a = (ap in_hands a.objects, record { graphs = ap (λ (o : Objects). o.graphs) a.objects; items = ap items_in a.objects })
+  pub lives-sided :
+      (m : Processor W) (w : W) → Alike (known_of knows m) (knows.known w)
+      → SameLives knows m (with_side m w)
+  lives-sided m w a = (
+    ap in_hands a.objects,
+    record
+        { graphs = ap (λ (o : Objects). o.graphs) a.objects; items = ap items_in a.objects },
+  )
 
-  pub names-sided : (m : Processor W) (w : W) → Alike (known_of knows m) (knows.known w) → graph_names_in (knows.known w).objects.graphs ≡ graph_names_in (known_of knows m).objects.graphs
+  pub names-sided :
+      (m : Processor W) (w : W) → Alike (known_of knows m) (knows.known w)
+      → graph_names_in (knows.known w).objects.graphs
+      ≡ graph_names_in (known_of knows m).objects.graphs
   names-sided m w a = ap (λ (o : Objects). graph_names_in o.graphs) a.objects

@@ -5,7 +5,7 @@ use Rattle.bm_lang.specs.declared.scenario.Parts.{Parts}
 use Rattle.bm_grace.specs.Known.{Known, side}
 use Rattle.bm_law.specs.Lists.{Log}
 use Rattle.bm_law_scenario.specs.Handlers.{HandlersDone}
-use Rattle.bm_law_scenario.specs.SectionWords.{word_after}
+use Rattle.bm_law_lives.specs.SectionWords.{word_after}
 
 -- Each handler that has gone back left its phrase where it stands, and the last words of sections that the log names are those that the side knows.
 pub record Tells (s : Parts) (known : Known) (log : Log) : Type 0 where

@@ -10,7 +10,8 @@ use Rattle.bm_grace.specs.declared.grace.Knows.{Ghosts as Knows}
 module _ {W : Type 0} (knows : Knows W) where
   -- It is the same one, of as many.
   pub record Ordinary (before now : Processor W) : Type 0 where
-    pub processors : (known_of knows now).grace.processors ≡ (known_of knows before).grace.processors
+    pub processors :
+        (known_of knows now).grace.processors ≡ (known_of knows before).grace.processors
     pub processor : (known_of knows now).grace.processor ≡ (known_of knows before).grace.processor
 
   -- Statements of ordinary code, with the handlers that ran between their steps and the deferred work behind them: no handler was
@@ -22,13 +23,22 @@ module _ {W : Type 0} (knows : Knows W) where
     pub running : now.running.items ≡ before.running.items
     pub inside : now.inside ≡ before.inside
     pub parity : (d : Domain) → word_of knows d now % 2 ≡ word_of knows d before % 2
-    pub inner : word_of knows Plain before % 2 ≡ 1 → word_of knows Plain now ≡ word_of knows Plain before
+    pub inner :
+        word_of knows Plain before % 2 ≡ 1 → word_of knows Plain now ≡ word_of knows Plain before
     pub tracing : word_of knows Tracing now ≡ word_of knows Tracing before
-    pub words : word_of knows Plain now + 2 * length (left_of now) ≤ word_of knows Plain before + 2 * length (left_of before)
+    pub words :
+        word_of knows Plain now + 2 * length (left_of now)
+        ≤ word_of knows Plain before + 2 * length (left_of before)
 
   -- The plain section around a script: it is in one as a whole, or in the one that the processor is in, if it is in one.
   abbrev pub around_of : (whole : Bool) → Processor W → Around
-  around_of whole m = record { whole = whole; begun = if whole then None else (if m.inside then Some (word_of knows Plain m) else None) }
+  around_of whole m =
+      record {
+        whole = whole;
+        begun =
+            if whole then None
+            else (if m.inside then Some (word_of knows Plain m) else None);
+      }
 
   -- How many words of plain sections were named, with those that handlers which haven't run may name, and that which ends the section
   -- that the processor is in.

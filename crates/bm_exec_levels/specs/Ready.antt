@@ -28,7 +28,8 @@ left_of m = m.handlers.planned.left
 
 -- how many objects, calls and works some planned handlers may ask for: three for each statement that they run at most
 abbrev pub left_cost : Parts → List AtLine → ℕ
-left_cost s lines = sum_by (λ (line : AtLine). 3 * script_cost (slice_get s.scripts line.script.0)) lines
+left_cost s lines =
+    sum_by (λ (line : AtLine). 3 * script_cost (slice_get s.scripts line.script.0)) lines
 
 -- A line plans a handler script of the scenario.
 pub record IsHandlerLine (s : Parts) (line : AtLine) : Type 0 where
@@ -47,8 +48,12 @@ pub record IsProgram (p : Program) : Type 0 where
   pub maps : p.types.maps.now ≡ p.scenario.now.maps
   pub classes : Classes p.types.declared.now p.types.classes.now
   pub accepted : AllAccepted p.scenario.now
-  pub fits : (i : ℕ) (x : Script) → slice_get p.scenario.now.scripts i ≡ Some x → block_fits 16 x.body ≡ true
-  pub can : (i : ℕ) (x : Script) → slice_get p.scenario.now.scripts i ≡ Some x → can_run_block (declared_of p.types) x.body ≡ true
+  pub fits :
+      (i : ℕ) (x : Script) → slice_get p.scenario.now.scripts i ≡ Some x
+      → block_fits 16 x.body ≡ true
+  pub can :
+      (i : ℕ) (x : Script) → slice_get p.scenario.now.scripts i ≡ Some x
+      → can_run_block (declared_of p.types) x.body ≡ true
 
 module _ {W : Type 0} (knows : Knows W) where
   -- what its side knows

@@ -29,7 +29,13 @@ module _ {W : Type 0} (knows : Knows W) where
 
   pub runs-same : (l : ℕ) (p : Program) (m : Processor W) → RunsOn l p m m
   runs-same l p m = record {
-    came = record { kept = Kept-refl l (shown m.caches); above = Above-none l (log_of m); lasting = lasting-none l (shown m.caches) (tests_of knows m); processor = refl };
+    came =
+        record {
+          kept = Kept-refl l (shown m.caches);
+          above = Above-none l (log_of m);
+          lasting = lasting-none l (shown m.caches) (tests_of knows m);
+          processor = refl;
+        };
     asks = 0;
     stays = stays-same knows p m;
     above = λ h. (refl, (lives-same knows m).1);
@@ -37,15 +43,25 @@ module _ {W : Type 0} (knows : Knows W) where
     fewer = omega arith;
   }
 
-  pub runs-joined : (l : ℕ) (p q : Program) (a b c : Processor W) → q ≡ p → RunsOn l p a b → RunsOn l q b c → RunsOn l p a c
+  pub runs-joined :
+      (l : ℕ) (p q : Program) (a b c : Processor W) → q ≡ p → RunsOn l p a b → RunsOn l q b c
+      → RunsOn l p a c
   runs-joined l p q a b c e x y =
       let F : Program → Type 0 = λ r. RunsOn l r b c in
       let z : RunsOn l p b c = subst F e y in
       record {
-        came = came-join (λ (r : Recorded). r.told) l (tests_of knows a) (tests_of knows b) (tests_of knows c) a.caches b.caches c.caches x.came z.came;
+        came =
+            came-join (λ (r : Recorded). r.told) l (tests_of knows a) (tests_of knows b)
+            (tests_of knows c) a.caches b.caches c.caches x.came z.came;
         asks = x.asks + z.asks;
-        stays = stays-join knows x.asks 0 z.asks 0 p (record a { locked = c.locked }) (record b { locked = c.locked }) c (stays-locked knows c.locked x.asks 0 p (record a { locked = b.locked }) b x.stays) z.stays;
-        above = λ h. (let u = x.above h in let v = z.above h in (v.0 ∙ u.0, items-joined knows a b c u.1 v.1));
+        stays =
+            stays-join knows x.asks 0 z.asks 0 p (record a { locked = c.locked })
+            (record b { locked = c.locked }) c
+            (stays-locked knows c.locked x.asks 0 p (record a { locked = b.locked }) b x.stays)
+            z.stays;
+        above =
+            λ h. (let u = x.above h in
+            let v = z.above h in (v.0 ∙ u.0, items-joined knows a b c u.1 v.1));
         goes = goes-joined (known_of knows a) (known_of knows b) (known_of knows c) x.goes z.goes;
         fewer = (let v = x.fewer in let w = z.fewer in omega (arith, v, w));
       }

@@ -57,7 +57,8 @@ pub record IsKept (types : List TypeDeclaration) (held : ℕ) (object : Living) 
   pub single : made.declared.counted ≡ false → object.count ≡ 1
 
 -- what the slot at a place holds lives, as an object of the slot's type
-pub record IsStocked (maps : List MapDeclaration) (lives : Lives) (place : ℕ) (x : ObjId) : Type 0 where
+pub record IsStocked (maps : List MapDeclaration) (lives : Lives) (place : ℕ) (x : ObjId) :
+    Type 0 where
   pub slot : MapDeclaration
   pub found : slice_get maps place ≡ Some slot
   pub object : Living
@@ -76,15 +77,21 @@ pub record IsItem (maps : List MapDeclaration) (lives : Lives) (u : ℕ) (s : St
 
 -- the lists and trees that are declared are so
 abbrev pub AreKinds : List MapDeclaration → List NamedGraph → Type 0
-AreKinds maps graphs = (place : ℕ) (m : MapDeclaration) (is_tree : Bool) → slice_get maps place ≡ Some m → m.kind ≡ graph_kind is_tree → (graph_at place graphs).is_tree ≡ is_tree
+AreKinds maps graphs =
+    (place : ℕ) (m : MapDeclaration) (is_tree : Bool) → slice_get maps place ≡ Some m
+    → m.kind ≡ graph_kind is_tree → (graph_at place graphs).is_tree ≡ is_tree
 
 -- at the place of a slot stands an empty list without a history
 abbrev pub AreUnused : List MapDeclaration → List NamedGraph → Type 0
-AreUnused maps graphs = (place : ℕ) (m : MapDeclaration) → slice_get maps place ≡ Some m → m.kind ≡ Slot → ((graph_at place graphs).history ≡ []) × ((graph_at place graphs).nodes ≡ [])
+AreUnused maps graphs =
+    (place : ℕ) (m : MapDeclaration) → slice_get maps place ≡ Some m → m.kind ≡ Slot
+    → ((graph_at place graphs).history ≡ []) × ((graph_at place graphs).nodes ≡ [])
 
 -- at the place of a list or tree stands a slot that holds nothing
 abbrev pub AreStill : List MapDeclaration → List Named → Type 0
-AreStill maps slots = (place : ℕ) (m : MapDeclaration) (is_tree : Bool) → slice_get maps place ≡ Some m → m.kind ≡ graph_kind is_tree → (slot_at place slots).slot.held ≡ None
+AreStill maps slots =
+    (place : ℕ) (m : MapDeclaration) (is_tree : Bool) → slice_get maps place ≡ Some m
+    → m.kind ≡ graph_kind is_tree → (slot_at place slots).slot.held ≡ None
 
 -- The slots, lists and trees are those of the declared maps, so it is of each object that lives, of what each slot holds, and of what is in each list
 -- and tree.
@@ -94,6 +101,10 @@ pub record AreStocked (d : Declared) (o : Objects) : Type 0 where
   pub kinds : AreKinds d.maps o.graphs
   pub unused : AreUnused d.maps o.graphs
   pub still : AreStill d.maps o.slots
-  pub kept : (u : ℕ) (object : Living) → o.lives u ≡ Some object → IsKept d.types (elsewhere o u) object
-  pub stocked : (place : ℕ) (x : ObjId) → (slot_at place o.slots).slot.held ≡ Some x → IsStocked d.maps o.lives place x
-  pub items : (u : ℕ) (s : Standing) → standing_from 0 o.graphs u ≡ Some s → IsItem d.maps o.lives u s
+  pub kept :
+      (u : ℕ) (object : Living) → o.lives u ≡ Some object → IsKept d.types (elsewhere o u) object
+  pub stocked :
+      (place : ℕ) (x : ObjId) → (slot_at place o.slots).slot.held ≡ Some x
+      → IsStocked d.maps o.lives place x
+  pub items :
+      (u : ℕ) (s : Standing) → standing_from 0 o.graphs u ≡ Some s → IsItem d.maps o.lives u s

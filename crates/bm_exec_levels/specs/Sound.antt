@@ -23,4 +23,7 @@ module _ {W : Type 0} (knows : Knows W) where
     pub fine : FineAt knows 0 m
     pub dated : Dated (tests_of knows m) (shown m.caches)
     pub stamped : (c : ℕ) → is_unstamped ((shown m.caches).rows c).deferred.plain ≡ false
-    pub begins : (d : Domain) → 24 * 4194304 + 12 * length (left_of m) ≤ (side d (known_of knows m)).begins + 24 * m.settled
+    pub begins :
+        (d : Domain)
+        → 24 * 4194304 + 12 * length (left_of m)
+        ≤ (side d (known_of knows m)).begins + 24 * m.settled

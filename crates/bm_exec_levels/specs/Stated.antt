@@ -10,8 +10,10 @@ module _ {W : Type 0} (knows : Knows W) where
   ordinary-same m = record { processors = refl; processor = refl }
 
   -- what each of two stretches leaves, both leave
-  pub ordinary-joined : (a b c : Processor W) → Ordinary knows a b → Ordinary knows b c → Ordinary knows a c
-  ordinary-joined a b c x y = record { processors = y.processors ∙ x.processors; processor = y.processor ∙ x.processor }
+  pub ordinary-joined :
+      (a b c : Processor W) → Ordinary knows a b → Ordinary knows b c → Ordinary knows a c
+  ordinary-joined a b c x y =
+      record { processors = y.processors ∙ x.processors; processor = y.processor ∙ x.processor }
 
   -- where nothing is done
   pub statements-same : (m : Processor W) → Statements knows m m
@@ -27,7 +29,8 @@ module _ {W : Type 0} (knows : Knows W) where
   }
 
   -- what each of two statements leaves, both leave
-  pub statements-joined : (a b c : Processor W) → Statements knows a b → Statements knows b c → Statements knows a c
+  pub statements-joined :
+      (a b c : Processor W) → Statements knows a b → Statements knows b c → Statements knows a c
   statements-joined a b c x y = record {
     ordinary = ordinary-joined a b c x.ordinary y.ordinary;
     fewer = (let v = x.fewer in let w = y.fewer in omega (arith, v, w));
@@ -42,9 +45,18 @@ module _ {W : Type 0} (knows : Knows W) where
   -- ---- of a script
 
   pub scripted-same : (whole : Bool) (m : Processor W) → Scripted knows whole m m
-  scripted-same whole m = record { ordinary = ordinary-same m; fewer = omega arith; running = refl; tracing = refl; plain = λ h. refl }
+  scripted-same whole m =
+      record {
+        ordinary = ordinary-same m;
+        fewer = omega arith;
+        running = refl;
+        tracing = refl;
+        plain = λ h. refl;
+      }
 
-  pub scripted-joined : (whole other : Bool) (a b c : Processor W) → other ≡ whole → Scripted knows whole a b → Scripted knows other b c → Scripted knows whole a c
+  pub scripted-joined :
+      (whole other : Bool) (a b c : Processor W) → other ≡ whole → Scripted knows whole a b
+      → Scripted knows other b c → Scripted knows whole a c
   scripted-joined whole other a b c e x y = record {
     ordinary = ordinary-joined a b c x.ordinary y.ordinary;
     fewer = (let v = x.fewer in let w = y.fewer in omega (arith, v, w));

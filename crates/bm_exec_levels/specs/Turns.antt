@@ -18,7 +18,10 @@ use Rattle.bm_plan.proofs.Positions.{steps-here, stays-here}
 use Rattle.bm_exec_levels.specs.Here.{Asked, Running, Stands, position_of}
 
 -- what is told of a log is told of it with one more entry
-pub told-more : (P Q : Log → Type 0) (before now : Option Log) (l : ℕ) (e : Entry) → ((es : Log) → P es → Q (es ++ (l, e) ∷ [])) → Appends before l e now → IfSome before P → IfSome now Q
+pub told-more :
+    (P Q : Log → Type 0) (before now : Option Log) (l : ℕ) (e : Entry)
+    → ((es : Log) → P es → Q (es ++ (l, e) ∷ [])) → Appends before l e now → IfSome before P
+    → IfSome now Q
 told-more P Q before None l e f a h = tt
 told-more P Q before (Some es) l e f a h =
     let was : P a.log = (let F : Option Log → Type 0 = λ o. IfSome o P in subst F a.told h) in
@@ -54,27 +57,41 @@ a-free u home (entry.Delay v to) h = refl
 a-free u home e h = cc
 
 -- a step that was asked for
-pub stands-step : (l p : ℕ) (s : Parts) (plan : Plan) (running : List Due) (before now : Option Log) (e : Entry) → is_step e ≡ true → Appends before l e now → Asked l p s plan running before → Stands l p s plan running now
+pub stands-step :
+    (l p : ℕ) (s : Parts) (plan : Plan) (running : List Due) (before now : Option Log) (e : Entry)
+    → is_step e ≡ true → Appends before l e now → Asked l p s plan running before
+    → Stands l p s plan running now
 stands-step l p s plan running before now e i a k =
     let x : Position = position_of p s plan running in
     let F : ℕ → Type 0 = λ n. Appends before n e now in
     record {
-      at = told-more (AskedAt x) (StandsAt x) before now (level_in x.running) e (λ es h. steps-here x es e (a-step e i) h) (subst F (sym k.level) a) k.at;
+      at =
+          told-more (AskedAt x) (StandsAt x) before now (level_in x.running) e
+          (λ es h. steps-here x es e (a-step e i) h) (subst F (sym k.level) a) k.at;
       level = k.level;
       deep = k.deep;
     }
 
 -- an entry that is no step
-pub stands-say : (l p : ℕ) (s : Parts) (plan : Plan) (running : List Due) (before now : Option Log) (e : Entry) → kind_of e ≡ Stays → Appends before l e now → Stands l p s plan running before → Stands l p s plan running now
+pub stands-say :
+    (l p : ℕ) (s : Parts) (plan : Plan) (running : List Due) (before now : Option Log) (e : Entry)
+    → kind_of e ≡ Stays → Appends before l e now → Stands l p s plan running before
+    → Stands l p s plan running now
 stands-say l p s plan running before now e i a k =
     let x : Position = position_of p s plan running in
     let F : ℕ → Type 0 = λ n. Appends before n e now in
     record {
-      at = told-more (StandsAt x) (StandsAt x) before now (level_in x.running) e (λ es h. stays-here x es e i h) (subst F (sym k.level) a) k.at;
+      at =
+          told-more (StandsAt x) (StandsAt x) before now (level_in x.running) e
+          (λ es h. stays-here x es e i h) (subst F (sym k.level) a) k.at;
       level = k.level;
       deep = k.deep;
     }
 
 -- the log is as it was
-pub running-same : (P : Position → Log → Type 0) (l p : ℕ) (s : Parts) (plan : Plan) (running : List Due) (before now : Option Log) → now ≡ before → Running P l p s plan running before → Running P l p s plan running now
-running-same P l p s plan running before now e k = (let F : Option Log → Type 0 = λ o. Running P l p s plan running o in subst F (sym e) k)
+pub running-same :
+    (P : Position → Log → Type 0) (l p : ℕ) (s : Parts) (plan : Plan) (running : List Due)
+    (before now : Option Log) → now ≡ before → Running P l p s plan running before
+    → Running P l p s plan running now
+running-same P l p s plan running before now e k =
+    (let F : Option Log → Type 0 = λ o. Running P l p s plan running o in subst F (sym e) k)

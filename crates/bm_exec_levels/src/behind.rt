@@ -30,11 +30,21 @@ pub fn until_down<R: Recorder, H: Desk<R>>(
     host: &mut H,
     classes: &[Class],
 ) -> Result<(), NoMemory>
-    requires at_rest { Settled R.log R.counts H.Host.sound H.Host.tests H.Host.face H.Host.held host.old }
-    requires begins { (d : Domain) → (length classes.now + 1) * (H.Host.pending host.old + 1) ≤ (side d (H.W.Knows.known (H.shared host.old))).begins }
-    ensures works { OnOk result (Works R.log H.Host.face H.Host.pending H.stays H.Host.held (λ h. H.W.Knows.known (H.shared h)) ((length classes.now + 1) * (H.Host.pending host.old - H.Host.pending host.new + 1)) ((length classes.now + 1) * (H.Host.pending host.old - H.Host.pending host.new + 1)) (λ l. UntilDown classes.now) host.old host.new) }
-    ensures down { OnOk result (lowest_raised classes.now (seen number_of (shown (H.Host.held host.new))) ≡ None) }
-    ensures at_rest { OnOk result (Settled R.log R.counts H.Host.sound H.Host.tests H.Host.face H.Host.held host.new) }
+    requires at_rest { Settled R.log R.counts H.Host.sound H.Host.tests H.Host.face H.Host.held
+        host.old }
+    requires begins { (d : Domain)
+        → (length classes.now + 1) * (H.Host.pending host.old + 1)
+        ≤ (side d (H.W.Knows.known (H.shared host.old))).begins }
+    ensures works { OnOk result
+        (Works R.log H.Host.face H.Host.pending H.stays H.Host.held
+        (λ h. H.W.Knows.known (H.shared h))
+        ((length classes.now + 1) * (H.Host.pending host.old - H.Host.pending host.new + 1))
+        ((length classes.now + 1) * (H.Host.pending host.old - H.Host.pending host.new + 1))
+        (λ l. UntilDown classes.now) host.old host.new) }
+    ensures down { OnOk result
+        (lowest_raised classes.now (seen number_of (shown (H.Host.held host.new))) ≡ None) }
+    ensures at_rest { OnOk result
+        (Settled R.log R.counts H.Host.sound H.Host.tests H.Host.face H.Host.held host.new) }
 {
     while let Some(class) = lowest_raised(host, classes) {
         work_once(alloc, host, class)?;
@@ -52,11 +62,25 @@ pub fn work_behind<R: Recorder, H: Desk<R>>(
     host: &mut H,
     classes: &[Class],
 ) -> Result<(), NoMemory>
-    requires at_rest { Settled R.log R.counts H.Host.sound H.Host.tests H.Host.face H.Host.held host.old }
-    requires begins { (d : Domain) → length classes.now + (length classes.now + 1) * (H.Host.pending host.old + 1) ≤ (side d (H.W.Knows.known (H.shared host.old))).begins }
-    ensures works { OnOk result (Works R.log H.Host.face H.Host.pending H.stays H.Host.held (λ h. H.W.Knows.known (H.shared h)) (length classes.now + (length classes.now + 1) * (H.Host.pending host.old - H.Host.pending host.new + 1)) (length classes.now + (length classes.now + 1) * (H.Host.pending host.old - H.Host.pending host.new + 1)) (λ l. WorkBehind classes.now) host.old host.new) }
-    ensures down { OnOk result (lowest_raised classes.now (seen number_of (shown (H.Host.held host.new))) ≡ None) }
-    ensures at_rest { OnOk result (Settled R.log R.counts H.Host.sound H.Host.tests H.Host.face H.Host.held host.new) }
+    requires at_rest { Settled R.log R.counts H.Host.sound H.Host.tests H.Host.face H.Host.held
+        host.old }
+    requires begins { (d : Domain)
+        → length classes.now + (length classes.now + 1) * (H.Host.pending host.old + 1)
+        ≤ (side d (H.W.Knows.known (H.shared host.old))).begins }
+    ensures works { OnOk result
+        (Works R.log H.Host.face H.Host.pending H.stays H.Host.held
+        (λ h. H.W.Knows.known (H.shared h))
+        (length classes.now
+        + (length classes.now + 1)
+        * (H.Host.pending host.old - H.Host.pending host.new + 1))
+        (length classes.now
+        + (length classes.now + 1)
+        * (H.Host.pending host.old - H.Host.pending host.new + 1))
+        (λ l. WorkBehind classes.now) host.old host.new) }
+    ensures down { OnOk result
+        (lowest_raised classes.now (seen number_of (shown (H.Host.held host.new))) ≡ None) }
+    ensures at_rest { OnOk result
+        (Settled R.log R.counts H.Host.sound H.Host.tests H.Host.face H.Host.held host.new) }
 {
     work_each(alloc, host, classes)?;
     until_down(alloc, host, classes)

@@ -42,10 +42,16 @@ fn allocate<'s, W: Lives, B: Since<W>, L: Rank>(
     requires at { IsAt W.Knows StandsAt L.number program.now own.old }
     requires tied { TiedAt W.Knows B.since B.start own.old }
     requires fine { FineAt W.Knows L.number own.old }
-    ensures answer { Allocated own.old.caches.processor L.number class (log_of own.old) (log_of own.new) (shown own.old.caches) (shown own.new.caches) result }
+    ensures answer { Allocated own.old.caches.processor L.number class (log_of own.old)
+        (log_of own.new) (shown own.old.caches) (shown own.new.caches) result }
     ensures gone { Gone (tests_of W.Knows own.new) (shown own.new.caches) result }
     ensures class { IsOfClass class result }
-    ensures sound { SoundBy (λ (m : ProcessorValue W). IsAt W.Knows StandsAt L.number program.now m × TiedAt W.Knows B.since B.start m) (λ u life m. IsAt W.Knows StandsAt L.number program.now m × GaveAt W.Knows B.since B.start L.number u life m) own.new result }
+    ensures sound { SoundBy
+        (λ (m : ProcessorValue W). IsAt W.Knows StandsAt L.number program.now m
+        × TiedAt W.Knows B.since B.start m)
+        (λ u life m. IsAt W.Knows StandsAt L.number program.now m
+        × GaveAt W.Knows B.since B.start L.number u life m)
+        own.new result }
     ensures between { Between W.Knows 0 0 L.number program.now own.old own.new }
     ensures lives { SameLives W.Knows own.old own.new }
 {
@@ -78,9 +84,11 @@ fn release<'s, W: Lives, B: Since<W>, L: Rank>(
     requires fresh { stands unit.number (lists_of own.old) ≡ 0 }
     requires lives { unit.life + 1 < 2 ^ 32 }
     requires home { unit.home < (known_of W.Knows own.old).grace.processors }
-    requires suits { SuitsFree (tests_of W.Knows own.old) unit (free_entry delayed unit.number unit.home) }
+    requires suits { SuitsFree (tests_of W.Knows own.old) unit
+        (free_entry delayed unit.number unit.home) }
     ensures freed { Freed L.number unit (free_entry delayed unit.number unit.home)
-        (FreeRest delayed (length (left_of own.old) - length (left_of own.new)) unit.class unit.number (is_some ((lists_of own.old).rows unit.class).deferred.plain))
+        (FreeRest delayed (length (left_of own.old) - length (left_of own.new)) unit.class
+        unit.number (is_some ((lists_of own.old).rows unit.class).deferred.plain))
         (log_of own.old) (log_of own.new) (shown own.old.caches) (shown own.new.caches) }
     ensures at { IsAt W.Knows StandsAt L.number program.now own.new }
     ensures tied { TiedAt W.Knows B.since B.start own.new }
@@ -172,7 +180,8 @@ pub(crate) fn acquire<'s, W: Lives, B: Since<W>, L: Rank>(
     requires fine { FineAt W.Knows L.number own.old }
     requires room { asked_of W.Knows program.now.scenario.now own.old + 2 < 2 ^ 22 }
     requires living { (c : ℕ) × LivesAs (lives_of W.Knows own.old) c object.unit object.life }
-    requires counted { IsCounted program.now.scenario.now.types (type_in (lives_of W.Knows own.old object.unit)) }
+    requires counted { IsCounted program.now.scenario.now.types
+        (type_in (lives_of W.Knows own.old object.unit)) }
     ensures acquired { Acquired L.number object (log_of own.old) (log_of own.new)
         (lives_of W.Knows own.old) (lives_of W.Knows own.new) }
     ensures lists { lists_of own.new ≡ lists_of own.old }
@@ -197,8 +206,10 @@ pub(crate) fn read_field<'s, W: Lives, B: Since<W>, L: Rank>(
     requires fine { FineAt W.Knows L.number own.old }
     requires room { asked_of W.Knows program.now.scenario.now own.old + 1 < 2 ^ 22 }
     requires living { (c : ℕ) × LivesAs (lives_of W.Knows own.old) c object.unit object.life }
-    requires there { is_some (slice_get (values_in (lives_of W.Knows own.old object.unit)) place) ≡ true }
-    ensures read { HasRead L.number object place (log_of own.old) (log_of own.new) (lives_of W.Knows own.old) }
+    requires there { is_some (slice_get (values_in (lives_of W.Knows own.old object.unit)) place)
+        ≡ true }
+    ensures read { HasRead L.number object place (log_of own.old) (log_of own.new)
+        (lives_of W.Knows own.old) }
     ensures lists { lists_of own.new ≡ lists_of own.old }
     ensures lives { SameLives W.Knows own.old own.new }
     ensures at { IsAt W.Knows StandsAt L.number program.now own.new }
@@ -229,7 +240,8 @@ pub fn exchange<'s, W: Lives, B: Since<W>, L: Rank>(
         × (m.name ≡ name) × IsToPut m.type_id.0 (lives_of W.Knows own.old) put }
     ensures exchanged { (m : MapDeclaration) → IsSlot program.now.scenario.now.maps slot.0 m →
         Exchanged L.number program.now.scenario.now.types m.type_id.0 name put
-        (log_of own.old) (log_of own.new) (lives_of W.Knows own.old) (lives_of W.Knows own.new) result }
+        (log_of own.old) (log_of own.new) (lives_of W.Knows own.old) (lives_of W.Knows own.new)
+        result }
     ensures lists { lists_of own.new ≡ lists_of own.old }
     ensures items { SameItems W.Knows own.old own.new }
     ensures at { IsAt W.Knows StandsAt L.number program.now own.new }
@@ -310,7 +322,8 @@ pub fn give_up<'s, W: Lives, B: Since<W>, L: Rank>(
     requires fine { FineAt W.Knows L.number own.old }
     requires room { asked_of W.Knows program.now.scenario.now own.old + 1 < 2 ^ 22 }
     requires living { (c : ℕ) × LivesAs (lives_of W.Knows own.old) c object.unit object.life }
-    requires typed { HasType program.now.scenario.now.types (type_in (lives_of W.Knows own.old object.unit)) counted }
+    requires typed { HasType program.now.scenario.now.types
+        (type_in (lives_of W.Knows own.old object.unit)) counted }
     ensures disposed { (c : ℕ) → LivesAs (lives_of W.Knows own.old) c object.unit object.life →
         LetGo L.number counted c object (lists_of own.old) (log_of own.old) (log_of own.new)
         (lives_of W.Knows own.old) (lives_of W.Knows own.new) }

@@ -46,9 +46,11 @@ impl<'a, 's, W: Lives, B: Since<W>, L: Rank> Machine for At<'a, 's, W, B, L> {
 
     ghost through = { λ m. m.own.ghost_name };
 
-    ghost sound = { λ m. IsAt W.Knows StandsAt L.number m.program.now m.own.now × FineAt W.Knows L.number m.own.now × TiedAt W.Knows B.since B.start m.own.now };
+    ghost sound = { λ m. IsAt W.Knows StandsAt L.number m.program.now m.own.now
+        × FineAt W.Knows L.number m.own.now × TiedAt W.Knows B.since B.start m.own.now };
 
-    ghost keeps = { λ a b. RunsOn W.Knows L.number a.program.now a.own.now b.own.now × (b.program.now ≡ a.program.now) };
+    ghost keeps = { λ a b. RunsOn W.Knows L.number a.program.now a.own.now b.own.now
+        × (b.program.now ≡ a.program.now) };
 
     fn create(
         &mut self,
@@ -134,5 +136,9 @@ impl<'a, 's, W: Lives, B: Since<W>, L: Rank> Machine for At<'a, 's, W, B, L> {
 
     ghost keeps_declared = { λ a b k. ap (λ (p : ProgramValue). declared_in p.scenario.now) k.1 };
 
-    ghost keeps_join = { λ a b c x y. (runs-joined W.Knows L.number a.program.now b.program.now a.own.now b.own.now c.own.now x.1 x.0 y.0, y.1 ∙ x.1) };
+    ghost keeps_join = { λ a b c x y. (
+      runs-joined W.Knows L.number a.program.now b.program.now
+          a.own.now b.own.now c.own.now x.1 x.0 y.0,
+      y.1 ∙ x.1,
+    ) };
 }

@@ -25,10 +25,14 @@ pub(crate) fn lowest_raised<R: Recorder, H: Desk<R>>(
     host: &mut H,
     classes: &[Class],
 ) -> Option<Class>
-    requires at_rest { Settled R.log R.counts H.Host.sound H.Host.tests H.Host.face H.Host.held host.old }
-    ensures answer { result ≡ lowest_raised classes.now (seen number_of (shown (H.Host.held host.new))) }
-    ensures posted { Posted H.Host.face H.Host.pending H.stays H.Host.held (λ h. H.W.Knows.known (H.shared h)) H.Host.tests ([]) host.old host.new }
-    ensures at_rest { Settled R.log R.counts H.Host.sound H.Host.tests H.Host.face H.Host.held host.new }
+    requires at_rest { Settled R.log R.counts H.Host.sound H.Host.tests H.Host.face H.Host.held
+        host.old }
+    ensures answer { result
+        ≡ lowest_raised classes.now (seen number_of (shown (H.Host.held host.new))) }
+    ensures posted { Posted H.Host.face H.Host.pending H.stays H.Host.held
+        (λ h. H.W.Knows.known (H.shared h)) H.Host.tests ([]) host.old host.new }
+    ensures at_rest { Settled R.log R.counts H.Host.sound H.Host.tests H.Host.face H.Host.held
+        host.new }
 {
     first_raised(host.caches(), classes)
 }

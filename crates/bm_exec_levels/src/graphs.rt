@@ -46,7 +46,8 @@ fn put_in(name: Name, way: Way, object: ObjId, position: u32) -> Entry
 
 // How a log names that an object was refused, since the list or tree of the name `owner` has it.
 fn refused(name: Name, way: Way, object: ObjId, owner: Name, position: u32) -> Entry
-    ensures { (place : ℕ) → result ≡ call_entry name position owner (refused_push way object 0 place) }
+    ensures { (place : ℕ)
+        → result ≡ call_entry name position owner (refused_push way object 0 place) }
 {
     let ObjId { unit, life } = object;
     match way {
@@ -156,7 +157,8 @@ pub(crate) fn put<'s, W: Lives, B: Since<W>, L: Rank>(
         (log_of own.old) (log_of own.new) (lives_of W.Knows own.old) (lives_of W.Knows own.new)
         (guarded_of W.Knows own.old) (guarded_of W.Knows own.new) }
     ensures refused { result ≡ Ok false
-        → Refused L.number program.now.scenario.now.types program.now.scenario.now.maps name way object
+        → Refused L.number program.now.scenario.now.types program.now.scenario.now.maps name way
+        object
         (log_of own.old) (log_of own.new) (lives_of W.Knows own.old) (lives_of W.Knows own.new)
         (guarded_of W.Knows own.old) (guarded_of W.Knows own.new) }
     ensures lists { OnOk result (lists_of own.new ≡ lists_of own.old) }

@@ -54,11 +54,14 @@ fn settle_statement<'s, W: Lives, B: Since<W>>(
     requires tied { TiedAt W.Knows B.since B.start own.old }
     requires few { length classes.now ≤ 11 }
     requires room { asked_of W.Knows program.now.scenario.now own.old + 1 < 2 ^ 22 }
-    ensures grew { OnOk result (GrewBy (UntilDown classes.now) (lists_of own.old) (log_of own.old) (log_of own.new)) }
+    ensures grew { OnOk result
+        (GrewBy (UntilDown classes.now) (lists_of own.old) (log_of own.old) (log_of own.new)) }
     ensures down { OnOk result (Behind (Some classes.now) (lists_of own.new) []) }
     ensures lives { OnOk result (SameLives W.Knows own.old own.new) }
     ensures locked { OnOk result (own.new.locked ≡ own.old.locked) }
-    ensures asked { OnOk result (asked_of W.Knows program.now.scenario.now own.new ≤ asked_of W.Knows program.now.scenario.now own.old + 1) }
+    ensures asked { OnOk result
+        (asked_of W.Knows program.now.scenario.now own.new
+        ≤ asked_of W.Knows program.now.scenario.now own.old + 1) }
     ensures statements { OnOk result (Statements W.Knows own.old own.new) }
     ensures sound { OnOk result (Sound W.Knows program.now own.new) }
     ensures tied { OnOk result (TiedAt W.Knows B.since B.start own.new) }
@@ -92,10 +95,13 @@ pub fn settle_script<'s, W: Lives, B: Since<W>>(
     requires tied { TiedAt W.Knows B.since B.start own.old }
     requires few { length classes.now ≤ 11 }
     requires room { asked_of W.Knows program.now.scenario.now own.old + 1 < 2 ^ 22 }
-    ensures grew { OnOk result (GrewBy (WorkBehind classes.now) (lists_of own.old) (log_of own.old) (log_of own.new)) }
+    ensures grew { OnOk result
+        (GrewBy (WorkBehind classes.now) (lists_of own.old) (log_of own.old) (log_of own.new)) }
     ensures down { OnOk result (Behind (Some classes.now) (lists_of own.new) []) }
     ensures lives { OnOk result (SameLives W.Knows own.old own.new) }
-    ensures asked { OnOk result (asked_of W.Knows program.now.scenario.now own.new ≤ asked_of W.Knows program.now.scenario.now own.old + 1) }
+    ensures asked { OnOk result
+        (asked_of W.Knows program.now.scenario.now own.new
+        ≤ asked_of W.Knows program.now.scenario.now own.old + 1) }
     ensures statements { OnOk result (Statements W.Knows own.old own.new) }
     ensures locked { OnOk result (own.new.locked ≡ own.old.locked) }
     ensures sound { OnOk result (Sound W.Knows program.now own.new) }
@@ -148,15 +154,19 @@ impl<'a, 's, W: Lives, B: Since<W>> Machine for Ground<'a, 's, W, B> {
 
     ghost around = { λ m. around_of W.Knows m.within m.own.now };
 
-    ghost asked = { λ m. asked_of W.Knows m.program.now.scenario.now m.own.now + words_of W.Knows m.own.now };
+    ghost asked = { λ m. asked_of W.Knows m.program.now.scenario.now m.own.now
+        + words_of W.Knows m.own.now };
 
     ghost behind = { λ m. behind_of m.deferred.now.behind };
 
     ghost through = { λ m. m.own.ghost_name };
 
-    ghost sound = { λ m. Sound W.Knows m.program.now m.own.now × IfSome m.deferred.now.behind (λ classes. length classes.now ≤ 11) × TiedAt W.Knows B.since B.start m.own.now × (m.within ≡ true → m.own.now.inside ≡ true) };
+    ghost sound = { λ m. Sound W.Knows m.program.now m.own.now
+        × IfSome m.deferred.now.behind (λ classes. length classes.now ≤ 11)
+        × TiedAt W.Knows B.since B.start m.own.now × (m.within ≡ true → m.own.now.inside ≡ true) };
 
-    ghost keeps = { λ a b. Scripted W.Knows a.within a.own.now b.own.now × (b.program.now ≡ a.program.now) × (b.within ≡ a.within) };
+    ghost keeps = { λ a b. Scripted W.Knows a.within a.own.now b.own.now
+        × (b.program.now ≡ a.program.now) × (b.within ≡ a.within) };
 
     fn create(
         &mut self,
@@ -251,5 +261,10 @@ impl<'a, 's, W: Lives, B: Since<W>> Machine for Ground<'a, 's, W, B> {
 
     ghost keeps_declared = { λ a b k. ap (λ (p : ProgramValue). declared_in p.scenario.now) k.1 };
 
-    ghost keeps_join = { λ a b c x y. (scripted-joined W.Knows a.within b.within a.own.now b.own.now c.own.now x.2 x.0 y.0, y.1 ∙ x.1, y.2 ∙ x.2) };
+    ghost keeps_join = { λ a b c x y. (
+      scripted-joined W.Knows a.within b.within a.own.now b.own.now
+          c.own.now x.2 x.0 y.0,
+      y.1 ∙ x.1,
+      y.2 ∙ x.2,
+    ) };
 }

@@ -78,10 +78,13 @@ fn begin_handler<'s, W: Lives>(
     requires found { slice_get program.now.scenario.now.scripts due.now.script.0 ≡ Some script.now }
     requires fine { FineAt W.Knows due.now.level own.old }
     ensures at { IsAt W.Knows StandsAt due.now.level program.now own.new }
-    ensures said { Appends (log_of own.old) due.now.level (entry.Handler script.now.name) (log_of own.new) }
+    ensures said { Appends (log_of own.old) due.now.level (entry.Handler script.now.name)
+        (log_of own.new) }
     ensures fine { FineAt W.Knows due.now.level own.new }
     ensures came { CameAt W.Knows due.now.level own.old own.new }
-    ensures same { own.new ≡ record own.old { caches = own.new.caches; running = own.new.running; tables = own.new.tables } }
+    ensures same { own.new
+        ≡ record own.old
+        { caches = own.new.caches; running = own.new.running; tables = own.new.tables } }
     ensures running { own.new.running.items ≡ own.old.running.items ++ due.now ∷ [] }
     ensures tables { length own.new.tables.items + 1 ≡ length own.old.tables.items }
     ensures bound { BindsAll program.now.scenario.now.scripts result }
@@ -109,16 +112,23 @@ fn end_handler<'s, W: Lives>(
     requires at { IsAt W.Knows StandsAt due.now.level program.now own.old }
     requires found { slice_get program.now.scenario.now.scripts due.now.script.0 ≡ Some script.now }
     requires phrase { IfSome (log_of own.old)
-        (HasPhrase (known_of W.Knows own.old).grace.processor due.now.level program.now.scenario.now script.now.name) }
+        (HasPhrase (known_of W.Knows own.old).grace.processor due.now.level program.now.scenario.now
+        script.now.name) }
     requires fine { FineAt W.Knows due.now.level own.old }
     requires runs { (dues : List DueValue) × (own.old.running.items ≡ dues ++ due.now ∷ []) }
     requires bound { BindsAll program.now.scenario.now.scripts table }
-    ensures at { (was : ProcessorValue W) (k : ℕ) → IsDue W.Knows k program.now due.now was → own.old.running.items ≡ was.running.items ++ due.now ∷ [] → IsAt W.Knows AboutTo k program.now own.new }
-    ensures said { Appends (log_of own.old) due.now.level (entry.Back script.now.name) (log_of own.new) }
+    ensures at { (was : ProcessorValue W) (k : ℕ) → IsDue W.Knows k program.now due.now was
+        → own.old.running.items ≡ was.running.items ++ due.now ∷ []
+        → IsAt W.Knows AboutTo k program.now own.new }
+    ensures said { Appends (log_of own.old) due.now.level (entry.Back script.now.name)
+        (log_of own.new) }
     ensures fine { FineAt W.Knows due.now.level own.new }
     ensures came { CameAt W.Knows due.now.level own.old own.new }
-    ensures same { own.new ≡ record own.old { caches = own.new.caches; running = own.new.running; tables = own.new.tables } }
-    ensures running { (dues : List DueValue) → own.old.running.items ≡ dues ++ due.now ∷ [] → own.new.running.items ≡ dues }
+    ensures same { own.new
+        ≡ record own.old
+        { caches = own.new.caches; running = own.new.running; tables = own.new.tables } }
+    ensures running { (dues : List DueValue) → own.old.running.items ≡ dues ++ due.now ∷ []
+        → own.new.running.items ≡ dues }
     ensures tables { length own.new.tables.items ≡ length own.old.tables.items + 1 }
 {
     own.caches
@@ -140,9 +150,11 @@ pub(crate) fn run_one<'s, W: Lives, B: Since<W>, L: Rank>(
     requires level { due.now.level ≡ L.number }
     requires tied { TiedAt W.Knows B.since B.start own.old }
     requires fine { FineAt W.Knows due.now.level own.old }
-    ensures at { (k : ℕ) → IsDue W.Knows k program.now due.now own.old → IsAt W.Knows AboutTo k program.now own.new }
+    ensures at { (k : ℕ) → IsDue W.Knows k program.now due.now own.old
+        → IsAt W.Knows AboutTo k program.now own.new }
     ensures tied { TiedAt W.Knows B.since B.start own.new }
-    ensures between { Between W.Knows (due_cost program.now due.now) 2 due.now.level program.now own.old own.new }
+    ensures between { Between W.Knows (due_cost program.now due.now) 2 due.now.level program.now
+        own.old own.new }
     ensures lives { SameLives W.Knows own.old own.new }
 {
     let script = script_of(program, due);

@@ -37,12 +37,16 @@ fn run_code<'s, W: Lives, B: Since<W>, L: Rank>(
     requires above { 0 < L.number }
     requires found { (i : ℕ) × (slice_get program.now.scenario.now.scripts i ≡ Some script.now) }
     requires handles { script.now.kind ≡ kind.Handler }
-    requires asks { asked_of W.Knows program.now.scenario.now own.old + 3 * script_cost (Some script.now) < 2 ^ 22 }
+    requires asks { asked_of W.Knows program.now.scenario.now own.old
+        + 3 * script_cost (Some script.now)
+        < 2 ^ 22 }
     requires bound { BindsAll program.now.scenario.now.scripts table.old }
-    ensures ran { RanScript (declared_of program.now.types) L.number true None (lists_of own.old) script.now (log_of own.old) (log_of own.new) }
+    ensures ran { RanScript (declared_of program.now.types) L.number true None (lists_of own.old)
+        script.now (log_of own.old) (log_of own.new) }
     ensures at { IsAt W.Knows StandsAt L.number program.now own.new }
     ensures tied { TiedAt W.Knows B.since B.start own.new }
-    ensures between { Between W.Knows (3 * script_cost (Some script.now)) 0 L.number program.now own.old own.new }
+    ensures between { Between W.Knows (3 * script_cost (Some script.now)) 0 L.number program.now
+        own.old own.new }
     ensures lives { SameLives W.Knows own.old own.new }
     ensures bound { BindsAll program.now.scenario.now.scripts table.new }
 {
@@ -75,14 +79,19 @@ pub(crate) fn run_inside<'s, W: Lives, B: Since<W>, L: Rank>(
     requires above { 0 < L.number }
     requires found { (i : ℕ) × (slice_get program.now.scenario.now.scripts i ≡ Some script.now) }
     requires handles { script.now.kind ≡ kind.Handler }
-    requires asks { asked_of W.Knows program.now.scenario.now own.old + 3 * script_cost (Some script.now) < 2 ^ 22 }
+    requires asks { asked_of W.Knows program.now.scenario.now own.old
+        + 3 * script_cost (Some script.now)
+        < 2 ^ 22 }
     requires words { word_of W.Knows Plain own.old + 2 * length (left_of own.old) + 2 < 2 ^ 28 }
     requires bound { BindsAll program.now.scenario.now.scripts table.old }
-    ensures runs { GrewBy (HandlerRun program.now.scenario.now L.number script.now.name (word_of W.Knows Plain own.old))
+    ensures runs { GrewBy
+        (HandlerRun program.now.scenario.now L.number script.now.name
+        (word_of W.Knows Plain own.old))
         (lists_of own.old) (log_of own.old) (log_of own.new) }
     ensures at { IsAt W.Knows StandsAt L.number program.now own.new }
     ensures tied { TiedAt W.Knows B.since B.start own.new }
-    ensures between { Between W.Knows (3 * script_cost (Some script.now)) 2 L.number program.now own.old own.new }
+    ensures between { Between W.Knows (3 * script_cost (Some script.now)) 2 L.number program.now
+        own.old own.new }
     ensures lives { SameLives W.Knows own.old own.new }
     ensures bound { BindsAll program.now.scenario.now.scripts table.new }
 {

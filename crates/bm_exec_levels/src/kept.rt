@@ -57,7 +57,9 @@ struct Room {
 
 // What a processor has for the handlers that a scenario plans for it. Out of memory is the only refusal.
 fn make_room(alloc: Global, scenario: &Scenario, processor: u8) -> Result<Room, NoMemory>
-    ensures planned { IfOk result (λ room. room.handlers.planned ≡ record { left = planned_for processor scenario.now; ended = false }) }
+    ensures planned { IfOk result
+        (λ room. room.handlers.planned
+        ≡ record { left = planned_for processor scenario.now; ended = false }) }
     ensures scripts { IfOk result (λ room. room.handlers.scripts ≡ length scenario.now.scripts) }
     ensures running { IfOk result (λ room. room.running.items ≡ []) }
     ensures room_running { IfOk result (λ room. 3 ≤ vec_capacity room.running) }
@@ -84,12 +86,25 @@ impl Kept {
         processor: u8,
         caches: Caches<Keep>,
     ) -> Result<Kept, Caches<Keep>>
-        ensures fresh { IfOk result (λ kept. kept ≡ record kept { alloc = alloc; caches = caches; settled = 0; calls = 0; inside = false; locked = None }) }
-        ensures planned { IfOk result (λ kept. kept.handlers.planned ≡ record { left = planned_for processor scenario.now; ended = false }) }
-        ensures scripts { IfOk result (λ kept. kept.handlers.scripts ≡ length scenario.now.scripts) }
+        ensures fresh { IfOk result
+            (λ kept. kept
+            ≡ record kept {
+              alloc = alloc;
+              caches = caches;
+              settled = 0;
+              calls = 0;
+              inside = false;
+              locked = None;
+            }) }
+        ensures planned { IfOk result
+            (λ kept. kept.handlers.planned
+            ≡ record { left = planned_for processor scenario.now; ended = false }) }
+        ensures scripts { IfOk result
+            (λ kept. kept.handlers.scripts ≡ length scenario.now.scripts) }
         ensures running { IfOk result (λ kept. kept.running.items ≡ []) }
         ensures room_running { IfOk result (λ kept. 3 ≤ vec_capacity kept.running) }
-        ensures bound { IfOk result (λ kept. All (BindsAll scenario.now.scripts) kept.tables.items) }
+        ensures bound { IfOk result
+            (λ kept. All (BindsAll scenario.now.scripts) kept.tables.items) }
         ensures tables { IfOk result (λ kept. length kept.tables.items ≡ 3) }
         ensures room_tables { IfOk result (λ kept. 3 ≤ vec_capacity kept.tables) }
         ensures refused { IfErr result (λ back. back ≡ caches) }

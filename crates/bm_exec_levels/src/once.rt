@@ -21,11 +21,17 @@ pub(crate) fn work_once<R: Recorder, H: Desk<R>>(
     host: &mut H,
     class: Class,
 ) -> Result<(), NoMemory>
-    requires at_rest { Settled R.log R.counts H.Host.sound H.Host.tests H.Host.face H.Host.held host.old }
+    requires at_rest { Settled R.log R.counts H.Host.sound H.Host.tests H.Host.face H.Host.held
+        host.old }
     requires begins { (d : Domain) → 0 < (side d (H.W.Knows.known (H.shared host.old))).begins }
-    ensures works { OnOk result (Works R.log H.Host.face H.Host.pending H.stays H.Host.held (λ h. H.W.Knows.known (H.shared h)) 1 1 (λ l. Work 0 class) host.old host.new) }
-    ensures lowered { OnOk result (H.Host.pending host.new ≡ H.Host.pending host.old → ((shown (H.Host.held host.new)).rows class).raised ≡ false) }
-    ensures at_rest { OnOk result (Settled R.log R.counts H.Host.sound H.Host.tests H.Host.face H.Host.held host.new) }
+    ensures works { OnOk result
+        (Works R.log H.Host.face H.Host.pending H.stays H.Host.held
+        (λ h. H.W.Knows.known (H.shared h)) 1 1 (λ l. Work 0 class) host.old host.new) }
+    ensures lowered { OnOk result
+        (H.Host.pending host.new ≡ H.Host.pending host.old
+        → ((shown (H.Host.held host.new)).rows class).raised ≡ false) }
+    ensures at_rest { OnOk result
+        (Settled R.log R.counts H.Host.sound H.Host.tests H.Host.face H.Host.held host.new) }
 {
     match work(alloc, host, class) {
         Worked::Done => Ok(()),
@@ -39,10 +45,16 @@ pub(crate) fn work_each<R: Recorder, H: Desk<R>>(
     host: &mut H,
     classes: &[Class],
 ) -> Result<(), NoMemory>
-    requires at_rest { Settled R.log R.counts H.Host.sound H.Host.tests H.Host.face H.Host.held host.old }
-    requires begins { (d : Domain) → length classes.now ≤ (side d (H.W.Knows.known (H.shared host.old))).begins }
-    ensures works { OnOk result (Works R.log H.Host.face H.Host.pending H.stays H.Host.held (λ h. H.W.Knows.known (H.shared h)) (length classes.now) (length classes.now) (λ l. WorkEach classes.now) host.old host.new) }
-    ensures at_rest { OnOk result (Settled R.log R.counts H.Host.sound H.Host.tests H.Host.face H.Host.held host.new) }
+    requires at_rest { Settled R.log R.counts H.Host.sound H.Host.tests H.Host.face H.Host.held
+        host.old }
+    requires begins { (d : Domain)
+        → length classes.now ≤ (side d (H.W.Knows.known (H.shared host.old))).begins }
+    ensures works { OnOk result
+        (Works R.log H.Host.face H.Host.pending H.stays H.Host.held
+        (λ h. H.W.Knows.known (H.shared h)) (length classes.now) (length classes.now)
+        (λ l. WorkEach classes.now) host.old host.new) }
+    ensures at_rest { OnOk result
+        (Settled R.log R.counts H.Host.sound H.Host.tests H.Host.face H.Host.held host.new) }
 {
     for class in classes {
         work_once(alloc, host, *class)?;

@@ -34,7 +34,9 @@ pub trait Rank {
         requires fine { FineAt W.Knows (number + 1) own.old }
         ensures at { number < 3 → IsAt W.Knows AboutTo number program.now own.new }
         ensures tied { TiedAt W.Knows B.since B.start own.new }
-        ensures between { number < 3 → Between W.Knows (due_cost program.now due.now) 2 (number + 1) program.now own.old own.new }
+        ensures between { number < 3
+            → Between W.Knows (due_cost program.now due.now) 2 (number + 1) program.now own.old
+            own.new }
         ensures lives { SameLives W.Knows own.old own.new };
 }
 

@@ -36,16 +36,22 @@ pub fn enter_section<W: Lives>(own: &mut Processor<W>, level: Level, domain: Dom
     requires fine { FineAt W.Knows level own.old }
     requires outside { word_of W.Knows domain own.old % 2 ≡ 0 }
     requires room { word_of W.Knows domain own.old + 1 < 2 ^ 28 }
-    ensures said { Appends (log_of own.old) level (entry.In domain (word_of W.Knows domain own.old + 1)) (log_of own.new) }
-    ensures at { (p : ProgramValue) → IsAt W.Knows StandsAt level p own.old → word_of W.Knows Plain own.old + 2 * length (left_of own.old) + 1 < 2 ^ 28 → IsAt W.Knows StandsAt level p own.new }
-    ensures tied { (since : Log) (start : W) → TiedAt W.Knows since start own.old → TiedAt W.Knows since start own.new }
+    ensures said { Appends (log_of own.old) level
+        (entry.In domain (word_of W.Knows domain own.old + 1)) (log_of own.new) }
+    ensures at { (p : ProgramValue) → IsAt W.Knows StandsAt level p own.old
+        → word_of W.Knows Plain own.old + 2 * length (left_of own.old) + 1 < 2 ^ 28
+        → IsAt W.Knows StandsAt level p own.new }
+    ensures tied { (since : Log) (start : W) → TiedAt W.Knows since start own.old
+        → TiedAt W.Knows since start own.new }
     ensures fine { FineAt W.Knows level own.new }
     ensures came { CameAt W.Knows level own.old own.new }
     ensures lists { shown own.new.caches ≡ shown own.old.caches }
-    ensures known { known_of W.Knows own.new ≡ entered W.Knows.tells domain (known_of W.Knows own.old) }
+    ensures known { known_of W.Knows own.new
+        ≡ entered W.Knows.tells domain (known_of W.Knows own.old) }
     ensures rights { AsBefore (W.Knows.rights own.old.side) (W.Knows.rights own.new.side) }
     ensures inside { own.new.inside ≡ for_domain Plain domain true own.old.inside }
-    ensures same { own.new ≡ record own.old { caches = own.new.caches; side = own.new.side; inside = own.new.inside } }
+    ensures same { own.new
+        ≡ record own.old { caches = own.new.caches; side = own.new.side; inside = own.new.inside } }
 {
     let word = own.side.enter(domain);
     own.inside = inside_after(domain, true, own.inside);
@@ -57,16 +63,22 @@ pub fn enter_section<W: Lives>(own: &mut Processor<W>, level: Level, domain: Dom
 pub fn leave_section<W: Lives>(own: &mut Processor<W>, level: Level, domain: Domain)
     requires fine { FineAt W.Knows level own.old }
     requires inside { word_of W.Knows domain own.old % 2 ≡ 1 }
-    ensures said { Appends (log_of own.old) level (entry.Out domain (word_of W.Knows domain own.old + 1)) (log_of own.new) }
-    ensures at { (p : ProgramValue) → IsAt W.Knows StandsAt level p own.old → word_of W.Knows Plain own.old + 2 * length (left_of own.old) + 1 < 2 ^ 28 → IsAt W.Knows StandsAt level p own.new }
-    ensures tied { (since : Log) (start : W) → TiedAt W.Knows since start own.old → TiedAt W.Knows since start own.new }
+    ensures said { Appends (log_of own.old) level
+        (entry.Out domain (word_of W.Knows domain own.old + 1)) (log_of own.new) }
+    ensures at { (p : ProgramValue) → IsAt W.Knows StandsAt level p own.old
+        → word_of W.Knows Plain own.old + 2 * length (left_of own.old) + 1 < 2 ^ 28
+        → IsAt W.Knows StandsAt level p own.new }
+    ensures tied { (since : Log) (start : W) → TiedAt W.Knows since start own.old
+        → TiedAt W.Knows since start own.new }
     ensures fine { FineAt W.Knows level own.new }
     ensures came { CameAt W.Knows level own.old own.new }
     ensures lists { shown own.new.caches ≡ shown own.old.caches }
-    ensures known { known_of W.Knows own.new ≡ left W.Knows.tells domain (known_of W.Knows own.old) }
+    ensures known { known_of W.Knows own.new
+        ≡ left W.Knows.tells domain (known_of W.Knows own.old) }
     ensures rights { AsBefore (W.Knows.rights own.old.side) (W.Knows.rights own.new.side) }
     ensures inside { own.new.inside ≡ for_domain Plain domain false own.old.inside }
-    ensures same { own.new ≡ record own.old { caches = own.new.caches; side = own.new.side; inside = own.new.inside } }
+    ensures same { own.new
+        ≡ record own.old { caches = own.new.caches; side = own.new.side; inside = own.new.inside } }
 {
     let word = own.side.leave(domain);
     own.inside = inside_after(domain, false, own.inside);

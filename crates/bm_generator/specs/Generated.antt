@@ -30,9 +30,31 @@ use Rattle.bm_generator.specs.Pieces.{pieces, behind_pieces}
 -- `type job counted list { a b }`, `type node tree { k }`, `type part counted { v }`
 abbrev pub types : List TypeDeclaration
 types =
-    record { line = 5; name = codes "job"; counted = true; node = Some node.List; fields = codes "a" ∷ codes "b" ∷ []; pad = None } ∷
-    record { line = 8; name = codes "node"; counted = false; node = Some node.Tree; fields = codes "k" ∷ []; pad = None } ∷
-    record { line = 11; name = codes "part"; counted = true; node = None; fields = codes "v" ∷ []; pad = None } ∷ []
+    record {
+      line = 5;
+      name = codes "job";
+      counted = true;
+      node = Some node.List;
+      fields = codes "a" ∷ codes "b" ∷ [];
+      pad = None;
+    } ∷
+    record {
+      line = 8;
+      name = codes "node";
+      counted = false;
+      node = Some node.Tree;
+      fields = codes "k" ∷ [];
+      pad = None;
+    } ∷
+    record {
+      line = 11;
+      name = codes "part";
+      counted = true;
+      node = None;
+      fields = codes "v" ∷ [];
+      pad = None;
+    }
+    ∷ []
 
 abbrev pub job : TypeId
 job = record { 0 = 0 }
@@ -65,7 +87,8 @@ abbrev pub room : ℕ
 room = 10000
 
 pub has_room : {A : Type 0} (items : List A) → length (take room items) ≤ room
-has_room items = subst (λ n. n ≤ room) (sym (length-take room items)) (min-le_left room (length items))
+has_room items =
+    subst (λ n. n ≤ room) (sym (length-take room items)) (min-le_left room (length items))
 
 -- A block of these statements that ends on this line. It has room for 10,000: a script has at most five for each of at most
 -- 2,000 pieces.
@@ -73,7 +96,16 @@ abbrev pub block_of : List Statement → ℕ → Block
 block_of statements line = roll-Block (record { statements = vector; end_line = line })
   where
     vector : Vec Statement
-    vector = record { ptr = null_ptr; len = length (take room statements); cap = room; alloc = record { memory = record { seal = tt } }; items = take room statements; ok = (refl, has_room statements); small = lit< tt }
+    vector =
+        record {
+          ptr = null_ptr;
+          len = length (take room statements);
+          cap = room;
+          alloc = record { memory = record { seal = tt } };
+          items = take room statements;
+          ok = (refl, has_room statements);
+          small = lit< tt;
+        }
 
 abbrev pub on_line : ℕ → Action → Statement
 on_line line a = record { line = line; action = a }
@@ -101,19 +133,31 @@ g = codes "g"
 abbrev pub statements : ℕ → Piece → List Statement
 statements l (piece.Push a b) =
     on_line l (New x job (a ∷ b ∷ [])) ∷
-    unless_null (l + 1) x (on_line (l + 2) (Lock q) ∷ on_line (l + 3) (PushBack q x) ∷ on_line (l + 4) Unlock ∷ []) (l + 5) ∷ []
+    unless_null (l + 1) x
+    (on_line (l + 2) (Lock q) ∷ on_line (l + 3) (PushBack q x) ∷ on_line (l + 4) Unlock
+    ∷ [])
+    (l + 5)
+    ∷ []
 statements l piece.Pop =
     on_line l (Lock q) ∷ on_line (l + 1) (PopFront x q) ∷ on_line (l + 2) Unlock ∷
     unless_null (l + 3) x (on_line (l + 4) (Drop x) ∷ []) (l + 5) ∷ []
 statements l (piece.Plant k) =
     on_line l (New x tree_node (k ∷ [])) ∷
-    unless_null (l + 1) x (on_line (l + 2) (Lock t) ∷ on_line (l + 3) (Add t x) ∷ on_line (l + 4) Unlock ∷ []) (l + 5) ∷ []
+    unless_null (l + 1) x
+    (on_line (l + 2) (Lock t) ∷ on_line (l + 3) (Add t x) ∷ on_line (l + 4) Unlock ∷ [])
+    (l + 5)
+    ∷ []
 statements l piece.Pick =
-    on_line l (Lock t) ∷ on_line (l + 1) (First f t) ∷ on_line (l + 2) (Remove g t f) ∷ on_line (l + 3) Unlock ∷
+    on_line l (Lock t) ∷ on_line (l + 1) (First f t) ∷ on_line (l + 2) (Remove g t f)
+    ∷ on_line (l + 3) Unlock ∷
     unless_null (l + 4) g (on_line (l + 5) (Drop g) ∷ []) (l + 6) ∷ []
 statements l (piece.Swap v) =
     on_line l (New x part (v ∷ [])) ∷
-    unless_null (l + 1) x (on_line (l + 2) (Exchange o spare (Some x)) ∷ unless_null (l + 3) o (on_line (l + 4) (Drop o) ∷ []) (l + 5) ∷ []) (l + 6) ∷ []
+    unless_null (l + 1) x
+    (on_line (l + 2) (Exchange o spare (Some x))
+    ∷ unless_null (l + 3) o (on_line (l + 4) (Drop o) ∷ []) (l + 5) ∷ [])
+    (l + 6)
+    ∷ []
 statements l piece.Yield = on_line l Yield ∷ []
 
 -- how many lines a piece has
@@ -138,7 +182,13 @@ body l (p ∷ ps) = statements l p ++ body (l + height p) ps
 
 -- the script of a processor, named `p` and its number, with these pieces; its first line is l
 abbrev pub script : ℕ → ℕ → List Piece → Script
-script processor l ps = record { line = l; name = 112 ∷ (48 + processor) ∷ []; kind = Plain; body = block_of (body (l + 1) ps) (l + 1 + heights ps) }
+script processor l ps =
+    record {
+      line = l;
+      name = 112 ∷ (48 + processor) ∷ [];
+      kind = Plain;
+      body = block_of (body (l + 1) ps) (l + 1 + heights ps);
+    }
 
 -- the line behind such a script
 abbrev pub behind_script : ℕ → List Piece → ℕ
@@ -146,12 +196,20 @@ behind_script l ps = l + 2 + heights ps
 
 -- the handler `h`, which makes a part of value 7 and puts it into the slot
 abbrev pub handler : ℕ → Script
-handler l = record { line = l; name = codes "h"; kind = Handler; body = block_of (statements (l + 1) (piece.Swap 7)) (l + 8) }
+handler l =
+    record {
+      line = l;
+      name = codes "h";
+      kind = Handler;
+      body = block_of (statements (l + 1) (piece.Swap 7)) (l + 8);
+    }
 
 -- the scripts of k processors from this one on, with n pieces each, drawn from state s on, and the handler; they begin on line l
 abbrev pub scripts : ℕ → ℕ → ℕ → ℕ → ℕ → List Script
 scripts zero processor n s l = handler l ∷ []
-scripts (suc k) processor n s l = script processor l (pieces n s) ∷ scripts k (processor + 1) n (behind_pieces n s) (behind_script l (pieces n s))
+scripts (suc k) processor n s l =
+    script processor l (pieces n s)
+    ∷ scripts k (processor + 1) n (behind_pieces n s) (behind_script l (pieces n s))
 
 -- the line of the handler
 abbrev pub handler_line : ℕ → ℕ → ℕ → ℕ → ℕ

@@ -6,11 +6,15 @@ use Rattle.bm_generator.specs.declared.pieces.Piece.TheVariants.{Push, Pop, Plan
 use Rattle.bm_generator.specs.Pieces.{pieces, behind_pieces}
 
 abbrev pub piece_text : Piece → List ℕ
-piece_text (Push a b) = codes "new x job " ++ (decimal a ++ 32 ∷ (decimal b ++ codes "\nif x {\nlock q\npush_back q x\nunlock\n}\n"))
+piece_text (Push a b) =
+    codes "new x job "
+    ++ (decimal a ++ 32 ∷ (decimal b ++ codes "\nif x {\nlock q\npush_back q x\nunlock\n}\n"))
 piece_text Pop = codes "lock q\npop_front x q\nunlock\nif x {\ndrop x\n}\n"
-piece_text (Plant k) = codes "new x node " ++ (decimal k ++ codes "\nif x {\nlock t\nadd t x\nunlock\n}\n")
+piece_text (Plant k) =
+    codes "new x node " ++ (decimal k ++ codes "\nif x {\nlock t\nadd t x\nunlock\n}\n")
 piece_text Pick = codes "lock t\nfirst f t\nremove g t f\nunlock\nif g {\ndrop g\n}\n"
-piece_text (Swap v) = codes "new x part " ++ (decimal v ++ codes "\nif x {\nxchg o spare x\nif o {\ndrop o\n}\n}\n")
+piece_text (Swap v) =
+    codes "new x part " ++ (decimal v ++ codes "\nif x {\nxchg o spare x\nif o {\ndrop o\n}\n}\n")
 piece_text Yield = codes "yield\n"
 
 -- what stands before the scripts
@@ -18,19 +22,23 @@ abbrev pub header_text : List ℕ
 header_text = codes "scenario {\nprocessors 4\npages 64\ndeferred on\n"
 
 abbrev pub types_text : List ℕ
-types_text = codes "type job counted list {\na b\n}\ntype node tree {\nk\n}\ntype part counted {\nv\n}\n"
+types_text =
+    codes "type job counted list {\na b\n}\ntype node tree {\nk\n}\ntype part counted {\nv\n}\n"
 
 abbrev pub maps_text : List ℕ
 maps_text = codes "slot spare part\nlist q job\ntree t node\n"
 
 -- the script of a processor with these pieces
 abbrev pub script_text : ℕ → List Piece → List ℕ
-script_text processor ps = codes "script p" ++ (48 + processor) ∷ (codes " plain {\n" ++ (flat_map piece_text ps ++ codes "}\n"))
+script_text processor ps =
+    codes "script p" ++ (48 + processor)
+    ∷ (codes " plain {\n" ++ (flat_map piece_text ps ++ codes "}\n"))
 
 -- the scripts of k processors from this one on, with n pieces each, drawn from state s on
 abbrev pub scripts_text : ℕ → ℕ → ℕ → ℕ → List ℕ
 scripts_text zero processor n s = []
-scripts_text (suc k) processor n s = script_text processor (pieces n s) ++ scripts_text k (processor + 1) n (behind_pieces n s)
+scripts_text (suc k) processor n s =
+    script_text processor (pieces n s) ++ scripts_text k (processor + 1) n (behind_pieces n s)
 
 -- the handler, and the lines that run scripts
 abbrev pub handler_text : List ℕ

@@ -9,15 +9,21 @@ use Rattle.bm_generator.specs.Generated.{generated}
 
 -- what stands before the first script of each
 abbrev pub front : List ℕ
-front = codes "scenario {\nprocessors 4\npages 64\ndeferred on\ntype job counted list {\na b\n}\ntype node tree {\nk\n}\ntype part counted {\nv\n}\nslot spare part\nlist q job\ntree t node\n"
+front =
+    codes
+    "scenario {\nprocessors 4\npages 64\ndeferred on\ntype job counted list {\na b\n}\ntype node tree {\nk\n}\ntype part counted {\nv\n}\nslot spare part\nlist q job\ntree t node\n"
 
 -- .. and behind the last, up to the turns
 abbrev pub back : List ℕ
-back = codes "script h handler {\nnew x part 7\nif x {\nxchg o spare x\nif o {\ndrop o\n}\n}\n}\nrun 0 p0\nrun 1 p1\nrun 2 p2\nrun 3 p3\nat 0 100 1 h\nat 1 200 2 h\nturns {\n"
+back =
+    codes
+    "script h handler {\nnew x part 7\nif x {\nxchg o spare x\nif o {\ndrop o\n}\n}\n}\nrun 0 p0\nrun 1 p1\nrun 2 p2\nrun 3 p3\nat 0 100 1 h\nat 1 200 2 h\nturns {\n"
 
 -- `gen 1 0`
 abbrev pub scripts_1_0 : List ℕ
-scripts_1_0 = codes "script p0 plain {\nyield\n}\nscript p1 plain {\nnew x job 37 36\nif x {\nlock q\npush_back q x\nunlock\n}\n}\nscript p2 plain {\nyield\n}\nscript p3 plain {\nyield\n}\n"
+scripts_1_0 =
+    codes
+    "script p0 plain {\nyield\n}\nscript p1 plain {\nnew x job 37 36\nif x {\nlock q\npush_back q x\nunlock\n}\n}\nscript p2 plain {\nyield\n}\nscript p3 plain {\nyield\n}\n"
 
 abbrev pub text_1_0 : List ℕ
 text_1_0 = front ++ (scripts_1_0 ++ (back ++ codes "0 1 2 3\n}\n}\n"))

@@ -33,7 +33,8 @@ pub fn generated_text(alloc: Global, count: u32, start: u64) -> Result<Vec<u8>, 
 
 // What stands before the scripts.
 fn put_head(out: &mut Vec<u8>) -> Result<(), NoMemory>
-    ensures { OnOk result (out.new.items ≡ out.old.items ++ (header_text ++ (types_text ++ maps_text))) }
+    ensures { OnOk result
+        (out.new.items ≡ out.old.items ++ (header_text ++ (types_text ++ maps_text))) }
 {
     put_bytes(out, b"scenario {\nprocessors 4\npages 64\ndeferred on\n")?;
     put_bytes(
@@ -45,7 +46,8 @@ fn put_head(out: &mut Vec<u8>) -> Result<(), NoMemory>
 
 // Pieces, one drawn after the other.
 fn put_pieces(out: &mut Vec<u8>, draws: &mut Draws, count: u32) -> Result<(), NoMemory>
-    ensures text { OnOk result (out.new.items ≡ out.old.items ++ flat_map piece_text (pieces count draws.old.state)) }
+    ensures text { OnOk result
+        (out.new.items ≡ out.old.items ++ flat_map piece_text (pieces count draws.old.state)) }
     ensures state { OnOk result (draws.new.state ≡ behind_pieces count draws.old.state) }
 {
     for _ in 0..count {
@@ -63,7 +65,8 @@ fn put_script(
     count: u32,
 ) -> Result<(), NoMemory>
     requires { processor < 4 }
-    ensures text { OnOk result (out.new.items ≡ out.old.items ++ script_text processor (pieces count draws.old.state)) }
+    ensures text { OnOk result
+        (out.new.items ≡ out.old.items ++ script_text processor (pieces count draws.old.state)) }
     ensures state { OnOk result (draws.new.state ≡ behind_pieces count draws.old.state) }
 {
     put_bytes(out, b"script p")?;
@@ -85,7 +88,8 @@ fn put_scripts(out: &mut Vec<u8>, mut draws: Draws, count: u32) -> Result<(), No
 
 // The handler's script, and the lines that run scripts.
 fn put_lines(out: &mut Vec<u8>) -> Result<(), NoMemory>
-    ensures { OnOk result (out.new.items ≡ out.old.items ++ (handler_text ++ (run_text ++ at_text))) }
+    ensures { OnOk result
+        (out.new.items ≡ out.old.items ++ (handler_text ++ (run_text ++ at_text))) }
 {
     put_bytes(out, b"script h handler {\n")?;
     put_swap(out, 7)?;

@@ -13,7 +13,8 @@ use Rattle.bm_grace.specs.Known.{Known, Side, side}
 use Rattle.bm_grace.specs.Calls.{looks, processor_at, read}
 
 -- a stamp was answered: there was a number, not below the one seen before, and the stamp is that number's
-pub record Stamped (tells : Bool) (domain : Domain) (stamp : ℕ) (before after : Known) : Type 0 where
+pub record Stamped (tells : Bool) (domain : Domain) (stamp : ℕ) (before after : Known) :
+    Type 0 where
   pub number : ℕ
   pub seen : (side domain before).seen ≤ number
   pub stamp_is : stamp ≡ next number
@@ -51,7 +52,8 @@ pub record Waiting (i : ℕ) (first later : List ℕ) : Type 0 where
 -- an answer that names the word at a place of a period, by its processor
 abbrev pub IsNamed : Look → Domain → ℕ → ℕ → Type 0
 IsNamed All domain place word = ⊥
-IsNamed (Waits processor seen) domain place word = (processor ≡ processor_at domain place) × (seen ≡ word)
+IsNamed (Waits processor seen) domain place word =
+    (processor ≡ processor_at domain place) × (seen ≡ word)
 
 -- the first word that doesn't pass, as an answer names it
 pub record WaitsFor (processor word : ℕ) (domain : Domain) (first later : List ℕ) : Type 0 where
@@ -70,7 +72,9 @@ pub record CanFinish (domain : Domain) (known : Known) : Type 0 where
   pub driving : (side domain known).number % 2 ≡ 1
   pub first : length (side domain known).first ≡ looks domain known.grace.processors
   pub later : length (side domain known).later ≡ looks domain known.grace.processors
-  pub passed : ArePassed (looks domain known.grace.processors) (side domain known).first (side domain known).later
+  pub passed :
+      ArePassed (looks domain known.grace.processors) (side domain known).first
+      (side domain known).later
 
 -- the period that was in progress on a side, once it has ended
 abbrev pub ended : Domain → Side → Period

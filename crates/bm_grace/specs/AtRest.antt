@@ -28,9 +28,13 @@ pub record IsDriven (n : ℕ) (here : DomainState) : Type 0 where
   pub few : IfSome here.driver (λ p. p < n)
 
 -- what nobody has in progress, this side hasn't
-no-driver : (here : DomainState) (processor : ℕ) → here.driver ≡ None → (side_in processor here).number ≡ 0
-no-driver here processor none = ap (λ (o : Option ℕ). if is_processor processor o then here.number else 0) none
+no-driver :
+    (here : DomainState) (processor : ℕ) → here.driver ≡ None → (side_in processor here).number ≡ 0
+no-driver here processor none =
+    ap (λ (o : Option ℕ). if is_processor processor o then here.number else 0) none
 
-pub idle-at-rest : (g : PlainState) (d : Domain) (n : ℕ) → IsAtRest g d n → n % 2 ≡ 0 → (side d (known_in g)).number ≡ 0
+pub idle-at-rest :
+    (g : PlainState) (d : Domain) (n : ℕ) → IsAtRest g d n → n % 2 ≡ 0
+    → (side d (known_in g)).number ≡ 0
 idle-at-rest g Plain n rest even = no-driver g.plain g.processor (rest.no_driver even)
 idle-at-rest g Tracing n rest even = no-driver g.tracing g.processor (rest.no_driver even)

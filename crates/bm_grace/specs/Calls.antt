@@ -45,7 +45,8 @@ left = moved Leave
 -- the number of the domain was read
 abbrev pub read : Bool → Domain → ℕ → Known → Known
 read tells domain number known =
-    changed tells domain (record (side domain known) { seen = number }) (one_step Stamp (Number domain) number number) known
+    changed tells domain (record (side domain known) { seen = number })
+    (one_step Stamp (Number domain) number number) known
 
 -- the number that was found where a period was to begin at an even one, and the number that was left
 abbrev pub found_at : ℕ → Began → ℕ
@@ -94,11 +95,13 @@ look_steps domain i (word ∷ words) =
 abbrev pub looked : Bool → Domain → List ℕ → Known → Known
 looked tells domain words known =
     let s = side domain known in
-    changed tells domain (record s { first = first_or words s.first; later = words }) (look_steps domain 0 words) known
+    changed tells domain (record s { first = first_or words s.first; later = words })
+    (look_steps domain 0 words) known
 
 -- the period that was in progress has ended
 abbrev pub finished : Bool → Domain → Known → Known
 finished tells domain known =
     let s = side domain known in
     let step = one_step Finish (Number domain) s.number (s.number + 1) in
-    changed tells domain (record s { number = 0; first = []; later = []; seen = s.number + 1 }) step known
+    changed tells domain (record s { number = 0; first = []; later = []; seen = s.number + 1 }) step
+    known

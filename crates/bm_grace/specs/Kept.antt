@@ -33,4 +33,6 @@ pub record IsPlain (processors processor : ℕ) (plain tracing : DomainState) : 
   pub plain_words : (plain.first ≡ []) ⊎ (length plain.first ≡ processors)
   pub tracing_words : (tracing.first ≡ []) ⊎ (length tracing.first ≡ 2 * processors)
   pub plain_grown : AreAtMost plain.first (take processors plain.words)
-  pub tracing_grown : AreAtMost tracing.first (in_turn (take processors plain.words) (take processors tracing.words))
+  pub tracing_grown :
+      AreAtMost tracing.first
+      (in_turn (take processors plain.words) (take processors tracing.words))

@@ -9,4 +9,6 @@ pub record IsGracePeriod (begun : ℕ) (period : Period) : Type 0 where
   pub number : period.number ≡ begun + 1
   pub even : period.number % 2 ≡ 0
   pub words : length period.first ≡ length period.later
-  pub passed : (i : ℕ) → i < length period.first → IsPassed (slice_index period.first i) (slice_index period.later i)
+  pub passed :
+      (i : ℕ) → i < length period.first
+      → IsPassed (slice_index period.first i) (slice_index period.later i)

@@ -5,6 +5,7 @@ pub mod Calls
 pub mod Kept
 pub mod Known
 pub mod Law
+pub mod Living
 pub mod PlainState
 pub mod Rest
 pub mod Rights

@@ -27,7 +27,15 @@ pub record PlainState : Type 0 where
 
 -- Nobody has done anything.
 abbrev pub idle : DomainState
-idle = record { words = replicate 8 0; begins = replicate 8 134217728; number = 0; driver = None; first = []; later = [] }
+idle =
+    record {
+      words = replicate 8 0;
+      begins = replicate 8 134217728;
+      number = 0;
+      driver = None;
+      first = [];
+      later = [];
+    }
 
 abbrev pub domain_in : Domain → PlainState → DomainState
 domain_in Plain state = state.plain
@@ -64,7 +72,8 @@ period_ended here = record here { number = here.number + 1; driver = None; first
 -- The words that a period of a domain looks at: the plain ones, and in the tracing domain both of each processor.
 abbrev pub words_in : Domain → PlainState → List ℕ
 words_in Plain state = take state.processors state.plain.words
-words_in Tracing state = in_turn (take state.processors state.plain.words) (take state.processors state.tracing.words)
+words_in Tracing state =
+    in_turn (take state.processors state.plain.words) (take state.processors state.tracing.words)
 
 -- Whether it is this processor.
 abbrev pub is_processor : ℕ → Option ℕ → Bool

@@ -8,6 +8,7 @@ abbrev pub StaysAtRest : {W : Type 0} → (W → Domain → ℕ → Type 0) → 
 StaysAtRest rest before now = (d : Domain) (n : ℕ) → rest before d n → rest now d n
 
 -- .. and the number of this domain goes from one to another, and the other domain's stays as it was
-pub record MovesNumber {W : Type 0} (rest : W → Domain → ℕ → Type 0) (domain : Domain) (from to : ℕ) (before now : W) : Type 0 where
+pub record MovesNumber {W : Type 0} (rest : W → Domain → ℕ → Type 0) (domain : Domain) (from to : ℕ)
+    (before now : W) : Type 0 where
   pub moves : rest before domain from → rest now domain to
   pub other : (d : Domain) (n : ℕ) → d ≢ domain → rest before d n → rest now d n

@@ -31,15 +31,19 @@ no_rights = record {
 -- mine since more stamps.
 pub record Ages (before now : Rights) : Type 0 where
   pub mine : (n : ℕ) → now.mine n ≡ before.mine n
-  pub settled : (n life : ℕ) (seal : Option Seal) → now.settled n life seal ≡ before.settled n life seal
+  pub settled :
+      (n life : ℕ) (seal : Option Seal) → now.settled n life seal ≡ before.settled n life seal
   pub due : (n life : ℕ) (seal : Option Seal) → now.due n life seal ≡ before.due n life seal
-  pub ripe : (n life : ℕ) (seal : Option Seal) → before.ripe n life seal ≡ true → now.ripe n life seal ≡ true
+  pub ripe :
+      (n life : ℕ) (seal : Option Seal) → before.ripe n life seal ≡ true
+      → now.ripe n life seal ≡ true
   pub since : (d : Domain) (x n : ℕ) → before.since d x n ≡ true → now.since d x n ≡ true
 
 -- all of it is as before
 pub record AsBefore (before now : Rights) : Type 0 where
   pub mine : (n : ℕ) → now.mine n ≡ before.mine n
-  pub settled : (n life : ℕ) (seal : Option Seal) → now.settled n life seal ≡ before.settled n life seal
+  pub settled :
+      (n life : ℕ) (seal : Option Seal) → now.settled n life seal ≡ before.settled n life seal
   pub due : (n life : ℕ) (seal : Option Seal) → now.due n life seal ≡ before.due n life seal
   pub ripe : (n life : ℕ) (seal : Option Seal) → now.ripe n life seal ≡ before.ripe n life seal
   pub since : (d : Domain) (x n : ℕ) → now.since d x n ≡ before.since d x n
@@ -55,5 +59,7 @@ seal_by Tracing stamp number = None
 
 -- a stamp was passed: what is due and has been mine since it was taken is ripe
 abbrev pub Ripens : Domain → ℕ → Done → Rights → Rights → Type 0
-Ripens d x (Passed number) before now = (n life : ℕ) → before.mine n ≡ true → before.since d x n ≡ true → before.due n life None ≡ true → now.ripe n life (seal_by d x number) ≡ true
+Ripens d x (Passed number) before now =
+    (n life : ℕ) → before.mine n ≡ true → before.since d x n ≡ true → before.due n life None ≡ true
+    → now.ripe n life (seal_by d x number) ≡ true
 Ripens d x (NotYet number) before now = Unit {0}

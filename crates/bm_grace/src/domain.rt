@@ -146,7 +146,13 @@ impl OneDomain {
     /// Ends the period in progress.
     pub fn finish(&mut self, domain: Domain) -> Period
         requires driving { self.old.number % 2 ≡ 1 }
-        ensures period { result ≡ record { domain = domain; number = self.old.number + 1; first = self.old.first; later = self.old.later } }
+        ensures period { result
+            ≡ record {
+              domain = domain;
+              number = self.old.number + 1;
+              first = self.old.first;
+              later = self.old.later;
+            } }
         ensures state { self.new ≡ period_ended self.old }
     {
         self.number += 1;

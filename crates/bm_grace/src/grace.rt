@@ -37,7 +37,8 @@ pub trait Knows {
     /// No act changes nothing, and acts follow each other.
     ghost does_same: { (a : Self) → does [] a a };
 
-    ghost does_join: { (es fs : List Act) (a b c : Self) → does es a b → does fs b c → does (es ++ fs) a c };
+    ghost does_join: { (es fs : List Act) (a b c : Self) → does es a b → does fs b c
+        → does (es ++ fs) a c };
 }
 
 /// One processor's side of both domains. A domain stands for a kind of grace period of the kernel: `Plain` for RCU,
@@ -71,7 +72,8 @@ pub trait Grace: Knows {
     /// afterwards. That is the number and 2 where no period is in progress, and the number and 3 where one is. From
     /// `get_state_synchronize_rcu`; `call_rcu` and `call_rcu_tasks_trace` keep it in a callback's place in its list.
     fn stamp(&mut self, domain: Domain) -> u32
-        ensures known { Stamped Self.tells domain result (Self.known self.old) (Self.known self.new) }
+        ensures known { Stamped Self.tells domain result (Self.known self.old)
+            (Self.known self.new) }
         ensures rights { Ages (Self.rights self.old) (Self.rights self.new) }
         ensures since { MineSince domain result (Self.rights self.old) (Self.rights self.new) }
         ensures rest { StaysAtRest Self.rest self.old self.new }
@@ -82,7 +84,8 @@ pub trait Grace: Knows {
     fn done(&mut self, domain: Domain, stamp: u32) -> Done
         ensures answer { Answers result stamp }
         ensures seen { (side domain (Self.known self.old)).seen ≤ number_in result }
-        ensures known { Self.known self.new ≡ read Self.tells domain (number_in result) (Self.known self.old) }
+        ensures known { Self.known self.new
+            ≡ read Self.tells domain (number_in result) (Self.known self.old) }
         ensures rights { Ages (Self.rights self.old) (Self.rights self.new) }
         ensures ripe { Ripens domain stamp result (Self.rights self.old) (Self.rights self.new) }
         ensures rest { StaysAtRest Self.rest self.old self.new }
@@ -97,7 +100,8 @@ pub trait Grace: Knows {
         requires room { 0 < (side domain (Self.known self.old)).begins }
         ensures answer { BeganAt result even }
         ensures seen { (side domain (Self.known self.old)).seen ≤ found_at even result }
-        ensures known { Self.known self.new ≡ began Self.tells domain result even (Self.known self.old) }
+        ensures known { Self.known self.new
+            ≡ began Self.tells domain result even (Self.known self.old) }
         ensures rights { Ages (Self.rights self.old) (Self.rights self.new) }
         ensures rest { MovesNumber Self.rest domain even (even + 1) self.old self.new }
         ensures at_rest { Self.rest self.old domain even → result ≡ Won }
@@ -110,15 +114,20 @@ pub trait Grace: Knows {
     /// `rcu_watching_snap_recheck` and `rcu_tasks_wait_gp`.
     fn look(&mut self, domain: Domain) -> Look
         requires driving { (side domain (Self.known self.old)).number % 2 ≡ 1 }
-        ensures first { length (side domain (Self.known self.new)).first ≡ looks domain (Self.known self.old).grace.processors }
-        ensures later { length (side domain (Self.known self.new)).later ≡ looks domain (Self.known self.old).grace.processors }
-        ensures answer { let s = side domain (Self.known self.new) in Verdict result domain s.first s.later }
+        ensures first { length (side domain (Self.known self.new)).first
+            ≡ looks domain (Self.known self.old).grace.processors }
+        ensures later { length (side domain (Self.known self.new)).later
+            ≡ looks domain (Self.known self.old).grace.processors }
+        ensures answer { let s = side domain (Self.known self.new) in
+            Verdict result domain s.first s.later }
         ensures known { Self.known self.new
-            ≡ looked Self.tells domain (side domain (Self.known self.new)).later (Self.known self.old) }
+            ≡ looked Self.tells domain (side domain (Self.known self.new)).later
+            (Self.known self.old) }
         ensures rights { Ages (Self.rights self.old) (Self.rights self.new) }
         ensures rest { StaysAtRest Self.rest self.old self.new }
         ensures at_rest { (n : ℕ) → Self.rest self.old domain n → result ≡ All }
-        ensures does { Self.does (Looks domain (side domain (Self.known self.new)).later ∷ []) self.old self.new };
+        ensures does { Self.does (Looks domain (side domain (Self.known self.new)).later ∷ [])
+            self.old self.new };
 
     /// Ends the period of a domain that this side has in progress and all of whose words have passed. The number is
     /// even again. The answer has that number, and the words as they were first and last looked at. From `rcu_seq_end`.
@@ -136,5 +145,6 @@ pub trait Grace: Knows {
         ensures odd { result ≡ true → (side domain (Self.known self.now)).number % 2 ≡ 1 };
 
     // Where all is at rest and the number is even, no period is in progress.
-    ghost idle_at_rest: { (g : Self) (d : DomainValue) (n : ℕ) → Self.rest g d n → n % 2 ≡ 0 → (side d (Self.known g)).number ≡ 0 };
+    ghost idle_at_rest: { (g : Self) (d : DomainValue) (n : ℕ) → Self.rest g d n → n % 2 ≡ 0
+        → (side d (Self.known g)).number ≡ 0 };
 }

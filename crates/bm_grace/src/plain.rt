@@ -49,7 +49,8 @@ impl PlainGrace {
     pub fn new(processors: u8) -> PlainGrace
         requires some { 0 < processors }
         requires limit { processors ≤ 8 }
-        ensures { result ≡ record { processors = processors; processor = 0; plain = idle; tracing = idle } }
+        ensures { result
+            ≡ record { processors = processors; processor = 0; plain = idle; tracing = idle } }
     {
         PlainGrace {
             processors,
@@ -87,7 +88,8 @@ impl PlainGrace {
         requires one { self.now.processors ≡ 1 }
         requires outside { (d : DomainValue) → (side d (known_in self.now)).word % 2 ≡ 0 }
         ensures rest { (d : DomainValue) → IsAtRest self.now d (domain_in d self.now).number }
-        ensures sole { (d : DomainValue) → IsSole (side d (known_in self.now)).number (domain_in d self.now).number }
+        ensures sole { (d : DomainValue)
+            → IsSole (side d (known_in self.now)).number (domain_in d self.now).number }
     {
         self.plain.parity_agrees();
         self.tracing.parity_agrees();
@@ -120,8 +122,11 @@ impl PlainGrace {
     /// Makes the section word of the processor one greater.
     fn move_word(&mut self, domain: Domain) -> u32
         requires { slice_index (domain_in domain self.old).words self.old.processor ≢ 2 ^ 28 }
-        ensures word { result ≡ slice_index (domain_in domain self.old).words self.old.processor + 1 }
-        ensures state { self.new ≡ with_domain domain (word_moved self.old.processor (domain_in domain self.old)) self.old }
+        ensures word { result
+            ≡ slice_index (domain_in domain self.old).words self.old.processor + 1 }
+        ensures state { self.new
+            ≡ with_domain domain (word_moved self.old.processor (domain_in domain self.old))
+            self.old }
         ensures there { self.old.processor < length (domain_in domain self.old).words }
     {
         match domain {
@@ -152,8 +157,11 @@ impl Grace for PlainGrace {
     fn enter(&mut self, domain: Domain) -> u32
         requires outside { (side domain (known_in self.old)).word % 2 ≡ 0 }
         requires room { (side domain (known_in self.old)).word < 2 ^ 28 }
-        ensures word { result ≡ slice_index (domain_in domain self.old).words self.old.processor + 1 }
-        ensures state { self.new ≡ with_domain domain (word_moved self.old.processor (domain_in domain self.old)) self.old }
+        ensures word { result
+            ≡ slice_index (domain_in domain self.old).words self.old.processor + 1 }
+        ensures state { self.new
+            ≡ with_domain domain (word_moved self.old.processor (domain_in domain self.old))
+            self.old }
         ensures known { known_in self.new ≡ entered false domain (known_in self.old) }
     {
         self.move_word(domain)
@@ -161,8 +169,11 @@ impl Grace for PlainGrace {
 
     fn leave(&mut self, domain: Domain) -> u32
         requires inside { (side domain (known_in self.old)).word % 2 ≡ 1 }
-        ensures word { result ≡ slice_index (domain_in domain self.old).words self.old.processor + 1 }
-        ensures state { self.new ≡ with_domain domain (word_moved self.old.processor (domain_in domain self.old)) self.old }
+        ensures word { result
+            ≡ slice_index (domain_in domain self.old).words self.old.processor + 1 }
+        ensures state { self.new
+            ≡ with_domain domain (word_moved self.old.processor (domain_in domain self.old))
+            self.old }
         ensures known { known_in self.new ≡ left false domain (known_in self.old) }
     {
         self.move_word(domain)
@@ -184,7 +195,8 @@ impl Grace for PlainGrace {
         ensures number { number_in result ≡ (domain_in domain self.old).number }
         ensures state { self.new ≡ self.old }
         ensures seen { (side domain (known_in self.old)).seen ≤ number_in result }
-        ensures known { known_in self.new ≡ read false domain (number_in result) (known_in self.old) }
+        ensures known { known_in self.new
+            ≡ read false domain (number_in result) (known_in self.old) }
         ensures rest { StaysAtRest IsAtRest self.old self.new }
         ensures at_rest { (n : ℕ) → IsAtRest self.old domain n → number_in result ≡ n }
     {
@@ -202,7 +214,9 @@ impl Grace for PlainGrace {
         requires room { 0 < (side domain (known_in self.old)).begins }
         ensures answer { BeganAt result even }
         ensures found { found_at even result ≡ (domain_in domain self.old).number }
-        ensures state { self.new ≡ with_domain domain (period_begun self.old.processor result (domain_in domain self.old)) self.old }
+        ensures state { self.new
+            ≡ with_domain domain
+            (period_begun self.old.processor result (domain_in domain self.old)) self.old }
         ensures seen { (side domain (known_in self.old)).seen ≤ found_at even result }
         ensures known { known_in self.new ≡ began false domain result even (known_in self.old) }
         ensures rest { MovesNumber IsAtRest domain even (even + 1) self.old self.new }
@@ -216,12 +230,19 @@ impl Grace for PlainGrace {
 
     fn look(&mut self, domain: Domain) -> Look
         requires driving { (side domain (known_in self.old)).number % 2 ≡ 1 }
-        ensures answer { let here = domain_in domain self.new in Verdict result domain here.first here.later }
-        ensures state { self.new ≡ with_domain domain (period_looked (words_in domain self.old) (domain_in domain self.old)) self.old }
-        ensures first { length (side domain (known_in self.new)).first ≡ looks domain self.old.processors }
-        ensures later { length (side domain (known_in self.new)).later ≡ looks domain self.old.processors }
-        ensures known { known_in self.new ≡ looked false domain (side domain (known_in self.new)).later (known_in self.old) }
-        ensures verdict { let s = side domain (known_in self.new) in Verdict result domain s.first s.later }
+        ensures answer { let here = domain_in domain self.new in
+            Verdict result domain here.first here.later }
+        ensures state { self.new
+            ≡ with_domain domain
+            (period_looked (words_in domain self.old) (domain_in domain self.old)) self.old }
+        ensures first { length (side domain (known_in self.new)).first
+            ≡ looks domain self.old.processors }
+        ensures later { length (side domain (known_in self.new)).later
+            ≡ looks domain self.old.processors }
+        ensures known { known_in self.new
+            ≡ looked false domain (side domain (known_in self.new)).later (known_in self.old) }
+        ensures verdict { let s = side domain (known_in self.new) in
+            Verdict result domain s.first s.later }
         ensures rest { StaysAtRest IsAtRest self.old self.new }
         ensures at_rest { (n : ℕ) → IsAtRest self.old domain n → result ≡ All }
     {
@@ -235,8 +256,15 @@ impl Grace for PlainGrace {
     fn finish(&mut self, domain: Domain) -> Period
         requires { CanFinish domain (known_in self.old) }
         ensures period { let here = domain_in domain self.old in
-            result ≡ record { domain = domain; number = here.number + 1; first = here.first; later = here.later } }
-        ensures state { self.new ≡ with_domain domain (period_ended (domain_in domain self.old)) self.old }
+            result
+            ≡ record {
+              domain = domain;
+              number = here.number + 1;
+              first = here.first;
+              later = here.later;
+            } }
+        ensures state { self.new
+            ≡ with_domain domain (period_ended (domain_in domain self.old)) self.old }
         ensures ended { result ≡ ended domain (side domain (known_in self.old)) }
         ensures known { known_in self.new ≡ finished false domain (known_in self.old) }
         ensures rest { (n : ℕ) → MovesNumber IsAtRest domain n (n + 1) self.old self.new }

@@ -10,9 +10,12 @@ abbrev pub call_entry : (graph : List ℕ) (position : ℕ) (owner : List ℕ) �
 call_entry graph position owner (past.PushFront id) = entry.PushFront graph id.unit id.life position
 call_entry graph position owner (past.PushBack id) = entry.PushBack graph id.unit id.life position
 call_entry graph position owner (past.Add id key) = entry.Add graph id.unit id.life position
-call_entry graph position owner (past.PushFrontAlready id place) = entry.PushFrontAlready graph id.unit id.life owner position
-call_entry graph position owner (past.PushBackAlready id place) = entry.PushBackAlready graph id.unit id.life owner position
-call_entry graph position owner (past.AddAlready id key place) = entry.AddAlready graph id.unit id.life owner position
+call_entry graph position owner (past.PushFrontAlready id place) =
+    entry.PushFrontAlready graph id.unit id.life owner position
+call_entry graph position owner (past.PushBackAlready id place) =
+    entry.PushBackAlready graph id.unit id.life owner position
+call_entry graph position owner (past.AddAlready id key place) =
+    entry.AddAlready graph id.unit id.life owner position
 call_entry graph position owner (past.PopFront id) = entry.PopFront graph (Some id) position
 call_entry graph position owner past.PopFrontNone = entry.PopFront graph None position
 call_entry graph position owner (past.PopBack id) = entry.PopBack graph (Some id) position

@@ -23,4 +23,5 @@ HoldsSame old new = (q : ObjId) → place_in new q ≡ place_in old q
 
 -- the index has this for the object, and for each other what it had
 abbrev pub Changes : (old new : Index) → ObjId → Option ℕ → Type 0
-Changes old new id place = (q : ObjId) → place_in new q ≡ (if same_object id q then place else place_in old q)
+Changes old new id place =
+    (q : ObjId) → place_in new q ≡ (if same_object id q then place else place_in old q)

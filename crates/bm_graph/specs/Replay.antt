@@ -9,7 +9,8 @@ module _ {S : Type 0} where
   -- the state after these entries, if the reply of each is right
   abbrev pub replay_from : Object S → S → List Past → Option S
   replay_from object s [] = Some s
-  replay_from object s (p ∷ ps) = if object.is_right s p.call then replay_from object (object.after s p.call) ps else None
+  replay_from object s (p ∷ ps) =
+      if object.is_right s p.call then replay_from object (object.after s p.call) ps else None
 
   -- the state after a whole history, from the empty object on
   abbrev pub replay : Object S → List Past → Option S

@@ -23,7 +23,8 @@ module _ {T : Type 0} where
 module _ {V T : Type 0} where
   -- One visit found a graph with its page, and left a graph of that kind with a page; where the shelf tells what is on it, these
   -- stand in their place, and all others are as before.
-  pub record IsVisited (visits : V → Graph T → T → V → Graph T → T → Type 0) (before after : V) (kinds : List Bool) (n : ℕ) (old new : Option (List (Graph T × T))) : Type 0 where
+  pub record IsVisited (visits : V → Graph T → T → V → Graph T → T → Type 0) (before after : V)
+      (kinds : List Bool) (n : ℕ) (old new : Option (List (Graph T × T))) : Type 0 where
     pub lent : Graph T
     pub page : T
     pub left : Graph T

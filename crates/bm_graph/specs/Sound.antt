@@ -32,7 +32,8 @@ module _ {T : Type 0} where
 
 -- the history of a tree, replayed from the empty tree on, has right replies and gives its items with their keys; no object is in
 -- it twice; and the index has for each object the place of its row
-pub record IsSoundTree {T : Type 0} (rows : List (Row (Item T))) (index : Index) (history : List Past) : Type 0 where
+pub record IsSoundTree {T : Type 0} (rows : List (Row (Item T))) (index : Index)
+    (history : List Past) : Type 0 where
   pub replays : replay tree_object history ≡ Some (nodes (items_of rows))
   pub differ : IdsDiffer (items_of rows)
   pub keyed : KeysHeld rows

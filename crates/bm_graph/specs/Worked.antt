@@ -20,12 +20,16 @@ by (p ∷ ps) = record { tag = record { processor = 0; serial = p.0 }; call = p.
 
 -- objects of keys 5, 5 and 3 are added to a tree
 abbrev pub three_added : List Past
-three_added = by ((5, past.Add (object 3) 5) ∷ (6, past.Add (object 2) 5) ∷ (7, past.Add (object 1) 3) ∷ [])
+three_added =
+    by ((5, past.Add (object 3) 5) ∷ (6, past.Add (object 2) 5) ∷ (7, past.Add (object 1) 3) ∷ [])
 
 -- the first one is looked at and taken, until there is none
 abbrev pub all_taken : List Past
 all_taken =
-    by ((8, past.First (object 1)) ∷ (9, past.Remove (object 1)) ∷ (11, past.First (object 3)) ∷ (12, past.Remove (object 3)) ∷ (14, past.First (object 2)) ∷ (15, past.Remove (object 2)) ∷ (17, past.FirstNone) ∷ [])
+    by
+    ((8, past.First (object 1)) ∷ (9, past.Remove (object 1)) ∷ (11, past.First (object 3))
+    ∷ (12, past.Remove (object 3)) ∷ (14, past.First (object 2))
+    ∷ (15, past.Remove (object 2)) ∷ (17, past.FirstNone) ∷ [])
 
 -- of the two equal keys the one added last comes first
 abbrev pub equal_key_first : List Past
@@ -46,11 +50,16 @@ none_early = three_added ++ by ((8, past.FirstNone) ∷ [])
 -- three objects are pushed onto a list, the third one at the front, and a push of the first one is refused
 abbrev pub three_pushed : List Past
 three_pushed =
-    by ((1, past.PushBack (object 1)) ∷ (2, past.PushBack (object 2)) ∷ (3, past.PushFront (object 3)) ∷ (4, past.PushBackAlready (object 1) 0) ∷ [])
+    by
+    ((1, past.PushBack (object 1)) ∷ (2, past.PushBack (object 2))
+    ∷ (3, past.PushFront (object 3)) ∷ (4, past.PushBackAlready (object 1) 0) ∷ [])
 
 -- both ends are popped, the last item, and then none
 abbrev pub all_popped : List Past
-all_popped = by ((6, past.PopBack (object 2)) ∷ (7, past.PopFront (object 3)) ∷ (8, past.PopBack (object 1)) ∷ (9, past.PopFrontNone) ∷ (10, past.PopBackNone) ∷ [])
+all_popped =
+    by
+    ((6, past.PopBack (object 2)) ∷ (7, past.PopFront (object 3)) ∷ (8, past.PopBack (object 1))
+    ∷ (9, past.PopFrontNone) ∷ (10, past.PopBackNone) ∷ [])
 
 -- the item of the other end is popped
 abbrev pub other_end : List Past

@@ -1,3 +1,5 @@
 pub mod CountLemmas
+mod Digits
+mod Lines
 mod Printing
 mod Sums

@@ -39,7 +39,8 @@ shifted (shift.Pushed s) x = with_length s (more (length_of s x) 1) x
 shifted (shift.Popped s) x = with_length s (length_of s x - 1) x
 shifted (shift.Came s us) x = with_length s (more (length_of s x) (unit_count us.now)) x
 shifted (shift.Emptied s) x = with_length s 0 x
-shifted (shift.Moved s t us) x = with_length t (more (length_of t (with_length s 0 x)) (unit_count us.now)) (with_length s 0 x)
+shifted (shift.Moved s t us) x =
+    with_length t (more (length_of t (with_length s 0 x)) (unit_count us.now)) (with_length s 0 x)
 shifted (shift.Swept us) x = record no_lengths { second = unit_count us.now }
 
 -- the units in hand after a change
@@ -54,4 +55,5 @@ changed l change.Nothing k = k
 changed l (change.Lists c s) k = lists c (shifted s) k
 changed l (change.Hand h) k = hand l (held h) k
 changed l (change.Both c s h) k = hand l (held h) (lists c (shifted s) k)
-changed l (change.Sent c) k = if hand_of k l == 0 then lists c (λ x. record x { first = 0 }) k else hand l (λ n. 0) k
+changed l (change.Sent c) k =
+    if hand_of k l == 0 then lists c (λ x. record x { first = 0 }) k else hand l (λ n. 0) k

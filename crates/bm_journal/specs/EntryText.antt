@@ -60,7 +60,8 @@ words_of entry.Close = codes "close" ∷ []
 -- calls and replies
 words_of (entry.New name vs) = codes "new" ∷ name ∷ numbers vs
 words_of (entry.Given u l) = codes "given" ∷ decimal u ∷ decimal l ∷ []
-words_of (entry.GivenAfter u l s n) = codes "given" ∷ decimal u ∷ decimal l ∷ codes "after" ∷ decimal s ∷ decimal n ∷ []
+words_of (entry.GivenAfter u l s n) =
+    codes "given" ∷ decimal u ∷ decimal l ∷ codes "after" ∷ decimal s ∷ decimal n ∷ []
 words_of entry.Empty = codes "empty" ∷ []
 words_of (entry.Busy a) = codes "busy" ∷ decimal a ∷ []
 words_of (entry.Drop u l) = codes "drop" ∷ decimal u ∷ decimal l ∷ []
@@ -70,23 +71,40 @@ words_of (entry.Free u h) = codes "free" ∷ decimal u ∷ decimal h ∷ []
 words_of (entry.Delay u h) = codes "delay" ∷ decimal u ∷ decimal h ∷ []
 words_of (entry.Acquire u l k) = codes "acquire" ∷ decimal u ∷ decimal l ∷ decimal k ∷ []
 words_of (entry.Get u l f v) = codes "get" ∷ decimal u ∷ decimal l ∷ decimal f ∷ decimal v ∷ []
-words_of (entry.Xchg name put was by) = codes "xchg" ∷ name ∷ codes "put" ∷ (object put ++ codes "was" ∷ (object was ++ codes "by" ∷ call by))
+words_of (entry.Xchg name put was by) =
+    codes "xchg" ∷ name ∷ codes "put"
+    ∷ (object put ++ codes "was" ∷ (object was ++ codes "by" ∷ call by))
 words_of (entry.Lock name) = codes "lock" ∷ name ∷ []
 words_of (entry.Unlock name) = codes "unlock" ∷ name ∷ []
-words_of (entry.PushFront name u l pos) = codes "push_front" ∷ name ∷ decimal u ∷ decimal l ∷ codes "at" ∷ decimal pos ∷ []
-words_of (entry.PushBack name u l pos) = codes "push_back" ∷ name ∷ decimal u ∷ decimal l ∷ codes "at" ∷ decimal pos ∷ []
-words_of (entry.Add name u l pos) = codes "add" ∷ name ∷ decimal u ∷ decimal l ∷ codes "at" ∷ decimal pos ∷ []
-words_of (entry.PushFrontAlready name u l owner pos) = codes "push_front" ∷ name ∷ decimal u ∷ decimal l ∷ codes "already" ∷ owner ∷ codes "at" ∷ decimal pos ∷ []
-words_of (entry.PushBackAlready name u l owner pos) = codes "push_back" ∷ name ∷ decimal u ∷ decimal l ∷ codes "already" ∷ owner ∷ codes "at" ∷ decimal pos ∷ []
-words_of (entry.AddAlready name u l owner pos) = codes "add" ∷ name ∷ decimal u ∷ decimal l ∷ codes "already" ∷ owner ∷ codes "at" ∷ decimal pos ∷ []
-words_of (entry.PopFront name x pos) = codes "pop_front" ∷ name ∷ (object x ++ codes "at" ∷ decimal pos ∷ [])
-words_of (entry.PopBack name x pos) = codes "pop_back" ∷ name ∷ (object x ++ codes "at" ∷ decimal pos ∷ [])
-words_of (entry.First name x pos) = codes "first" ∷ name ∷ (object x ++ codes "at" ∷ decimal pos ∷ [])
-words_of (entry.Remove name u l pos) = codes "remove" ∷ name ∷ decimal u ∷ decimal l ∷ codes "at" ∷ decimal pos ∷ []
+words_of (entry.PushFront name u l pos) =
+    codes "push_front" ∷ name ∷ decimal u ∷ decimal l ∷ codes "at" ∷ decimal pos ∷ []
+words_of (entry.PushBack name u l pos) =
+    codes "push_back" ∷ name ∷ decimal u ∷ decimal l ∷ codes "at" ∷ decimal pos ∷ []
+words_of (entry.Add name u l pos) =
+    codes "add" ∷ name ∷ decimal u ∷ decimal l ∷ codes "at" ∷ decimal pos ∷ []
+words_of (entry.PushFrontAlready name u l owner pos) =
+    codes "push_front" ∷ name ∷ decimal u ∷ decimal l ∷ codes "already" ∷ owner ∷ codes "at"
+    ∷ decimal pos ∷ []
+words_of (entry.PushBackAlready name u l owner pos) =
+    codes "push_back" ∷ name ∷ decimal u ∷ decimal l ∷ codes "already" ∷ owner ∷ codes "at"
+    ∷ decimal pos ∷ []
+words_of (entry.AddAlready name u l owner pos) =
+    codes "add" ∷ name ∷ decimal u ∷ decimal l ∷ codes "already" ∷ owner ∷ codes "at" ∷ decimal pos
+    ∷ []
+words_of (entry.PopFront name x pos) =
+    codes "pop_front" ∷ name ∷ (object x ++ codes "at" ∷ decimal pos ∷ [])
+words_of (entry.PopBack name x pos) =
+    codes "pop_back" ∷ name ∷ (object x ++ codes "at" ∷ decimal pos ∷ [])
+words_of (entry.First name x pos) =
+    codes "first" ∷ name ∷ (object x ++ codes "at" ∷ decimal pos ∷ [])
+words_of (entry.Remove name u l pos) =
+    codes "remove" ∷ name ∷ decimal u ∷ decimal l ∷ codes "at" ∷ decimal pos ∷ []
 -- deferred work and periods
 words_of (entry.Work c) = codes "work" ∷ size c ∷ []
 words_of (entry.Begin d n) = codes "begin" ∷ domain d ∷ decimal n ∷ []
-words_of (entry.Finish p) = codes "finish" ∷ domain p.domain ∷ decimal p.number ∷ codes "first" ∷ (numbers p.first ++ codes "later" ∷ numbers p.later)
+words_of (entry.Finish p) =
+    codes "finish" ∷ domain p.domain ∷ decimal p.number ∷ codes "first"
+    ∷ (numbers p.first ++ codes "later" ∷ numbers p.later)
 -- steps
 words_of (entry.Enter c a) = codes "enter" ∷ size c ∷ decimal a ∷ []
 words_of (entry.Pop c u) = codes "pop" ∷ size c ∷ decimal u ∷ []

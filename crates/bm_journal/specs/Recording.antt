@@ -4,7 +4,8 @@ use Rattle.bm_journal.specs.declared.counts.Counts.{Counts}
 use Rattle.bm_journal.specs.declared.entry.Entry.{Entry}
 
 -- after a put a log was told before, and has gained this entry at its end
-pub record Gains (before : Option (List (ℕ × Entry))) (level : ℕ) (entry : Entry) (after : List (ℕ × Entry)) : Type 0 where
+pub record Gains (before : Option (List (ℕ × Entry))) (level : ℕ) (entry : Entry)
+    (after : List (ℕ × Entry)) : Type 0 where
   pub log : List (ℕ × Entry)
   pub told : before ≡ Some log
   pub more : after ≡ log ++ (level, entry) ∷ []

@@ -5,7 +5,11 @@ use Rattle.bm_journal.specs.declared.total.Total.TheVariants as total
 
 -- all totals, in the order in which they are printed
 abbrev pub all_totals : List Total
-all_totals = total.Steps ∷ total.Given ∷ total.Empty ∷ total.Busy ∷ total.Last ∷ total.Still ∷ total.Acquired ∷ total.Exchanged ∷ total.Pushed ∷ total.Already ∷ total.Taken ∷ total.None ∷ total.Raised ∷ total.Worked ∷ total.Fetched ∷ total.Returned ∷ total.Plain ∷ total.Tracing ∷ total.Handlers ∷ []
+all_totals =
+    total.Steps ∷ total.Given ∷ total.Empty ∷ total.Busy ∷ total.Last ∷ total.Still ∷ total.Acquired
+    ∷ total.Exchanged ∷ total.Pushed ∷ total.Already ∷ total.Taken ∷ total.None ∷ total.Raised
+    ∷ total.Worked ∷ total.Fetched ∷ total.Returned ∷ total.Plain ∷ total.Tracing ∷ total.Handlers
+    ∷ []
 
 -- the place of a total among all, from 0
 abbrev pub total_place : Total → ℕ

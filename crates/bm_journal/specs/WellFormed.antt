@@ -23,7 +23,8 @@ owner_below n (past.AddAlready o key owner) = nat_lt owner n
 owner_below n _ = true
 
 abbrev pub owners_below : ℕ → List (List ℕ × List Past) → Bool
-owners_below n graphs = list_all (λ graph. list_all (λ past. owner_below n past.call) graph.1) graphs
+owners_below n graphs =
+    list_all (λ graph. list_all (λ past. owner_below n past.call) graph.1) graphs
 
 -- a list of units is there, and not its length alone
 abbrev pub is_whole : Units → Bool

@@ -1,13 +1,13 @@
 //! Counting the totals of logs.
 
-ghost use Rattle.std.specs.Prelude.{◌≡◌};
+ghost use Rattle.std.specs.Prelude.{◌≡◌, replicate};
 ghost use Rattle.bm_journal.specs.Totals.{counts_of, totals_of};
-ghost use Rattle.bm_journal.specs.Counting.{added, adds, adds_log, counted_parts};
+ghost use Rattle.bm_journal.specs.TotalNames.{all_totals};
+ghost use Rattle.bm_journal.specs.Counting.{added, adds, each_total, counted_parts};
 
 use crate::counts::unit_count;
 use crate::entry::Entry;
 use crate::ids::Domain;
-use crate::level::Level;
 use crate::lists::Logs;
 use crate::total::{Total, Totals};
 use crate::units::Units;
@@ -17,9 +17,9 @@ use crate::units::Units;
 pub fn totals_of(logs: &Logs) -> Totals
     ensures { result ≡ totals_of logs.now }
 {
-    let mut counters = Counters { values: [0; 19] };
+    let mut counters = Counters::new();
     for log in logs.as_slice() {
-        counters.add_log(log.as_slice());
+        counters.add_all(log.counters());
     }
     Totals::new(counters.values)
 }
@@ -32,22 +32,37 @@ enum Part<'a> {
     Units(Total, &'a Units),
 }
 
-/// A number for each total, in their order.
+/// A number for each total, in their order. Each stands still at 2^64 - 1.
 #[derive(Drop)]
-struct Counters {
-    values: [u64; 19],
+pub(crate) struct Counters {
+    pub(crate) values: [u64; 19],
 }
 
 impl Counters {
-    fn add_log(&mut self, log: &[(Level, Entry)])
-        ensures { self.new.values ≡ adds_log log.now self.old.values }
+    /// Nothing was counted yet.
+    pub(crate) fn new() -> Counters
+        ensures { result.values ≡ replicate 19 0 }
     {
-        for item in log {
-            self.add_entry(&item.1);
+        Counters { values: [0; 19] }
+    }
+
+    /// Adds what others counted.
+    pub(crate) fn add_all(&mut self, others: &Counters)
+        ensures { self.new.values ≡ adds (each_total others.now.values all_totals) self.old.values }
+    {
+        self.add_each(&Total::all(), others);
+    }
+
+    fn add_each(&mut self, totals: &[Total], others: &Counters)
+        ensures { self.new.values ≡ adds (each_total others.now.values totals.now) self.old.values }
+    {
+        for total in totals {
+            self.add(*total, others.values[total.place()]);
         }
     }
 
-    fn add_entry(&mut self, entry: &Entry)
+    /// Adds what an entry counts.
+    pub(crate) fn add_entry(&mut self, entry: &Entry)
         ensures { self.new.values ≡ adds (counts_of entry.now) self.old.values }
     {
         let (is_step, part) = parts_of(entry);

@@ -161,7 +161,10 @@ impl Counts {
     }
 
     fn send(&mut self, level: Level, class: Class)
-        ensures { self.new ≡ (if hand_of self.old level == 0 then lists class (λ x. record x { first = 0 }) self.old else hand level (λ n. 0) self.old) }
+        ensures { self.new
+            ≡ (if hand_of self.old level == 0
+            then lists class (λ x. record x { first = 0 }) self.old
+            else hand level (λ n. 0) self.old) }
     {
         if self.hand(level) == 0 {
             self.shift(class, &Shift::Emptied(Stack::First));

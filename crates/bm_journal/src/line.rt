@@ -1,6 +1,6 @@
 //! Words of a line.
 
-ghost use Rattle.std.specs.Prelude.{◌≡◌, ◌∷◌, [], ◌++◌, OnOk, decimal};
+ghost use Rattle.std.specs.Prelude.{◌≡◌, ◌+◌, ◌<◌, ◌∷◌, [], ◌++◌, OnOk, decimal};
 ghost use Rattle.bm_journal.specs.Line.{spaced};
 ghost use Rattle.bm_journal.specs.EntryText.{numbers};
 
@@ -15,12 +15,42 @@ pub fn put_word(out: &mut Vec<u8>, word: &[u8]) -> Result<(), NoMemory>
     Ok(())
 }
 
-/// Appends a number behind a space.
+/// Appends a word that stands in the program behind a space.
+pub fn put_literal<const N: usize>(out: &mut Vec<u8>, word: &[u8; N]) -> Result<(), NoMemory>
+    ensures { OnOk result (out.new.items ≡ out.old.items ++ spaced (word.now ∷ [])) }
+{
+    out.push(b' ')?;
+    out.extend_from_slice(word)?;
+    Ok(())
+}
+
+// The digit of a number below ten.
+fn digit(number: u64) -> u8
+    requires { number < 10 }
+    ensures { result ≡ 48 + number }
+{
+    b'0' + number as u8
+}
+
+/// Appends a number behind a space. Most numbers of a journal have one to three digits, and are written at once.
 pub fn put_spaced_number(out: &mut Vec<u8>, number: u64) -> Result<(), NoMemory>
     ensures { OnOk result (out.new.items ≡ out.old.items ++ spaced (decimal number ∷ [])) }
 {
-    out.push(b' ')?;
-    put_number(out, number)?;
+    if number < 10 {
+        out.extend_from_slice(&[b' ', digit(number)])?;
+    } else if number < 100 {
+        out.extend_from_slice(&[b' ', digit(number / 10), digit(number % 10)])?;
+    } else if number < 1000 {
+        out.extend_from_slice(&[
+            b' ',
+            digit(number / 100),
+            digit(number / 10 % 10),
+            digit(number % 10),
+        ])?;
+    } else {
+        out.push(b' ')?;
+        put_number(out, number)?;
+    }
     Ok(())
 }
 

@@ -3,8 +3,7 @@
 
 ghost use Rattle.std.specs.Prelude.{◌≡◌};
 
-use crate::entry::Entry;
-use crate::level::Level;
+use crate::log::Log;
 use crate::past::Past;
 use bm_class::{Class, Marks};
 use bm_word::Name;
@@ -79,44 +78,6 @@ impl Opened {
 
     /// The vector of the items.
     pub fn into_vec(self) -> Vec<(Class, Marks)>
-        ensures { result.items ≡ self }
-    {
-        self.items
-    }
-}
-
-/// The entries of one processor in order, each with the level that it was taken at.
-#[derive(Drop)]
-pub struct Log {
-    items: Vec<(Level, Entry)>,
-}
-
-impl Model for Log {
-    ghost use Rattle.std.specs.Prelude.{ℕ, List};
-    ghost use Rattle.bm_journal.specs.declared.entry.Entry.{Entry};
-
-    ghost Value = { List (ℕ × Entry) };
-
-    ghost view = { λ l. l.items.items };
-}
-
-impl Log {
-    /// The log with these entries.
-    pub fn new(items: Vec<(Level, Entry)>) -> Log
-        ensures { result ≡ items.items }
-    {
-        Log { items }
-    }
-
-    /// The entries.
-    pub fn as_slice(&self) -> &[(Level, Entry)]
-        ensures { result.now ≡ self.now }
-    {
-        self.items.as_slice()
-    }
-
-    /// The vector of the entries.
-    pub fn into_vec(self) -> Vec<(Level, Entry)>
         ensures { result.items ≡ self }
     {
         self.items

@@ -10,7 +10,7 @@ ghost use Rattle.bm_journal.specs.WellFormed.{is_whole_entry, is_whole_log};
 use crate::counts::Counts;
 use crate::entry::Entry;
 use crate::level::Level;
-use crate::lists::Log;
+use crate::log::Log;
 use crate::units::Units;
 use std::alloc::Global;
 use std::marker::Model;
@@ -50,7 +50,7 @@ pub trait Recorder {
 /// memory for the list. Each put takes memory for its own entry alone, amortised over the puts.
 #[derive(Drop)]
 pub struct Keep {
-    entries: Vec<(Level, Entry)>,
+    log: Log,
     failed: bool,
     counts: Counts,
 }
@@ -62,9 +62,10 @@ impl Model for Keep {
 
     ghost Value = { Kept };
 
-    ghost view = { λ k. record { told = if k.failed then None else Some k.entries.items; counted = k.counts } };
+    ghost view = { λ k. record
+        { told = if k.failed then None else Some k.log; counted = k.counts } };
 
-    ghost invariant = { λ k. IsTrue (is_whole_log k.entries.items) };
+    ghost invariant = { λ k. IsTrue (is_whole_log k.log) };
 }
 
 impl Keep {
@@ -73,7 +74,7 @@ impl Keep {
         ensures { result ≡ record { told = Some []; counted = no_counts } }
     {
         Keep {
-            entries: Vec::new(alloc),
+            log: Log::new(alloc),
             failed: false,
             counts: Counts::new(),
         }
@@ -92,15 +93,11 @@ impl Keep {
         ensures whole { IfSome result (λ log. IsTrue (is_whole_log log)) }
     {
         let Keep {
-            entries,
+            log,
             failed,
             counts: _counts,
         } = self;
-        if failed {
-            None
-        } else {
-            Some(Log::new(entries))
-        }
+        if failed { None } else { Some(log) }
     }
 }
 
@@ -118,7 +115,7 @@ impl Recorder for Keep {
     fn put(&mut self, level: Level, entry: Entry) {
         self.counts.note(level, &entry);
         if !self.failed {
-            self.failed = !store(&mut self.entries, level, entry);
+            self.failed = !store(&mut self.log, level, &entry);
         }
     }
 
@@ -127,18 +124,19 @@ impl Recorder for Keep {
     }
 }
 
-/// Stores an entry at the end, where it is whole and there is memory for it, and answers whether it did.
-fn store(entries: &mut Vec<(Level, Entry)>, level: Level, entry: Entry) -> bool
-    ensures items { entries.new.items ≡ (if result then entries.old.items ++ (level, entry) ∷ [] else entries.old.items) }
-    ensures whole { IsTrue result → IsTrue (is_whole_entry entry) }
+/// Puts an entry at the end of the log, where it is whole and there is memory for it, and answers whether it did.
+/// Where it didn't the log is left without entries.
+fn store(log: &mut Log, level: Level, entry: &Entry) -> bool
+    ensures items { log.new ≡ (if result then log.old ++ (level, entry.now) ∷ [] else []) }
+    ensures whole { IsTrue result → IsTrue (is_whole_entry entry.now) }
 {
-    if is_whole(&entry) {
-        match entries.push((level, entry)) {
-            Ok(()) => true,
-            Err(_refused) => false,
-        }
-    } else {
-        false
+    if !is_whole(entry) {
+        log.clear();
+        return false;
+    }
+    match log.push(level, entry) {
+        Ok(()) => true,
+        Err(_refused) => false,
     }
 }
 

@@ -12,7 +12,8 @@ use crate::ids::ObjId;
 use crate::journal::Journal;
 use crate::level::Level;
 use crate::line::put_word;
-use crate::lists::{History, Log};
+use crate::lists::History;
+use crate::log::Log;
 use crate::past::{Past, PastCall};
 use crate::total::{Total, Totals};
 use bm_class::{Class, Marks};
@@ -108,21 +109,12 @@ pub(crate) fn put_entry_line(out: &mut Vec<u8>, level: Level, entry: &Entry) -> 
     Ok(())
 }
 
-pub(crate) fn put_entry_lines(out: &mut Vec<u8>, entries: &[(Level, Entry)]) -> Result<(), NoMemory>
-    ensures { OnOk result (out.new.items ≡ out.old.items ++ entry_lines entries.now) }
-{
-    for (level, entry) in entries {
-        put_entry_line(out, *level, entry)?;
-    }
-    Ok(())
-}
-
 fn put_log_lines(out: &mut Vec<u8>, logs: &[Log]) -> Result<(), NoMemory>
     ensures { OnOk result (out.new.items ≡ out.old.items ++ log_lines 0 logs.now) }
 {
     for (processor, log) in logs.iter().enumerate() {
         put_line(out, b"processor", &[Part::Long(processor as u64)])?;
-        put_entry_lines(out, log.as_slice())?;
+        out.extend_from_slice(log.text())?;
     }
     Ok(())
 }
@@ -254,7 +246,9 @@ pub(crate) fn put_graph_lines(
 }
 
 fn put_total_line(out: &mut Vec<u8>, total: Total, value: u64) -> Result<(), NoMemory>
-    ensures { OnOk result (out.new.items ≡ out.old.items ++ line (codes "total") (total_name total ∷ decimal value ∷ [])) }
+    ensures { OnOk result
+        (out.new.items
+        ≡ out.old.items ++ line (codes "total") (total_name total ∷ decimal value ∷ [])) }
 {
     put_line(
         out,

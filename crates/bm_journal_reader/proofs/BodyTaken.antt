@@ -93,12 +93,12 @@ log-step maps n begun (part.Log v) cs ls gs ts (part.Log w) ds ms hs us is at or
     let h0 : hs ≡ [] = d3 ∙ same_nil gs order.0 in
     let u0 : us ≡ [] = d4 ∙ order.1 in
     let here : n ≡ length ls + 1 = at ∙ count_is in
-    let long : length ms ≡ length ls + 1 = omega (arith, ap length d2, length-append ls (v.items ∷ [])) in
-    let longer : length (ls ++ v.items ∷ []) ≡ n = omega (arith, here, length-append ls (v.items ∷ [])) in
+    let long : length ms ≡ length ls + 1 = omega (arith, ap length d2, length-append ls (v ∷ [])) in
+    let longer : length (ls ++ v ∷ []) ≡ n = omega (arith, here, length-append ls (v ∷ [])) in
     let yes : (n == length ls + 1) ≡ true = (Decides-eqb n (length ls + 1)).1 here in
     record {
       stage = rw yes (ap (λ k. Some (Logging maps (k + 1))) (sym long));
-      lines = (λ i. P (d1 i) (d2 i ++ e i) (same_nil hs h0 i) (u0 i)) ∙ push-log cs (ls ++ v.items ∷ []) ∙ (λ i. P cs (ls ++ v.items ∷ []) (sym (same_nil gs order.0) i) (sym order.1 i) ++ line_as.Processor (longer i) ∷ []);
+      lines = (λ i. P (d1 i) (d2 i ++ e i) (same_nil hs h0 i) (u0 i)) ∙ push-log cs (ls ++ v ∷ []) ∙ (λ i. P cs (ls ++ v ∷ []) (sym (same_nil gs order.0) i) (sym order.1 i) ++ line_as.Processor (longer i) ∷ []);
       order = (h0, u0);
     }
 log-step maps n begun (part.Graph a v) cs ls gs ts (part.Log w) ds ms hs us is at order e d1 d2 d3 d4 = absurd (cc)

@@ -49,7 +49,8 @@ stage_maps (Counting maps n) = maps
 abbrev pub begins : List (List ℕ) → ℕ → ℕ → Line → Option Stage
 begins maps logs totals (line_as.Processor p) = only_if (p == logs) (Some (Logging maps (logs + 1)))
 begins maps logs totals (line_as.Graph name) = Some (Telling maps 0)
-begins maps logs totals (line_as.Total t v) = only_if (total_place t == totals) (Some (Counting maps (totals + 1)))
+begins maps logs totals (line_as.Total t v) =
+    only_if (total_place t == totals) (Some (Counting maps (totals + 1)))
 begins maps logs totals line = None
 
 -- the stage behind a line that may come
@@ -65,7 +66,8 @@ next (Logging maps n) line = begins maps n 0 line
 next (Telling maps n) (line_as.Past p past) = only_if (p == n) (Some (Telling maps (n + 1)))
 next (Telling maps n) (line_as.Graph name) = Some (Telling maps 0)
 next (Telling maps n) (line_as.Total t v) = only_if (total_place t == 0) (Some (Counting maps 1))
-next (Counting maps n) (line_as.Total t v) = only_if (total_place t == n) (Some (Counting maps (n + 1)))
+next (Counting maps n) (line_as.Total t v) =
+    only_if (total_place t == n) (Some (Counting maps (n + 1)))
 next stage line = None
 
 -- the stage behind a line with these words
@@ -75,15 +77,20 @@ step stage words = after (line_of (stage_maps stage) words) (next stage)
 -- the line that these words say at a stage, where only lines that may come there are looked for
 abbrev pub stage_line : Stage → Words → Option Line
 stage_line Begun ws = after (past_word (codes "processors") ws) size_words
-stage_line Sized ws = after (past_word (codes "types") ws) (λ ws. after (names ws) (λ ns. Some (line_as.Types ns)))
-stage_line Typed ws = after (past_word (codes "maps") ws) (λ ws. after (names ws) (λ ns. only_if (all_differ ns) (Some (line_as.Maps ns))))
-stage_line (Mapped maps) ws = after (past_word (codes "scripts") ws) (λ ws. after (names ws) (λ ns. Some (line_as.Scripts ns)))
+stage_line Sized ws =
+    after (past_word (codes "types") ws) (λ ws. after (names ws) (λ ns. Some (line_as.Types ns)))
+stage_line Typed ws =
+    after (past_word (codes "maps") ws)
+    (λ ws. after (names ws) (λ ns. only_if (all_differ ns) (Some (line_as.Maps ns))))
+stage_line (Mapped maps) ws =
+    after (past_word (codes "scripts") ws)
+    (λ ws. after (names ws) (λ ns. Some (line_as.Scripts ns)))
 stage_line stage ws = body_line_of (stage_maps stage) ws
 
 -- ---- the lines read so far behind the heading's first four
 
 abbrev pub open_log : Part → List (List (ℕ × Entry))
-open_log (part.Log log) = log.items ∷ []
+open_log (part.Log log) = log ∷ []
 open_log p = []
 
 abbrev pub open_graph : Part → List (List ℕ × List Past)
@@ -91,8 +98,10 @@ open_graph (part.Graph name pasts) = (name, pasts.items) ∷ []
 open_graph p = []
 
 -- the lines of classes, logs, histories and totals
-abbrev pub parts_lines : List (ℕ × Marks) → List (List (ℕ × Entry)) → List (List ℕ × List Past) → List ℕ → List Line
-parts_lines cs ls gs ts = class_items cs ++ (log_items 0 ls ++ (graph_items gs ++ total_items all_totals ts))
+abbrev pub parts_lines :
+    List (ℕ × Marks) → List (List (ℕ × Entry)) → List (List ℕ × List Past) → List ℕ → List Line
+parts_lines cs ls gs ts =
+    class_items cs ++ (log_items 0 ls ++ (graph_items gs ++ total_items all_totals ts))
 
 abbrev pub read_logs : Body → List (List (ℕ × Entry))
 read_logs b = b.logs.items ++ open_log b.part
@@ -159,8 +168,11 @@ abbrev pub head_lines : Head → Draft → List Line
 head_lines head.Size d = []
 head_lines head.Types d = line_as.Size d.processors d.pages ∷ []
 head_lines head.Maps d = line_as.Size d.processors d.pages ∷ line_as.Types d.types.items ∷ []
-head_lines head.Scripts d = line_as.Size d.processors d.pages ∷ line_as.Types d.types.items ∷ line_as.Maps d.maps.items ∷ []
-head_lines head.Behind d = line_as.Size d.processors d.pages ∷ line_as.Types d.types.items ∷ line_as.Maps d.maps.items ∷ line_as.Scripts d.scripts.items ∷ body_lines d.body
+head_lines head.Scripts d =
+    line_as.Size d.processors d.pages ∷ line_as.Types d.types.items ∷ line_as.Maps d.maps.items ∷ []
+head_lines head.Behind d =
+    line_as.Size d.processors d.pages ∷ line_as.Types d.types.items ∷ line_as.Maps d.maps.items
+    ∷ line_as.Scripts d.scripts.items ∷ body_lines d.body
 
 abbrev pub draft_lines : Draft → List Line
 draft_lines d = head_lines d.head d

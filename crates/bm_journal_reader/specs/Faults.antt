@@ -72,21 +72,27 @@ plus n (Some k) = Some (n + k)
 
 -- so many lines are read, and this is left
 pub record Kept (bytes rest : List ℕ) (line : ℕ) (d : Draft) : Type 0 where
-  pub bad : first_bad Begun (pieces bytes) ≡ plus (length (draft_lines d)) (first_bad (draft_stage d) (pieces rest))
-  pub read : pieces bytes ≡ map (line_content (stage_maps (draft_stage d))) (draft_lines d) ++ pieces rest
+  pub bad :
+      first_bad Begun (pieces bytes)
+      ≡ plus (length (draft_lines d)) (first_bad (draft_stage d) (pieces rest))
+  pub read :
+      pieces bytes ≡ map (line_content (stage_maps (draft_stage d))) (draft_lines d) ++ pieces rest
   pub fit : Each (LineFits (stage_maps (draft_stage d))) (draft_lines d)
   pub sound : IsSound d
   pub count : line ≡ length (draft_lines d) + 1
 
 -- a fault names the first line that may not come, and some journal has those before it
 abbrev pub FaultSays : List ℕ → JournalFault → Type 0
-FaultSays bytes (Bad line) = (k : ℕ) × (line ≡ k + 1) × (first_bad Begun (pieces bytes) ≡ Some k) × SomeAgrees bytes k
+FaultSays bytes (Bad line) =
+    (k : ℕ) × (line ≡ k + 1) × (first_bad Begun (pieces bytes) ≡ Some k) × SomeAgrees bytes k
 FaultSays bytes NoMemory = Unit {0}
 
 -- the bytes before the first line feed, and those behind it
 abbrev pub IsFirstLine : List ℕ → Option (List ℕ × List ℕ) → Type 0
 IsFirstLine bytes None = position (λ b. b == 10) bytes ≡ None
-IsFirstLine bytes (Some cut) = (end : ℕ) × (position (λ b. b == 10) bytes ≡ Some end) × (cut.0 ≡ take end bytes) × (cut.1 ≡ drop (end + 1) bytes) × (end < length bytes)
+IsFirstLine bytes (Some cut) =
+    (end : ℕ) × (position (λ b. b == 10) bytes ≡ Some end) × (cut.0 ≡ take end bytes)
+    × (cut.1 ≡ drop (end + 1) bytes) × (end < length bytes)
 
 -- all is read, and the journal has these lines
 pub record Finished (d : Draft) (j : Journal) : Type 0 where

@@ -16,7 +16,7 @@ pub enum Part {
     /// The classes, of which no log has begun behind them.
     Classes,
     /// A log, with its entries so far.
-    Log(Vec<(Level, Entry)>),
+    Log(Log),
     /// A history, with its calls so far.
     Graph(Name, Vec<Past>),
     /// The totals.
@@ -69,7 +69,7 @@ impl Body {
     {
         let part = mem::replace(&mut self.part, Part::Totals);
         match part {
-            Part::Log(log) => self.logs.push(Log::new(log))?,
+            Part::Log(log) => self.logs.push(log)?,
             Part::Graph(name, pasts) => self.graphs.push(History::new(name, pasts))?,
             Part::Classes | Part::Totals => {}
         }
@@ -78,7 +78,9 @@ impl Body {
 
     fn take_class(&mut self, class: Class, marks: Marks) -> Result<bool, NoMemory>
         requires { IsInOrder self.old }
-        ensures { (maps : List (List ℕ)) → IfOk result (λ taken. Takes taken maps self.old (line_as.Class class marks) self.new) }
+        ensures { (maps : List (List ℕ))
+            → IfOk result
+            (λ taken. Takes taken maps self.old (line_as.Class class marks) self.new) }
     {
         match self.part {
             Part::Classes => {}
@@ -90,11 +92,13 @@ impl Body {
 
     fn take_entry(&mut self, level: Level, entry: Entry) -> Result<bool, NoMemory>
         requires { IsInOrder self.old }
-        ensures { (maps : List (List ℕ)) → IfOk result (λ taken. Takes taken maps self.old (line_as.Entry level entry) self.new) }
+        ensures { (maps : List (List ℕ))
+            → IfOk result
+            (λ taken. Takes taken maps self.old (line_as.Entry level entry) self.new) }
     {
         match &mut self.part {
             Part::Log(log) => {
-                log.push((level, entry))?;
+                log.push(level, &entry)?;
                 Ok(true)
             }
             _ => Ok(false),
@@ -103,7 +107,9 @@ impl Body {
 
     fn take_past(&mut self, position: u64, past: Past) -> Result<bool, NoMemory>
         requires { IsInOrder self.old }
-        ensures { (maps : List (List ℕ)) → IfOk result (λ taken. Takes taken maps self.old (line_as.Past position past) self.new) }
+        ensures { (maps : List (List ℕ))
+            → IfOk result
+            (λ taken. Takes taken maps self.old (line_as.Past position past) self.new) }
     {
         match &mut self.part {
             Part::Graph(_, pasts) => {
@@ -130,7 +136,9 @@ impl Body {
 
     fn take_processor(&mut self, alloc: Global, processor: u64) -> Result<bool, NoMemory>
         requires { IsInOrder self.old }
-        ensures { (maps : List (List ℕ)) → IfOk result (λ taken. Takes taken maps self.old (line_as.Processor processor) self.new) }
+        ensures { (maps : List (List ℕ))
+            → IfOk result
+            (λ taken. Takes taken maps self.old (line_as.Processor processor) self.new) }
     {
         let Some(begun) = self.begun_logs() else {
             return Ok(false);
@@ -139,13 +147,14 @@ impl Body {
             return Ok(false);
         }
         self.close()?;
-        self.part = Part::Log(Vec::new(alloc));
+        self.part = Part::Log(Log::new(alloc));
         Ok(true)
     }
 
     fn take_graph(&mut self, alloc: Global, name: Name) -> Result<bool, NoMemory>
         requires { IsInOrder self.old }
-        ensures { (maps : List (List ℕ)) → IfOk result (λ taken. Takes taken maps self.old (line_as.Graph name) self.new) }
+        ensures { (maps : List (List ℕ))
+            → IfOk result (λ taken. Takes taken maps self.old (line_as.Graph name) self.new) }
     {
         match self.part {
             Part::Totals => return Ok(false),
@@ -158,7 +167,9 @@ impl Body {
 
     fn take_total(&mut self, total: Total, value: u64) -> Result<bool, NoMemory>
         requires { IsInOrder self.old }
-        ensures { (maps : List (List ℕ)) → IfOk result (λ taken. Takes taken maps self.old (line_as.Total total value) self.new) }
+        ensures { (maps : List (List ℕ))
+            → IfOk result
+            (λ taken. Takes taken maps self.old (line_as.Total total value) self.new) }
     {
         if total.place() != self.totals.len() {
             return Ok(false);
@@ -173,7 +184,8 @@ impl Body {
     /// Takes a line, where it may come next, and answers whether it may. After a refusal nothing more is read.
     pub fn take(&mut self, alloc: Global, line: Line) -> Result<bool, NoMemory>
         requires { IsInOrder self.old }
-        ensures { (maps : List (List ℕ)) → IfOk result (λ taken. Takes taken maps self.old line self.new) }
+        ensures { (maps : List (List ℕ))
+            → IfOk result (λ taken. Takes taken maps self.old line self.new) }
     {
         match line {
             Line::Class(class, marks) => self.take_class(class, marks),

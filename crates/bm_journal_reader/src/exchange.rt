@@ -14,7 +14,8 @@ fn object_some<'a, 'b>(
     unit: &[u8],
     words: &'a [&'b [u8]],
 ) -> Option<(Option<ObjId>, &'a [&'b [u8]])>
-    ensures { option_map (λ read. (read.0, texts read.1.now)) result ≡ object_some unit.now (texts words.now) }
+    ensures { option_map (λ read. (read.0, texts read.1.now)) result
+        ≡ object_some unit.now (texts words.now) }
 {
     let [life, rest @ ..] = words else {
         return None;
@@ -88,7 +89,8 @@ pub fn new(words: &[&[u8]]) -> Option<Entry>
 // The words before a place, and those behind it.
 fn words_at(words: &[&[u8]], place: usize) -> Option<(Words, Words)>
     requires { place < length words.now }
-    ensures { result ≡ both_few (texts (take place words.now)) (texts (drop (place + 1) words.now)) }
+    ensures { result
+        ≡ both_few (texts (take place words.now)) (texts (drop (place + 1) words.now)) }
 {
     let first = section_words(&words[..place])?;
     let later = section_words(&words[place + 1..])?;

@@ -3,6 +3,7 @@
 //! - A text is cut at its line feeds, a line at its spaces (`words` of bm_law_text), and the words are read by the form of the line:
 //!   the first word decides which it is (`stage_line` of specs/Drafts), and the functions of `calls`, `named`, `exchange`, `steps`,
 //!   `history` and `told` read one form each, as `line_of` of bm_law_text says.
+//! - `read_entry` gives the entry of one line of a log (`entry_said` of specs/EntryLine).
 //! - What may come next is told by a stage (`Stage`, `next` of specs/Drafts): the four lines of the heading, classes, logs with their
 //!   entries, histories with their calls, the nineteen totals. Numbers of processors, positions and totals go up one by one.
 //! - `Draft` and `Body` are what is read so far; each line that is taken is one line more of it (`Read`, `Taken`).
@@ -19,6 +20,7 @@ mod body;
 mod calls;
 mod draft;
 mod entry;
+mod entry_line;
 mod exchange;
 mod fault;
 mod history;
@@ -26,11 +28,13 @@ mod lists;
 mod named;
 mod owners;
 mod parts;
+mod pieces;
 mod reader;
 mod steps;
 mod told;
 mod worked;
 
+pub use entry_line::read_entry;
 pub use fault::JournalFault;
 pub use reader::read_journal;
 pub use worked::worked_faults;

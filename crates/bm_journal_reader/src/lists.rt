@@ -60,7 +60,8 @@ pub fn values(words: &[&[u8]]) -> Option<Values>
 
 /// Names.
 pub fn names(alloc: Global, words: &[&[u8]]) -> Result<Option<Vec<Name>>, NoMemory>
-    ensures { IfOk result (λ read. option_map (λ names. names.items) read ≡ names (texts words.now)) }
+    ensures { IfOk result
+        (λ read. option_map (λ names. names.items) read ≡ names (texts words.now)) }
 {
     let mut names = Vec::new(alloc);
     for word in words {

@@ -58,7 +58,9 @@ fn place_of(names: &IndexSet<Vec<u8>>, name: &[u8]) -> Option<u8>
 }
 
 fn put_name(names: &mut IndexSet<Vec<u8>>, name: Vec<u8>) -> Result<bool, NoMemory>
-    ensures { IfOk result (λ differs. Puts differs (map (λ v. v.items) names.old.keys) name.items (map (λ v. v.items) names.new.keys)) }
+    ensures { IfOk result
+        (λ differs. Puts differs (map (λ v. v.items) names.old.keys) name.items
+        (map (λ v. v.items) names.new.keys)) }
 {
     let differs = names.insert(name)?;
     Ok(differs)

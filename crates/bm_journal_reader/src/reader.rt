@@ -5,23 +5,14 @@ ghost use Rattle.bm_journal_reader.specs.Faults.{FaultSays, Finished, IsFirstLin
 ghost use Rattle.bm_journal_reader.specs.Drafts.{IsSound, draft_lines, draft_stage, stage_maps};
 ghost use Rattle.bm_law_text.specs.Fits.{Each, JournalFits, LineFits};
 ghost use Rattle.bm_journal.specs.JournalText.{journal_text};
-ghost use Rattle.bm_journal_reader.specs.Pieces.{texts};
-ghost use Rattle.bm_law_text.specs.Pieces.{words};
 
 use crate::body::{Body, Part};
 use crate::draft::{Draft, Head};
 use crate::fault::JournalFault;
+use crate::pieces::words_of;
 use bm_journal::{Histories, Journal, Logs, Names, Opened, Totals};
-use bm_word::{NoMemory, numbers_round_trip};
+use bm_word::numbers_round_trip;
 use std::alloc::Global;
-
-// The words of a line.
-fn words_of(alloc: Global, line: &[u8]) -> Result<Vec<&[u8]>, NoMemory>
-    ensures { IfOk result (λ ws. texts ws.items ≡ words line.now) }
-{
-    let words = line.split(|b| *b == b' ').collect(alloc)?;
-    Ok(words)
-}
 
 // The first line and what is behind its line feed. None where there is no line feed.
 fn first_line(bytes: &[u8]) -> Option<(&[u8], &[u8])>
@@ -50,7 +41,9 @@ fn read_lines<'a>(
     bytes: &'a [u8],
 ) -> Result<(&'a [u8], u64), JournalFault>
     requires { Kept bytes.now bytes.now 1 draft.old }
-    ensures { MatchResult result (λ left. Kept bytes.now left.0.now left.1 draft.new × IsFirstLine left.0.now None) (FaultSays bytes.now) }
+    ensures { MatchResult result
+        (λ left. Kept bytes.now left.0.now left.1 draft.new × IsFirstLine left.0.now None)
+        (FaultSays bytes.now) }
 {
     numbers_round_trip();
     let mut rest = bytes;

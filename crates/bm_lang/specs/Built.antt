@@ -16,7 +16,8 @@ spell_option types maps (Some b) = reserved word.Else ∷ spell_block types maps
 
 abbrev pub FineStatements : List TypeForm → List MapForm → ℕ → List Statement → Type 0
 FineStatements types maps d [] = Unit {0}
-FineStatements types maps d (s ∷ ss) = FineAction types maps d s.action × FineStatements types maps d ss
+FineStatements types maps d (s ∷ ss) =
+    FineAction types maps d s.action × FineStatements types maps d ss
 
 abbrev pub FineOption : List TypeForm → List MapForm → ℕ → Option Block → Type 0
 FineOption types maps d None = Unit {0}

@@ -20,12 +20,14 @@ IsMap maps n i = IsSomeAnd (slice_get maps i) (λ m. fits n m.kind ≡ true)
 -- statements under these types and maps, in which d more blocks may be opened one inside the other
 abbrev mutual
   pub FineAction : List TypeForm → List MapForm → ℕ → Action → Type 0
-  FineAction types maps d (New x t values) = IsSomeAnd (slice_get types t.0) (λ e. length values ≡ length e.fields)
+  FineAction types maps d (New x t values) =
+      IsSomeAnd (slice_get types t.0) (λ e. length values ≡ length e.fields)
   FineAction types maps d (Drop x) = Unit {0}
   FineAction types maps d (Acquire y x) = Unit {0}
   FineAction types maps d (Get x f) = Unit {0}
   FineAction types maps d (Exchange y s x) = IsMap maps need.Slot s.0
-  FineAction types maps d (If' x body otherwise) = FineBlock types maps d body × FineElse types maps d otherwise
+  FineAction types maps d (If' x body otherwise) =
+      FineBlock types maps d body × FineElse types maps d otherwise
   FineAction types maps d (Repeat n body) = FineBlock types maps d body
   FineAction types maps d (Section body) = FineBlock types maps d body
   FineAction types maps d (Lock g) = IsMap maps need.Graph g.0
@@ -48,7 +50,8 @@ abbrev mutual
 
   pub FineRow : List TypeForm → List MapForm → ℕ → {m : _} → Row_of-Statement m → Type 0
   FineRow types maps d end_of-Statement = Unit {0}
-  FineRow types maps d (more_of-Statement line action rest) = FineAction types maps d action × FineRow types maps d rest
+  FineRow types maps d (more_of-Statement line action rest) =
+      FineAction types maps d action × FineRow types maps d rest
 
 -- names, none of them twice, nor one that stands before
 abbrev pub Fresh : List (List ℕ) → List (List ℕ) → Type 0
@@ -64,16 +67,23 @@ pub record FineType (t : TypeDeclaration) : Type 0 where
 
 abbrev pub FineTypes : List TypeForm → List TypeDeclaration → Type 0
 FineTypes before [] = Unit {0}
-FineTypes before (t ∷ ts) = (is_some (type_named before t.name) ≡ false) × FineType t × FineTypes (before ++ type_form t ∷ []) ts
+FineTypes before (t ∷ ts) =
+    (is_some (type_named before t.name) ≡ false) × FineType t
+    × FineTypes (before ++ type_form t ∷ []) ts
 
 abbrev pub FineMaps : List TypeForm → List MapForm → List MapDeclaration → Type 0
 FineMaps types before [] = Unit {0}
-FineMaps types before (m ∷ ms) = (is_some (map_named before m.name) ≡ false) × IsSomeAnd (slice_get types m.type_id.0) (λ e. holds m.kind e.node ≡ true) × FineMaps types (before ++ map_form m ∷ []) ms
+FineMaps types before (m ∷ ms) =
+    (is_some (map_named before m.name) ≡ false)
+    × IsSomeAnd (slice_get types m.type_id.0) (λ e. holds m.kind e.node ≡ true)
+    × FineMaps types (before ++ map_form m ∷ []) ms
 
 -- a script's own block is the first of sixteen
 abbrev pub FineScripts : List TypeForm → List MapForm → List ScriptForm → List Script → Type 0
 FineScripts types maps before [] = Unit {0}
-FineScripts types maps before (s ∷ ss) = (is_some (script_named before s.name) ≡ false) × FineBlock types maps 16 s.body × FineScripts types maps (before ++ script_form s ∷ []) ss
+FineScripts types maps before (s ∷ ss) =
+    (is_some (script_named before s.name) ≡ false) × FineBlock types maps 16 s.body
+    × FineScripts types maps (before ++ script_form s ∷ []) ss
 
 pub record FineRun (processors : ℕ) (scripts : List ScriptForm) (r : RunLine) : Type 0 where
   pub processor : r.processor < processors

@@ -254,7 +254,8 @@ abbrev pub with_node : Names → Node → Names
 with_node names n = record names { draft = record names.draft { node = Some n } }
 
 abbrev pub with_field : Names → List ℕ → Names
-with_field names n = record names { draft = record names.draft { fields = names.draft.fields ++ n ∷ [] } }
+with_field names n =
+    record names { draft = record names.draft { fields = names.draft.fields ++ n ∷ [] } }
 
 abbrev pub with_type : Names → Names
 with_type names = record names { types = names.types ++ names.draft ∷ []; draft = no_draft }
@@ -263,7 +264,8 @@ abbrev pub with_map : Names → List ℕ → MapKind → Names
 with_map names n k = record names { maps = names.maps ++ record { name = n; kind = k } ∷ [] }
 
 abbrev pub with_script : Names → List ℕ → ScriptKind → Names
-with_script names n k = record names { scripts = names.scripts ++ record { name = n; kind = k } ∷ [] }
+with_script names n k =
+    record names { scripts = names.scripts ++ record { name = n; kind = k } ∷ [] }
 
 -- what some words stand for
 abbrev pub node_of : Keyword → Option Node
@@ -307,29 +309,64 @@ next names EndOfText t = needed (is_end t) t (Shift names [])
 next names AnyName t = need_name t (λ n. Shift names [])
 next names AnyNumber t = need_number t (λ n. Shift names [])
 next names OnOrOff t = needed (is_word word.On t || is_word word.Off t) t (Shift names [])
-next names ProcessorCount t = need_number t (λ n. only_if (nat_lt 0 n) kind.Range (Shift (record names { processors = n }) []))
-next names Types t = may (is_word word.Type t) (Shift names (TypeName ∷ Counted ∷ NodeOfType ∷ OpenBrace ∷ Fields ∷ PadOfType ∷ TypeEnd ∷ Types ∷ []))
-next names TypeName t = need_name t (λ n. only_if (not (is_some (type_named names.types n))) kind.Duplicate (Shift (record names { draft = record no_draft { name = n } }) []))
-next names Counted t = may (is_word word.Counted t) (Shift (record names { draft = record names.draft { counted = true } }) [])
+next names ProcessorCount t =
+    need_number t
+    (λ n. only_if (nat_lt 0 n) kind.Range (Shift (record names { processors = n }) []))
+next names Types t =
+    may (is_word word.Type t)
+    (Shift names
+    (TypeName ∷ Counted ∷ NodeOfType ∷ OpenBrace ∷ Fields ∷ PadOfType ∷ TypeEnd ∷ Types
+    ∷ []))
+next names TypeName t =
+    need_name t
+    (λ n. only_if (not (is_some (type_named names.types n))) kind.Duplicate
+    (Shift (record names { draft = record no_draft { name = n } }) []))
+next names Counted t =
+    may (is_word word.Counted t)
+    (Shift (record names { draft = record names.draft { counted = true } }) [])
 next names NodeOfType t = may_word t (λ w. node_step names (node_of w))
-next names Fields t = may_name t (λ n. only_if (not (has_name names.draft.fields n)) kind.Duplicate (Shift (with_field names n) (Fields ∷ [])))
+next names Fields t =
+    may_name t
+    (λ n. only_if (not (has_name names.draft.fields n)) kind.Duplicate
+    (Shift (with_field names n) (Fields ∷ [])))
 next names PadOfType t = may (is_word word.Pad t) (Shift names (PadBytes ∷ []))
-next names PadBytes t = need_number t (λ n. only_if (n % 8 == 0) kind.Range (Shift (record names { draft = record names.draft { pad = n } }) []))
-next names TypeEnd t = needed (is_close t) t (only_if (has_key names.draft) kind.Wrong (only_if (has_size names.draft) kind.TypeSize (Shift (with_type names) [])))
+next names PadBytes t =
+    need_number t
+    (λ n. only_if (n % 8 == 0) kind.Range
+    (Shift (record names { draft = record names.draft { pad = n } }) []))
+next names TypeEnd t =
+    needed (is_close t) t
+    (only_if (has_key names.draft) kind.Wrong
+    (only_if (has_size names.draft) kind.TypeSize (Shift (with_type names) [])))
 next names Maps t = may_word t (λ w. maps_step names (map_kind_of w))
-next names (MapName k) t = need_name t (λ n. only_if (not (is_some (map_named names.maps n))) kind.Duplicate (Shift (with_map names n k) (MapType k ∷ [])))
+next names (MapName k) t =
+    need_name t
+    (λ n. only_if (not (is_some (map_named names.maps n))) kind.Duplicate
+    (Shift (with_map names n k) (MapType k ∷ [])))
 next names (MapType k) t = need_name t (λ n. map_type_step names k (type_named names.types n))
 next names Scripts t = may (is_word word.Script t) (Shift names (ScriptName ∷ Scripts ∷ []))
-next names ScriptName t = need_name t (λ n. only_if (not (is_some (script_named names.scripts n))) kind.Duplicate (Shift names (KindOfScript n ∷ [])))
+next names ScriptName t =
+    need_name t
+    (λ n. only_if (not (is_some (script_named names.scripts n))) kind.Duplicate
+    (Shift names (KindOfScript n ∷ [])))
 next names (KindOfScript n) t = need_word t (λ w. script_kind_step names n (script_kind_of w))
 next names Runs t = may (is_word word.Run t) (Shift names (Processor ∷ ScriptOf false ∷ Runs ∷ []))
-next names Processor t = need_number t (λ n. only_if (nat_lt n names.processors) kind.Range (Shift names []))
-next names (ScriptOf handler) t = need_name t (λ n. script_step names handler (script_named names.scripts n))
-next names Ats t = may (is_word word.At t) (Shift names (Processor ∷ AnyNumber ∷ Level ∷ ScriptOf true ∷ Ats ∷ []))
-next names Level t = need_number t (λ n. only_if (nat_le 1 n && nat_le n 3) kind.Range (Shift names []))
-next names Turns t = may (is_word word.Turns t) (Shift names (OpenBrace ∷ TurnNumbers ∷ CloseBrace ∷ []))
-next names TurnNumbers t = may_number t (λ n. only_if (nat_lt n names.processors) kind.Range (Shift names (TurnNumbers ∷ [])))
-next names (Braced d) t = needed (is_open t) t (only_if (nat_lt 0 d) kind.Depth (Shift names (Statements (d - 1) ∷ CloseBrace ∷ [])))
+next names Processor t =
+    need_number t (λ n. only_if (nat_lt n names.processors) kind.Range (Shift names []))
+next names (ScriptOf handler) t =
+    need_name t (λ n. script_step names handler (script_named names.scripts n))
+next names Ats t =
+    may (is_word word.At t) (Shift names (Processor ∷ AnyNumber ∷ Level ∷ ScriptOf true ∷ Ats ∷ []))
+next names Level t =
+    need_number t (λ n. only_if (nat_le 1 n && nat_le n 3) kind.Range (Shift names []))
+next names Turns t =
+    may (is_word word.Turns t) (Shift names (OpenBrace ∷ TurnNumbers ∷ CloseBrace ∷ []))
+next names TurnNumbers t =
+    may_number t
+    (λ n. only_if (nat_lt n names.processors) kind.Range (Shift names (TurnNumbers ∷ [])))
+next names (Braced d) t =
+    needed (is_open t) t
+    (only_if (nat_lt 0 d) kind.Depth (Shift names (Statements (d - 1) ∷ CloseBrace ∷ [])))
 next names (Statements d) t = may_word t (λ w. statement_step names d w (statement_body d w))
 next names (Else d) t = may (is_word word.Else t) (Shift names (Braced d ∷ []))
 next names NewType t = need_name t (λ n. new_step names (type_named names.types n))
@@ -343,4 +380,6 @@ declarations = Types ∷ Maps ∷ Scripts ∷ Runs ∷ Ats ∷ Turns ∷ CloseBr
 
 -- a whole text
 abbrev pub scenario : List Symbol
-scenario = Word word.Scenario ∷ OpenBrace ∷ Word word.Processors ∷ ProcessorCount ∷ Word word.Pages ∷ AnyNumber ∷ Word word.Deferred ∷ OnOrOff ∷ declarations
+scenario =
+    Word word.Scenario ∷ OpenBrace ∷ Word word.Processors ∷ ProcessorCount ∷ Word word.Pages
+    ∷ AnyNumber ∷ Word word.Deferred ∷ OnOrOff ∷ declarations

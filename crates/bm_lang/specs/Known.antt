@@ -8,8 +8,10 @@ form n c d fs p = record { name = n; counted = c; node = d; fields = fs; pad = p
 
 -- among the types
 abbrev pub drafting : ℕ → List TypeForm → TypeForm → Names
-drafting p types draft = record { processors = p; types = types; maps = []; scripts = []; draft = draft }
+drafting p types draft =
+    record { processors = p; types = types; maps = []; scripts = []; draft = draft }
 
 -- behind the types
 abbrev pub knowing : ℕ → List TypeForm → List MapForm → List ScriptForm → Names
-knowing p types maps scripts = record { processors = p; types = types; maps = maps; scripts = scripts; draft = no_draft }
+knowing p types maps scripts =
+    record { processors = p; types = types; maps = maps; scripts = scripts; draft = no_draft }

@@ -89,5 +89,7 @@ first_limit s =
     else (if nat_lt 256 (length s.scripts) then Some limit.Scripts
     else (if nat_lt 1000 (length s.ats) then Some limit.Handlers
     else (if nat_lt 100000 (turns_length s.turns) then Some limit.Turns
-    else (if some_below s.processors (λ p. nat_lt 20000 (statements_of s p)) then Some limit.Statements
+    else
+    (if some_below s.processors (λ p. nat_lt 20000 (statements_of s p))
+    then Some limit.Statements
     else None))))))))

@@ -19,7 +19,9 @@ token_text (Wrong why) = []
 
 -- A word begins a line where it is a `}`, or the first of an item or a statement, or `else`.
 abbrev pub begins_line : Word → Bool
-begins_line w = is_some w.line || is_close w.sort || is_word word.Pages w.sort || is_word word.Deferred w.sort || is_word word.Turns w.sort || is_word word.Else w.sort
+begins_line w =
+    is_some w.line || is_close w.sort || is_word word.Pages w.sort || is_word word.Deferred w.sort
+    || is_word word.Turns w.sort || is_word word.Else w.sort
 
 -- a line ends behind a `{`, before a word that begins one, and at the end
 abbrev pub gap : Word → List Word → ℕ
@@ -46,7 +48,8 @@ node_text None = []
 node_text (Some d) = keyword_text (node_word d) ++ 32 ∷ []
 
 abbrev pub type_front : List ℕ → Bool → Option Node → List ℕ
-type_front n c d = keyword_text word.Type ++ 32 ∷ (n ++ 32 ∷ (counted_text c ++ (node_text d ++ 123 ∷ 10 ∷ [])))
+type_front n c d =
+    keyword_text word.Type ++ 32 ∷ (n ++ 32 ∷ (counted_text c ++ (node_text d ++ 123 ∷ 10 ∷ [])))
 
 abbrev pub fields_text : List (List ℕ) → Option ℕ → List ℕ
 fields_text fs None = row_text fs 10

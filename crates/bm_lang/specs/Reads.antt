@@ -18,16 +18,21 @@ mark t p = record { sort = t; place = p }
 -- The tokens `old` begin with these words, and `new` stands behind them.
 abbrev pub Spells : List Mark → List Word → List Mark → Type 0
 Spells old [] new = old ≡ new
-Spells old (w ∷ ws) new = (p : Place) × (more : List Mark) × (old ≡ record { sort = w.sort; place = p } ∷ more) × IfSome w.line (λ l. l ≡ p.line) × Spells more ws new
+Spells old (w ∷ ws) new =
+    (p : Place) × (more : List Mark) × (old ≡ record { sort = w.sort; place = p } ∷ more)
+    × IfSome w.line (λ l. l ≡ p.line) × Spells more ws new
 
 -- The same, but for the lines.
 abbrev pub Says : List Mark → List Word → List Mark → Type 0
 Says old [] new = old ≡ new
-Says old (w ∷ ws) new = (p : Place) × (more : List Mark) × (old ≡ record { sort = w.sort; place = p } ∷ more) × Says more ws new
+Says old (w ∷ ws) new =
+    (p : Place) × (more : List Mark) × (old ≡ record { sort = w.sort; place = p } ∷ more)
+    × Says more ws new
 
 -- The machine takes the tokens `old` at the symbols f, whatever may come behind them, goes on at the symbols g with
 -- the tokens `new`, and these tokens were the words of something fine.
-pub record Read (names : Names) (f : List Symbol) (after : Names) (g : List Symbol) (words : List Word) (Fine : Type 0) (old new : List Mark) : Type 0 where
+pub record Read (names : Names) (f : List Symbol) (after : Names) (g : List Symbol)
+    (words : List Word) (Fine : Type 0) (old new : List Mark) : Type 0 where
   pub grammar : (k : List Symbol) → parse old names (f ++ k) ≡ parse new after (g ++ k)
   pub spelled : Spells old words new
   pub fine : Fine
@@ -38,20 +43,29 @@ Fails NoMemory names f old = Unit {0}
 Fails (Bad b) names f old = (k : List Symbol) → parse old names (f ++ k) ≡ Some b
 
 -- What was read, or the fault.
-abbrev pub Reading : {X : Type 0} → Result X LangFault → Names → List Symbol → (X → Names) → (X → List Word) → (X → Type 0) → List Mark → List Mark → Type 0
-Reading (Ok x) names f after words fine old new = Read names f (after x) [] (words x) (fine x) old new
+abbrev pub Reading :
+    {X : Type 0} → Result X LangFault → Names → List Symbol → (X → Names) → (X → List Word)
+    → (X → Type 0) → List Mark → List Mark → Type 0
+Reading (Ok x) names f after words fine old new =
+    Read names f (after x) [] (words x) (fine x) old new
 Reading (Err e) names f after words fine old new = Fails e names f old
 
 -- A statement was read, or the fault, and further ones may come.
-abbrev pub Stating : {X : Type 0} → Result X LangFault → Names → ℕ → (X → List Word) → (X → Type 0) → List Mark → List Mark → Type 0
-Stating (Ok x) names d words fine old new = Read names (Statements d ∷ []) names (Statements d ∷ []) (words x) (fine x) old new
+abbrev pub Stating :
+    {X : Type 0} → Result X LangFault → Names → ℕ → (X → List Word) → (X → Type 0) → List Mark
+    → List Mark → Type 0
+Stating (Ok x) names d words fine old new =
+    Read names (Statements d ∷ []) names (Statements d ∷ []) (words x) (fine x) old new
 Stating (Err e) names d words fine old new = Fails e names (Statements d ∷ CloseBrace ∷ []) old
 
 -- The next token is of one sort, and was taken, or isn't.
-abbrev pub Gets : {X : Type 0} → Result X LangFault → (X → Mark) → (Sort → Bool) → List Mark → List Mark → Type 0
+abbrev pub Gets :
+    {X : Type 0} → Result X LangFault → (X → Mark) → (Sort → Bool) → List Mark → List Mark → Type 0
 Gets (Ok x) mark test old new = old ≡ mark x ∷ new
 Gets (Err NoMemory) mark test old new = Unit {0}
-Gets (Err (Bad f)) mark test old new = (m : Mark) × (more : List Mark) × (old ≡ m ∷ more) × (test m.sort ≡ false) × (f ≡ bad m.place (refusal m.sort))
+Gets (Err (Bad f)) mark test old new =
+    (m : Mark) × (more : List Mark) × (old ≡ m ∷ more) × (test m.sort ≡ false)
+    × (f ≡ bad m.place (refusal m.sort))
 
 -- A token that may come was taken, or another one comes.
 pub record Absent (test : Sort → Bool) (old new : List Mark) : Type 0 where
@@ -61,7 +75,8 @@ pub record Absent (test : Sort → Bool) (old new : List Mark) : Type 0 where
   pub front_is : old ≡ front ∷ more
   pub other : test front.sort ≡ false
 
-abbrev pub May : {X : Type 0} → Option X → (X → Mark) → (Sort → Bool) → List Mark → List Mark → Type 0
+abbrev pub May :
+    {X : Type 0} → Option X → (X → Mark) → (Sort → Bool) → List Mark → List Mark → Type 0
 May (Some x) mark test old new = old ≡ mark x ∷ new
 May None mark test old new = Absent test old new
 
@@ -93,5 +108,7 @@ MayBegin r old new = May r (λ x. mark (Reserved (map_word x.0)) x.1) begins_map
 
 -- A script's kind was read, and its block comes, or the fault.
 abbrev pub Kinding : Result ScriptKind LangFault → Names → List ℕ → List Mark → List Mark → Type 0
-Kinding (Ok k) names n old new = Read names (KindOfScript n ∷ []) (with_script names n k) (Braced 16 ∷ []) (reserved (script_word k) ∷ []) (Unit {0}) old new
+Kinding (Ok k) names n old new =
+    Read names (KindOfScript n ∷ []) (with_script names n k) (Braced 16 ∷ [])
+    (reserved (script_word k) ∷ []) (Unit {0}) old new
 Kinding (Err e) names n old new = Fails e names (KindOfScript n ∷ []) old

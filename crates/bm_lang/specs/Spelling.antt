@@ -22,7 +22,14 @@ use Rattle.bm_lang.specs.Names.{TypeForm, MapForm, ScriptForm, Names, no_draft}
 
 -- what a declaration makes known
 abbrev pub type_form : TypeDeclaration → TypeForm
-type_form t = record { name = t.name; counted = t.counted; node = t.node; fields = t.fields; pad = unwrap_or t.pad 0 }
+type_form t =
+    record {
+      name = t.name;
+      counted = t.counted;
+      node = t.node;
+      fields = t.fields;
+      pad = unwrap_or t.pad 0;
+    }
 
 abbrev pub map_form : MapDeclaration → MapForm
 map_form m = record { name = m.name; kind = m.kind }
@@ -31,7 +38,14 @@ abbrev pub script_form : Script → ScriptForm
 script_form s = record { name = s.name; kind = s.kind }
 
 abbrev pub declared : Parts → Names
-declared s = record { processors = s.processors; types = map type_form s.types; maps = map map_form s.maps; scripts = map script_form s.scripts; draft = no_draft }
+declared s =
+    record {
+      processors = s.processors;
+      types = map type_form s.types;
+      maps = map map_form s.maps;
+      scripts = map script_form s.scripts;
+      draft = no_draft;
+    }
 
 -- the names under which declared things are spelled
 abbrev pub type_name : List TypeForm → ℕ → List ℕ
@@ -70,35 +84,50 @@ name_or_null None = reserved word.Null
 abbrev mutual
   -- a statement whose first word stands on line l
   pub spell_action : List TypeForm → List MapForm → ℕ → Action → List Word
-  spell_action types maps l (New x t values) = on l (Reserved word.New) ∷ name x ∷ name (type_name types t.0) ∷ map number values
+  spell_action types maps l (New x t values) =
+      on l (Reserved word.New) ∷ name x ∷ name (type_name types t.0) ∷ map number values
   spell_action types maps l (Drop x) = on l (Reserved word.Drop) ∷ name x ∷ []
   spell_action types maps l (Acquire y x) = on l (Reserved word.Acquire) ∷ name y ∷ name x ∷ []
   spell_action types maps l (Get x f) = on l (Reserved word.Get) ∷ name x ∷ name f ∷ []
-  spell_action types maps l (Exchange y s x) = on l (Reserved word.Xchg) ∷ name y ∷ name (map_name maps s.0) ∷ name_or_null x ∷ []
-  spell_action types maps l (If' x body otherwise) = on l (Reserved word.If) ∷ name x ∷ (spell_block types maps body ++ spell_else types maps otherwise)
-  spell_action types maps l (Repeat n body) = on l (Reserved word.Repeat) ∷ number n ∷ spell_block types maps body
-  spell_action types maps l (Section body) = on l (Reserved word.Section) ∷ spell_block types maps body
+  spell_action types maps l (Exchange y s x) =
+      on l (Reserved word.Xchg) ∷ name y ∷ name (map_name maps s.0) ∷ name_or_null x ∷ []
+  spell_action types maps l (If' x body otherwise) =
+      on l (Reserved word.If) ∷ name x
+      ∷ (spell_block types maps body ++ spell_else types maps otherwise)
+  spell_action types maps l (Repeat n body) =
+      on l (Reserved word.Repeat) ∷ number n ∷ spell_block types maps body
+  spell_action types maps l (Section body) =
+      on l (Reserved word.Section) ∷ spell_block types maps body
   spell_action types maps l (Lock g) = on l (Reserved word.Lock) ∷ name (map_name maps g.0) ∷ []
   spell_action types maps l Unlock = on l (Reserved word.Unlock) ∷ []
   spell_action types maps l Yield = on l (Reserved word.Yield) ∷ []
-  spell_action types maps l (PushFront q x) = on l (Reserved word.PushFront) ∷ name (map_name maps q.0) ∷ name x ∷ []
-  spell_action types maps l (PushBack q x) = on l (Reserved word.PushBack) ∷ name (map_name maps q.0) ∷ name x ∷ []
-  spell_action types maps l (PopFront x q) = on l (Reserved word.PopFront) ∷ name x ∷ name (map_name maps q.0) ∷ []
-  spell_action types maps l (PopBack x q) = on l (Reserved word.PopBack) ∷ name x ∷ name (map_name maps q.0) ∷ []
-  spell_action types maps l (Add t x) = on l (Reserved word.Add) ∷ name (map_name maps t.0) ∷ name x ∷ []
-  spell_action types maps l (First x t) = on l (Reserved word.First) ∷ name x ∷ name (map_name maps t.0) ∷ []
-  spell_action types maps l (Remove y t x) = on l (Reserved word.Remove) ∷ name y ∷ name (map_name maps t.0) ∷ name x ∷ []
+  spell_action types maps l (PushFront q x) =
+      on l (Reserved word.PushFront) ∷ name (map_name maps q.0) ∷ name x ∷ []
+  spell_action types maps l (PushBack q x) =
+      on l (Reserved word.PushBack) ∷ name (map_name maps q.0) ∷ name x ∷ []
+  spell_action types maps l (PopFront x q) =
+      on l (Reserved word.PopFront) ∷ name x ∷ name (map_name maps q.0) ∷ []
+  spell_action types maps l (PopBack x q) =
+      on l (Reserved word.PopBack) ∷ name x ∷ name (map_name maps q.0) ∷ []
+  spell_action types maps l (Add t x) =
+      on l (Reserved word.Add) ∷ name (map_name maps t.0) ∷ name x ∷ []
+  spell_action types maps l (First x t) =
+      on l (Reserved word.First) ∷ name x ∷ name (map_name maps t.0) ∷ []
+  spell_action types maps l (Remove y t x) =
+      on l (Reserved word.Remove) ∷ name y ∷ name (map_name maps t.0) ∷ name x ∷ []
 
   pub spell_else : List TypeForm → List MapForm → Held-Action-If-2 → List Word
   spell_else types maps None' = []
   spell_else types maps (Some' body) = reserved word.Else ∷ spell_block types maps body
 
   pub spell_block : List TypeForm → List MapForm → Block → List Word
-  spell_block types maps (Block' shape row end_line) = any Open ∷ (spell_row types maps row ++ on end_line Close ∷ [])
+  spell_block types maps (Block' shape row end_line) =
+      any Open ∷ (spell_row types maps row ++ on end_line Close ∷ [])
 
   pub spell_row : List TypeForm → List MapForm → {m : _} → Row_of-Statement m → List Word
   spell_row types maps end_of-Statement = []
-  spell_row types maps (more_of-Statement line action rest) = spell_action types maps line action ++ spell_row types maps rest
+  spell_row types maps (more_of-Statement line action rest) =
+      spell_action types maps line action ++ spell_row types maps rest
 
 abbrev pub node_word : Node → Keyword
 node_word node.List = word.List
@@ -118,7 +147,11 @@ pad_words (Some n) = reserved word.Pad ∷ number n ∷ []
 
 -- a type behind its first word
 abbrev pub type_words : TypeDeclaration → List Word
-type_words t = name t.name ∷ (counted_words t.counted ++ (node_words t.node ++ any Open ∷ (map name t.fields ++ (pad_words t.pad ++ any Close ∷ []))))
+type_words t =
+    name t.name
+    ∷ (counted_words t.counted
+    ++ (node_words t.node ++ any Open
+    ∷ (map name t.fields ++ (pad_words t.pad ++ any Close ∷ []))))
 
 abbrev pub spell_type : TypeDeclaration → List Word
 spell_type t = on t.line (Reserved word.Type) ∷ type_words t
@@ -142,7 +175,8 @@ script_word script.Handler = word.Handler
 
 -- a script behind its first word
 abbrev pub script_words : List TypeForm → List MapForm → Script → List Word
-script_words types maps s = name s.name ∷ reserved (script_word s.kind) ∷ spell_block types maps s.body
+script_words types maps s =
+    name s.name ∷ reserved (script_word s.kind) ∷ spell_block types maps s.body
 
 abbrev pub spell_script : List TypeForm → List MapForm → Script → List Word
 spell_script types maps s = on s.line (Reserved word.Script) ∷ script_words types maps s
@@ -156,7 +190,8 @@ spell_run scripts r = on r.line (Reserved word.Run) ∷ run_words scripts r
 
 -- an `at` line behind its first word
 abbrev pub at_words : List ScriptForm → AtLine → List Word
-at_words scripts a = number a.processor ∷ number a.step ∷ number a.level ∷ name (script_name scripts a.script.0) ∷ []
+at_words scripts a =
+    number a.processor ∷ number a.step ∷ number a.level ∷ name (script_name scripts a.script.0) ∷ []
 
 abbrev pub spell_at : List ScriptForm → AtLine → List Word
 spell_at scripts a = on a.line (Reserved word.At) ∷ at_words scripts a
@@ -171,13 +206,17 @@ on_or_off false = word.Off
 
 abbrev pub spell_header : ℕ → ℕ → Bool → List Word
 spell_header processors pages deferred =
-    reserved word.Scenario ∷ any Open ∷ reserved word.Processors ∷ number processors ∷ reserved word.Pages ∷ number pages ∷ reserved word.Deferred ∷ reserved (on_or_off deferred) ∷ []
+    reserved word.Scenario ∷ any Open ∷ reserved word.Processors ∷ number processors
+    ∷ reserved word.Pages ∷ number pages ∷ reserved word.Deferred
+    ∷ reserved (on_or_off deferred) ∷ []
 
 -- the words of a scenario under what it declares, up to its last brace
 abbrev pub spell_under : Names → Parts → List Word
 spell_under d s =
-    spell_header s.processors s.pages s.deferred ++ (flat_map spell_type s.types ++ (flat_map (spell_map d.types) s.maps ++ (flat_map (spell_script d.types d.maps) s.scripts
-    ++ (flat_map (spell_run d.scripts) s.runs ++ (flat_map (spell_at d.scripts) s.ats ++ (spell_turns s.turns ++ any Close ∷ []))))))
+    spell_header s.processors s.pages s.deferred ++ (flat_map spell_type s.types
+    ++ (flat_map (spell_map d.types) s.maps ++ (flat_map (spell_script d.types d.maps) s.scripts
+    ++ (flat_map (spell_run d.scripts) s.runs
+    ++ (flat_map (spell_at d.scripts) s.ats ++ (spell_turns s.turns ++ any Close ∷ []))))))
 
 abbrev pub spell_scenario : Parts → List Word
 spell_scenario s = spell_under (declared s) s

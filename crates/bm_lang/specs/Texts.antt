@@ -8,7 +8,9 @@ use Rattle.bm_lang.specs.Tokens.{Sort, End, Mark, is_separator, sort_of, tokens,
 -- one run, or one byte that is in none and no separator
 abbrev pub IsTokenText : List ℕ → Type 0
 IsTokenText [] = ⊥
-IsTokenText (b ∷ bs) = (list_all is_run_byte (b ∷ bs) ≡ true) ⊎ ((is_run_byte b ≡ false) × (is_separator b ≡ false) × (bs ≡ []))
+IsTokenText (b ∷ bs) =
+    (list_all is_run_byte (b ∷ bs) ≡ true)
+    ⊎ ((is_run_byte b ≡ false) × (is_separator b ≡ false) × (bs ≡ []))
 
 -- a separator and a token behind it
 pub record Part : Type 0 where
@@ -37,11 +39,13 @@ part_sorts (x ∷ xs) = sort_of x.bytes ∷ part_sorts xs
 
 -- a text of parts has their tokens
 abbrev pub PartsAreTokens : Type 0
-PartsAreTokens = (xs : List Part) (p : Place) → AreParts xs → sorts (tokens p (text_of_parts xs)) ≡ part_sorts xs
+PartsAreTokens =
+    (xs : List Part) (p : Place) → AreParts xs → sorts (tokens p (text_of_parts xs)) ≡ part_sorts xs
 
 -- where a text begins changes no token
 abbrev pub PlacesArePlacesAlone : Type 0
-PlacesArePlacesAlone = (bytes : List ℕ) (p q : Place) → sorts (tokens p bytes) ≡ sorts (tokens q bytes)
+PlacesArePlacesAlone =
+    (bytes : List ℕ) (p q : Place) → sorts (tokens p bytes) ≡ sorts (tokens q bytes)
 
 abbrev pub AreLegal : List Mark → Type 0
 AreLegal [] = Unit {0}

@@ -41,7 +41,8 @@ reserved_or_name bytes None = Name bytes
 
 -- a run that begins with no digit: a word of at most 31 bytes
 abbrev pub word_sort : List ℕ → Sort
-word_sort bytes = if nat_lt 31 (length bytes) then Wrong fault.Name else reserved_or_name bytes (keyword_of bytes)
+word_sort bytes =
+    if nat_lt 31 (length bytes) then Wrong fault.Name else reserved_or_name bytes (keyword_of bytes)
 
 -- the sort of a brace, a run or a stray byte. No bytes are the end of the text.
 abbrev pub sort_of : List ℕ → Sort
@@ -64,7 +65,9 @@ start = record { line = 1; column = 1 }
 
 -- the place behind a byte: lines are counted by line feeds, columns by bytes
 abbrev pub after : Place → ℕ → Place
-after p b = if b == 10 then record { line = p.line + 1; column = 1 } else record { line = p.line; column = p.column + 1 }
+after p b =
+    if b == 10 then record { line = p.line + 1; column = 1 }
+    else record { line = p.line; column = p.column + 1 }
 
 abbrev pub begins_run : List ℕ → Bool
 begins_run [] = false

@@ -31,7 +31,17 @@ pub fn block(
     maps: MapTable<'_>,
     depth: u32,
 ) -> Result<Block, LangFault>
-    ensures { (p : ℕ) (scripts : List ScriptForm) → Reading result (knowing p (map type_form types.entry.items.now) (map map_form maps.entry.items.now) scripts) (Braced depth ∷ []) (λ _. knowing p (map type_form types.entry.items.now) (map map_form maps.entry.items.now) scripts) (spell_block (map type_form types.entry.items.now) (map map_form maps.entry.items.now)) (FineBlock (map type_form types.entry.items.now) (map map_form maps.entry.items.now) depth) (left tokens.old) (left tokens.new) }
+    ensures { (p : ℕ) (scripts : List ScriptForm)
+        → Reading result
+        (knowing p (map type_form types.entry.items.now) (map map_form maps.entry.items.now)
+        scripts)
+        (Braced depth ∷ [])
+        (λ _. knowing p (map type_form types.entry.items.now)
+        (map map_form maps.entry.items.now) scripts)
+        (spell_block (map type_form types.entry.items.now) (map map_form maps.entry.items.now))
+        (FineBlock (map type_form types.entry.items.now) (map map_form maps.entry.items.now)
+        depth)
+        (left tokens.old) (left tokens.new) }
 {
     let place = opening(tokens)?;
     if depth == 0 {
@@ -70,7 +80,16 @@ fn action(
     word: Keyword,
     start: Place,
 ) -> Result<Action, LangFault>
-    ensures { (p : ℕ) (scripts : List ScriptForm) → Stating result (knowing p (map type_form types.entry.items.now) (map map_form maps.entry.items.now) scripts) depth (spell_action (map type_form types.entry.items.now) (map map_form maps.entry.items.now) start.line) (FineAction (map type_form types.entry.items.now) (map map_form maps.entry.items.now) depth) (mark (Reserved word) start ∷ left tokens.old) (left tokens.new) }
+    ensures { (p : ℕ) (scripts : List ScriptForm)
+        → Stating result
+        (knowing p (map type_form types.entry.items.now) (map map_form maps.entry.items.now)
+        scripts)
+        depth
+        (spell_action (map type_form types.entry.items.now) (map map_form maps.entry.items.now)
+        start.line)
+        (FineAction (map type_form types.entry.items.now) (map map_form maps.entry.items.now)
+        depth)
+        (mark (Reserved word) start ∷ left tokens.old) (left tokens.new) }
 {
     match word {
         Keyword::If => {
@@ -105,7 +124,17 @@ fn otherwise(
     maps: MapTable<'_>,
     depth: u32,
 ) -> Result<Option<Block>, LangFault>
-    ensures { (p : ℕ) (scripts : List ScriptForm) → Reading result (knowing p (map type_form types.entry.items.now) (map map_form maps.entry.items.now) scripts) (Else depth ∷ []) (λ _. knowing p (map type_form types.entry.items.now) (map map_form maps.entry.items.now) scripts) (spell_option (map type_form types.entry.items.now) (map map_form maps.entry.items.now)) (FineOption (map type_form types.entry.items.now) (map map_form maps.entry.items.now) depth) (left tokens.old) (left tokens.new) }
+    ensures { (p : ℕ) (scripts : List ScriptForm)
+        → Reading result
+        (knowing p (map type_form types.entry.items.now) (map map_form maps.entry.items.now)
+        scripts)
+        (Else depth ∷ [])
+        (λ _. knowing p (map type_form types.entry.items.now)
+        (map map_form maps.entry.items.now) scripts)
+        (spell_option (map type_form types.entry.items.now) (map map_form maps.entry.items.now))
+        (FineOption (map type_form types.entry.items.now) (map map_form maps.entry.items.now)
+        depth)
+        (left tokens.old) (left tokens.new) }
 {
     match optional(tokens, Keyword::Else) {
         Some(_) => Ok(Some(block(alloc, tokens, types, maps, depth)?)),

@@ -11,7 +11,8 @@ const MANY: u64 = 20_001;
 
 /// Whether some processor has more than 20,000 statements.
 pub fn has_too_many_statements(scenario: &Parts) -> bool
-    ensures { result ≡ some_below scenario.now.processors (λ p. nat_lt 20000 (statements_of scenario.now p)) }
+    ensures { result
+        ≡ some_below scenario.now.processors (λ p. nat_lt 20000 (statements_of scenario.now p)) }
 {
     for processor in 0..scenario.processors {
         let runs = run_cost(
@@ -33,7 +34,12 @@ pub fn has_too_many_statements(scenario: &Parts) -> bool
 
 // The statements of a processor's `run` lines.
 fn run_cost(runs: &[RunLine], scripts: &[Script], processor: u32) -> u64
-    ensures { result ≡ min 20001 (sum_by (λ r. cost_on processor r.processor (script_cost (slice_get scripts.now r.script.0))) runs.now) }
+    ensures { result
+        ≡ min 20001
+        (sum_by
+        (λ r. cost_on processor r.processor
+        (script_cost (slice_get scripts.now r.script.0)))
+        runs.now) }
 {
     let mut total = 0;
     for run in runs {
@@ -49,7 +55,12 @@ fn run_cost(runs: &[RunLine], scripts: &[Script], processor: u32) -> u64
 
 // The statements of a processor's `at` lines.
 fn at_cost(ats: &[AtLine], scripts: &[Script], processor: u32) -> u64
-    ensures { result ≡ min 20001 (sum_by (λ a. cost_on processor a.processor (script_cost (slice_get scripts.now a.script.0))) ats.now) }
+    ensures { result
+        ≡ min 20001
+        (sum_by
+        (λ a. cost_on processor a.processor
+        (script_cost (slice_get scripts.now a.script.0)))
+        ats.now) }
 {
     let mut total = 0;
     for at in ats {

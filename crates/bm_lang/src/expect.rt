@@ -68,7 +68,8 @@ pub fn closing(tokens: &mut Tokens<'_>) -> Result<Place, LangFault>
 
 /// A number, and its place.
 pub fn placed_number(tokens: &mut Tokens<'_>) -> Result<(u32, Place), LangFault>
-    ensures { Gets result (λ x. mark (Number x.0) x.1) is_number (left tokens.old) (left tokens.new) }
+    ensures { Gets result (λ x. mark (Number x.0) x.1) is_number (left tokens.old)
+        (left tokens.new) }
 {
     let next = tokens.take();
     match next.token {
@@ -79,7 +80,8 @@ pub fn placed_number(tokens: &mut Tokens<'_>) -> Result<(u32, Place), LangFault>
 
 /// A name, and its place.
 pub fn placed_name(tokens: &mut Tokens<'_>) -> Result<(Name, Place), LangFault>
-    ensures { Gets result (λ x. mark (token.Name x.0) x.1) is_name (left tokens.old) (left tokens.new) }
+    ensures { Gets result (λ x. mark (token.Name x.0) x.1) is_name (left tokens.old)
+        (left tokens.new) }
 {
     let next = tokens.take();
     match next.token {
@@ -90,7 +92,8 @@ pub fn placed_name(tokens: &mut Tokens<'_>) -> Result<(Name, Place), LangFault>
 
 // A reserved word, and its place.
 fn placed_word(tokens: &mut Tokens<'_>, word: Keyword) -> Result<Place, LangFault>
-    ensures { Gets result (mark (Reserved word)) (is_word word) (left tokens.old) (left tokens.new) }
+    ensures { Gets result (mark (Reserved word)) (is_word word) (left tokens.old)
+        (left tokens.new) }
 {
     let next = tokens.take();
     match next.token {
@@ -101,7 +104,9 @@ fn placed_word(tokens: &mut Tokens<'_>, word: Keyword) -> Result<Place, LangFaul
 
 /// A reserved word.
 pub fn word(tokens: &mut Tokens<'_>, word: Keyword) -> Result<(), LangFault>
-    ensures { (names : Names) → Reading result names (Word word ∷ []) (λ _. names) (λ _. reserved word ∷ []) (λ _. Unit {0}) (left tokens.old) (left tokens.new) }
+    ensures { (names : Names)
+        → Reading result names (Word word ∷ []) (λ _. names) (λ _. reserved word ∷ [])
+        (λ _. Unit {0}) (left tokens.old) (left tokens.new) }
 {
     let _place = placed_word(tokens, word)?;
     Ok(())
@@ -109,7 +114,9 @@ pub fn word(tokens: &mut Tokens<'_>, word: Keyword) -> Result<(), LangFault>
 
 /// A `{`.
 pub fn open(tokens: &mut Tokens<'_>) -> Result<(), LangFault>
-    ensures { (names : Names) → Reading result names (OpenBrace ∷ []) (λ _. names) (λ _. any Open ∷ []) (λ _. Unit {0}) (left tokens.old) (left tokens.new) }
+    ensures { (names : Names)
+        → Reading result names (OpenBrace ∷ []) (λ _. names) (λ _. any Open ∷ []) (λ _. Unit {0})
+        (left tokens.old) (left tokens.new) }
 {
     let _place = opening(tokens)?;
     Ok(())
@@ -117,7 +124,9 @@ pub fn open(tokens: &mut Tokens<'_>) -> Result<(), LangFault>
 
 /// A `}`.
 pub fn close(tokens: &mut Tokens<'_>) -> Result<(), LangFault>
-    ensures { (names : Names) → Reading result names (CloseBrace ∷ []) (λ _. names) (λ _. any Close ∷ []) (λ _. Unit {0}) (left tokens.old) (left tokens.new) }
+    ensures { (names : Names)
+        → Reading result names (CloseBrace ∷ []) (λ _. names) (λ _. any Close ∷ []) (λ _. Unit {0})
+        (left tokens.old) (left tokens.new) }
 {
     let _place = closing(tokens)?;
     Ok(())
@@ -125,7 +134,9 @@ pub fn close(tokens: &mut Tokens<'_>) -> Result<(), LangFault>
 
 /// Any name.
 pub fn any_name(tokens: &mut Tokens<'_>) -> Result<Name, LangFault>
-    ensures { (names : Names) → Reading result names (AnyName ∷ []) (λ _. names) (λ x. name x ∷ []) (λ _. Unit {0}) (left tokens.old) (left tokens.new) }
+    ensures { (names : Names)
+        → Reading result names (AnyName ∷ []) (λ _. names) (λ x. name x ∷ []) (λ _. Unit {0})
+        (left tokens.old) (left tokens.new) }
 {
     let (name, _) = placed_name(tokens)?;
     Ok(name)
@@ -133,7 +144,9 @@ pub fn any_name(tokens: &mut Tokens<'_>) -> Result<Name, LangFault>
 
 /// Any number.
 pub fn any_number(tokens: &mut Tokens<'_>) -> Result<u32, LangFault>
-    ensures { (names : Names) → Reading result names (AnyNumber ∷ []) (λ _. names) (λ n. number n ∷ []) (λ _. Unit {0}) (left tokens.old) (left tokens.new) }
+    ensures { (names : Names)
+        → Reading result names (AnyNumber ∷ []) (λ _. names) (λ n. number n ∷ []) (λ _. Unit {0})
+        (left tokens.old) (left tokens.new) }
 {
     let (number, _) = placed_number(tokens)?;
     Ok(number)
@@ -155,7 +168,8 @@ pub fn optional(tokens: &mut Tokens<'_>, word: Keyword) -> Option<Place>
 
 /// A name that may come, and its place. It is taken.
 pub fn optional_name(tokens: &mut Tokens<'_>) -> Option<(Name, Place)>
-    ensures { May result (λ x. mark (token.Name x.0) x.1) is_name (left tokens.old) (left tokens.new) }
+    ensures { May result (λ x. mark (token.Name x.0) x.1) is_name (left tokens.old)
+        (left tokens.new) }
 {
     let next = tokens.peek();
     match next.token {
@@ -169,7 +183,8 @@ pub fn optional_name(tokens: &mut Tokens<'_>) -> Option<(Name, Place)>
 
 /// A number that may come, and its place. It is taken.
 pub fn optional_number(tokens: &mut Tokens<'_>) -> Option<(u32, Place)>
-    ensures { May result (λ x. mark (Number x.0) x.1) is_number (left tokens.old) (left tokens.new) }
+    ensures { May result (λ x. mark (Number x.0) x.1) is_number (left tokens.old)
+        (left tokens.new) }
 {
     let next = tokens.peek();
     match next.token {

@@ -30,7 +30,13 @@ pub fn runs(
     processors: u32,
     scripts: ScriptTable<'_>,
 ) -> Result<Vec<RunLine>, LangFault>
-    ensures { (types : List TypeForm) (maps : List MapForm) → Reading result (knowing processors types maps (map script_form scripts.entry.items.now)) (Runs ∷ []) (λ _. knowing processors types maps (map script_form scripts.entry.items.now)) (λ v. flat_map (spell_run (map script_form scripts.entry.items.now)) v.items) (λ v. All (FineRun processors (map script_form scripts.entry.items.now)) v.items) (left tokens.old) (left tokens.new) }
+    ensures { (types : List TypeForm) (maps : List MapForm)
+        → Reading result (knowing processors types maps (map script_form scripts.entry.items.now))
+        (Runs ∷ [])
+        (λ _. knowing processors types maps (map script_form scripts.entry.items.now))
+        (λ v. flat_map (spell_run (map script_form scripts.entry.items.now)) v.items)
+        (λ v. All (FineRun processors (map script_form scripts.entry.items.now)) v.items)
+        (left tokens.old) (left tokens.new) }
 {
     let mut runs = Vec::new(alloc);
     while let Some(place) = optional(tokens, Keyword::Run) {
@@ -47,7 +53,13 @@ fn run_line(
     scripts: ScriptTable<'_>,
     line: u32,
 ) -> Result<RunLine, LangFault>
-    ensures read { (types : List TypeForm) (maps : List MapForm) → Reading result (knowing processors types maps (map script_form scripts.entry.items.now)) (Processor ∷ ScriptOf false ∷ []) (λ _. knowing processors types maps (map script_form scripts.entry.items.now)) (run_words (map script_form scripts.entry.items.now)) (FineRun processors (map script_form scripts.entry.items.now)) (left tokens.old) (left tokens.new) }
+    ensures read { (types : List TypeForm) (maps : List MapForm)
+        → Reading result (knowing processors types maps (map script_form scripts.entry.items.now))
+        (Processor ∷ ScriptOf false ∷ [])
+        (λ _. knowing processors types maps (map script_form scripts.entry.items.now))
+        (run_words (map script_form scripts.entry.items.now))
+        (FineRun processors (map script_form scripts.entry.items.now)) (left tokens.old)
+        (left tokens.new) }
     ensures begun { IfOk result (λ r. r.line ≡ line) }
 {
     let processor = processor(tokens, processors)?;
@@ -66,7 +78,13 @@ pub fn ats(
     processors: u32,
     scripts: ScriptTable<'_>,
 ) -> Result<Vec<AtLine>, LangFault>
-    ensures { (types : List TypeForm) (maps : List MapForm) → Reading result (knowing processors types maps (map script_form scripts.entry.items.now)) (Ats ∷ []) (λ _. knowing processors types maps (map script_form scripts.entry.items.now)) (λ v. flat_map (spell_at (map script_form scripts.entry.items.now)) v.items) (λ v. All (FineAt processors (map script_form scripts.entry.items.now)) v.items) (left tokens.old) (left tokens.new) }
+    ensures { (types : List TypeForm) (maps : List MapForm)
+        → Reading result (knowing processors types maps (map script_form scripts.entry.items.now))
+        (Ats ∷ [])
+        (λ _. knowing processors types maps (map script_form scripts.entry.items.now))
+        (λ v. flat_map (spell_at (map script_form scripts.entry.items.now)) v.items)
+        (λ v. All (FineAt processors (map script_form scripts.entry.items.now)) v.items)
+        (left tokens.old) (left tokens.new) }
 {
     let mut ats = Vec::new(alloc);
     while let Some(place) = optional(tokens, Keyword::At) {
@@ -83,7 +101,13 @@ fn at_line(
     scripts: ScriptTable<'_>,
     line: u32,
 ) -> Result<AtLine, LangFault>
-    ensures read { (types : List TypeForm) (maps : List MapForm) → Reading result (knowing processors types maps (map script_form scripts.entry.items.now)) (Processor ∷ AnyNumber ∷ Level ∷ ScriptOf true ∷ []) (λ _. knowing processors types maps (map script_form scripts.entry.items.now)) (at_words (map script_form scripts.entry.items.now)) (FineAt processors (map script_form scripts.entry.items.now)) (left tokens.old) (left tokens.new) }
+    ensures read { (types : List TypeForm) (maps : List MapForm)
+        → Reading result (knowing processors types maps (map script_form scripts.entry.items.now))
+        (Processor ∷ AnyNumber ∷ Level ∷ ScriptOf true ∷ [])
+        (λ _. knowing processors types maps (map script_form scripts.entry.items.now))
+        (at_words (map script_form scripts.entry.items.now))
+        (FineAt processors (map script_form scripts.entry.items.now)) (left tokens.old)
+        (left tokens.new) }
     ensures begun { IfOk result (λ a. a.line ≡ line) }
 {
     let processor = processor(tokens, processors)?;
@@ -101,7 +125,10 @@ fn at_line(
 
 // The number of a processor.
 fn processor(tokens: &mut Tokens<'_>, processors: u32) -> Result<u32, LangFault>
-    ensures { (types : List TypeForm) (maps : List MapForm) (scripts : List ScriptForm) → Reading result (knowing processors types maps scripts) (Processor ∷ []) (λ _. knowing processors types maps scripts) (λ n. number n ∷ []) (λ n. n < processors) (left tokens.old) (left tokens.new) }
+    ensures { (types : List TypeForm) (maps : List MapForm) (scripts : List ScriptForm)
+        → Reading result (knowing processors types maps scripts) (Processor ∷ [])
+        (λ _. knowing processors types maps scripts) (λ n. number n ∷ []) (λ n. n < processors)
+        (left tokens.old) (left tokens.new) }
 {
     let (processor, place) = placed_number(tokens)?;
     if processor >= processors {
@@ -112,7 +139,9 @@ fn processor(tokens: &mut Tokens<'_>, processors: u32) -> Result<u32, LangFault>
 
 // The level of a handler.
 fn level(tokens: &mut Tokens<'_>) -> Result<u32, LangFault>
-    ensures { (names : Names) → Reading result names (Level ∷ []) (λ _. names) (λ n. number n ∷ []) (λ n. (1 ≤ n) × (n ≤ 3)) (left tokens.old) (left tokens.new) }
+    ensures { (names : Names)
+        → Reading result names (Level ∷ []) (λ _. names) (λ n. number n ∷ [])
+        (λ n. (1 ≤ n) × (n ≤ 3)) (left tokens.old) (left tokens.new) }
 {
     let (level, place) = placed_number(tokens)?;
     if level < 1 || level > 3 {
@@ -127,7 +156,14 @@ fn script_id(
     scripts: ScriptTable<'_>,
     handler: bool,
 ) -> Result<ScriptId, LangFault>
-    ensures { (p : ℕ) (types : List TypeForm) (maps : List MapForm) → Reading result (knowing p types maps (map script_form scripts.entry.items.now)) (ScriptOf handler ∷ []) (λ _. knowing p types maps (map script_form scripts.entry.items.now)) (λ s. name (script_name (map script_form scripts.entry.items.now) s.0) ∷ []) (λ s. IsSomeAnd (slice_get (map script_form scripts.entry.items.now) s.0) (λ x. runs_as handler x.kind ≡ true)) (left tokens.old) (left tokens.new) }
+    ensures { (p : ℕ) (types : List TypeForm) (maps : List MapForm)
+        → Reading result (knowing p types maps (map script_form scripts.entry.items.now))
+        (ScriptOf handler ∷ [])
+        (λ _. knowing p types maps (map script_form scripts.entry.items.now))
+        (λ s. name (script_name (map script_form scripts.entry.items.now) s.0) ∷ [])
+        (λ s. IsSomeAnd (slice_get (map script_form scripts.entry.items.now) s.0)
+        (λ x. runs_as handler x.kind ≡ true))
+        (left tokens.old) (left tokens.new) }
 {
     let (name, place) = placed_name(tokens)?;
     let Some(found) = script_place(scripts, &name) else {
@@ -145,7 +181,10 @@ pub fn turns(
     tokens: &mut Tokens<'_>,
     processors: u32,
 ) -> Result<Option<Items<u32>>, LangFault>
-    ensures { (types : List TypeForm) (maps : List MapForm) (scripts : List ScriptForm) → Reading result (knowing processors types maps scripts) (Turns ∷ []) (λ _. knowing processors types maps scripts) spell_turns (λ o. IfSome o (All (λ n. n < processors))) (left tokens.old) (left tokens.new) }
+    ensures { (types : List TypeForm) (maps : List MapForm) (scripts : List ScriptForm)
+        → Reading result (knowing processors types maps scripts) (Turns ∷ [])
+        (λ _. knowing processors types maps scripts) spell_turns
+        (λ o. IfSome o (All (λ n. n < processors))) (left tokens.old) (left tokens.new) }
 {
     match optional(tokens, Keyword::Turns) {
         Some(_) => {
@@ -164,7 +203,10 @@ fn turn_numbers(
     tokens: &mut Tokens<'_>,
     processors: u32,
 ) -> Result<Vec<u32>, LangFault>
-    ensures { (types : List TypeForm) (maps : List MapForm) (scripts : List ScriptForm) → Reading result (knowing processors types maps scripts) (TurnNumbers ∷ []) (λ _. knowing processors types maps scripts) (λ v. map number v.items) (λ v. All (λ n. n < processors) v.items) (left tokens.old) (left tokens.new) }
+    ensures { (types : List TypeForm) (maps : List MapForm) (scripts : List ScriptForm)
+        → Reading result (knowing processors types maps scripts) (TurnNumbers ∷ [])
+        (λ _. knowing processors types maps scripts) (λ v. map number v.items)
+        (λ v. All (λ n. n < processors) v.items) (left tokens.old) (left tokens.new) }
 {
     let mut turns = Vec::new(alloc);
     while let Some((processor, place)) = optional_number(tokens) {

@@ -49,7 +49,8 @@ fn put_header(
     pages: u32,
     deferred: bool,
 ) -> Result<(), NoMemory>
-    ensures { OnOk result (out.new.items ≡ out.old.items ++ printed (spell_header processors pages deferred)) }
+    ensures { OnOk result
+        (out.new.items ≡ out.old.items ++ printed (spell_header processors pages deferred)) }
 {
     put(out, b"scenario {", LINE_FEED)?;
     put(out, Keyword::Processors.text(), SPACE)?;
@@ -67,7 +68,8 @@ fn on_or_off(deferred: bool) -> Keyword
 }
 
 fn put_types(out: &mut Vec<u8>, types: &[TypeDeclaration]) -> Result<(), NoMemory>
-    ensures { OnOk result (out.new.items ≡ out.old.items ++ printed (flat_map spell_type types.now)) }
+    ensures { OnOk result
+        (out.new.items ≡ out.old.items ++ printed (flat_map spell_type types.now)) }
 {
     for declaration in types {
         put_type(out, declaration)?;
@@ -151,7 +153,9 @@ fn put_maps(
     types: &[TypeDeclaration],
     maps: &[MapDeclaration],
 ) -> Result<(), NoMemory>
-    ensures { OnOk result (out.new.items ≡ out.old.items ++ printed (flat_map (spell_map (map type_form types.now)) maps.now)) }
+    ensures { OnOk result
+        (out.new.items
+        ≡ out.old.items ++ printed (flat_map (spell_map (map type_form types.now)) maps.now)) }
 {
     for declaration in maps {
         put_map(out, types, declaration)?;
@@ -164,7 +168,9 @@ fn put_map(
     types: &[TypeDeclaration],
     declaration: &MapDeclaration,
 ) -> Result<(), NoMemory>
-    ensures { OnOk result (out.new.items ≡ out.old.items ++ printed (spell_map (map type_form types.now) declaration.now)) }
+    ensures { OnOk result
+        (out.new.items
+        ≡ out.old.items ++ printed (spell_map (map type_form types.now) declaration.now)) }
 {
     three(
         out,
@@ -190,7 +196,12 @@ fn put_scripts(
     maps: &[MapDeclaration],
     scripts: &[Script],
 ) -> Result<(), NoMemory>
-    ensures { OnOk result (out.new.items ≡ out.old.items ++ printed (flat_map (spell_script (map type_form types.now) (map map_form maps.now)) scripts.now)) }
+    ensures { OnOk result
+        (out.new.items
+        ≡ out.old.items
+        ++ printed
+        (flat_map (spell_script (map type_form types.now) (map map_form maps.now))
+        scripts.now)) }
 {
     for script in scripts {
         put_script(out, types, maps, script)?;
@@ -204,7 +215,11 @@ fn put_script(
     maps: &[MapDeclaration],
     script: &Script,
 ) -> Result<(), NoMemory>
-    ensures { OnOk result (out.new.items ≡ out.old.items ++ printed (spell_script (map type_form types.now) (map map_form maps.now) script.now)) }
+    ensures { OnOk result
+        (out.new.items
+        ≡ out.old.items
+        ++ printed
+        (spell_script (map type_form types.now) (map map_form maps.now) script.now)) }
 {
     put(out, Keyword::Script.text(), SPACE)?;
     put(out, script.name.as_bytes(), SPACE)?;
@@ -223,7 +238,10 @@ fn script_word(kind: ScriptKind) -> Keyword
 }
 
 fn put_runs(out: &mut Vec<u8>, scripts: &[Script], runs: &[RunLine]) -> Result<(), NoMemory>
-    ensures { OnOk result (out.new.items ≡ out.old.items ++ printed (flat_map (spell_run (map script_form scripts.now)) runs.now)) }
+    ensures { OnOk result
+        (out.new.items
+        ≡ out.old.items
+        ++ printed (flat_map (spell_run (map script_form scripts.now)) runs.now)) }
 {
     for run in runs {
         put_run(out, scripts, *run)?;
@@ -232,7 +250,8 @@ fn put_runs(out: &mut Vec<u8>, scripts: &[Script], runs: &[RunLine]) -> Result<(
 }
 
 fn put_run(out: &mut Vec<u8>, scripts: &[Script], run: RunLine) -> Result<(), NoMemory>
-    ensures { OnOk result (out.new.items ≡ out.old.items ++ printed (spell_run (map script_form scripts.now) run)) }
+    ensures { OnOk result
+        (out.new.items ≡ out.old.items ++ printed (spell_run (map script_form scripts.now) run)) }
 {
     put(out, Keyword::Run.text(), SPACE)?;
     put_count(out, run.processor, SPACE)?;
@@ -240,7 +259,10 @@ fn put_run(out: &mut Vec<u8>, scripts: &[Script], run: RunLine) -> Result<(), No
 }
 
 fn put_ats(out: &mut Vec<u8>, scripts: &[Script], ats: &[AtLine]) -> Result<(), NoMemory>
-    ensures { OnOk result (out.new.items ≡ out.old.items ++ printed (flat_map (spell_at (map script_form scripts.now)) ats.now)) }
+    ensures { OnOk result
+        (out.new.items
+        ≡ out.old.items
+        ++ printed (flat_map (spell_at (map script_form scripts.now)) ats.now)) }
 {
     for at in ats {
         put_at(out, scripts, *at)?;
@@ -249,7 +271,8 @@ fn put_ats(out: &mut Vec<u8>, scripts: &[Script], ats: &[AtLine]) -> Result<(), 
 }
 
 fn put_at(out: &mut Vec<u8>, scripts: &[Script], at: AtLine) -> Result<(), NoMemory>
-    ensures { OnOk result (out.new.items ≡ out.old.items ++ printed (spell_at (map script_form scripts.now) at)) }
+    ensures { OnOk result
+        (out.new.items ≡ out.old.items ++ printed (spell_at (map script_form scripts.now) at)) }
 {
     put(out, Keyword::At.text(), SPACE)?;
     put_count(out, at.processor, SPACE)?;

@@ -29,7 +29,12 @@ pub fn maps(
     tokens: &mut Tokens<'_>,
     types: TypeTable<'_>,
 ) -> Result<(Vec<MapDeclaration>, Index), LangFault>
-    ensures read { (p : ℕ) → Reading result (knowing p (map type_form types.entry.items.now) [] []) (Maps ∷ []) (λ v. knowing p (map type_form types.entry.items.now) (map map_form v.0.items) []) (λ v. flat_map (spell_map (map type_form types.entry.items.now)) v.0.items) (λ v. FineMaps (map type_form types.entry.items.now) [] v.0.items) (left tokens.old) (left tokens.new) }
+    ensures read { (p : ℕ)
+        → Reading result (knowing p (map type_form types.entry.items.now) [] []) (Maps ∷ [])
+        (λ v. knowing p (map type_form types.entry.items.now) (map map_form v.0.items) [])
+        (λ v. flat_map (spell_map (map type_form types.entry.items.now)) v.0.items)
+        (λ v. FineMaps (map type_form types.entry.items.now) [] v.0.items) (left tokens.old)
+        (left tokens.new) }
     ensures same { IfOk result (λ v. v.1 ≡ map (λ x. x.name) v.0.items) }
 {
     let mut maps = Vec::new(alloc);
@@ -74,7 +79,17 @@ fn map_declaration(
     kind: MapKind,
     line: u32,
 ) -> Result<MapDeclaration, LangFault>
-    ensures read { (p : ℕ) → Reading result (knowing p (map type_form types.entry.items.now) (map map_form maps.entry.items.now) []) (MapName kind ∷ []) (λ m. knowing p (map type_form types.entry.items.now) (map map_form maps.entry.items.now ++ map_form m ∷ []) []) (map_words (map type_form types.entry.items.now)) (λ m. (is_some (map_named (map map_form maps.entry.items.now) m.name) ≡ false) × IsSomeAnd (slice_get (map type_form types.entry.items.now) m.type_id.0) (λ e. holds m.kind e.node ≡ true)) (left tokens.old) (left tokens.new) }
+    ensures read { (p : ℕ)
+        → Reading result
+        (knowing p (map type_form types.entry.items.now) (map map_form maps.entry.items.now) [])
+        (MapName kind ∷ [])
+        (λ m. knowing p (map type_form types.entry.items.now)
+        (map map_form maps.entry.items.now ++ map_form m ∷ []) [])
+        (map_words (map type_form types.entry.items.now))
+        (λ m. (is_some (map_named (map map_form maps.entry.items.now) m.name) ≡ false)
+        × IsSomeAnd (slice_get (map type_form types.entry.items.now) m.type_id.0)
+        (λ e. holds m.kind e.node ≡ true))
+        (left tokens.old) (left tokens.new) }
     ensures begun { IfOk result (λ m. (m.line ≡ line) × (m.kind ≡ kind)) }
 {
     let (name, place) = placed_name(tokens)?;
@@ -96,7 +111,13 @@ fn map_type(
     types: TypeTable<'_>,
     kind: MapKind,
 ) -> Result<TypeId, LangFault>
-    ensures { (p : ℕ) (maps : List MapForm) → Reading result (knowing p (map type_form types.entry.items.now) maps []) (MapType kind ∷ []) (λ _. knowing p (map type_form types.entry.items.now) maps []) (λ t. name (type_name (map type_form types.entry.items.now) t.0) ∷ []) (λ t. IsSomeAnd (slice_get (map type_form types.entry.items.now) t.0) (λ e. holds kind e.node ≡ true)) (left tokens.old) (left tokens.new) }
+    ensures { (p : ℕ) (maps : List MapForm)
+        → Reading result (knowing p (map type_form types.entry.items.now) maps [])
+        (MapType kind ∷ []) (λ _. knowing p (map type_form types.entry.items.now) maps [])
+        (λ t. name (type_name (map type_form types.entry.items.now) t.0) ∷ [])
+        (λ t. IsSomeAnd (slice_get (map type_form types.entry.items.now) t.0)
+        (λ e. holds kind e.node ≡ true))
+        (left tokens.old) (left tokens.new) }
 {
     let (name, place) = placed_name(tokens)?;
     let Some(found) = type_place(types, &name) else {

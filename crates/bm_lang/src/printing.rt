@@ -96,7 +96,8 @@ pub fn script_name(scripts: &[Script], id: ScriptId) -> &[u8]
 
 // A line of two words.
 fn two(out: &mut Vec<u8>, word: Keyword, name: &[u8]) -> Result<(), NoMemory>
-    ensures { OnOk result (out.new.items ≡ out.old.items ++ (keyword_text word ++ 32 ∷ (name.now ++ 10 ∷ []))) }
+    ensures { OnOk result
+        (out.new.items ≡ out.old.items ++ (keyword_text word ++ 32 ∷ (name.now ++ 10 ∷ []))) }
 {
     put(out, word.text(), SPACE)?;
     put(out, name, LINE_FEED)
@@ -104,14 +105,18 @@ fn two(out: &mut Vec<u8>, word: Keyword, name: &[u8]) -> Result<(), NoMemory>
 
 // A line of three.
 pub fn three(out: &mut Vec<u8>, word: Keyword, first: &[u8], second: &[u8]) -> Result<(), NoMemory>
-    ensures { OnOk result (out.new.items ≡ out.old.items ++ (keyword_text word ++ 32 ∷ (first.now ++ 32 ∷ (second.now ++ 10 ∷ [])))) }
+    ensures { OnOk result
+        (out.new.items
+        ≡ out.old.items
+        ++ (keyword_text word ++ 32 ∷ (first.now ++ 32 ∷ (second.now ++ 10 ∷ [])))) }
 {
     put(out, word.text(), SPACE)?;
     two_names(out, first, second)
 }
 
 fn two_names(out: &mut Vec<u8>, first: &[u8], second: &[u8]) -> Result<(), NoMemory>
-    ensures { OnOk result (out.new.items ≡ out.old.items ++ (first.now ++ 32 ∷ (second.now ++ 10 ∷ []))) }
+    ensures { OnOk result
+        (out.new.items ≡ out.old.items ++ (first.now ++ 32 ∷ (second.now ++ 10 ∷ []))) }
 {
     put(out, first, SPACE)?;
     put(out, second, LINE_FEED)
@@ -125,7 +130,11 @@ fn four(
     second: &[u8],
     third: &[u8],
 ) -> Result<(), NoMemory>
-    ensures { OnOk result (out.new.items ≡ out.old.items ++ (keyword_text word ++ 32 ∷ (first.now ++ 32 ∷ (second.now ++ 32 ∷ (third.now ++ 10 ∷ []))))) }
+    ensures { OnOk result
+        (out.new.items
+        ≡ out.old.items
+        ++ (keyword_text word ++ 32
+        ∷ (first.now ++ 32 ∷ (second.now ++ 32 ∷ (third.now ++ 10 ∷ []))))) }
 {
     put(out, word.text(), SPACE)?;
     put(out, first, SPACE)?;
@@ -140,7 +149,11 @@ pub fn put_block(
     maps: &[MapDeclaration],
     block: &Block,
 ) -> Result<(), NoMemory>
-    ensures { OnOk result (out.new.items ≡ out.old.items ++ printed (spell_block (map type_form types.now) (map map_form maps.now) block.now)) }
+    ensures { OnOk result
+        (out.new.items
+        ≡ out.old.items
+        ++ printed
+        (spell_block (map type_form types.now) (map map_form maps.now) block.now)) }
 {
     put(out, b"{", LINE_FEED)?;
     for statement in &block.statements {
@@ -157,7 +170,13 @@ fn put_action(
     maps: &[MapDeclaration],
     action: &Action,
 ) -> Result<(), NoMemory>
-    ensures { OnOk result ((l : ℕ) → out.new.items ≡ out.old.items ++ printed (spell_action (map type_form types.now) (map map_form maps.now) l action.now)) }
+    ensures { OnOk result
+        ((l : ℕ)
+        → out.new.items
+        ≡ out.old.items
+        ++ printed
+        (spell_action (map type_form types.now) (map map_form maps.now) l
+        action.now)) }
 {
     match action {
         Action::If {
@@ -191,7 +210,12 @@ fn put_else(
     maps: &[MapDeclaration],
     otherwise: &Option<Block>,
 ) -> Result<(), NoMemory>
-    ensures { OnOk result (out.new.items ≡ out.old.items ++ printed (spell_option (map type_form types.now) (map map_form maps.now) otherwise.now)) }
+    ensures { OnOk result
+        (out.new.items
+        ≡ out.old.items
+        ++ printed
+        (spell_option (map type_form types.now) (map map_form maps.now)
+        otherwise.now)) }
 {
     match otherwise {
         Some(block) => {
@@ -210,7 +234,13 @@ fn put_simple(
     action: &Action,
 ) -> Result<(), NoMemory>
     requires { HasNoBlock action.now }
-    ensures { OnOk result ((l : ℕ) → out.new.items ≡ out.old.items ++ printed (spell_action (map type_form types.now) (map map_form maps.now) l action.now)) }
+    ensures { OnOk result
+        ((l : ℕ)
+        → out.new.items
+        ≡ out.old.items
+        ++ printed
+        (spell_action (map type_form types.now) (map map_form maps.now) l
+        action.now)) }
 {
     match action {
         Action::New {
@@ -248,7 +278,11 @@ fn put_simple(
 // A statement with the name of a list or a tree.
 fn put_on_graph(out: &mut Vec<u8>, maps: &[MapDeclaration], action: &Action) -> Result<(), NoMemory>
     requires { HasGraph action.now }
-    ensures { OnOk result ((l : ℕ) (types : List TypeForm) → out.new.items ≡ out.old.items ++ printed (spell_action types (map map_form maps.now) l action.now)) }
+    ensures { OnOk result
+        ((l : ℕ) (types : List TypeForm)
+        → out.new.items
+        ≡ out.old.items
+        ++ printed (spell_action types (map map_form maps.now) l action.now)) }
 {
     match action {
         Action::Lock { graph } => two(out, Keyword::Lock, map_name(maps, *graph)),
@@ -307,7 +341,14 @@ fn put_creation(
     type_id: TypeId,
     values: &[u32],
 ) -> Result<(), NoMemory>
-    ensures { OnOk result ((l : ℕ) → out.new.items ≡ out.old.items ++ printed (on l (Reserved word.New) ∷ name_word name.now ∷ name_word (type_name (map type_form types.now) type_id.0) ∷ map number values.now)) }
+    ensures { OnOk result
+        ((l : ℕ)
+        → out.new.items
+        ≡ out.old.items
+        ++ printed
+        (on l (Reserved word.New) ∷ name_word name.now
+        ∷ name_word (type_name (map type_form types.now) type_id.0)
+        ∷ map number values.now)) }
 {
     put(out, Keyword::New.text(), SPACE)?;
     put(out, name.as_bytes(), SPACE)?;

@@ -74,7 +74,8 @@ impl<'a> Tokens<'a> {
 
     // Passes the separators at the front.
     fn skip_separators(&mut self)
-        ensures same { pieces self.new.place self.new.rest.now ≡ pieces self.old.place self.old.rest.now }
+        ensures same { pieces self.new.place self.new.rest.now
+            ≡ pieces self.old.place self.old.rest.now }
         ensures past { StartsWithNoSeparator self.new.rest.now }
     {
         while let [first, rest @ ..] = self.rest {

@@ -49,7 +49,8 @@ pub fn read_scenario(alloc: Global, bytes: &[u8]) -> Result<Scenario, LangFault>
 // Its parts, as the machine reads them.
 fn whole(alloc: Global, bytes: &[u8]) -> Result<Parts, LangFault>
     requires { length bytes.now < 2 ^ 32 - 1 }
-    ensures { Reading result no_names scenario declared (λ s. spell_scenario s ++ any End ∷ []) HasConditions (tokens start bytes.now) [] }
+    ensures { Reading result no_names scenario declared (λ s. spell_scenario s ++ any End ∷ [])
+        HasConditions (tokens start bytes.now) [] }
 {
     let mut tokens = Tokens::new(bytes);
     let header = header(&mut tokens)?;
@@ -94,7 +95,11 @@ struct Front {
 
 // What comes before the declarations.
 fn header(tokens: &mut Tokens<'_>) -> Result<Front, LangFault>
-    ensures { Reading result no_names (Word word.Scenario ∷ OpenBrace ∷ Word word.Processors ∷ ProcessorCount ∷ Word word.Pages ∷ AnyNumber ∷ Word word.Deferred ∷ OnOrOff ∷ []) (λ h. drafting h.processors [] no_draft) (λ h. spell_header h.processors h.pages h.deferred) (λ h. 0 < h.processors) (left tokens.old) (left tokens.new) }
+    ensures { Reading result no_names
+        (Word word.Scenario ∷ OpenBrace ∷ Word word.Processors ∷ ProcessorCount ∷ Word word.Pages
+        ∷ AnyNumber ∷ Word word.Deferred ∷ OnOrOff ∷ [])
+        (λ h. drafting h.processors [] no_draft) (λ h. spell_header h.processors h.pages h.deferred)
+        (λ h. 0 < h.processors) (left tokens.old) (left tokens.new) }
 {
     word(tokens, Keyword::Scenario)?;
     open(tokens)?;
@@ -112,7 +117,8 @@ fn header(tokens: &mut Tokens<'_>) -> Result<Front, LangFault>
 }
 
 fn processor_count(tokens: &mut Tokens<'_>) -> Result<u32, LangFault>
-    ensures { Reading result no_names (ProcessorCount ∷ []) (λ n. drafting n [] no_draft) (λ n. number n ∷ []) (λ n. 0 < n) (left tokens.old) (left tokens.new) }
+    ensures { Reading result no_names (ProcessorCount ∷ []) (λ n. drafting n [] no_draft)
+        (λ n. number n ∷ []) (λ n. 0 < n) (left tokens.old) (left tokens.new) }
 {
     let (processors, place) = placed_number(tokens)?;
     if processors == 0 {
@@ -122,7 +128,9 @@ fn processor_count(tokens: &mut Tokens<'_>) -> Result<u32, LangFault>
 }
 
 fn on_or_off(tokens: &mut Tokens<'_>) -> Result<bool, LangFault>
-    ensures { (names : Names) → Reading result names (OnOrOff ∷ []) (λ _. names) (λ b. reserved (on_or_off b) ∷ []) (λ _. Unit {0}) (left tokens.old) (left tokens.new) }
+    ensures { (names : Names)
+        → Reading result names (OnOrOff ∷ []) (λ _. names) (λ b. reserved (on_or_off b) ∷ [])
+        (λ _. Unit {0}) (left tokens.old) (left tokens.new) }
 {
     let next = tokens.take();
     match next.token {
@@ -137,7 +145,9 @@ fn on_or_off(tokens: &mut Tokens<'_>) -> Result<bool, LangFault>
 
 // The last brace, and nothing behind it.
 fn end(tokens: &mut Tokens<'_>) -> Result<(), LangFault>
-    ensures { (names : Names) → Reading result names (CloseBrace ∷ EndOfText ∷ []) (λ _. names) (λ _. any Close ∷ any End ∷ []) (λ _. Unit {0}) (left tokens.old) [] }
+    ensures { (names : Names)
+        → Reading result names (CloseBrace ∷ EndOfText ∷ []) (λ _. names)
+        (λ _. any Close ∷ any End ∷ []) (λ _. Unit {0}) (left tokens.old) [] }
 {
     close(tokens)?;
     let next = tokens.take();

@@ -33,7 +33,19 @@ pub fn scripts(
     types: TypeTable<'_>,
     maps: MapTable<'_>,
 ) -> Result<(Vec<Script>, Index), LangFault>
-    ensures read { (p : ℕ) → Reading result (knowing p (map type_form types.entry.items.now) (map map_form maps.entry.items.now) []) (Scripts ∷ []) (λ v. knowing p (map type_form types.entry.items.now) (map map_form maps.entry.items.now) (map script_form v.0.items)) (λ v. flat_map (spell_script (map type_form types.entry.items.now) (map map_form maps.entry.items.now)) v.0.items) (λ v. FineScripts (map type_form types.entry.items.now) (map map_form maps.entry.items.now) [] v.0.items) (left tokens.old) (left tokens.new) }
+    ensures read { (p : ℕ)
+        → Reading result
+        (knowing p (map type_form types.entry.items.now) (map map_form maps.entry.items.now) [])
+        (Scripts ∷ [])
+        (λ v. knowing p (map type_form types.entry.items.now)
+        (map map_form maps.entry.items.now) (map script_form v.0.items))
+        (λ v. flat_map
+        (spell_script (map type_form types.entry.items.now)
+        (map map_form maps.entry.items.now))
+        v.0.items)
+        (λ v. FineScripts (map type_form types.entry.items.now)
+        (map map_form maps.entry.items.now) [] v.0.items)
+        (left tokens.old) (left tokens.new) }
     ensures same { IfOk result (λ v. v.1 ≡ map (λ x. x.name) v.0.items) }
 {
     let mut scripts = Vec::new(alloc);
@@ -65,7 +77,19 @@ fn script(
     scripts: ScriptTable<'_>,
     line: u32,
 ) -> Result<Script, LangFault>
-    ensures read { (p : ℕ) → Reading result (knowing p (map type_form types.entry.items.now) (map map_form maps.entry.items.now) (map script_form scripts.entry.items.now)) (ScriptName ∷ []) (λ s. knowing p (map type_form types.entry.items.now) (map map_form maps.entry.items.now) (map script_form scripts.entry.items.now ++ script_form s ∷ [])) (script_words (map type_form types.entry.items.now) (map map_form maps.entry.items.now)) (λ s. (is_some (script_named (map script_form scripts.entry.items.now) s.name) ≡ false) × FineBlock (map type_form types.entry.items.now) (map map_form maps.entry.items.now) 16 s.body) (left tokens.old) (left tokens.new) }
+    ensures read { (p : ℕ)
+        → Reading result
+        (knowing p (map type_form types.entry.items.now) (map map_form maps.entry.items.now)
+        (map script_form scripts.entry.items.now))
+        (ScriptName ∷ [])
+        (λ s. knowing p (map type_form types.entry.items.now)
+        (map map_form maps.entry.items.now)
+        (map script_form scripts.entry.items.now ++ script_form s ∷ []))
+        (script_words (map type_form types.entry.items.now) (map map_form maps.entry.items.now))
+        (λ s. (is_some (script_named (map script_form scripts.entry.items.now) s.name) ≡ false)
+        × FineBlock (map type_form types.entry.items.now)
+        (map map_form maps.entry.items.now) 16 s.body)
+        (left tokens.old) (left tokens.new) }
     ensures begun { IfOk result (λ s. s.line ≡ line) }
 {
     let (name, place) = placed_name(tokens)?;
@@ -84,7 +108,9 @@ fn script(
 
 // The kind of a script.
 fn kind(tokens: &mut Tokens<'_>) -> Result<ScriptKind, LangFault>
-    ensures { (p : ℕ) (types : List TypeForm) (maps : List MapForm) (scripts : List ScriptForm) (n : List ℕ) → Kinding result (knowing p types maps scripts) n (left tokens.old) (left tokens.new) }
+    ensures { (p : ℕ) (types : List TypeForm) (maps : List MapForm) (scripts : List ScriptForm)
+        (n : List ℕ)
+        → Kinding result (knowing p types maps scripts) n (left tokens.old) (left tokens.new) }
 {
     let next = tokens.take();
     match next.token {

@@ -37,7 +37,15 @@ pub fn simple(
     start: Place,
 ) -> Result<Action, LangFault>
     requires { IsSimple word }
-    ensures { (p : ℕ) (scripts : List ScriptForm) (d : ℕ) → Stating result (knowing p (map type_form types.entry.items.now) (map map_form maps.entry.items.now) scripts) d (spell_action (map type_form types.entry.items.now) (map map_form maps.entry.items.now) start.line) (FineAction (map type_form types.entry.items.now) (map map_form maps.entry.items.now) d) (mark (Reserved word) start ∷ left tokens.old) (left tokens.new) }
+    ensures { (p : ℕ) (scripts : List ScriptForm) (d : ℕ)
+        → Stating result
+        (knowing p (map type_form types.entry.items.now) (map map_form maps.entry.items.now)
+        scripts)
+        d
+        (spell_action (map type_form types.entry.items.now) (map map_form maps.entry.items.now)
+        start.line)
+        (FineAction (map type_form types.entry.items.now) (map map_form maps.entry.items.now) d)
+        (mark (Reserved word) start ∷ left tokens.old) (left tokens.new) }
 {
     match word {
         Keyword::New => {
@@ -78,7 +86,11 @@ fn on_graph(
     start: Place,
 ) -> Result<Action, LangFault>
     requires { IsOther word }
-    ensures { (p : ℕ) (types : List TypeForm) (scripts : List ScriptForm) (d : ℕ) → Stating result (knowing p types (map map_form maps.entry.items.now) scripts) d (spell_action types (map map_form maps.entry.items.now) start.line) (FineAction types (map map_form maps.entry.items.now) d) (mark (Reserved word) start ∷ left tokens.old) (left tokens.new) }
+    ensures { (p : ℕ) (types : List TypeForm) (scripts : List ScriptForm) (d : ℕ)
+        → Stating result (knowing p types (map map_form maps.entry.items.now) scripts) d
+        (spell_action types (map map_form maps.entry.items.now) start.line)
+        (FineAction types (map map_form maps.entry.items.now) d)
+        (mark (Reserved word) start ∷ left tokens.old) (left tokens.new) }
 {
     match word {
         Keyword::Lock => {
@@ -131,7 +143,9 @@ fn no_statement(word: Keyword, start: Place) -> LangFault
 }
 
 fn two_names(tokens: &mut Tokens<'_>) -> Result<(Name, Name), LangFault>
-    ensures { (names : Names) → Reading result names (AnyName ∷ AnyName ∷ []) (λ _. names) (λ x. name x.0 ∷ name x.1 ∷ []) (λ _. Unit {0}) (left tokens.old) (left tokens.new) }
+    ensures { (names : Names)
+        → Reading result names (AnyName ∷ AnyName ∷ []) (λ _. names) (λ x. name x.0 ∷ name x.1 ∷ [])
+        (λ _. Unit {0}) (left tokens.old) (left tokens.new) }
 {
     let first = any_name(tokens)?;
     let second = any_name(tokens)?;
@@ -143,7 +157,13 @@ fn map_and_name(
     maps: MapTable<'_>,
     need: MapNeed,
 ) -> Result<(MapId, Name), LangFault>
-    ensures { (p : ℕ) (types : List TypeForm) (scripts : List ScriptForm) → Reading result (knowing p types (map map_form maps.entry.items.now) scripts) (MapOf need ∷ AnyName ∷ []) (λ _. knowing p types (map map_form maps.entry.items.now) scripts) (λ x. name (map_name (map map_form maps.entry.items.now) x.0.0) ∷ name x.1 ∷ []) (λ x. IsMap (map map_form maps.entry.items.now) need x.0.0) (left tokens.old) (left tokens.new) }
+    ensures { (p : ℕ) (types : List TypeForm) (scripts : List ScriptForm)
+        → Reading result (knowing p types (map map_form maps.entry.items.now) scripts)
+        (MapOf need ∷ AnyName ∷ [])
+        (λ _. knowing p types (map map_form maps.entry.items.now) scripts)
+        (λ x. name (map_name (map map_form maps.entry.items.now) x.0.0) ∷ name x.1 ∷ [])
+        (λ x. IsMap (map map_form maps.entry.items.now) need x.0.0) (left tokens.old)
+        (left tokens.new) }
 {
     let map = map_id(tokens, maps, need)?;
     let name = any_name(tokens)?;
@@ -155,7 +175,13 @@ fn name_and_map(
     maps: MapTable<'_>,
     need: MapNeed,
 ) -> Result<(Name, MapId), LangFault>
-    ensures { (p : ℕ) (types : List TypeForm) (scripts : List ScriptForm) → Reading result (knowing p types (map map_form maps.entry.items.now) scripts) (AnyName ∷ MapOf need ∷ []) (λ _. knowing p types (map map_form maps.entry.items.now) scripts) (λ x. name x.0 ∷ name (map_name (map map_form maps.entry.items.now) x.1.0) ∷ []) (λ x. IsMap (map map_form maps.entry.items.now) need x.1.0) (left tokens.old) (left tokens.new) }
+    ensures { (p : ℕ) (types : List TypeForm) (scripts : List ScriptForm)
+        → Reading result (knowing p types (map map_form maps.entry.items.now) scripts)
+        (AnyName ∷ MapOf need ∷ [])
+        (λ _. knowing p types (map map_form maps.entry.items.now) scripts)
+        (λ x. name x.0 ∷ name (map_name (map map_form maps.entry.items.now) x.1.0) ∷ [])
+        (λ x. IsMap (map map_form maps.entry.items.now) need x.1.0) (left tokens.old)
+        (left tokens.new) }
 {
     let name = any_name(tokens)?;
     let map = map_id(tokens, maps, need)?;
@@ -164,7 +190,12 @@ fn name_and_map(
 
 // A map that fits.
 fn map_id(tokens: &mut Tokens<'_>, maps: MapTable<'_>, need: MapNeed) -> Result<MapId, LangFault>
-    ensures { (p : ℕ) (types : List TypeForm) (scripts : List ScriptForm) → Reading result (knowing p types (map map_form maps.entry.items.now) scripts) (MapOf need ∷ []) (λ _. knowing p types (map map_form maps.entry.items.now) scripts) (λ m. name (map_name (map map_form maps.entry.items.now) m.0) ∷ []) (λ m. IsMap (map map_form maps.entry.items.now) need m.0) (left tokens.old) (left tokens.new) }
+    ensures { (p : ℕ) (types : List TypeForm) (scripts : List ScriptForm)
+        → Reading result (knowing p types (map map_form maps.entry.items.now) scripts)
+        (MapOf need ∷ []) (λ _. knowing p types (map map_form maps.entry.items.now) scripts)
+        (λ m. name (map_name (map map_form maps.entry.items.now) m.0) ∷ [])
+        (λ m. IsMap (map map_form maps.entry.items.now) need m.0) (left tokens.old)
+        (left tokens.new) }
 {
     let (name, place) = placed_name(tokens)?;
     let Some(found) = map_place(maps, &name) else {
@@ -181,7 +212,14 @@ fn exchange(
     tokens: &mut Tokens<'_>,
     maps: MapTable<'_>,
 ) -> Result<(Name, MapId, Option<Name>), LangFault>
-    ensures { (p : ℕ) (types : List TypeForm) (scripts : List ScriptForm) → Reading result (knowing p types (map map_form maps.entry.items.now) scripts) (AnyName ∷ MapOf need.Slot ∷ NameOrNull ∷ []) (λ _. knowing p types (map map_form maps.entry.items.now) scripts) (λ x. name x.0 ∷ name (map_name (map map_form maps.entry.items.now) x.1.0) ∷ name_or_null x.2 ∷ []) (λ x. IsMap (map map_form maps.entry.items.now) need.Slot x.1.0) (left tokens.old) (left tokens.new) }
+    ensures { (p : ℕ) (types : List TypeForm) (scripts : List ScriptForm)
+        → Reading result (knowing p types (map map_form maps.entry.items.now) scripts)
+        (AnyName ∷ MapOf need.Slot ∷ NameOrNull ∷ [])
+        (λ _. knowing p types (map map_form maps.entry.items.now) scripts)
+        (λ x. name x.0 ∷ name (map_name (map map_form maps.entry.items.now) x.1.0)
+        ∷ name_or_null x.2 ∷ [])
+        (λ x. IsMap (map map_form maps.entry.items.now) need.Slot x.1.0) (left tokens.old)
+        (left tokens.new) }
 {
     let (name, slot) = name_and_map(tokens, maps, MapNeed::Slot)?;
     let given = name_or_null(tokens)?;
@@ -189,7 +227,9 @@ fn exchange(
 }
 
 fn name_or_null(tokens: &mut Tokens<'_>) -> Result<Option<Name>, LangFault>
-    ensures { (names : Names) → Reading result names (NameOrNull ∷ []) (λ _. names) (λ x. name_or_null x ∷ []) (λ _. Unit {0}) (left tokens.old) (left tokens.new) }
+    ensures { (names : Names)
+        → Reading result names (NameOrNull ∷ []) (λ _. names) (λ x. name_or_null x ∷ [])
+        (λ _. Unit {0}) (left tokens.old) (left tokens.new) }
 {
     match optional(tokens, Keyword::Null) {
         Some(_) => Ok(None),
@@ -206,7 +246,15 @@ fn creation(
     tokens: &mut Tokens<'_>,
     types: TypeTable<'_>,
 ) -> Result<(Name, TypeId, Vec<u32>), LangFault>
-    ensures { (p : ℕ) (maps : List MapForm) (scripts : List ScriptForm) → Reading result (knowing p (map type_form types.entry.items.now) maps scripts) (AnyName ∷ NewType ∷ []) (λ _. knowing p (map type_form types.entry.items.now) maps scripts) (λ x. name x.0 ∷ name (type_name (map type_form types.entry.items.now) x.1.0) ∷ map number x.2.items) (λ x. IsSomeAnd (slice_get (map type_form types.entry.items.now) x.1.0) (λ e. length x.2.items ≡ length e.fields)) (left tokens.old) (left tokens.new) }
+    ensures { (p : ℕ) (maps : List MapForm) (scripts : List ScriptForm)
+        → Reading result (knowing p (map type_form types.entry.items.now) maps scripts)
+        (AnyName ∷ NewType ∷ [])
+        (λ _. knowing p (map type_form types.entry.items.now) maps scripts)
+        (λ x. name x.0 ∷ name (type_name (map type_form types.entry.items.now) x.1.0)
+        ∷ map number x.2.items)
+        (λ x. IsSomeAnd (slice_get (map type_form types.entry.items.now) x.1.0)
+        (λ e. length x.2.items ≡ length e.fields))
+        (left tokens.old) (left tokens.new) }
 {
     let name = any_name(tokens)?;
     let (type_name, place) = placed_name(tokens)?;
@@ -220,7 +268,9 @@ fn creation(
 
 // So many numbers.
 fn values(alloc: Global, tokens: &mut Tokens<'_>, count: usize) -> Result<Vec<u32>, LangFault>
-    ensures { (names : Names) → Reading result names (Values count ∷ []) (λ _. names) (λ v. map number v.items) (λ v. length v.items ≡ count) (left tokens.old) (left tokens.new) }
+    ensures { (names : Names)
+        → Reading result names (Values count ∷ []) (λ _. names) (λ v. map number v.items)
+        (λ v. length v.items ≡ count) (left tokens.old) (left tokens.new) }
 {
     let mut values = Vec::new(alloc);
     for _ in 0..count {

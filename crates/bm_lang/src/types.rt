@@ -35,7 +35,11 @@ pub fn types(
     alloc: Global,
     tokens: &mut Tokens<'_>,
 ) -> Result<(Vec<TypeDeclaration>, Index), LangFault>
-    ensures read { (p : ℕ) → Reading result (drafting p [] no_draft) (Types ∷ []) (λ v. drafting p (map type_form v.0.items) no_draft) (λ v. flat_map spell_type v.0.items) (λ v. FineTypes [] v.0.items) (left tokens.old) (left tokens.new) }
+    ensures read { (p : ℕ)
+        → Reading result (drafting p [] no_draft) (Types ∷ [])
+        (λ v. drafting p (map type_form v.0.items) no_draft)
+        (λ v. flat_map spell_type v.0.items) (λ v. FineTypes [] v.0.items) (left tokens.old)
+        (left tokens.new) }
     ensures same { IfOk result (λ v. v.1 ≡ map (λ t. t.name) v.0.items) }
 {
     let mut types = Vec::new(alloc);
@@ -63,7 +67,14 @@ fn type_declaration(
     types: TypeTable<'_>,
     line: u32,
 ) -> Result<TypeDeclaration, LangFault>
-    ensures read { (p : ℕ) → Reading result (drafting p (map type_form types.entry.items.now) no_draft) (TypeName ∷ Counted ∷ NodeOfType ∷ OpenBrace ∷ Fields ∷ PadOfType ∷ TypeEnd ∷ []) (λ t. drafting p (map type_form types.entry.items.now ++ type_form t ∷ []) no_draft) type_words (λ t. (is_some (type_named (map type_form types.entry.items.now) t.name) ≡ false) × FineType t) (left tokens.old) (left tokens.new) }
+    ensures read { (p : ℕ)
+        → Reading result (drafting p (map type_form types.entry.items.now) no_draft)
+        (TypeName ∷ Counted ∷ NodeOfType ∷ OpenBrace ∷ Fields ∷ PadOfType ∷ TypeEnd ∷ [])
+        (λ t. drafting p (map type_form types.entry.items.now ++ type_form t ∷ []) no_draft)
+        type_words
+        (λ t. (is_some (type_named (map type_form types.entry.items.now) t.name) ≡ false)
+        × FineType t)
+        (left tokens.old) (left tokens.new) }
     ensures line { IfOk result (λ t. t.line ≡ line) }
 {
     let name = type_name(tokens, types)?;
@@ -86,7 +97,12 @@ fn type_declaration(
 
 // The name of a type, which none of the types has.
 fn type_name(tokens: &mut Tokens<'_>, types: TypeTable<'_>) -> Result<Name, LangFault>
-    ensures { (p : ℕ) → Reading result (drafting p (map type_form types.entry.items.now) no_draft) (TypeName ∷ []) (λ n. drafting p (map type_form types.entry.items.now) (form n false None [] 0)) (λ n. name n ∷ []) (λ n. is_some (type_named (map type_form types.entry.items.now) n) ≡ false) (left tokens.old) (left tokens.new) }
+    ensures { (p : ℕ)
+        → Reading result (drafting p (map type_form types.entry.items.now) no_draft) (TypeName ∷ [])
+        (λ n. drafting p (map type_form types.entry.items.now) (form n false None [] 0))
+        (λ n. name n ∷ [])
+        (λ n. is_some (type_named (map type_form types.entry.items.now) n) ≡ false)
+        (left tokens.old) (left tokens.new) }
 {
     let (name, place) = placed_name(tokens)?;
     if type_place(types, &name).is_some() {
@@ -97,7 +113,10 @@ fn type_name(tokens: &mut Tokens<'_>, types: TypeTable<'_>) -> Result<Name, Lang
 
 // Whether a type is counted.
 fn counted(tokens: &mut Tokens<'_>) -> bool
-    ensures { (p : ℕ) (types : List TypeForm) (n : List ℕ) → Read (drafting p types (form n false None [] 0)) (Counted ∷ []) (drafting p types (form n result None [] 0)) [] (counted_words result) (Unit {0}) (left tokens.old) (left tokens.new) }
+    ensures { (p : ℕ) (types : List TypeForm) (n : List ℕ)
+        → Read (drafting p types (form n false None [] 0)) (Counted ∷ [])
+        (drafting p types (form n result None [] 0)) [] (counted_words result) (Unit {0})
+        (left tokens.old) (left tokens.new) }
 {
     match optional(tokens, Keyword::Counted) {
         Some(_) => true,
@@ -107,7 +126,10 @@ fn counted(tokens: &mut Tokens<'_>) -> bool
 
 // The node of a type, if it has one.
 fn node(tokens: &mut Tokens<'_>) -> Option<Node>
-    ensures { (p : ℕ) (types : List TypeForm) (n : List ℕ) (c : Bool) → Read (drafting p types (form n c None [] 0)) (NodeOfType ∷ []) (drafting p types (form n c result [] 0)) [] (node_words result) (Unit {0}) (left tokens.old) (left tokens.new) }
+    ensures { (p : ℕ) (types : List TypeForm) (n : List ℕ) (c : Bool)
+        → Read (drafting p types (form n c None [] 0)) (NodeOfType ∷ [])
+        (drafting p types (form n c result [] 0)) [] (node_words result) (Unit {0})
+        (left tokens.old) (left tokens.new) }
 {
     match placed_node(tokens) {
         Some((node, _)) => Some(node),
@@ -132,7 +154,10 @@ fn placed_node(tokens: &mut Tokens<'_>) -> Option<(Node, Place)>
 
 // The fields of a type.
 fn fields(alloc: Global, tokens: &mut Tokens<'_>) -> Result<Vec<Name>, LangFault>
-    ensures { (p : ℕ) (types : List TypeForm) (n : List ℕ) (c : Bool) (d : Option Node) → Reading result (drafting p types (form n c d [] 0)) (Fields ∷ []) (λ v. drafting p types (form n c d v.items 0)) (λ v. map name v.items) (λ v. Fresh [] v.items) (left tokens.old) (left tokens.new) }
+    ensures { (p : ℕ) (types : List TypeForm) (n : List ℕ) (c : Bool) (d : Option Node)
+        → Reading result (drafting p types (form n c d [] 0)) (Fields ∷ [])
+        (λ v. drafting p types (form n c d v.items 0)) (λ v. map name v.items)
+        (λ v. Fresh [] v.items) (left tokens.old) (left tokens.new) }
 {
     let mut fields = Vec::new(alloc);
     let mut names = Index::new(alloc);
@@ -148,7 +173,11 @@ fn fields(alloc: Global, tokens: &mut Tokens<'_>) -> Result<Vec<Name>, LangFault
 
 // The pad of a type, if it has one.
 fn pad(tokens: &mut Tokens<'_>) -> Result<Option<u32>, LangFault>
-    ensures { (p : ℕ) (types : List TypeForm) (n : List ℕ) (c : Bool) (d : Option Node) (fs : List (List ℕ)) → Reading result (drafting p types (form n c d fs 0)) (PadOfType ∷ []) (λ o. drafting p types (form n c d fs (unwrap_or o 0))) pad_words (λ o. IfSome o (λ b. (b % 8 == 0) ≡ true)) (left tokens.old) (left tokens.new) }
+    ensures { (p : ℕ) (types : List TypeForm) (n : List ℕ) (c : Bool) (d : Option Node)
+        (fs : List (List ℕ))
+        → Reading result (drafting p types (form n c d fs 0)) (PadOfType ∷ [])
+        (λ o. drafting p types (form n c d fs (unwrap_or o 0))) pad_words
+        (λ o. IfSome o (λ b. (b % 8 == 0) ≡ true)) (left tokens.old) (left tokens.new) }
 {
     match optional(tokens, Keyword::Pad) {
         Some(_) => Ok(Some(pad_bytes(tokens)?)),
@@ -158,7 +187,11 @@ fn pad(tokens: &mut Tokens<'_>) -> Result<Option<u32>, LangFault>
 
 // The number of bytes of a pad.
 fn pad_bytes(tokens: &mut Tokens<'_>) -> Result<u32, LangFault>
-    ensures { (p : ℕ) (types : List TypeForm) (n : List ℕ) (c : Bool) (d : Option Node) (fs : List (List ℕ)) → Reading result (drafting p types (form n c d fs 0)) (PadBytes ∷ []) (λ b. drafting p types (form n c d fs b)) (λ b. number b ∷ []) (λ b. (b % 8 == 0) ≡ true) (left tokens.old) (left tokens.new) }
+    ensures { (p : ℕ) (types : List TypeForm) (n : List ℕ) (c : Bool) (d : Option Node)
+        (fs : List (List ℕ))
+        → Reading result (drafting p types (form n c d fs 0)) (PadBytes ∷ [])
+        (λ b. drafting p types (form n c d fs b)) (λ b. number b ∷ [])
+        (λ b. (b % 8 == 0) ≡ true) (left tokens.old) (left tokens.new) }
 {
     let (bytes, place) = placed_number(tokens)?;
     if bytes % 8 != 0 {
@@ -169,7 +202,13 @@ fn pad_bytes(tokens: &mut Tokens<'_>) -> Result<u32, LangFault>
 
 // The closing brace of a type, whose parts must fit one another.
 fn type_end(tokens: &mut Tokens<'_>, declaration: &TypeDeclaration) -> Result<(), LangFault>
-    ensures { (p : ℕ) (types : List TypeForm) → Reading result (drafting p types (type_form declaration.now)) (TypeEnd ∷ []) (λ _. drafting p (types ++ type_form declaration.now ∷ []) no_draft) (λ _. any Close ∷ []) (λ _. (has_key (type_form declaration.now) ≡ true) × (has_size (type_form declaration.now) ≡ true)) (left tokens.old) (left tokens.new) }
+    ensures { (p : ℕ) (types : List TypeForm)
+        → Reading result (drafting p types (type_form declaration.now)) (TypeEnd ∷ [])
+        (λ _. drafting p (types ++ type_form declaration.now ∷ []) no_draft)
+        (λ _. any Close ∷ [])
+        (λ _. (has_key (type_form declaration.now) ≡ true)
+        × (has_size (type_form declaration.now) ≡ true))
+        (left tokens.old) (left tokens.new) }
 {
     let place = closing(tokens)?;
     if !has_key(declaration) {

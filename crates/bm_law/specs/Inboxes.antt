@@ -21,7 +21,8 @@ oldest (parcel ∷ parcels) = parcel
 -- The inboxes of processor p after an entry of its log: what is sent to p comes last, the oldest is received, and a sweep
 -- leaves none.
 abbrev pub inboxes_after : ℕ → Entry → Inboxes → Inboxes
-inboxes_after p (entry.Send c to us) boxes = if (to == p) then on_inbox c (λ parcels. parcels ++ unit_list us ∷ []) boxes else boxes
+inboxes_after p (entry.Send c to us) boxes =
+    if (to == p) then on_inbox c (λ parcels. parcels ++ unit_list us ∷ []) boxes else boxes
 inboxes_after p (entry.Receive c us) boxes = on_inbox c (λ parcels. drop 1 parcels) boxes
 inboxes_after p (entry.Sweep c us) boxes = on_inbox c (λ parcels. []) boxes
 inboxes_after p _ boxes = boxes

@@ -11,7 +11,16 @@ use Rattle.bm_law.specs.Stands.{class_named}
 
 -- the lengths of a cache's lists
 abbrev pub lengths_in : {A : Type 0} → Row A → Lengths
-lengths_in r = record { free = length r.free; extra = length r.extra; extra_delayed = length r.extra_delayed; delayed = length r.delayed; first = length r.deferred.first; ready = length r.deferred.ready; second = length r.deferred.second }
+lengths_in r =
+    record {
+      free = length r.free;
+      extra = length r.extra;
+      extra_delayed = length r.extra_delayed;
+      delayed = length r.delayed;
+      first = length r.deferred.first;
+      ready = length r.deferred.ready;
+      second = length r.deferred.second;
+    }
 
 -- the counts are those of the state
 pub record Tells {A : Type 0} (counts : Counts) (s : State A) : Type 0 where
@@ -43,4 +52,5 @@ Sized l _ units s = Unit {0}
 
 -- The units of the entry's class, those in hand at its level and those that come in are fewer than a counter can count.
 abbrev pub Countable : {A : Type 0} → ℕ → Entry → List A → State A → Type 0
-Countable l e units s = length (seven_lists (s.rows (class_named e))) + length (s.sides l).hand + length units < 2 ^ 64
+Countable l e units s =
+    length (seven_lists (s.rows (class_named e))) + length (s.sides l).hand + length units < 2 ^ 64

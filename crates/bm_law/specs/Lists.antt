@@ -56,22 +56,31 @@ Names l (entry.Push c u) s = take 1 (s.sides l).hand ≡ u ∷ []
 Names l (entry.Count c k) s = CountsTo (s.sides l).mark c (s.rows c).count k
 Names l (entry.Delayed c u) s = take 1 (s.sides l).hand ≡ u ∷ []
 Names l (entry.Look c k) s = k ≡ length (s.rows c).extra
-Names l (entry.Put c u) s = (take 1 (s.sides l).hand ≡ u ∷ []) × ((s.sides l).mark ≡ mark.Saw c (length (s.rows c).extra))
+Names l (entry.Put c u) s =
+    (take 1 (s.sides l).hand ≡ u ∷ []) × ((s.sides l).mark ≡ mark.Saw c (length (s.rows c).extra))
 Names l (entry.Lost c) s = SawLess (s.sides l).mark c (length (s.rows c).extra)
 Names l (entry.LookDelayed c k) s = k ≡ length (s.rows c).extra_delayed
-Names l (entry.PutDelayed c u) s = (take 1 (s.sides l).hand ≡ u ∷ []) × ((s.sides l).mark ≡ mark.SawDelayed c (length (s.rows c).extra_delayed))
-Names l (entry.LostDelayed c) s = SawLessDelayed (s.sides l).mark c (length (s.rows c).extra_delayed)
+Names l (entry.PutDelayed c u) s =
+    (take 1 (s.sides l).hand ≡ u ∷ [])
+    × ((s.sides l).mark ≡ mark.SawDelayed c (length (s.rows c).extra_delayed))
+Names l (entry.LostDelayed c) s =
+    SawLessDelayed (s.sides l).mark c (length (s.rows c).extra_delayed)
 Names l (entry.Read c k) s = k ≡ (s.rows c).count
 Names l (entry.Ready c u) s = take 1 (s.rows c).deferred.ready ≡ u ∷ []
 Names l (entry.Second c u) s = take 1 (s.rows c).deferred.second ≡ u ∷ []
 Names l (entry.TakeExtra c us) s = unit_list us ≡ (s.rows c).extra
-Names l (entry.Send c p us) s = (p ≡ (s.rows c).target) × (unit_list us ≡ sends (s.sides l).hand (s.rows c).deferred.first)
+Names l (entry.Send c p us) s =
+    (p ≡ (s.rows c).target) × (unit_list us ≡ sends (s.sides l).hand (s.rows c).deferred.first)
 Names l (entry.TakeDelayed c us) s = unit_list us ≡ (s.rows c).extra_delayed
-Names l (entry.Batch c us) s = (unit_list us ≡ (s.rows c).delayed) × ((s.rows c).deferred.plain ≡ None)
+Names l (entry.Batch c us) s =
+    (unit_list us ≡ (s.rows c).delayed) × ((s.rows c).deferred.plain ≡ None)
 Names l (entry.Stamp c d x) s = stamp_of d (s.rows c).deferred ≡ Some 0
-Names l (entry.BeginSecond c us) s = (unit_list us ≡ (s.rows c).deferred.ready) × ((s.rows c).deferred.tracing ≡ None)
-Names l (entry.Return c us) s = (unit_list us ≡ (s.rows c).deferred.second) × IsTrue (is_some (s.rows c).deferred.tracing)
-Names l (entry.Sweep c us) s = take (length (seven_lists (s.rows c))) (unit_list us) ≡ seven_lists (s.rows c)
+Names l (entry.BeginSecond c us) s =
+    (unit_list us ≡ (s.rows c).deferred.ready) × ((s.rows c).deferred.tracing ≡ None)
+Names l (entry.Return c us) s =
+    (unit_list us ≡ (s.rows c).deferred.second) × IsTrue (is_some (s.rows c).deferred.tracing)
+Names l (entry.Sweep c us) s =
+    take (length (seven_lists (s.rows c))) (unit_list us) ≡ seven_lists (s.rows c)
 Names l _ s = Unit {0}
 
 -- the units that an entry brings from outside
@@ -140,22 +149,32 @@ names l (entry.Push c u) s = bytes_eq (take 1 (s.sides l).hand) (u ∷ [])
 names l (entry.Count c k) s = counts_to (s.sides l).mark c (s.rows c).count k
 names l (entry.Delayed c u) s = bytes_eq (take 1 (s.sides l).hand) (u ∷ [])
 names l (entry.Look c k) s = nat_eq k (length (s.rows c).extra)
-names l (entry.Put c u) s = bytes_eq (take 1 (s.sides l).hand) (u ∷ []) && saw (s.sides l).mark c (length (s.rows c).extra)
+names l (entry.Put c u) s =
+    bytes_eq (take 1 (s.sides l).hand) (u ∷ []) && saw (s.sides l).mark c (length (s.rows c).extra)
 names l (entry.Lost c) s = saw_less (s.sides l).mark c (length (s.rows c).extra)
 names l (entry.LookDelayed c k) s = nat_eq k (length (s.rows c).extra_delayed)
-names l (entry.PutDelayed c u) s = bytes_eq (take 1 (s.sides l).hand) (u ∷ []) && saw_delayed (s.sides l).mark c (length (s.rows c).extra_delayed)
-names l (entry.LostDelayed c) s = saw_less_delayed (s.sides l).mark c (length (s.rows c).extra_delayed)
+names l (entry.PutDelayed c u) s =
+    bytes_eq (take 1 (s.sides l).hand) (u ∷ [])
+    && saw_delayed (s.sides l).mark c (length (s.rows c).extra_delayed)
+names l (entry.LostDelayed c) s =
+    saw_less_delayed (s.sides l).mark c (length (s.rows c).extra_delayed)
 names l (entry.Read c k) s = nat_eq k (s.rows c).count
 names l (entry.Ready c u) s = bytes_eq (take 1 (s.rows c).deferred.ready) (u ∷ [])
 names l (entry.Second c u) s = bytes_eq (take 1 (s.rows c).deferred.second) (u ∷ [])
 names l (entry.TakeExtra c us) s = bytes_eq (unit_list us) (s.rows c).extra
-names l (entry.Send c p us) s = nat_eq p (s.rows c).target && bytes_eq (unit_list us) (sends (s.sides l).hand (s.rows c).deferred.first)
+names l (entry.Send c p us) s =
+    nat_eq p (s.rows c).target
+    && bytes_eq (unit_list us) (sends (s.sides l).hand (s.rows c).deferred.first)
 names l (entry.TakeDelayed c us) s = bytes_eq (unit_list us) (s.rows c).extra_delayed
-names l (entry.Batch c us) s = bytes_eq (unit_list us) (s.rows c).delayed && is_none (s.rows c).deferred.plain
+names l (entry.Batch c us) s =
+    bytes_eq (unit_list us) (s.rows c).delayed && is_none (s.rows c).deferred.plain
 names l (entry.Stamp c d x) s = is_unstamped (stamp_of d (s.rows c).deferred)
-names l (entry.BeginSecond c us) s = bytes_eq (unit_list us) (s.rows c).deferred.ready && is_none (s.rows c).deferred.tracing
-names l (entry.Return c us) s = bytes_eq (unit_list us) (s.rows c).deferred.second && is_some (s.rows c).deferred.tracing
-names l (entry.Sweep c us) s = bytes_eq (take (length (seven_lists (s.rows c))) (unit_list us)) (seven_lists (s.rows c))
+names l (entry.BeginSecond c us) s =
+    bytes_eq (unit_list us) (s.rows c).deferred.ready && is_none (s.rows c).deferred.tracing
+names l (entry.Return c us) s =
+    bytes_eq (unit_list us) (s.rows c).deferred.second && is_some (s.rows c).deferred.tracing
+names l (entry.Sweep c us) s =
+    bytes_eq (take (length (seven_lists (s.rows c))) (unit_list us)) (seven_lists (s.rows c))
 names l _ s = true
 
 abbrev pub lists_from : State ℕ → Log → Option (State ℕ)

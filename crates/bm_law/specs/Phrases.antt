@@ -26,10 +26,13 @@ given u life (Some seal) = entry.GivenAfter u life seal.0 seal.1
 -- An allocation with its reply: it took the top of Free, found Free empty, or found the cache in use. k is the free
 -- count after the take, b the active number after the raise, and a the one after it was lowered.
 abbrev pub alloc_took : ℕ → ℕ → ℕ → Option (ℕ × ℕ) → ℕ → ℕ → List Entry
-alloc_took c u life seal k a = entry.Enter c 1 ∷ entry.Pop c u ∷ entry.Count c k ∷ entry.Leave c a ∷ raise_below c k ++ given u life seal ∷ []
+alloc_took c u life seal k a =
+    entry.Enter c 1 ∷ entry.Pop c u ∷ entry.Count c k ∷ entry.Leave c a ∷ raise_below c k
+    ++ given u life seal ∷ []
 
 abbrev pub alloc_empty : ℕ → ℕ → List Entry
-alloc_empty c a = entry.Enter c 1 ∷ entry.PopNone c ∷ entry.Leave c a ∷ raise_below c 0 ++ entry.Empty ∷ []
+alloc_empty c a =
+    entry.Enter c 1 ∷ entry.PopNone c ∷ entry.Leave c a ∷ raise_below c 0 ++ entry.Empty ∷ []
 
 abbrev pub alloc_busy : ℕ → ℕ → ℕ → List Entry
 alloc_busy c b a = entry.Enter c b ∷ entry.Leave c a ∷ raise_below c 0 ++ entry.Busy b ∷ []
@@ -51,11 +54,14 @@ overtaken_delayed c (k ∷ ks) = entry.LookDelayed c k ∷ entry.LostDelayed c �
 
 -- A plain free: pushed on Free, or put on Extra after so many overtaken looks where the cache was in use.
 abbrev pub free_pushed : ℕ → ℕ → ℕ → ℕ → ℕ → List Entry
-free_pushed c u home k a = entry.Free u home ∷ entry.Enter c 1 ∷ entry.Push c u ∷ entry.Count c k ∷ entry.Leave c a ∷ raise_above c k
+free_pushed c u home k a =
+    entry.Free u home ∷ entry.Enter c 1 ∷ entry.Push c u ∷ entry.Count c k ∷ entry.Leave c a
+    ∷ raise_above c k
 
 abbrev pub free_put : ℕ → ℕ → ℕ → ℕ → List ℕ → ℕ → ℕ → List Entry
 free_put c u home b lost k a =
-    entry.Free u home ∷ entry.Enter c b ∷ overtaken c lost ++ entry.Look c k ∷ entry.Put c u ∷ entry.Leave c a ∷ []
+    entry.Free u home ∷ entry.Enter c b ∷ overtaken c lost ++ entry.Look c k ∷ entry.Put c u
+    ∷ entry.Leave c a ∷ []
 
 abbrev pub FreePhrase : ℕ → ℕ → ℕ → List Entry → Type 0
 FreePhrase c u home own =
@@ -66,16 +72,19 @@ FreePhrase c u home own =
 -- use.
 abbrev pub delay_pushed : ℕ → ℕ → ℕ → ℕ → Bool → List Entry
 delay_pushed c u home a in_progress =
-    entry.Delay u home ∷ entry.Enter c 1 ∷ entry.Delayed c u ∷ entry.Leave c a ∷ raise_unless in_progress c
+    entry.Delay u home ∷ entry.Enter c 1 ∷ entry.Delayed c u ∷ entry.Leave c a
+    ∷ raise_unless in_progress c
 
 abbrev pub delay_put : ℕ → ℕ → ℕ → ℕ → List ℕ → ℕ → ℕ → Bool → List Entry
 delay_put c u home b lost k a in_progress =
-    entry.Delay u home ∷ entry.Enter c b ∷ overtaken_delayed c lost ++ entry.LookDelayed c k ∷ entry.PutDelayed c u ∷ entry.Leave c a ∷ raise_unless in_progress c
+    entry.Delay u home ∷ entry.Enter c b ∷ overtaken_delayed c lost ++ entry.LookDelayed c k
+    ∷ entry.PutDelayed c u ∷ entry.Leave c a ∷ raise_unless in_progress c
 
 abbrev pub DelayPhrase : ℕ → ℕ → ℕ → Bool → List Entry → Type 0
 DelayPhrase c u home in_progress own =
     ((a : ℕ) × (own ≡ delay_pushed c u home a in_progress))
-    ⊎ ((b : ℕ) × (lost : List ℕ) × (k a : ℕ) × (1 < b) × (own ≡ delay_put c u home b lost k a in_progress))
+    ⊎ ((b : ℕ) × (lost : List ℕ) × (k a : ℕ) × (1 < b)
+    × (own ≡ delay_put c u home b lost k a in_progress))
 
 -- the addition of a unit in hand to Free
 abbrev pub added : ℕ → ℕ → ℕ → ℕ → List Entry

@@ -50,26 +50,42 @@ swept_from p r inbox =
 -- level. All other entries move no unit.
 abbrev pub moves_of : ℕ → ℕ → ℕ → State ℕ → Entry → Option Move
 moves_of p l life s (entry.Fill c us) = move (unit_list us) place.Stock (place.Free p) One_by_one
-moves_of p l life s (entry.Fetch c want us) = move (unit_list us) place.Stock (place.Hand p l) Behind
+moves_of p l life s (entry.Fetch c want us) =
+    move (unit_list us) place.Stock (place.Hand p l) Behind
 moves_of p l life s (entry.Pop c u) = move (u ∷ []) (place.Free p) (place.Hand p l) Behind
 moves_of p l life s (entry.Ready c u) = move (u ∷ []) (place.Ready p) (place.Hand p l) Behind
 moves_of p l life s (entry.Second c u) = move (u ∷ []) (place.Second p) (place.Hand p l) Behind
 moves_of p l life s (entry.Push c u) = move (u ∷ []) (place.Hand p l) (place.Free p) Together
 moves_of p l life s (entry.Delayed c u) = move (u ∷ []) (place.Hand p l) (place.Delayed p) Together
 moves_of p l life s (entry.Put c u) = move (u ∷ []) (place.Hand p l) (place.Extra p) Together
-moves_of p l life s (entry.PutDelayed c u) = move (u ∷ []) (place.Hand p l) (place.ExtraDelayed p) Together
-moves_of p l life s (entry.Given u lives) = move (u ∷ []) (place.Hand p l) (place.Live lives) Together
-moves_of p l life s (entry.GivenAfter u lives stamp seen) = move (u ∷ []) (place.Hand p l) (place.Live lives) Together
+moves_of p l life s (entry.PutDelayed c u) =
+    move (u ∷ []) (place.Hand p l) (place.ExtraDelayed p) Together
+moves_of p l life s (entry.Given u lives) =
+    move (u ∷ []) (place.Hand p l) (place.Live lives) Together
+moves_of p l life s (entry.GivenAfter u lives stamp seen) =
+    move (u ∷ []) (place.Hand p l) (place.Live lives) Together
 moves_of p l life s (entry.Free u home) = move (u ∷ []) (place.Live life) (place.Hand p l) Behind
 moves_of p l life s (entry.Delay u home) = move (u ∷ []) (place.Live life) (place.Hand p l) Behind
-moves_of p l life s (entry.TakeExtra c us) = move (unit_list us) (place.Extra p) (place.Hand p l) Behind
-moves_of p l life s (entry.TakeDelayed c us) = move (unit_list us) (place.ExtraDelayed p) (place.Delayed p) One_by_one
-moves_of p l life s (entry.Batch c us) = move (unit_list us) (place.Delayed p) (place.First p) Together
-moves_of p l life s (entry.Send c q us) = move (unit_list us) (sent_from p l (s.sides l).hand) (place.Parcel q) Together
-moves_of p l life s (entry.Receive c us) = move (unit_list us) (place.Parcel p) (place.Ready p) Together
-moves_of p l life s (entry.BeginSecond c us) = move (unit_list us) (place.Ready p) (place.Second p) Together
+moves_of p l life s (entry.TakeExtra c us) =
+    move (unit_list us) (place.Extra p) (place.Hand p l) Behind
+moves_of p l life s (entry.TakeDelayed c us) =
+    move (unit_list us) (place.ExtraDelayed p) (place.Delayed p) One_by_one
+moves_of p l life s (entry.Batch c us) =
+    move (unit_list us) (place.Delayed p) (place.First p) Together
+moves_of p l life s (entry.Send c q us) =
+    move (unit_list us) (sent_from p l (s.sides l).hand) (place.Parcel q) Together
+moves_of p l life s (entry.Receive c us) =
+    move (unit_list us) (place.Parcel p) (place.Ready p) Together
+moves_of p l life s (entry.BeginSecond c us) =
+    move (unit_list us) (place.Ready p) (place.Second p) Together
 moves_of p l life s (entry.Return c us) = move (unit_list us) (place.Second p) place.Stock Together
-moves_of p l life s (entry.Sweep c us) = Some (record { from = swept_from p (s.rows c) (brought (entry.Sweep c us) s); to = place.Second p; order = Together })
+moves_of p l life s (entry.Sweep c us) =
+    Some
+    (record {
+      from = swept_from p (s.rows c) (brought (entry.Sweep c us) s);
+      to = place.Second p;
+      order = Together;
+    })
 moves_of p l life s _ = None
 
 -- the units of a move, in the order in which the entry names them
@@ -134,12 +150,21 @@ entered Behind units xs = xs ++ units
 -- what stands at a place after a move: what the move takes has left at the top, and what goes there has come
 abbrev pub moved : Place → Option Move → List ℕ → List ℕ
 moved x None xs = xs
-moved x (Some m) xs = if same_place m.to x then entered m.order (units_of m.from) (drop (taken_from x m.from) xs) else drop (taken_from x m.from) xs
+moved x (Some m) xs =
+    if same_place m.to x then entered m.order (units_of m.from) (drop (taken_from x m.from) xs)
+    else drop (taken_from x m.from) xs
 
 -- An entry moves units as the table says: on the lists of the class that it names, in the hand of its level, and nowhere
 -- else.
 pub record Moves (p l life : ℕ) (e : Entry) (s : State ℕ) : Type 0 where
-  pub lists : (k : Stack) → list_at k ((next s (l, e)).rows (class_named e)) ≡ moved (place_of p k) (moves_of p l life s e) (list_at k (s.rows (class_named e)))
-  pub hand : ((next s (l, e)).sides l).hand ≡ moved (place.Hand p l) (moves_of p l life s e) (s.sides l).hand
-  pub classes : (c : ℕ) → c ≢ class_named e → (k : Stack) → list_at k ((next s (l, e)).rows c) ≡ list_at k (s.rows c)
+  pub lists :
+      (k : Stack)
+      → list_at k ((next s (l, e)).rows (class_named e))
+      ≡ moved (place_of p k) (moves_of p l life s e) (list_at k (s.rows (class_named e)))
+  pub hand :
+      ((next s (l, e)).sides l).hand
+      ≡ moved (place.Hand p l) (moves_of p l life s e) (s.sides l).hand
+  pub classes :
+      (c : ℕ) → c ≢ class_named e → (k : Stack)
+      → list_at k ((next s (l, e)).rows c) ≡ list_at k (s.rows c)
   pub levels : (m : ℕ) → m ≢ l → ((next s (l, e)).sides m).hand ≡ (s.sides m).hand

@@ -17,7 +17,13 @@ times n (x ∷ xs) = (if eqb n x then 1 else 0) + times n xs
 
 -- how often unit n stands in the lists of one class
 abbrev pub in_row : ℕ → Row ℕ → ℕ
-in_row n r = times n r.free + (times n r.extra + (times n r.delayed + (times n r.extra_delayed + (times n r.deferred.first + (times n r.deferred.ready + times n r.deferred.second)))))
+in_row n r =
+    times n r.free
+    + (times n r.extra
+    + (times n r.delayed
+    + (times n r.extra_delayed
+    + (times n r.deferred.first
+    + (times n r.deferred.ready + times n r.deferred.second)))))
 
 -- how often unit n stands in the lists of the eleven classes and the hands of the four levels
 unfoldable pub stands : ℕ → State ℕ → ℕ

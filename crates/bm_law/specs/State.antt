@@ -46,7 +46,18 @@ no_deferred = record { ready = []; second = []; first = []; plain = None; tracin
 
 -- a cache of processor p before its opening
 abbrev pub empty_row : {A : Type 0} → ℕ → Row A
-empty_row p = record { free = []; extra = []; delayed = []; extra_delayed = []; active = 0; count = 0; raised = false; target = p; deferred = no_deferred }
+empty_row p =
+    record {
+      free = [];
+      extra = [];
+      delayed = [];
+      extra_delayed = [];
+      active = 0;
+      count = 0;
+      raised = false;
+      target = p;
+      deferred = no_deferred;
+    }
 
 -- nothing in hand
 abbrev pub idle_side : {A : Type 0} → Side A
@@ -58,7 +69,8 @@ opening p = record { rows = λ _. empty_row p; sides = λ _. idle_side }
 
 -- the state that two lists hold: of caches, by class, and of sides, by level
 abbrev pub state_of : {A : Type 0} → ℕ → List (Row A) → List (Side A) → State A
-state_of p rows sides = record { rows = λ k. get_or rows k (empty_row p); sides = λ k. get_or sides k idle_side }
+state_of p rows sides =
+    record { rows = λ k. get_or rows k (empty_row p); sides = λ k. get_or sides k idle_side }
 
 -- the state with this cache, or this level, changed so
 abbrev pub with_row : {A : Type 0} → ℕ → Row A → State A → State A
@@ -76,14 +88,36 @@ on_side l f s = with_side l (f (s.sides l)) s
 -- The units of a cache in the order in which the closing takes them: Free, Extra, Delayed, ExtraDelayed, First, Ready,
 -- Second, each from its top. (This project's own rule.)
 abbrev pub seven_lists : {A : Type 0} → Row A → List A
-seven_lists r = r.free ++ (r.extra ++ (r.delayed ++ (r.extra_delayed ++ (r.deferred.first ++ (r.deferred.ready ++ r.deferred.second)))))
+seven_lists r =
+    r.free
+    ++ (r.extra
+    ++ (r.delayed
+    ++ (r.extra_delayed ++ (r.deferred.first ++ (r.deferred.ready ++ r.deferred.second)))))
 
 -- the same, with each unit seen through f
 abbrev pub seen_deferred : {A B : Type 0} → (A → B) → Deferred A → Deferred B
-seen_deferred f d = record { ready = map f d.ready; second = map f d.second; first = map f d.first; plain = d.plain; tracing = d.tracing }
+seen_deferred f d =
+    record {
+      ready = map f d.ready;
+      second = map f d.second;
+      first = map f d.first;
+      plain = d.plain;
+      tracing = d.tracing;
+    }
 
 abbrev pub seen_row : {A B : Type 0} → (A → B) → Row A → Row B
-seen_row f r = record { free = map f r.free; extra = map f r.extra; delayed = map f r.delayed; extra_delayed = map f r.extra_delayed; active = r.active; count = r.count; raised = r.raised; target = r.target; deferred = seen_deferred f r.deferred }
+seen_row f r =
+    record {
+      free = map f r.free;
+      extra = map f r.extra;
+      delayed = map f r.delayed;
+      extra_delayed = map f r.extra_delayed;
+      active = r.active;
+      count = r.count;
+      raised = r.raised;
+      target = r.target;
+      deferred = seen_deferred f r.deferred;
+    }
 
 abbrev pub seen_side : {A B : Type 0} → (A → B) → Side A → Side B
 seen_side f h = record { hand = map f h.hand; mark = h.mark }

@@ -17,7 +17,8 @@ MayFinish d own = (own ≡ []) ⊎ ((e : Entry) × (own ≡ e ∷ []) × Finishe
 
 -- nothing, or a period that begins, with its end or without
 abbrev pub MayBegin : Domain → List Entry → Type 0
-MayBegin d own = (own ≡ []) ⊎ ((n : ℕ) × (rest : List Entry) × (own ≡ entry.Begin d n ∷ rest) × MayFinish d rest)
+MayBegin d own =
+    (own ≡ []) ⊎ ((n : ℕ) × (rest : List Entry) × (own ≡ entry.Begin d n ∷ rest) × MayFinish d rest)
 
 -- a poll of a domain: the end of a period, a period, and what number was seen
 pub record PollPhrase (c : ℕ) (d : Domain) (own : List Entry) : Type 0 where
@@ -34,5 +35,8 @@ pub record SweepPhrase (c : ℕ) (own : List Entry) : Type 0 where
   pub returned : List ℕ
   pub stamp : ℕ
   pub poll : List Entry
-  pub own_is : own ≡ entry.Sweep c (Whole swept) ∷ entry.Stamp c Tracing stamp ∷ poll ++ entry.Return c (Whole returned) ∷ []
+  pub own_is :
+      own
+      ≡ entry.Sweep c (Whole swept) ∷ entry.Stamp c Tracing stamp ∷ poll
+      ++ entry.Return c (Whole returned) ∷ []
   pub polls : PollPhrase c Tracing poll

@@ -49,9 +49,14 @@ abbrev pub Steady : {A : Type 0} → ℕ → Entry → State A → Type 0
 Steady l (entry.Free u home) s = is_waiting (s.sides l).mark ≡ false
 Steady l (entry.Delay u home) s = is_waiting (s.sides l).mark ≡ false
 Steady l (entry.Enter c a) s = is_waiting (s.sides l).mark ≡ false
-Steady l (entry.Leave c a) s = ((s.rows c).active ≡ a + 1) × (a ≡ 0 → pops_waiting c s + pushes_waiting c s ≡ 0)
-Steady l (entry.Pop c u) s = (is_waiting (s.sides l).mark ≡ false) × (0 < (s.rows c).active) × (pops_waiting c s + pushes_waiting c s ≡ 0) × (0 < length (s.rows c).free)
-Steady l (entry.Push c u) s = (is_waiting (s.sides l).mark ≡ false) × (0 < (s.rows c).active) × (pops_waiting c s + pushes_waiting c s ≡ 0) × (0 < length (s.sides l).hand)
+Steady l (entry.Leave c a) s =
+    ((s.rows c).active ≡ a + 1) × (a ≡ 0 → pops_waiting c s + pushes_waiting c s ≡ 0)
+Steady l (entry.Pop c u) s =
+    (is_waiting (s.sides l).mark ≡ false) × (0 < (s.rows c).active)
+    × (pops_waiting c s + pushes_waiting c s ≡ 0) × (0 < length (s.rows c).free)
+Steady l (entry.Push c u) s =
+    (is_waiting (s.sides l).mark ≡ false) × (0 < (s.rows c).active)
+    × (pops_waiting c s + pushes_waiting c s ≡ 0) × (0 < length (s.sides l).hand)
 Steady l (entry.Count c k) s = CountsTo (s.sides l).mark c (s.rows c).count k
 Steady l (entry.Delayed c u) s = is_waiting (s.sides l).mark ≡ false
 Steady l (entry.Look c k) s = is_waiting (s.sides l).mark ≡ false

@@ -15,20 +15,27 @@ pub record Emptied {A : Type 0} (s : State A) : Type 0 where
 
 -- the lists of class 0 from the top: Free, Extra, Delayed and ExtraDelayed
 abbrev pub four_lists : Option (State ℕ) → Option (List (List ℕ))
-four_lists (Some s) = Some ((s.rows 0).free ∷ (s.rows 0).extra ∷ (s.rows 0).delayed ∷ (s.rows 0).extra_delayed ∷ [])
+four_lists (Some s) =
+    Some ((s.rows 0).free ∷ (s.rows 0).extra ∷ (s.rows 0).delayed ∷ (s.rows 0).extra_delayed ∷ [])
 four_lists None = None
 
 -- the end of a log: the section and the script end, and the closing begins
 abbrev pub script_ends : Log
-script_ends = (0, entry.Out Plain 2) ∷ (0, entry.Done (codes "main")) ∷ (0, entry.Ended) ∷ (0, entry.Close) ∷ []
+script_ends =
+    (0, entry.Out Plain 2) ∷ (0, entry.Done (codes "main")) ∷ (0, entry.Ended) ∷ (0, entry.Close)
+    ∷ []
 
 -- the closing's sweep of four units, which go back to the stock after a grace period
 abbrev pub swept_back : List ℕ → Log
 swept_back units =
     (0, entry.Sweep 0 (Whole units)) ∷
     (0, entry.Stamp 0 Tracing 2) ∷
-    (0, entry.Begin Tracing 1) ∷
-    (0, entry.Finish (record { domain = Tracing; number = 2; first = 2 ∷ 0 ∷ []; later = 2 ∷ 0 ∷ [] })) ∷
+    (0, entry.Begin Tracing 1) ∷ (
+      0,
+      entry.Finish
+          (record { domain = Tracing; number = 2; first = 2 ∷ 0 ∷ []; later = 2 ∷ 0 ∷ [] }),
+    )
+    ∷
     (0, entry.Pass 0 Tracing 2) ∷
     (0, entry.Return 0 (Whole units)) ∷ []
 
@@ -100,23 +107,33 @@ two_in_slots =
 -- The handler takes the first object out of its slot.
 abbrev pub first_taken : Log
 first_taken =
-    (1, entry.Handler (codes "h1")) ∷
-    (1, entry.Xchg (codes "s1") None (Some (record { unit = 3; life = 1 })) (Some (record { processor = 0; serial = 2 }))) ∷
+    (1, entry.Handler (codes "h1")) ∷ (
+      1,
+      entry.Xchg (codes "s1") None (Some (record { unit = 3; life = 1 }))
+          (Some (record { processor = 0; serial = 2 })),
+    )
+    ∷
     (1, entry.Drop 3 1) ∷
     (1, entry.Last) ∷ []
 
 -- A handler of the next level takes the second one.
 abbrev pub second_taken : Log
 second_taken =
-    (2, entry.Handler (codes "h2")) ∷
-    (2, entry.Xchg (codes "s2") None (Some (record { unit = 2; life = 1 })) (Some (record { processor = 0; serial = 4 }))) ∷
+    (2, entry.Handler (codes "h2")) ∷ (
+      2,
+      entry.Xchg (codes "s2") None (Some (record { unit = 2; life = 1 }))
+          (Some (record { processor = 0; serial = 4 })),
+    )
+    ∷
     (2, entry.Drop 2 1) ∷
     (2, entry.Last) ∷ []
 
 -- Three frees, each within the one below: the handler looks at Extra, and the second handler puts its unit there
 -- before the first one puts its own.
 abbrev pub first_looked : Log
-first_looked = two_in_slots ++ first_taken ++ (1, entry.Free 3 0) ∷ (1, entry.Enter 0 2) ∷ (1, entry.Look 0 0) ∷ []
+first_looked =
+    two_in_slots ++ first_taken ++ (1, entry.Free 3 0) ∷ (1, entry.Enter 0 2) ∷ (1, entry.Look 0 0)
+    ∷ []
 
 abbrev pub second_put : Log
 second_put =
@@ -201,7 +218,8 @@ third_delayed =
     (0, entry.Raise 0) ∷ []
 
 abbrev pub nested_delayed_frees : Log
-nested_delayed_frees = third_delayed ++ script_ends ++ slots_closed ++ swept_back (0 ∷ 1 ∷ 3 ∷ 2 ∷ [])
+nested_delayed_frees =
+    third_delayed ++ script_ends ++ slots_closed ++ swept_back (0 ∷ 1 ∷ 3 ∷ 2 ∷ [])
 
 -- An object is asked for by a handler directly after the unit of the outer one was taken.
 abbrev pub nested_busy : Log
@@ -226,7 +244,8 @@ nested_busy =
 
 -- the entries of such a log before its first call, and after its last
 abbrev pub script_begins : List Entry
-script_begins = entry.Fill 0 (Whole (0 ∷ 1 ∷ 2 ∷ 3 ∷ [])) ∷ entry.Script (codes "main") ∷ entry.In Plain 1 ∷ []
+script_begins =
+    entry.Fill 0 (Whole (0 ∷ 1 ∷ 2 ∷ 3 ∷ [])) ∷ entry.Script (codes "main") ∷ entry.In Plain 1 ∷ []
 
 abbrev pub script_stops : List Entry
 script_stops = entry.Out Plain 2 ∷ entry.Done (codes "main") ∷ entry.Ended ∷ entry.Close ∷ []

@@ -32,7 +32,8 @@ adds c k (u ∷ us) = added c u (k + 1) 0 ++ adds c (k + 1) us
 abbrev pub all_taken : ℕ → List ℕ → List Entry
 all_taken k [] = []
 all_taken zero us = []
-all_taken (suc k) (u ∷ us) = entry.New (codes "block") [] ∷ alloc_took 10 u 1 None k 0 ++ all_taken k us
+all_taken (suc k) (u ∷ us) =
+    entry.New (codes "block") [] ∷ alloc_took 10 u 1 None k 0 ++ all_taken k us
 
 abbrev pub work_overtaken : Log
 work_overtaken =
@@ -135,7 +136,14 @@ swept_up =
     entry.Sweep 1 (Whole (free_then ++ 55 ∷ 3 ∷ [])) ∷
     entry.Stamp 1 Tracing 2 ∷
     entry.Begin Tracing 1 ∷
-    entry.Finish (record { domain = Tracing; number = 2; first = 4 ∷ 0 ∷ 2 ∷ 0 ∷ []; later = 4 ∷ 0 ∷ 2 ∷ 0 ∷ [] }) ∷
+    entry.Finish
+    (record {
+      domain = Tracing;
+      number = 2;
+      first = 4 ∷ 0 ∷ 2 ∷ 0 ∷ [];
+      later = 4 ∷ 0 ∷ 2 ∷ 0 ∷ [];
+    })
+    ∷
     entry.Pass 1 Tracing 2 ∷
     entry.Return 1 (Whole (free_then ++ 55 ∷ 3 ∷ [])) ∷ [])
 
@@ -166,6 +174,13 @@ second_returned =
     entry.TakeDelayed 1 (Whole []) ∷
     entry.Leave 1 0 ∷
     entry.Begin Tracing 1 ∷
-    entry.Finish (record { domain = Tracing; number = 2; first = 4 ∷ 0 ∷ 2 ∷ 0 ∷ []; later = 4 ∷ 0 ∷ 2 ∷ 0 ∷ [] }) ∷
+    entry.Finish
+    (record {
+      domain = Tracing;
+      number = 2;
+      first = 4 ∷ 0 ∷ 2 ∷ 0 ∷ [];
+      later = 4 ∷ 0 ∷ 2 ∷ 0 ∷ [];
+    })
+    ∷
     entry.Pass 1 Tracing 2 ∷
     entry.Return 1 (Whole (3 ∷ [])) ∷ [])

@@ -29,14 +29,21 @@ found some none (Some id) = some id
 -- The call that an entry is, if it is one. A log names no keys, so `key` says by unit that of an addition; the owner that a refused
 -- push names is its place among the names of maps.
 abbrev pub graph_call : (names : List (List ℕ)) → (key : ℕ → ℕ) → Entry → Option GraphCall
-graph_call names key (entry.PushFront name u life pos) = on name pos (past.PushFront (object u life))
+graph_call names key (entry.PushFront name u life pos) =
+    on name pos (past.PushFront (object u life))
 graph_call names key (entry.PushBack name u life pos) = on name pos (past.PushBack (object u life))
 graph_call names key (entry.Add name u life pos) = on name pos (past.Add (object u life) (key u))
-graph_call names key (entry.PushFrontAlready name u life owner pos) = on name pos (past.PushFrontAlready (object u life) (place_of names owner))
-graph_call names key (entry.PushBackAlready name u life owner pos) = on name pos (past.PushBackAlready (object u life) (place_of names owner))
-graph_call names key (entry.AddAlready name u life owner pos) = on name pos (past.AddAlready (object u life) (key u) (place_of names owner))
-graph_call names key (entry.PopFront name item pos) = on name pos (found past.PopFront past.PopFrontNone item)
-graph_call names key (entry.PopBack name item pos) = on name pos (found past.PopBack past.PopBackNone item)
-graph_call names key (entry.First name item pos) = on name pos (found past.First past.FirstNone item)
+graph_call names key (entry.PushFrontAlready name u life owner pos) =
+    on name pos (past.PushFrontAlready (object u life) (place_of names owner))
+graph_call names key (entry.PushBackAlready name u life owner pos) =
+    on name pos (past.PushBackAlready (object u life) (place_of names owner))
+graph_call names key (entry.AddAlready name u life owner pos) =
+    on name pos (past.AddAlready (object u life) (key u) (place_of names owner))
+graph_call names key (entry.PopFront name item pos) =
+    on name pos (found past.PopFront past.PopFrontNone item)
+graph_call names key (entry.PopBack name item pos) =
+    on name pos (found past.PopBack past.PopBackNone item)
+graph_call names key (entry.First name item pos) =
+    on name pos (found past.First past.FirstNone item)
 graph_call names key (entry.Remove name u life pos) = on name pos (past.Remove (object u life))
 graph_call names key _ = None

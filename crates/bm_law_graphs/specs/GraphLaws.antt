@@ -10,7 +10,8 @@ use Rattle.bm_law_graphs.specs.Takes.{TakesLaw}
 
 -- Each history is that of its list or tree, and has the keys of its objects; refused pushes name the one in which their object is; under a lock positions are consecutive;
 -- and what is put in is taken out.
-pub record GraphLaws (names : List (List ℕ)) (histories : List ℕ → List Past) (logs : List Log) : Type 0 where
+pub record GraphLaws (names : List (List ℕ)) (histories : List ℕ → List Past) (logs : List Log) :
+    Type 0 where
   pub each : (name : List ℕ) → GraphHistory names name (histories name) logs
   pub keys : (name : List ℕ) → KeysLaw (histories name) logs
   pub refusals : RefusalLaw names histories

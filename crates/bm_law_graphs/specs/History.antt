@@ -33,7 +33,9 @@ placed n (p ∷ ps) = record { position = n; tag = p.tag; call = keyless p.call 
 -- the call on this list or tree that an entry with this tag is, if it is one
 abbrev pub placed_by : (name : List ℕ) → Tag → Option GraphCall → List Placed
 placed_by name tag None = []
-placed_by name tag (Some x) = if bytes_eq x.graph name then record { position = x.position; tag = tag; call = x.call } ∷ [] else []
+placed_by name tag (Some x) =
+    if bytes_eq x.graph name then record { position = x.position; tag = tag; call = x.call } ∷ []
+    else []
 
 abbrev pub call_on : (names : List (List ℕ)) → (name : List ℕ) → (p n : ℕ) → ℕ × Entry → List Placed
 call_on names name p n e = placed_by name (tag_after p n) (graph_call names (λ u. 0) e.1)
@@ -51,6 +53,7 @@ of_processor p (x ∷ xs) = if eqb x.tag.processor p then x ∷ of_processor p x
 
 -- The history of a list or tree has right replies, and its entries of each processor are the calls on it of that processor's log, in the
 -- log's order, each with its serial and at the position that the log names.
-pub record GraphHistory (names : List (List ℕ)) (name : List ℕ) (history : List Past) (logs : List Log) : Type 0 where
+pub record GraphHistory (names : List (List ℕ)) (name : List ℕ) (history : List Past)
+    (logs : List Log) : Type 0 where
   pub right : Replays history
   pub parts : (p : ℕ) → of_processor p (placed 0 history) ≡ calls_on names name p (get_or logs p [])

@@ -21,4 +21,5 @@ key_read _ = []
 
 -- The key that an addition of a history names, done or refused, is the first value with which some log made its object.
 abbrev pub KeysLaw : List Past → List Log → Type 0
-KeysLaw history logs = Each (λ p. Each (λ r. OneOf (Wrote r) (all_objects logs)) (key_read p.call)) history
+KeysLaw history logs =
+    Each (λ p. Each (λ r. OneOf (Wrote r) (all_objects logs)) (key_read p.call)) history

@@ -41,7 +41,9 @@ Follows _ position = Unit {0}
 
 abbrev pub Consecutive : (name : List ℕ) → Under → Log → Type 0
 Consecutive name u [] = Unit {0}
-Consecutive name u (e ∷ log) = Each (Follows u) (position_on name (graph_call [] (λ v. 0) e.1)) × Consecutive name (under_after name u e) log
+Consecutive name u (e ∷ log) =
+    Each (Follows u) (position_on name (graph_call [] (λ v. 0) e.1))
+    × Consecutive name (under_after name u e) log
 
 -- In each log the calls on a list or tree between a lock and its unlock have consecutive positions.
 abbrev pub LocksLaw : List Log → Type 0

@@ -28,13 +28,17 @@ PutsIn id p = effect_of p.call ≡ Puts id
 
 -- A refused push onto the list or tree of this place, after these calls on it, names an owner: this very one exactly where the object
 -- is in it; and else one on which the object was put.
-pub record IsRefused (names : List (List ℕ)) (histories : List ℕ → List Past) (place : ℕ) (before : List Past) (id : ObjId) (owner : ℕ) : Type 0 where
+pub record IsRefused (names : List (List ℕ)) (histories : List ℕ → List Past) (place : ℕ)
+    (before : List Past) (id : ObjId) (owner : ℕ) : Type 0 where
   pub own : owner ≡ place → Stands id before
   pub only : Stands id before → owner ≡ place
   pub put : OneOf (PutsIn id) (histories (get_or names owner []))
 
-abbrev pub RefusalFits : (names : List (List ℕ)) → (histories : List ℕ → List Past) → (place : ℕ) → List Past → Effect → Type 0
-RefusalFits names histories place before (Refuses id owner) = IsRefused names histories place before id owner
+abbrev pub RefusalFits :
+    (names : List (List ℕ)) → (histories : List ℕ → List Past) → (place : ℕ) → List Past → Effect
+    → Type 0
+RefusalFits names histories place before (Refuses id owner) =
+    IsRefused names histories place before id owner
 RefusalFits names histories place before _ = Unit {0}
 
 -- each entry of a history is so, after those before it
@@ -44,4 +48,6 @@ EachAfter P before (p ∷ ps) = P before (effect_of p.call) × EachAfter P (befo
 
 -- Each refused push of each list and tree names the one in which its object is.
 abbrev pub RefusalLaw : (names : List (List ℕ)) → (histories : List ℕ → List Past) → Type 0
-RefusalLaw names histories = (name : List ℕ) → EachAfter (RefusalFits names histories (place_of names name)) [] (histories name)
+RefusalLaw names histories =
+    (name : List ℕ)
+    → EachAfter (RefusalFits names histories (place_of names name)) [] (histories name)

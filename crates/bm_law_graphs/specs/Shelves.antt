@@ -22,7 +22,8 @@ pub record Shelves : Type 0 where
   pub closing : Bool
 
 abbrev pub first_shelves : Shelves
-first_shelves = record { histories = λ name. []; within = λ u. None; holders = λ name. None; closing = false }
+first_shelves =
+    record { histories = λ name. []; within = λ u. None; holders = λ name. None; closing = false }
 
 -- ---- what an entry of processor p makes of them
 
@@ -31,7 +32,11 @@ entry_of x tag = record { tag = tag; call = x.call }
 
 abbrev pub called : List (List ℕ) → Option GraphCall → Tag → Shelves → Shelves
 called names None tag s = s
-called names (Some x) tag s = record s { histories = recorded x.graph (entry_of x tag) s.histories; within = moved (place_of names x.graph) (effect_of x.call) s.within }
+called names (Some x) tag s =
+    record s {
+      histories = recorded x.graph (entry_of x tag) s.histories;
+      within = moved (place_of names x.graph) (effect_of x.call) s.within;
+    }
 
 abbrev pub with_holder : List ℕ → Option ℕ → (List ℕ → Option ℕ) → List ℕ → Option ℕ
 with_holder name holder holders other = if bytes_eq name other then holder else holders other
@@ -47,7 +52,8 @@ closing_after p _ closing = closing
 
 -- with its lock taken or given back
 abbrev pub guarded_after : (p : ℕ) → Entry → Shelves → Shelves
-guarded_after p e s = record s { holders = holders_after p e s.holders; closing = closing_after p e s.closing }
+guarded_after p e s =
+    record s { holders = holders_after p e s.holders; closing = closing_after p e s.closing }
 
 -- Objects go their own way; lists and trees beside them.
 pub record Shelved : Type 0 where
@@ -69,7 +75,8 @@ tag_in p objects = tag_after p (objects.calls p)
 abbrev pub shelved_after : List (List ℕ) → (p l : ℕ) → Entry → Shelved → Shelved
 shelved_after names p l e s = record {
   objects = objects_after p l e s.objects;
-  shelves = called names (call_in names e s.objects) (tag_in p s.objects) (guarded_after p e s.shelves);
+  shelves =
+      called names (call_in names e s.objects) (tag_in p s.objects) (guarded_after p e s.shelves);
 }
 
 -- ---- what it needs of them
@@ -82,7 +89,8 @@ pub record IsClosing (p : ℕ) (graph : List ℕ) (s : Shelves) : Type 0 where
 
 -- A call on a list or tree that there is, at level 0 under its lock or in the closing; its position is the number of calls on it before, its
 -- reply is right after these, and what it does to its object fits where that stands.
-pub record IsCall (names : List (List ℕ)) (p l : ℕ) (x : GraphCall) (tag : Tag) (s : Shelves) : Type 0 where
+pub record IsCall (names : List (List ℕ)) (p l : ℕ) (x : GraphCall) (tag : Tag) (s : Shelves) :
+    Type 0 where
   pub declared : place_of names x.graph < length names
   pub level : l ≡ 0
   pub guarded : (s.holders x.graph ≡ Some p) ⊎ IsClosing p x.graph s
@@ -90,7 +98,8 @@ pub record IsCall (names : List (List ℕ)) (p l : ℕ) (x : GraphCall) (tag : T
   pub right : Replays (s.histories x.graph ++ entry_of x tag ∷ [])
   pub fits : EffectFits (place_of names x.graph) (effect_of x.call) s.within
 
-abbrev pub CallFits : (names : List (List ℕ)) → (p l : ℕ) → Option GraphCall → Tag → Shelves → Type 0
+abbrev pub CallFits :
+    (names : List (List ℕ)) → (p l : ℕ) → Option GraphCall → Tag → Shelves → Type 0
 CallFits names p l None tag s = Unit {0}
 CallFits names p l (Some x) tag s = IsCall names p l x tag s
 
@@ -112,7 +121,9 @@ KeyFits (entry.AddAlready name u life owner pos) objects = HasKey u life objects
 KeyFits _ objects = Unit {0}
 
 abbrev pub ShelvedFit : List (List ℕ) → (p l : ℕ) → Entry → Shelved → Type 0
-ShelvedFit names p l e s = LockFits p l e s.shelves × KeyFits e s.objects × CallFits names p l (call_in names e s.objects) (tag_in p s.objects) s.shelves
+ShelvedFit names p l e s =
+    LockFits p l e s.shelves × KeyFits e s.objects
+    × CallFits names p l (call_in names e s.objects) (tag_in p s.objects) s.shelves
 
 -- At the outset nothing is made, each list and tree is empty, and nobody holds a lock.
 abbrev pub nothing_shelved : Shelved

@@ -29,7 +29,8 @@ taken_by u e = of_call (life_taken u) (graph_call [] (λ v. 0) e)
 
 -- Each life of each unit is put into lists and trees as often as it is taken out of them.
 abbrev pub TakesLaw : List Log → Type 0
-TakesLaw logs = (u life : ℕ) → times life (named (put_by u) logs) ≡ times life (named (taken_by u) logs)
+TakesLaw logs =
+    (u life : ℕ) → times life (named (put_by u) logs) ≡ times life (named (taken_by u) logs)
 
 -- the life that stands in a list or tree, if one does
 abbrev pub life_within : Option Standing → List ℕ

@@ -17,15 +17,19 @@ use Rattle.bm_law_graphs.specs.Shelves.{Shelved, ShelvedFit, shelved_after}
 
 -- each name of a map is found at its own place
 abbrev pub FoundApart : List (List ℕ) → Type 0
-FoundApart names = (place : ℕ) (name : List ℕ) → slice_get names place ≡ Some name → place_of names name ≡ place
+FoundApart names =
+    (place : ℕ) (name : List ℕ) → slice_get names place ≡ Some name → place_of names name ≡ place
 
 -- processor p may call the list or tree of this name: its log holds the lock, or it is the closing's, in which nobody holds one
 abbrev pub MayCall : (p : ℕ) → (graph : List ℕ) → Log → Type 0
-MayCall p graph log = (lock_in log ≡ Some graph) ⊎ ((p ≡ 0) × (closes log ≡ true) × (lock_in log ≡ None))
+MayCall p graph log =
+    (lock_in log ≡ Some graph) ⊎ ((p ≡ 0) × (closes log ≡ true) × (lock_in log ≡ None))
 
 -- a call that is refused names the map at whose place the object stands
 abbrev pub NamesOwner : List (List ℕ) → PastCall → (owner : List ℕ) → Type 0
-NamesOwner names call owner = (id : ObjId) (place : ℕ) → effect_of call ≡ Refuses id place → slice_get names place ≡ Some owner
+NamesOwner names call owner =
+    (id : ObjId) (place : ℕ) → effect_of call ≡ Refuses id place
+    → slice_get names place ≡ Some owner
 
 -- What the log of processor p before it says of a chunk of level l: a lock is taken where none is held, and given back where it is; and a list
 -- or tree is called under its lock or in the closing, with the tag of the next call.
@@ -44,7 +48,8 @@ NamesGraph names _ = Unit {0}
 -- this object was made, and its first value is the key
 abbrev pub HasMadeKey : ObjId → (key : ℕ) → Objects → Type 0
 HasMadeKey id key objects =
-    (asked : Asked) × (objects.made id.unit ≡ Some (record { life = id.life; asked = asked })) × (slice_get asked.values 0 ≡ Some key)
+    (asked : Asked) × (objects.made id.unit ≡ Some (record { life = id.life; asked = asked }))
+    × (slice_get asked.values 0 ≡ Some key)
 
 -- an addition to a tree, done or refused, is of an object that was made with its key
 abbrev pub KeyedBy : PastCall → Objects → Type 0
@@ -58,7 +63,8 @@ KeyedCall _ objects = Unit {0}
 
 -- A chunk of level l stands behind the log of processor p, where histories and standings are these, and its acts make those of them; the log
 -- says of it what it has to, and it names a list or tree that there is, with its key.
-pub record IsTold (names : List (List ℕ)) (p l : ℕ) (log : Log) (c : Chunk) (x : Shelved) (before now : Shelf) : Type 0 where
+pub record IsTold (names : List (List ℕ)) (p l : ℕ) (log : Log) (c : Chunk) (x : Shelved)
+    (before now : Shelf) : Type 0 where
   pub histories : x.shelves.histories ≡ before.histories
   pub within : x.shelves.within ≡ before.within
   pub calls : x.objects.calls p ≡ calls_in log
@@ -70,7 +76,8 @@ pub record IsTold (names : List (List ℕ)) (p l : ℕ) (log : Log) (c : Chunk) 
 
 -- Entries of processor p that its log adds find the lists, the trees and the locks that they name, and leave these histories and standings,
 -- and locks as the longer log tells.
-pub record ShelvesGo (names : List (List ℕ)) (p : ℕ) (log added : Log) (x : Shelved) (now : Shelf) : Type 0 where
+pub record ShelvesGo (names : List (List ℕ)) (p : ℕ) (log added : Log) (x : Shelved) (now : Shelf) :
+    Type 0 where
   pub fit : AllFit (shelved_after names) (ShelvedFit names) (by p added) x
   pub histories : (over (shelved_after names) (by p added) x).shelves.histories ≡ now.histories
   pub within : (over (shelved_after names) (by p added) x).shelves.within ≡ now.within

@@ -47,7 +47,10 @@ one_tree = t ∷ []
 
 -- A script makes three objects of keys 5, 5 and 3, and adds them to a tree under its lock.
 abbrev pub tree_made : Order
-tree_made = entries 0 (makes 3 5 ++ entry.Get 3 1 0 5 ∷ [] ++ makes 2 5 ++ makes 1 3 ++ entry.Lock t ∷ entry.Add t 3 1 0 ∷ entry.Add t 2 1 1 ∷ entry.Add t 1 1 2 ∷ [])
+tree_made =
+    entries 0
+    (makes 3 5 ++ entry.Get 3 1 0 5 ∷ [] ++ makes 2 5 ++ makes 1 3 ++ entry.Lock t
+    ∷ entry.Add t 3 1 0 ∷ entry.Add t 2 1 1 ∷ entry.Add t 1 1 2 ∷ [])
 
 -- Then these entries follow.
 abbrev pub on_tree : List Entry → Order
@@ -58,7 +61,8 @@ on_tree es = tree_made ++ entries 0 es
 abbrev pub taken_in_order : List Entry
 taken_in_order =
     entry.First t (item 1) 3 ∷ entry.Remove t 1 1 4 ∷ entry.Unlock t ∷ [] ++ ends 1 ++ entry.Close
-    ∷ entry.First t (item 3) 5 ∷ entry.Remove t 3 1 6 ∷ [] ++ ends 3 ++ entry.First t (item 2) 7 ∷ entry.Remove t 2 1 8 ∷ [] ++ ends 2 ++ entry.First t None 9 ∷ []
+    ∷ entry.First t (item 3) 5 ∷ entry.Remove t 3 1 6 ∷ [] ++ ends 3 ++ entry.First t (item 2) 7
+    ∷ entry.Remove t 2 1 8 ∷ [] ++ ends 2 ++ entry.First t None 9 ∷ []
 
 abbrev pub tree_order : Order
 tree_order = on_tree taken_in_order
@@ -93,7 +97,9 @@ two_lists = s ∷ q ∷ r ∷ []
 abbrev pub pushed_onto_r : Order
 pushed_onto_r =
     entries 0 (makes 3 9 ++ entry.Acquire 3 1 1 ∷ entry.Xchg s (item 3) None None ∷ [])
-    ++ entries 1 (entry.Xchg s None (item 3) (Some (record { processor = 0; serial = 3 })) ∷ entry.Lock r ∷ entry.PushBack r 3 1 0 ∷ entry.Unlock r ∷ [])
+    ++ entries 1
+    (entry.Xchg s None (item 3) (Some (record { processor = 0; serial = 3 })) ∷ entry.Lock r
+    ∷ entry.PushBack r 3 1 0 ∷ entry.Unlock r ∷ [])
 
 -- Processor 0 pushes it onto q by the other one, which is this call.
 abbrev pub pushed_again : Entry → Order
@@ -103,33 +109,49 @@ pushed_again call = pushed_onto_r ++ entries 0 (entry.Lock q ∷ call ∷ [])
 abbrev pub list_order : Order
 list_order =
     pushed_again (entry.PushBackAlready q 3 1 r 0)
-    ++ entries 0 (entry.Drop 3 1 ∷ entry.Still 2 ∷ entry.Unlock q ∷ entry.Close ∷ entry.Xchg s None None (Some (record { processor = 1; serial = 1 })) ∷ entry.PopFront q None 1 ∷ entry.PopFront r (item 3) 1 ∷ [] ++ ends 3 ++ entry.PopFront r None 2 ∷ [])
+    ++ entries 0
+    (entry.Drop 3 1 ∷ entry.Still 2 ∷ entry.Unlock q ∷ entry.Close
+    ∷ entry.Xchg s None None (Some (record { processor = 1; serial = 1 }))
+    ∷ entry.PopFront q None 1 ∷ entry.PopFront r (item 3) 1 ∷ [] ++ ends 3
+    ++ entry.PopFront r None 2 ∷ [])
 
 -- the histories of both lists
 abbrev pub history_of_q : List Past
-history_of_q = past_by 0 4 (past.PushBackAlready (object 3 1) 2) ∷ past_by 0 7 past.PopFrontNone ∷ []
+history_of_q =
+    past_by 0 4 (past.PushBackAlready (object 3 1) 2) ∷ past_by 0 7 past.PopFrontNone ∷ []
 
 abbrev pub history_of_r : List Past
-history_of_r = past_by 1 2 (past.PushBack (object 3 1)) ∷ past_by 0 8 (past.PopFront (object 3 1)) ∷ past_by 0 10 past.PopFrontNone ∷ []
+history_of_r =
+    past_by 1 2 (past.PushBack (object 3 1)) ∷ past_by 0 8 (past.PopFront (object 3 1))
+    ∷ past_by 0 10 past.PopFrontNone ∷ []
 
 abbrev pub both_histories : (of_q of_r : List Past) → List ℕ → List Past
-both_histories of_q of_r name = if bytes_eq q name then of_q else if bytes_eq r name then of_r else []
+both_histories of_q of_r name =
+    if bytes_eq q name then of_q else if bytes_eq r name then of_r else []
 
 -- ---- both ends of a list
 
 -- A script makes two objects and pushes both at the back of r, under its lock. Then these entries follow.
 abbrev pub on_list : List Entry → Order
-on_list es = entries 0 (makes 3 9 ++ makes 2 8 ++ entry.Lock r ∷ entry.PushBack r 3 1 0 ∷ entry.PushBack r 2 1 1 ∷ [] ++ es)
+on_list es =
+    entries 0
+    (makes 3 9 ++ makes 2 8 ++ entry.Lock r ∷ entry.PushBack r 3 1 0 ∷ entry.PushBack r 2 1 1
+    ∷ [] ++ es)
 
 -- The back one is popped, and put back at the front. A push of the other one is refused, and both are popped until there is none.
 abbrev pub both_ends : Order
 both_ends =
-    on_list (entry.PopBack r (item 2) 2 ∷ entry.PushFront r 2 1 3 ∷ entry.PushFrontAlready r 3 1 r 4 ∷ entry.PopBack r (item 3) 5 ∷ entry.PopFront r (item 2) 6 ∷ entry.PopBack r None 7 ∷ entry.Unlock r ∷ [])
+    on_list
+    (entry.PopBack r (item 2) 2 ∷ entry.PushFront r 2 1 3 ∷ entry.PushFrontAlready r 3 1 r 4
+    ∷ entry.PopBack r (item 3) 5 ∷ entry.PopFront r (item 2) 6 ∷ entry.PopBack r None 7
+    ∷ entry.Unlock r ∷ [])
 
 abbrev pub history_of_both_ends : List Past
 history_of_both_ends =
-    past_by 0 3 (past.PushBack (object 3 1)) ∷ past_by 0 4 (past.PushBack (object 2 1)) ∷ past_by 0 5 (past.PopBack (object 2 1))
-    ∷ past_by 0 6 (past.PushFront (object 2 1)) ∷ past_by 0 7 (past.PushFrontAlready (object 3 1) 2) ∷ past_by 0 8 (past.PopBack (object 3 1))
+    past_by 0 3 (past.PushBack (object 3 1)) ∷ past_by 0 4 (past.PushBack (object 2 1))
+    ∷ past_by 0 5 (past.PopBack (object 2 1))
+    ∷ past_by 0 6 (past.PushFront (object 2 1)) ∷ past_by 0 7 (past.PushFrontAlready (object 3 1) 2)
+    ∷ past_by 0 8 (past.PopBack (object 3 1))
     ∷ past_by 0 9 (past.PopFront (object 2 1)) ∷ past_by 0 10 past.PopBackNone ∷ []
 
 -- Another list isn't called at all, but a tree in its place is.

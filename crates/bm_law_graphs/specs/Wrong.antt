@@ -51,7 +51,8 @@ abbrev pub closing_elsewhere : Order
 closing_elsewhere = entries 0 (entry.Close ∷ []) ++ entries 1 (entry.PopFront q None 0 ∷ [])
 
 abbrev pub closing_locked : Order
-closing_locked = entries 1 (entry.Lock q ∷ []) ++ entries 0 (entry.Close ∷ entry.PopFront q None 0 ∷ [])
+closing_locked =
+    entries 1 (entry.Lock q ∷ []) ++ entries 0 (entry.Close ∷ entry.PopFront q None 0 ∷ [])
 
 -- An object is added that wasn't made, so that it has no key.
 abbrev pub added_unmade : Order
@@ -67,7 +68,8 @@ none_early = on_list (entry.PopFront r None 2 ∷ [])
 
 -- A list is a tree too.
 abbrev pub added_to_list : Order
-added_to_list = on_list (entry.Unlock r ∷ entry.Lock q ∷ entry.First q None 0 ∷ entry.PopFront q None 1 ∷ [])
+added_to_list =
+    on_list (entry.Unlock r ∷ entry.Lock q ∷ entry.First q None 0 ∷ entry.PopFront q None 1 ∷ [])
 
 -- An object is pushed that is in another list.
 abbrev pub pushed_twice : Order
@@ -108,15 +110,19 @@ other_tag = past_by 0 5 (past.PushBackAlready (object 3 1) 2) ∷ past_by 0 7 pa
 
 -- The two calls of processor 0 are exchanged.
 abbrev pub exchanged_calls : List Past
-exchanged_calls = past_by 0 7 past.PopFrontNone ∷ past_by 0 4 (past.PushBackAlready (object 3 1) 2) ∷ []
+exchanged_calls =
+    past_by 0 7 past.PopFrontNone ∷ past_by 0 4 (past.PushBackAlready (object 3 1) 2) ∷ []
 
 -- The object is popped before it is pushed.
 abbrev pub popped_early : List Past
-popped_early = past_by 0 8 (past.PopFront (object 3 1)) ∷ past_by 1 2 (past.PushBack (object 3 1)) ∷ past_by 0 10 past.PopFrontNone ∷ []
+popped_early =
+    past_by 0 8 (past.PopFront (object 3 1)) ∷ past_by 1 2 (past.PushBack (object 3 1))
+    ∷ past_by 0 10 past.PopFrontNone ∷ []
 
 -- The refused push onto q names the map of this place.
 abbrev pub names_place : ℕ → List ℕ → List Past
-names_place owner = both_histories (past_by 0 4 (past.PushBackAlready (object 3 1) owner) ∷ []) history_of_r
+names_place owner =
+    both_histories (past_by 0 4 (past.PushBackAlready (object 3 1) owner) ∷ []) history_of_r
 
 -- It names r, onto which nothing was pushed.
 abbrev pub nothing_pushed : List ℕ → List Past
@@ -133,4 +139,6 @@ other_key = past_by 0 5 (past.Add (object 3 1) 3) ∷ []
 -- Between two calls under one lock another processor calls.
 abbrev pub call_between : Order
 call_between =
-    entries 0 (entry.Lock q ∷ entry.PopFront q None 0 ∷ []) ++ entries 1 (entry.PopFront q None 1 ∷ []) ++ entries 0 (entry.PopFront q None 2 ∷ entry.Unlock q ∷ [])
+    entries 0 (entry.Lock q ∷ entry.PopFront q None 0 ∷ [])
+    ++ entries 1 (entry.PopFront q None 1 ∷ [])
+    ++ entries 0 (entry.PopFront q None 2 ∷ entry.Unlock q ∷ [])

@@ -20,7 +20,7 @@ use Rattle.bm_law_scenario.specs.Held.{no_names}
 use Rattle.bm_law_scenario.specs.Lawful.{LawfulLog}
 use Rattle.bm_law_scenario.specs.Parcels.{sends_alone}
 use Rattle.bm_law_scenario.specs.Runs.{RunsBlock}
-use Rattle.bm_law_scenario.specs.SectionWords.{SectionWords}
+use Rattle.bm_law_lives.specs.SectionWords.{SectionWords}
 use Rattle.bm_law_scenario.specs.WorkedJournal.{block_of, drops_x, drops_x_unless_null}
 use Rattle.bm_law_scenario.specs.WorkedSlots.{takes_x}
 use Rattle.bm_law_scenario.specs.Works.{UntilDown}

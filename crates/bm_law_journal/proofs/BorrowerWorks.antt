@@ -10,7 +10,7 @@ use Rattle.bm_law.specs.State.{State, opening}
 use Rattle.bm_law.specs.Lists.{after}
 use Rattle.bm_law.specs.Ordinary.{ordinary}
 use Rattle.bm_law_lives.specs.Worked.{batches, opens}
-use Rattle.bm_law_scenario.specs.WorkedDeferred.{work_ends}
+use Rattle.bm_law_lives.specs.WorkedBlock.{work_ends}
 use Rattle.bm_law_scenario.specs.WorkedSlots.{call_of, exchanges}
 use Rattle.bm_law_scenario.specs.Works.{UntilDown, WorkBehind}
 use Rattle.bm_law_scenario.proofs.Ordinary.{says, stands, then-of}

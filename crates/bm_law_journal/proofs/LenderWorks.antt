@@ -10,7 +10,7 @@ use Rattle.bm_law.specs.State.{State, opening}
 use Rattle.bm_law.specs.Lists.{after}
 use Rattle.bm_law.specs.Ordinary.{ordinary}
 use Rattle.bm_law_lives.specs.Worked.{opens, pushes}
-use Rattle.bm_law_scenario.specs.WorkedDeferred.{work_ends}
+use Rattle.bm_law_lives.specs.WorkedBlock.{work_ends}
 use Rattle.bm_law_scenario.specs.Works.{UntilDown, WorkBehind}
 use Rattle.bm_law_scenario.proofs.Ordinary.{says, then-of}
 use Rattle.bm_law_journal.specs.WorkedLoan.{finds_none, holds_up, makes_and_drops, makes_and_puts, receives, sealed, takes_last, works_in_vain}

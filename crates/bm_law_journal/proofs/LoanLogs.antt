@@ -5,7 +5,7 @@ use Rattle.bm_class.specs.Watermarks.{low_of_size, high_of_size, batch_of_size}
 use Rattle.bm_law.specs.Lists.{Log}
 use Rattle.bm_law.specs.Pages.{NamesPage, all_given}
 use Rattle.bm_law_scenario.specs.Lawful.{HeadingOf, LawfulLog, LawfulLogs}
-use Rattle.bm_law_scenario.specs.Short.{all_entries}
+use Rattle.bm_law_lives.specs.Short.{all_entries}
 use Rattle.bm_law_journal.specs.WorkedLoan.{journal_seeing, loan, logs_seeing}
 use Rattle.bm_law_journal.proofs.BorrowerLog.{borrower-lawful}
 use Rattle.bm_law_journal.proofs.LenderLog.{lender-lawful}

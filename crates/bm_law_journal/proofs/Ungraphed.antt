@@ -1,7 +1,7 @@
 -- What worked journals say of lists and trees, where none is declared.
 use Rattle.std.specs.Prelude.{get_or}
 use Rattle.std.proofs.Common.{◌≡◌, ℕ, zero, suc, List, [], ◌∷◌, refl}
-use Rattle.bm_law_scenario.specs.WorkedDeferred.{one_block_log}
+use Rattle.bm_law_lives.specs.WorkedBlock.{one_block_log}
 use Rattle.bm_law_scenario.specs.WorkedDrops.{counted_log}
 use Rattle.bm_law_graphs.specs.GraphLaws.{GraphLaws}
 use Rattle.bm_law_graphs.specs.History.{calls_on, of_processor, placed}

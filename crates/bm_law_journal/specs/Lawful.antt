@@ -79,4 +79,7 @@ pub record Laid (s : Parts) (j : Journal) : Type 0 where
   -- Each call on a list or tree is made under its lock, or in the closing, and finds what it needs of them. (bm_law_graphs, specs/Shelves)
   pub shelved : IsShelved j.maps (order_of s j)
   -- The histories are those that the order makes.
-  pub histories : (name : List ℕ) → history_of j.graphs name ≡ (over (shelved_after j.maps) (order_of s j) nothing_shelved).shelves.histories name
+  pub histories :
+      (name : List ℕ)
+      → history_of j.graphs name
+      ≡ (over (shelved_after j.maps) (order_of s j) nothing_shelved).shelves.histories name

@@ -27,7 +27,7 @@ use Rattle.bm_law.specs.Lists.{Log}
 use Rattle.bm_law.specs.Ordinary.{ordinary}
 use Rattle.bm_law_lives.specs.Worked.{batches, delays, ends, frees, opens, period, pushes, returns, sends, sweeps}
 use Rattle.bm_law_scenario.specs.Worked.{plain_type}
-use Rattle.bm_law_scenario.specs.WorkedDeferred.{work_ends, work_reads}
+use Rattle.bm_law_lives.specs.WorkedBlock.{work_ends, work_reads}
 use Rattle.bm_law_scenario.specs.WorkedJournal.{block_of, drops_x_unless_null, script_of, x_name}
 use Rattle.bm_law_scenario.specs.WorkedSlots.{call_of, desk, exchanges, puts_x_unless_null, takes_x}
 use Rattle.bm_law_journal.specs.Lawful.{Laid, Lawful}

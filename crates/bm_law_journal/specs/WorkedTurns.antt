@@ -30,16 +30,21 @@ goes_on = entry.Out Plain 2 ∷ entry.In Plain 3 ∷ entry.Yield ∷ entry.Out P
 
 -- In its third turn it receives the unit, gives it again by this reply, and frees it plainly.
 abbrev pub makes_again : Entry → List Entry
-makes_again reply = entry.Receive 10 (Whole (0 ∷ [])) ∷ entry.Ready 10 0 ∷ pushes 0 ++ entry.In Plain 5 ∷ asks ∷ gives 0 reply ++ frees 0 2 0 ++ entry.Out Plain 6 ∷ []
+makes_again reply =
+    entry.Receive 10 (Whole (0 ∷ [])) ∷ entry.Ready 10 0 ∷ pushes 0 ++ entry.In Plain 5 ∷ asks
+    ∷ gives 0 reply ++ frees 0 2 0 ++ entry.Out Plain 6 ∷ []
 
 abbrev pub closes : List Entry
-closes = entry.Ended ∷ entry.Close ∷ sweeps 0 2 ++ period Tracing 1 (6 ∷ 0 ∷ 4 ∷ 0 ∷ []) (6 ∷ 0 ∷ 4 ∷ 0 ∷ []) ++ returns 0 2
+closes =
+    entry.Ended ∷ entry.Close ∷ sweeps 0 2
+    ++ period Tracing 1 (6 ∷ 0 ∷ 4 ∷ 0 ∷ []) (6 ∷ 0 ∷ 4 ∷ 0 ∷ []) ++ returns 0 2
 
 abbrev pub sealed : Entry
 sealed = entry.GivenAfter 0 2 2 2
 
 abbrev pub maker_with : List Entry → Entry → Log
-maker_with second reply = ordinary (opens (0 ∷ []) ++ makes ++ second ++ makes_again reply ++ closes)
+maker_with second reply =
+    ordinary (opens (0 ∷ []) ++ makes ++ second ++ makes_again reply ++ closes)
 
 abbrev pub maker : Log
 maker = maker_with goes_on sealed
@@ -52,7 +57,9 @@ gives_up home = entry.In Plain 1 ∷ delays 0 1 home ++ entry.Out Plain 2 ∷ ba
 
 -- It begins a period, which doesn't end, and yields.
 abbrev pub waits : List Entry
-waits = entry.Begin Plain 1 ∷ entry.Pass 10 Plain 1 ∷ entry.In Plain 3 ∷ entry.Yield ∷ entry.Out Plain 4 ∷ []
+waits =
+    entry.Begin Plain 1 ∷ entry.Pass 10 Plain 1 ∷ entry.In Plain 3 ∷ entry.Yield ∷ entry.Out Plain 4
+    ∷ []
 
 -- In its second turn the period ends with these later words, and the batch goes to a processor.
 abbrev pub ends_with : List ℕ → ℕ → List Entry
@@ -79,11 +86,14 @@ turns = 0 ∷ 1 ∷ 0 ∷ 1 ∷ []
 
 -- The period ends within the section that was there when it began.
 abbrev pub ended_in_section : List Log
-ended_in_section = maker ∷ freer_with [] (gives_up 0 ++ entry.Begin Plain 1 ∷ ends_with (1 ∷ 2 ∷ []) 0) ∷ []
+ended_in_section =
+    maker ∷ freer_with [] (gives_up 0 ++ entry.Begin Plain 1 ∷ ends_with (1 ∷ 2 ∷ []) 0) ∷ []
 
 -- It is ended by the processor that didn't begin it.
 abbrev pub ended_by_other : List Log
-ended_by_other = maker_with (entry.Out Plain 2 ∷ ends Plain 2 (1 ∷ 2 ∷ []) (2 ∷ 3 ∷ []) ∷ goes_on) sealed ∷ freer ∷ []
+ended_by_other =
+    maker_with (entry.Out Plain 2 ∷ ends Plain 2 (1 ∷ 2 ∷ []) (2 ∷ 3 ∷ []) ∷ goes_on) sealed ∷ freer
+    ∷ []
 
 -- The unit is given again without a seal.
 abbrev pub given_unsealed : List Log
@@ -91,7 +101,9 @@ given_unsealed = maker_with goes_on (entry.Given 0 2) ∷ freer ∷ []
 
 -- Its batch is sent while the period goes on.
 abbrev pub sent_in_period : List Log
-sent_in_period = maker_with goes_on (entry.GivenAfter 0 2 2 1) ∷ freer_with [] (gives_up 0 ++ entry.Begin Plain 1 ∷ sends 0 1 0 ++ entry.Ended ∷ []) ∷ []
+sent_in_period =
+    maker_with goes_on (entry.GivenAfter 0 2 2 1)
+    ∷ freer_with [] (gives_up 0 ++ entry.Begin Plain 1 ∷ sends 0 1 0 ++ entry.Ended ∷ []) ∷ []
 
 -- Processor 1 opens with the unit that processor 0 has.
 abbrev pub opened_twice : List Log

@@ -17,9 +17,12 @@ use bm_law_scenario::worked_visit;
 pub fn worked_visits()
     ensures lawful { Lawful visited visited_journal }
     ensures laid { Laid visited visited_journal }
-    ensures unlocked { (j : Journal) → j.logs ≡ log_with (pushes ++ reads_a) (empties_q 1) ∷ [] → ¬ Laid visited j }
-    ensures position { (j : Journal) → j.logs ≡ log_with visit_entries (empties_q 2) ∷ [] → ¬ Laid visited j }
-    ensures histories { (j : Journal) → j.logs ≡ visited_log ∷ [] → j.graphs ≡ [] → ¬ Laid visited j }
+    ensures unlocked { (j : Journal) → j.logs ≡ log_with (pushes ++ reads_a) (empties_q 1) ∷ []
+        → ¬ Laid visited j }
+    ensures position { (j : Journal) → j.logs ≡ log_with visit_entries (empties_q 2) ∷ []
+        → ¬ Laid visited j }
+    ensures histories { (j : Journal) → j.logs ≡ visited_log ∷ [] → j.graphs ≡ []
+        → ¬ Laid visited j }
 {
     whole_law();
     worked_visit();

@@ -23,7 +23,8 @@ pub fn worked_turns()
     ensures returns { ReturnsLaw lent }
     ensures grace { WholeGrace lent }
     ensures stamps { StampLaw lent }
-    ensures in_section { (s : Parts) (j : Journal) → HasTurns turns ended_in_section s j → ¬ Laid s j }
+    ensures in_section { (s : Parts) (j : Journal) → HasTurns turns ended_in_section s j
+        → ¬ Laid s j }
     ensures by_other { (s : Parts) (j : Journal) → HasTurns turns ended_by_other s j → ¬ Laid s j }
     ensures unsealed { (s : Parts) (j : Journal) → HasTurns turns given_unsealed s j → ¬ Laid s j }
     ensures too_early { (s : Parts) (j : Journal) → HasTurns turns sent_in_period s j → ¬ Laid s j }

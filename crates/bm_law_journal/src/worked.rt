@@ -38,24 +38,33 @@ pub fn worked_lawful()
     ensures never_returned { (s : Parts) (j : Journal) → j.logs ≡ never_returned → ¬ Lawful s j }
     ensures never_received { (s : Parts) (j : Journal) → j.logs ≡ never_received → ¬ Lawful s j }
     ensures ends_in_section { (s : Parts) (j : Journal) → j.logs ≡ ends_in_section → ¬ Lawful s j }
-    ensures sealed_though_plain { (s : Parts) (j : Journal) → j.logs ≡ sealed_though_plain → ¬ Lawful s j }
-    ensures returned_too_early { (s : Parts) (j : Journal) → j.logs ≡ returned_too_early → ¬ Lawful s j }
+    ensures sealed_though_plain { (s : Parts) (j : Journal) → j.logs ≡ sealed_though_plain
+        → ¬ Lawful s j }
+    ensures returned_too_early { (s : Parts) (j : Journal) → j.logs ≡ returned_too_early
+        → ¬ Lawful s j }
     ensures other_count { (s : Parts) (j : Journal) → j.logs ≡ logs_of other_count → ¬ Lawful s j }
     ensures still_twice { (s : Parts) (j : Journal) → j.logs ≡ logs_of still_twice → ¬ Lawful s j }
     ensures two_first { (s : Parts) (j : Journal) → j.logs ≡ logs_of two_first → ¬ Lawful s j }
-    ensures lost_exchange { (s : Parts) (j : Journal) → j.logs ≡ logs_of lost_exchange → ¬ Lawful s j }
+    ensures lost_exchange { (s : Parts) (j : Journal) → j.logs ≡ logs_of lost_exchange
+        → ¬ Lawful s j }
     ensures unknown_tag { (s : Parts) (j : Journal) → j.logs ≡ logs_of unknown_tag → ¬ Lawful s j }
-    ensures other_object { (s : Parts) (j : Journal) → j.logs ≡ logs_of other_object → ¬ Lawful s j }
+    ensures other_object { (s : Parts) (j : Journal) → j.logs ≡ logs_of other_object
+        → ¬ Lawful s j }
     ensures other_field { (s : Parts) (j : Journal) → j.logs ≡ logs_of other_field → ¬ Lawful s j }
-    ensures handlers_object { (s : Parts) (j : Journal) → j.logs ≡ logs_of (asked_within 2) → ¬ Lawful s j }
-    ensures call_left_out { (s : Parts) (j : Journal) → j.maps ≡ two_lists → history_of j.graphs q ≡ call_left_out →
+    ensures handlers_object { (s : Parts) (j : Journal) → j.logs ≡ logs_of (asked_within 2)
+        → ¬ Lawful s j }
+    ensures call_left_out { (s : Parts) (j : Journal) → j.maps ≡ two_lists
+        → history_of j.graphs q ≡ call_left_out →
         j.logs ≡ logs_of_lists list_order → ¬ Lawful s j }
-    ensures early_reply { (s : Parts) (j : Journal) → j.maps ≡ two_lists → history_of j.graphs r ≡ popped_early →
+    ensures early_reply { (s : Parts) (j : Journal) → j.maps ≡ two_lists
+        → history_of j.graphs r ≡ popped_early →
         j.logs ≡ logs_of_lists list_order → ¬ Lawful s j }
     ensures other_key { (s : Parts) (j : Journal) → history_of j.graphs t ≡ other_key →
         j.logs ≡ logs_of_lists tree_order → ¬ Lawful s j }
-    ensures call_between { (s : Parts) (j : Journal) → j.logs ≡ logs_of_lists call_between → ¬ Lawful s j }
-    ensures never_taken { (s : Parts) (j : Journal) → j.logs ≡ logs_of_lists pushed_onto_r → ¬ Lawful s j }
+    ensures call_between { (s : Parts) (j : Journal) → j.logs ≡ logs_of_lists call_between
+        → ¬ Lawful s j }
+    ensures never_taken { (s : Parts) (j : Journal) → j.logs ≡ logs_of_lists pushed_onto_r
+        → ¬ Lawful s j }
 {
     worked_deferred();
     worked_drops();
@@ -72,13 +81,18 @@ pub fn worked_lawful()
 /// than its batch's, or with a seal after a plain free, that send a batch before its stamp was reached or without a pass, or that sweep
 /// a unit which is in the stock.
 pub fn worked_laid()
-    ensures both_stages { (s : Parts) (j : Journal) → s.turns ≡ None → j.processors ≡ 1 → j.pages ≡ 1 →
+    ensures both_stages { (s : Parts) (j : Journal) → s.turns ≡ None → j.processors ≡ 1
+        → j.pages ≡ 1 →
         j.logs ≡ both_stages → j.graphs ≡ [] → Laid s j }
     ensures no_seal { (s : Parts) (j : Journal) → s.turns ≡ None → j.logs ≡ no_seal → ¬ Laid s j }
-    ensures other_stamp { (s : Parts) (j : Journal) → s.turns ≡ None → j.logs ≡ other_stamp → ¬ Laid s j }
-    ensures too_early { (s : Parts) (j : Journal) → s.turns ≡ None → j.logs ≡ sent_too_early → ¬ Laid s j }
-    ensures unseen { (s : Parts) (j : Journal) → s.turns ≡ None → j.logs ≡ sent_unseen → ¬ Laid s j }
-    ensures plain { (s : Parts) (j : Journal) → s.turns ≡ None → j.logs ≡ sealed_though_plain → ¬ Laid s j }
+    ensures other_stamp { (s : Parts) (j : Journal) → s.turns ≡ None → j.logs ≡ other_stamp
+        → ¬ Laid s j }
+    ensures too_early { (s : Parts) (j : Journal) → s.turns ≡ None → j.logs ≡ sent_too_early
+        → ¬ Laid s j }
+    ensures unseen { (s : Parts) (j : Journal) → s.turns ≡ None → j.logs ≡ sent_unseen
+        → ¬ Laid s j }
+    ensures plain { (s : Parts) (j : Journal) → s.turns ≡ None → j.logs ≡ sealed_though_plain
+        → ¬ Laid s j }
     ensures swept { (s : Parts) (j : Journal) → s.turns ≡ None → j.processors ≡ 1 → j.pages ≡ 2 →
         j.logs ≡ sweeps_from_stock → ¬ Laid s j }
 {

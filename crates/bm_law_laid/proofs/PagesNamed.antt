@@ -16,7 +16,7 @@ use Rattle.bm_page.proofs.StockLemmas.{class_at-inside, class_at-other, class_at
 use Rattle.bm_page.proofs.FetchLemmas.{fetched-zero, fetched-none, fetched-next, number-unit_given}
 use Rattle.bm_law.specs.Pages.{HasShort, IsShort, NamesPage, all_given, prefill, units_given, wanted}
 use Rattle.bm_law_work.proofs.Pages.{names-first, names-last}
-use Rattle.bm_law_scenario.specs.Short.{JournalShort, all_entries}
+use Rattle.bm_law_lives.specs.Short.{JournalShort, all_entries}
 use Rattle.bm_law_lives.specs.Together.{named, named_in}
 use Rattle.bm_law_lives.specs.Together as together
 use Rattle.bm_law_order.specs.Orders.{AllFit, IsLaid, Order}

@@ -7,8 +7,8 @@ use Rattle.bm_journal.specs.declared.ids.Domain.TheVariants.{Plain, Tracing}
 use Rattle.bm_journal.specs.declared.entry.Entry.{Entry}
 use Rattle.bm_journal.specs.declared.entry.Entry.TheVariants as entry
 use Rattle.bm_law.specs.Lists.{Log}
-use Rattle.bm_law_scenario.specs.SectionWords.{SectionWords, is_outside, word_fits, word_next, words_fit}
-use Rattle.bm_law_scenario.proofs.Words.{inside-odd, outside-even}
+use Rattle.bm_law_lives.specs.SectionWords.{SectionWords, is_outside, word_fits, word_next, words_fit}
+use Rattle.bm_law_lives.proofs.Words.{inside-odd, outside-even}
 use Rattle.bm_law_lives.specs.GraceLaw.{GraceLaw, SectionFits, SectionsFit, word_after}
 use Rattle.bm_law_lives.specs.Together.{EachLog, LogsFrom}
 use Rattle.bm_law_order.specs.Orders.{IsLaid, Order}

@@ -19,7 +19,9 @@ life_ended u p l _ lives = []
 
 abbrev pub lives_ended_over : ℕ → Order → Lives → List ℕ
 lives_ended_over u [] lives = []
-lives_ended_over u (e ∷ o) lives = life_ended u e.processor e.level e.entry lives ++ lives_ended_over u o (lives_after e.processor e.level e.entry lives)
+lives_ended_over u (e ∷ o) lives =
+    life_ended u e.processor e.level e.entry lives
+    ++ lives_ended_over u o (lives_after e.processor e.level e.entry lives)
 
 -- how many lives have ended: all that have begun, but the one that the unit has
 abbrev pub ended_of : ℕ → Option Life → ℕ

@@ -19,8 +19,10 @@ times_sent u p c _ = 0
 
 -- how often an entry of processor q takes it from there: a receive what it names, and a sweep what waits
 abbrev pub times_taken : (u p c q : ℕ) → Entry → Boxes → ℕ
-times_taken u p c q (entry.Receive k us) boxes = if eqb p q && eqb c k then times u (unit_list us) else 0
-times_taken u p c q (entry.Sweep k us) boxes = if eqb p q && eqb c k then times_waiting u p c boxes else 0
+times_taken u p c q (entry.Receive k us) boxes =
+    if eqb p q && eqb c k then times u (unit_list us) else 0
+times_taken u p c q (entry.Sweep k us) boxes =
+    if eqb p q && eqb c k then times_waiting u p c boxes else 0
 times_taken u p c q _ boxes = 0
 
 -- the same of an order
@@ -30,4 +32,6 @@ times_sent_over u p c (e ∷ o) = times_sent u p c e.entry + times_sent_over u p
 
 abbrev pub times_taken_over : (u p c : ℕ) → Order → Boxes → ℕ
 times_taken_over u p c [] boxes = 0
-times_taken_over u p c (e ∷ o) boxes = times_taken u p c e.processor e.entry boxes + times_taken_over u p c o (boxes_after e.processor e.level e.entry boxes)
+times_taken_over u p c (e ∷ o) boxes =
+    times_taken u p c e.processor e.entry boxes
+    + times_taken_over u p c o (boxes_after e.processor e.level e.entry boxes)

@@ -38,4 +38,6 @@ references_made_over u (e ∷ o) = references_made u e.entry + references_made_o
 
 abbrev pub references_dropped_over : ℕ → Order → Lives → ℕ
 references_dropped_over u [] lives = 0
-references_dropped_over u (e ∷ o) lives = references_dropped u e.processor e.level e.entry lives + references_dropped_over u o (lives_after e.processor e.level e.entry lives)
+references_dropped_over u (e ∷ o) lives =
+    references_dropped u e.processor e.level e.entry lives
+    + references_dropped_over u o (lives_after e.processor e.level e.entry lives)

@@ -9,4 +9,5 @@ times_out u pool = if (stocked_at pool.units u).out then 1 else 0
 -- A stock as it is from the outset on: each page has 256 units, and a unit is out only where its page has a class.
 pub record IsSettled (pool : Stock) : Type 0 where
   pub unit_count : length pool.units ≡ 256 * length pool.classes
-  pub placed : (u : ℕ) → (stocked_at pool.units u).out ≡ true → IsSome (class_at pool.classes (u / 256))
+  pub placed :
+      (u : ℕ) → (stocked_at pool.units u).out ≡ true → IsSome (class_at pool.classes (u / 256))

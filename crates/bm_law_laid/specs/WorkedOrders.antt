@@ -17,16 +17,21 @@ entries p es = by p (at_level 0 es)
 -- ---- a period that waits for a section
 
 abbrev pub fills : Order
-fills = entries 0 (entry.Fill 10 (Whole (0 ∷ [])) ∷ []) ++ entries 1 (entry.Fill 10 (Whole (256 ∷ [])) ∷ [])
+fills =
+    entries 0 (entry.Fill 10 (Whole (0 ∷ [])) ∷ [])
+    ++ entries 1 (entry.Fill 10 (Whole (256 ∷ [])) ∷ [])
 
 -- Processor 1 enters a section. Processor 0 allocates a unit and frees it with delay. It defers the unit and fetches three, of which
 -- there is one; it stamps what is deferred, and begins a period.
 abbrev pub first_turns : Order
 first_turns =
     entries 1 (entry.In Plain 1 ∷ entry.Yield ∷ [])
-    ++ entries 0 (entry.In Plain 1 ∷ entry.Enter 10 1 ∷ entry.Pop 10 0 ∷ entry.Count 10 0 ∷ entry.Leave 10 0 ∷ entry.Given 0 1
-    ∷ entry.Drop 0 1 ∷ entry.Last ∷ entry.Delay 0 0 ∷ entry.Enter 10 1 ∷ entry.Delayed 10 0 ∷ entry.Leave 10 0 ∷ entry.Out Plain 2
-    ∷ entry.Receive 10 (Whole []) ∷ entry.Fetch 10 3 (Whole (512 ∷ [])) ∷ entry.Stamp 10 Plain 2 ∷ entry.Begin Plain 1 ∷ entry.Pass 10 Plain 1
+    ++ entries 0 (entry.In Plain 1 ∷ entry.Enter 10 1 ∷ entry.Pop 10 0 ∷ entry.Count 10 0
+    ∷ entry.Leave 10 0 ∷ entry.Given 0 1
+    ∷ entry.Drop 0 1 ∷ entry.Last ∷ entry.Delay 0 0 ∷ entry.Enter 10 1 ∷ entry.Delayed 10 0
+    ∷ entry.Leave 10 0 ∷ entry.Out Plain 2
+    ∷ entry.Receive 10 (Whole []) ∷ entry.Fetch 10 3 (Whole (512 ∷ [])) ∷ entry.Stamp 10 Plain 2
+    ∷ entry.Begin Plain 1 ∷ entry.Pass 10 Plain 1
     ∷ entry.Yield ∷ [])
 
 -- the period of processor 0 with the words of both processors: as they were at its begin, and as they are found
@@ -37,7 +42,8 @@ period later = record { domain = Plain; number = 2; first = 2 ∷ 1 ∷ []; late
 abbrev pub last_turns : Order
 last_turns =
     entries 1 (entry.Out Plain 2 ∷ [])
-    ++ entries 0 (entry.Finish (period (2 ∷ 2 ∷ [])) ∷ entry.Pass 10 Plain 2 ∷ entry.Send 10 0 (Whole (0 ∷ [])) ∷ entry.Receive 10 (Whole (0 ∷ []))
+    ++ entries 0 (entry.Finish (period (2 ∷ 2 ∷ [])) ∷ entry.Pass 10 Plain 2
+    ∷ entry.Send 10 0 (Whole (0 ∷ [])) ∷ entry.Receive 10 (Whole (0 ∷ []))
     ∷ entry.Receive 10 (Whole []) ∷ entry.Return 10 (Whole (0 ∷ [])) ∷ [])
 
 abbrev pub right_order : Order
@@ -53,7 +59,9 @@ too_early = fills ++ (first_turns ++ entries 0 (entry.Finish (period (2 ∷ 1 �
 
 -- The period ends by another processor than the one that began it.
 abbrev pub other_driver : Order
-other_driver = fills ++ (first_turns ++ entries 1 (entry.Out Plain 2 ∷ entry.Finish (period (2 ∷ 2 ∷ [])) ∷ []))
+other_driver =
+    fills
+    ++ (first_turns ++ entries 1 (entry.Out Plain 2 ∷ entry.Finish (period (2 ∷ 2 ∷ [])) ∷ []))
 
 -- What is stamped while the period is in progress gets the number of its end, where it must wait for the next one.
 abbrev pub early_stamp : Order
@@ -83,7 +91,8 @@ too_few = entries 0 (entry.Fetch 10 2 (Whole (0 ∷ [])) ∷ [])
 
 -- A unit is returned that isn't out any more.
 abbrev pub returned_twice : Order
-returned_twice = fills ++ entries 0 (entry.Return 10 (Whole (0 ∷ [])) ∷ entry.Return 10 (Whole (0 ∷ [])) ∷ [])
+returned_twice =
+    fills ++ entries 0 (entry.Return 10 (Whole (0 ∷ [])) ∷ entry.Return 10 (Whole (0 ∷ [])) ∷ [])
 
 -- A unit is given a life again while it lives.
 abbrev pub given_twice : Order
@@ -91,7 +100,8 @@ given_twice = fills ++ entries 0 (entry.Given 0 1 ∷ entry.Given 0 2 ∷ [])
 
 -- A life of processor 0 is freed to processor 1.
 abbrev pub other_home : Order
-other_home = fills ++ entries 0 (entry.Given 0 1 ∷ entry.Drop 0 1 ∷ entry.Last ∷ entry.Free 0 1 ∷ [])
+other_home =
+    fills ++ entries 0 (entry.Given 0 1 ∷ entry.Drop 0 1 ∷ entry.Last ∷ entry.Free 0 1 ∷ [])
 
 -- ---- parcels
 
@@ -104,7 +114,10 @@ two_sent unit =
 
 -- The sweep of the inbox leaves the parcel that waits there.
 abbrev pub left_behind : Order
-left_behind = fills ++ (entries 0 (entry.Send 10 1 (Whole (0 ∷ [])) ∷ []) ++ entries 1 (entry.Sweep 10 (Whole []) ∷ []))
+left_behind =
+    fills
+    ++ (entries 0 (entry.Send 10 1 (Whole (0 ∷ [])) ∷ [])
+    ++ entries 1 (entry.Sweep 10 (Whole []) ∷ []))
 
 -- ---- a closing
 
@@ -113,6 +126,13 @@ left_behind = fills ++ (entries 0 (entry.Send 10 1 (Whole (0 ∷ [])) ∷ []) ++
 abbrev pub closes : (stamp begun ended seen : ℕ) → Order
 closes stamp begun ended seen =
     fills
-    ++ entries 0 (entry.Sweep 10 (Whole (0 ∷ [])) ∷ entry.Stamp 10 Tracing stamp ∷ entry.Begin Tracing begun
-    ∷ entry.Finish (record { domain = Tracing; number = ended; first = 0 ∷ 0 ∷ 0 ∷ 0 ∷ []; later = 0 ∷ 0 ∷ 0 ∷ 0 ∷ [] })
+    ++ entries 0 (entry.Sweep 10 (Whole (0 ∷ [])) ∷ entry.Stamp 10 Tracing stamp
+    ∷ entry.Begin Tracing begun
+    ∷ entry.Finish
+    (record {
+      domain = Tracing;
+      number = ended;
+      first = 0 ∷ 0 ∷ 0 ∷ 0 ∷ [];
+      later = 0 ∷ 0 ∷ 0 ∷ 0 ∷ [];
+    })
     ∷ entry.Pass 10 Tracing seen ∷ entry.Return 10 (Whole (0 ∷ [])) ∷ [])

@@ -26,8 +26,12 @@ never_ends = entries 0 (stamped ++ entry.Begin Plain 1 ∷ entry.Pass 10 Plain 1
 
 -- It begins a period from the number that is the stamp.
 abbrev pub begins_from_stamp : Order
-begins_from_stamp = entries 0 (stamped ++ period Plain 1 (0 ∷ []) (0 ∷ []) ++ entry.Pass 10 Plain 2 ∷ period Plain 3 (0 ∷ []) (0 ∷ []) ++ entry.Pass 10 Plain 4 ∷ [])
+begins_from_stamp =
+    entries 0
+    (stamped ++ period Plain 1 (0 ∷ []) (0 ∷ []) ++ entry.Pass 10 Plain 2
+    ∷ period Plain 3 (0 ∷ []) (0 ∷ []) ++ entry.Pass 10 Plain 4 ∷ [])
 
 -- Its batch has no stamp.
 abbrev pub no_stamp : Order
-no_stamp = entries 0 (opens (0 ∷ []) ++ period Plain 1 (0 ∷ []) (0 ∷ []) ++ entry.Pass 10 Plain 2 ∷ [])
+no_stamp =
+    entries 0 (opens (0 ∷ []) ++ period Plain 1 (0 ∷ []) (0 ∷ []) ++ entry.Pass 10 Plain 2 ∷ [])

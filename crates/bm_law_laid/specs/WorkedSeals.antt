@@ -10,4 +10,6 @@ use Rattle.bm_law_laid.specs.WorkedOrders.{entries}
 -- Unit 1 is freed with delay, and waits in a batch. Behind the pass of its stamp a parcel has it and unit 2; and then this unit is given.
 abbrev pub sent_beside : Entry → Order
 sent_beside gives =
-    entries 0 (entry.Delay 1 0 ∷ entry.Batch 10 (Whole (1 ∷ [])) ∷ entry.Stamp 10 Plain 2 ∷ entry.Pass 10 Plain 2 ∷ entry.Send 10 0 (Whole (1 ∷ 2 ∷ [])) ∷ gives ∷ [])
+    entries 0
+    (entry.Delay 1 0 ∷ entry.Batch 10 (Whole (1 ∷ [])) ∷ entry.Stamp 10 Plain 2
+    ∷ entry.Pass 10 Plain 2 ∷ entry.Send 10 0 (Whole (1 ∷ 2 ∷ [])) ∷ gives ∷ [])

@@ -4,8 +4,8 @@ ghost use Rattle.std.specs.Prelude.{◌≡◌, ◌<◌, ◌≤◌, ℕ, ◌+◌,
 ghost use Rattle.bm_journal.specs.declared.entry.Entry.{Entry};
 ghost use Rattle.bm_journal.specs.declared.ids.Domain.{Domain};
 ghost use Rattle.bm_law.specs.Lists.{Log};
-ghost use Rattle.bm_law_scenario.specs.SectionWords.{SectionWords};
-ghost use Rattle.bm_law_scenario.specs.Short.{JournalShort};
+ghost use Rattle.bm_law_lives.specs.SectionWords.{SectionWords};
+ghost use Rattle.bm_law_lives.specs.Short.{JournalShort};
 ghost use Rattle.bm_law_lives.specs.Together.{AreOnce, Each, EachLog, named, times};
 ghost use Rattle.bm_law_lives.specs.GraceLaw.{AllEnded, GraceLaw, NumbersFit};
 ghost use Rattle.bm_law_lives.specs.Lives.{lives_given};

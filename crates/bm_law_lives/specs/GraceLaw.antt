@@ -63,7 +63,8 @@ SectionsFit d w (e ∷ es) = SectionFits d w e.1 × SectionsFit d (word_after d 
 abbrev pub last_words : Domain → List Log → List ℕ
 last_words Plain logs = map (λ log. last_word Plain 0 log) logs
 last_words Tracing [] = []
-last_words Tracing (log ∷ logs) = last_word Plain 0 log ∷ last_word Tracing 0 log ∷ last_words Tracing logs
+last_words Tracing (log ∷ logs) =
+    last_word Plain 0 log ∷ last_word Tracing 0 log ∷ last_words Tracing logs
 
 -- those of processor p among the words of a period
 abbrev pub words_of : Domain → ℕ → List ℕ → List ℕ
@@ -73,7 +74,8 @@ words_of Tracing p ws = take 2 (drop (2 * p) ws)
 -- each word was even when it was first looked at, or is greater later
 abbrev pub AllPass : List ℕ → List ℕ → Type 0
 AllPass [] [] = Unit {0}
-AllPass (first ∷ firsts) (later ∷ laters) = ((first % 2 ≡ 0) ⊎ (first < later)) × AllPass firsts laters
+AllPass (first ∷ firsts) (later ∷ laters) =
+    ((first % 2 ≡ 0) ⊎ (first < later)) × AllPass firsts laters
 AllPass _ _ = ⊥
 
 -- there are as many words as bounds, and none is above its own
@@ -114,7 +116,8 @@ driver_after d s e = record {
 
 -- The period that processor p began last ends: its number is the next one, all its words pass, none is above the last word that
 -- its processor's log names, and p's own words are those that p had at the begin and that it has now.
-pub record IsEnd (d : Domain) (p : ℕ) (bounds : List ℕ) (s : Driver) (period : Period) : Type 0 where
+pub record IsEnd (d : Domain) (p : ℕ) (bounds : List ℕ) (s : Driver) (period : Period) :
+    Type 0 where
   pub begun : s.begun ≡ Some (period.number - 1)
   pub passed : AllPass period.first period.later
   pub first_named : NoneAbove period.first bounds
@@ -130,7 +133,8 @@ PeriodFits d p bounds s _ = Unit {0}
 -- each entry of a log
 abbrev pub PeriodsFit : Domain → ℕ → List ℕ → Driver → Log → Type 0
 PeriodsFit d p bounds s [] = Unit {0}
-PeriodsFit d p bounds s (e ∷ es) = PeriodFits d p bounds s e.1 × PeriodsFit d p bounds (driver_after d s e.1) es
+PeriodsFit d p bounds s (e ∷ es) =
+    PeriodFits d p bounds s e.1 × PeriodsFit d p bounds (driver_after d s e.1) es
 
 -- ---- the law
 

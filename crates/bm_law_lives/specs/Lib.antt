@@ -4,5 +4,8 @@ pub mod Units
 pub mod Returns
 pub mod GraceLaw
 pub mod StampLaw
+pub mod SectionWords
+pub mod Short
+pub mod WorkedBlock
 pub mod Worked
 pub mod Wrong

@@ -26,7 +26,8 @@ lives_given u logs = beside u (named given_object logs)
 abbrev pub givers_from : ℕ → ℕ → ℕ → List Log → List ℕ
 givers_from p u life [] = []
 givers_from p u life (log ∷ logs) =
-    replicate (times life (beside u (named_in given_object log))) p ++ givers_from (p + 1) u life logs
+    replicate (times life (beside u (named_in given_object log))) p
+    ++ givers_from (p + 1) u life logs
 
 abbrev pub givers : ℕ → ℕ → List Log → List ℕ
 givers u life logs = givers_from 0 u life logs
@@ -102,7 +103,9 @@ DropsFit logs (e ∷ es) = DropFits logs e.1 (own_entries e.0 es) × DropsFit lo
 -- free goes to the home.
 pub record LivesLaw (logs : List Log) : Type 0 where
   pub given : (u : ℕ) → AreOnce (λ k. k + 1) (lives_given u logs)
-  pub ended : (u : ℕ) → EachBelow (length (lives_given u logs)) (λ k. times (k + 1) (lives_ended u logs) ≤ 1)
+  pub ended :
+      (u : ℕ)
+      → EachBelow (length (lives_given u logs)) (λ k. times (k + 1) (lives_ended u logs) ≤ 1)
   pub homes : EachLog (λ p log. DropsFit logs log) logs
 
 -- Where the journal is whole, each life that was given has ended.

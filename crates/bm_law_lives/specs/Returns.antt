@@ -47,7 +47,9 @@ unpacked_by s (e ∷ es) = unpacked e.1 s ++ unpacked_by (next s e) es
 -- Each unit of a class that all logs send to processor p is taken out of its inbox as often.
 abbrev pub ParcelsArrive : List Log → ℕ → Log → Type 0
 ParcelsArrive logs p log =
-    (c u : ℕ) → times u (beside c (named (sent_to p) logs)) ≡ times u (beside c (unpacked_by (opening p) log))
+    (c u : ℕ)
+    → times u (beside c (named (sent_to p) logs))
+    ≡ times u (beside c (unpacked_by (opening p) log))
 
 -- Each unit is given back as often as it was taken, and each parcel goes to a processor that there is, and arrives.
 pub record ReturnsLaw (logs : List Log) : Type 0 where

@@ -31,7 +31,8 @@ named_number d _ = []
 
 -- A stamp is even, and waits for each number that its log named before.
 abbrev pub StampFits : Domain → List ℕ → Entry → Type 0
-StampFits d before (entry.Stamp c e x) = InDomain d e ((x % 2 ≡ 0) × Each (λ q. waits_for q ≤ x) before)
+StampFits d before (entry.Stamp c e x) =
+    InDomain d e ((x % 2 ≡ 0) × Each (λ q. waits_for q ≤ x) before)
 StampFits d before _ = Unit {0}
 
 abbrev pub StampsFit : Domain → List ℕ → Log → Type 0
@@ -45,7 +46,8 @@ seen_number d _ = []
 
 -- No number is seen above the last one that a period of the domain can end with.
 abbrev pub SeenFit : Domain → List Log → Type 0
-SeenFit d logs = Each (λ n. n ≤ 2 * length (named (begun_number d) logs)) (named (seen_number d) logs)
+SeenFit d logs =
+    Each (λ n. n ≤ 2 * length (named (begun_number d) logs)) (named (seen_number d) logs)
 
 -- ---- what the last entry of level 0 was
 
@@ -88,12 +90,14 @@ is_delayed u _ = false
 
 -- What a log has behind the drop that ended this life of unit u by a delayed free, if one did; and the same of all logs.
 abbrev pub part_behind : ℕ → ℕ → Entry → List Entry → Log → List Log
-part_behind u life (entry.Drop v k) own part = if ((u == v) && ((life == k) && is_delayed u own)) then part ∷ [] else []
+part_behind u life (entry.Drop v k) own part =
+    if ((u == v) && ((life == k) && is_delayed u own)) then part ∷ [] else []
 part_behind u life _ own part = []
 
 abbrev pub parts_behind : ℕ → ℕ → Log → List Log
 parts_behind u life [] = []
-parts_behind u life (e ∷ es) = part_behind u life e.1 (own_entries e.0 es) es ++ parts_behind u life es
+parts_behind u life (e ∷ es) =
+    part_behind u life e.1 (own_entries e.0 es) es ++ parts_behind u life es
 
 abbrev pub delayed_parts : ℕ → ℕ → List Log → List Log
 delayed_parts u life [] = []
@@ -118,12 +122,14 @@ sends_unit u _ = false
 abbrev pub SentAfter : ℕ → ℕ → ℕ → ℕ → Option Entry → Log → Type 0
 SentAfter c u x n last [] = ⊥
 SentAfter c u x n last (e ∷ es) =
-    Either (sends_unit u e.1) ((passed c Plain last ≡ Some n) × (x ≤ n)) (SentAfter c u x n (last_after last e) es)
+    Either (sends_unit u e.1) ((passed c Plain last ≡ Some n) × (x ≤ n))
+    (SentAfter c u x n (last_after last e) es)
 
 -- Behind the batch with unit u, the next plain stamp of its class is x, and its parcel is sent so.
 abbrev pub StampedAt : ℕ → ℕ → ℕ → ℕ → Log → Type 0
 StampedAt c u x n [] = ⊥
-StampedAt c u x n (e ∷ es) = Found (stamp_in c e.1) (λ y. (y ≡ x) × SentAfter c u x n None es) (StampedAt c u x n es)
+StampedAt c u x n (e ∷ es) =
+    Found (stamp_in c e.1) (λ y. (y ≡ x) × SentAfter c u x n None es) (StampedAt c u x n es)
 
 -- Behind the delayed free of unit u, the first plain batch with it is stamped and sent so.
 abbrev pub BatchedAt : ℕ → ℕ → ℕ → Log → Type 0
@@ -155,7 +161,8 @@ on_class c us units = λ k. if (k == c) then us else units k
 abbrev pub stood_after : State ℕ → Entry → (ℕ → List ℕ) → ℕ → List ℕ
 stood_after s (entry.BeginSecond c us) stood = on_class c [] stood
 stood_after s (entry.Sweep c us) stood = on_class c [] stood
-stood_after s (entry.Stamp c d x) stood = for_domain Tracing d (on_class c (s.rows c).deferred.second stood) stood
+stood_after s (entry.Stamp c d x) stood =
+    for_domain Tracing d (on_class c (s.rows c).deferred.second stood) stood
 stood_after s _ stood = stood
 
 -- a number was seen, and it isn't below the stamp
@@ -167,12 +174,15 @@ HasPassed _ _ = ⊥
 -- Second when that stamp was taken.
 abbrev pub ReturnFits : State ℕ → Option Entry → (ℕ → List ℕ) → Entry → Type 0
 ReturnFits s last stood (entry.Return c us) =
-    HasPassed (s.rows c).deferred.tracing (passed c Tracing last) × Each (λ u. holds u (stood c) ≡ true) (unit_list us)
+    HasPassed (s.rows c).deferred.tracing (passed c Tracing last)
+    × Each (λ u. holds u (stood c) ≡ true) (unit_list us)
 ReturnFits s last stood _ = Unit {0}
 
 abbrev pub ReturnsFit : State ℕ → Option Entry → (ℕ → List ℕ) → Log → Type 0
 ReturnsFit s last stood [] = Unit {0}
-ReturnsFit s last stood (e ∷ es) = ReturnFits s last stood e.1 × ReturnsFit (next s e) (last_after last e) (stood_after s e.1 stood) es
+ReturnsFit s last stood (e ∷ es) =
+    ReturnFits s last stood e.1
+    × ReturnsFit (next s e) (last_after last e) (stood_after s e.1 stood) es
 
 -- ---- the law
 

@@ -45,7 +45,10 @@ never_given = ordinary (opens (0 ∷ [])) ∷ ordinary (borrows 0) ∷ []
 
 -- Unit 0 isn't returned at the end; it is returned twice; and another unit is.
 abbrev pub swept_so : List Entry → List Log
-swept_so returned = lives_on (second_life (entry.GivenAfter 0 2 2 2) 2 ++ sweeps 0 4 ++ period Tracing 3 (4 ∷ 0 ∷ []) (4 ∷ 0 ∷ []) ++ returned)
+swept_so returned =
+    lives_on
+    (second_life (entry.GivenAfter 0 2 2 2) 2 ++ sweeps 0 4
+    ++ period Tracing 3 (4 ∷ 0 ∷ []) (4 ∷ 0 ∷ []) ++ returned)
 
 abbrev pub never_returned : List Log
 never_returned = swept_so (entry.Pass 10 Tracing 4 ∷ [])
@@ -62,13 +65,17 @@ abbrev pub received_so : List Entry → List Entry → List Log
 received_so home away = ordinary (lends ++ home) ∷ ordinary (borrows 0 ++ hands_on ++ away) ∷ []
 
 abbrev pub received_by_other : List Log
-received_by_other = received_so [] (entry.Receive 10 (Whole (0 ∷ [])) ∷ entry.Sweep 10 (Whole (0 ∷ [])) ∷ returns 0 2)
+received_by_other =
+    received_so []
+    (entry.Receive 10 (Whole (0 ∷ [])) ∷ entry.Sweep 10 (Whole (0 ∷ [])) ∷ returns 0 2)
 
 abbrev pub never_received : List Log
 never_received = received_so (returns 0 2) []
 
 abbrev pub received_twice : List Log
-received_twice = received_so (entry.Receive 10 (Whole (0 ∷ [])) ∷ entry.Receive 10 (Whole (0 ∷ [])) ∷ returns 0 2) []
+received_twice =
+    received_so
+    (entry.Receive 10 (Whole (0 ∷ [])) ∷ entry.Receive 10 (Whole (0 ∷ [])) ∷ returns 0 2) []
 
 abbrev pub other_class_received : List Log
 other_class_received = received_so (entry.Receive 9 (Whole (0 ∷ [])) ∷ returns 0 2) []
@@ -83,7 +90,9 @@ sent_to_nobody = ordinary (lends ++ returns 0 2) ∷ ordinary (borrows 0 ++ send
 
 -- Processor 1 waits for a plain period, with these entries, while processor 0 is in a section or was in one.
 abbrev pub waits_so : List Entry → List Entry → List Log
-waits_so other own = ordinary (entry.In Plain 1 ∷ entry.Out Plain 2 ∷ other) ∷ ordinary (entry.In Plain 1 ∷ entry.Out Plain 2 ∷ own) ∷ []
+waits_so other own =
+    ordinary (entry.In Plain 1 ∷ entry.Out Plain 2 ∷ other)
+    ∷ ordinary (entry.In Plain 1 ∷ entry.Out Plain 2 ∷ own) ∷ []
 
 -- It ends though processor 0 may be in the section still that it was in at the begin; though a word is told that its
 -- processor never had, later or at first; with another word of its own than it has, at first or later; and with no word of
@@ -132,7 +141,10 @@ abbrev pub not_ended : List Log
 not_ended = waits_so [] (entry.Begin Plain 1 ∷ [])
 
 abbrev pub begun_within : List Log
-begun_within = waits_so [] (entry.Begin Plain 1 ∷ entry.Begin Plain 3 ∷ ends Plain 2 (2 ∷ 2 ∷ []) (2 ∷ 2 ∷ []) ∷ ends Plain 4 (2 ∷ 2 ∷ []) (2 ∷ 2 ∷ []) ∷ [])
+begun_within =
+    waits_so []
+    (entry.Begin Plain 1 ∷ entry.Begin Plain 3 ∷ ends Plain 2 (2 ∷ 2 ∷ []) (2 ∷ 2 ∷ [])
+    ∷ ends Plain 4 (2 ∷ 2 ∷ []) (2 ∷ 2 ∷ []) ∷ [])
 
 abbrev pub number_left_out : List Log
 number_left_out = waits_so [] (period Plain 3 (2 ∷ 2 ∷ []) (2 ∷ 2 ∷ []))
@@ -162,7 +174,8 @@ abbrev pub stamped_within : List Log
 stamped_within = alone (entry.Begin Plain 1 ∷ batches 0 2)
 
 abbrev pub stamped_as_seen : List Log
-stamped_as_seen = alone (period Tracing 1 (0 ∷ 0 ∷ []) (0 ∷ 0 ∷ []) ++ entry.Pass 10 Tracing 2 ∷ sweeps 0 2)
+stamped_as_seen =
+    alone (period Tracing 1 (0 ∷ 0 ∷ []) (0 ∷ 0 ∷ []) ++ entry.Pass 10 Tracing 2 ∷ sweeps 0 2)
 
 -- The number 4 is seen, and one period was begun.
 abbrev pub seen_above : List Log
@@ -170,7 +183,10 @@ seen_above = alone (period Plain 1 (0 ∷ []) (0 ∷ []) ++ entry.Pass 10 Plain 
 
 -- Life 1 of unit 0 ends by a delayed free, its batch waits for a period, and life 2 is given by this reply.
 abbrev pub given_again : Entry → List Log
-given_again reply = alone (delays 0 1 0 ++ batches 0 2 ++ period Plain 1 (0 ∷ []) (0 ∷ []) ++ sends 0 2 0 ++ reply ∷ [])
+given_again reply =
+    alone
+    (delays 0 1 0 ++ batches 0 2 ++ period Plain 1 (0 ∷ []) (0 ∷ []) ++ sends 0 2 0 ++ reply
+    ∷ [])
 
 -- It is given without a seal; with another stamp; with another number; where its batch was sent too early; where no number was
 -- seen before it was sent; and with a seal though it was freed plainly.
@@ -184,10 +200,16 @@ abbrev pub other_number : List Log
 other_number = given_again (entry.GivenAfter 0 2 2 4)
 
 abbrev pub sent_too_early : List Log
-sent_too_early = alone (delays 0 1 0 ++ batches 0 2 ++ entry.Begin Plain 1 ∷ sends 0 1 0 ++ entry.GivenAfter 0 2 2 1 ∷ [])
+sent_too_early =
+    alone
+    (delays 0 1 0 ++ batches 0 2 ++ entry.Begin Plain 1 ∷ sends 0 1 0
+    ++ entry.GivenAfter 0 2 2 1 ∷ [])
 
 abbrev pub sent_unseen : List Log
-sent_unseen = alone (delays 0 1 0 ++ batches 0 2 ++ period Plain 1 (0 ∷ []) (0 ∷ []) ++ entry.Send 10 0 (Whole (0 ∷ [])) ∷ entry.GivenAfter 0 2 2 2 ∷ [])
+sent_unseen =
+    alone
+    (delays 0 1 0 ++ batches 0 2 ++ period Plain 1 (0 ∷ []) (0 ∷ [])
+    ++ entry.Send 10 0 (Whole (0 ∷ [])) ∷ entry.GivenAfter 0 2 2 2 ∷ [])
 
 abbrev pub sealed_though_plain : List Log
 sealed_though_plain = alone (frees 0 1 0 ++ entry.GivenAfter 0 2 2 2 ∷ [])
@@ -199,16 +221,25 @@ waits_in_second behind = alone (entry.Receive 10 (Whole (0 ∷ [])) ∷ seconds 
 -- It returns before a number is seen; where the number seen is below the stamp; where the number of the other domain was seen;
 -- another unit returns, which wasn't in the batch; and it comes to Second again and returns without a stamp.
 abbrev pub returned_before_pass : List Log
-returned_before_pass = waits_in_second (period Tracing 1 (0 ∷ 0 ∷ []) (0 ∷ 0 ∷ []) ++ entry.Return 10 (Whole (0 ∷ [])) ∷ [])
+returned_before_pass =
+    waits_in_second
+    (period Tracing 1 (0 ∷ 0 ∷ []) (0 ∷ 0 ∷ []) ++ entry.Return 10 (Whole (0 ∷ [])) ∷ [])
 
 abbrev pub returned_too_early : List Log
 returned_too_early = waits_in_second (entry.Begin Tracing 1 ∷ returns 0 1)
 
 abbrev pub other_domain_seen : List Log
-other_domain_seen = waits_in_second (period Plain 1 (0 ∷ []) (0 ∷ []) ++ entry.Pass 10 Plain 2 ∷ entry.Return 10 (Whole (0 ∷ [])) ∷ [])
+other_domain_seen =
+    waits_in_second
+    (period Plain 1 (0 ∷ []) (0 ∷ []) ++ entry.Pass 10 Plain 2
+    ∷ entry.Return 10 (Whole (0 ∷ [])) ∷ [])
 
 abbrev pub other_batch : List Log
 other_batch = waits_in_second (period Tracing 1 (0 ∷ 0 ∷ []) (0 ∷ 0 ∷ []) ++ returns 256 2)
 
 abbrev pub not_stamped : List Log
-not_stamped = waits_in_second (period Tracing 1 (0 ∷ 0 ∷ []) (0 ∷ 0 ∷ []) ++ returns 0 2 ++ entry.Receive 10 (Whole (0 ∷ [])) ∷ entry.BeginSecond 10 (Whole (0 ∷ [])) ∷ returns 0 2)
+not_stamped =
+    waits_in_second
+    (period Tracing 1 (0 ∷ 0 ∷ []) (0 ∷ 0 ∷ []) ++ returns 0 2
+    ++ entry.Receive 10 (Whole (0 ∷ [])) ∷ entry.BeginSecond 10 (Whole (0 ∷ []))
+    ∷ returns 0 2)

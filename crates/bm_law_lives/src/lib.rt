@@ -5,6 +5,8 @@
 //! - `ReturnsLaw` (specs/Returns): each unit goes back to the stock as often as it was taken from it, and each parcel arrives.
 //! - `WholeGrace` (specs/GraceLaw): periods begin with 1, 3, .. and end with 2, 4, .., each once, and only when all words pass.
 //! - `StampLaw` (specs/StampLaw): a stamp waits long enough, a seal is a batch's, and units go back after their batch's pass.
+//! - `SectionWords` counts the words of a log's sections, and `JournalShort` (specs/Short) speaks of fewer units than were wanted. Both
+//!   are put to work in `bm_law_scenario`.
 //! - `worked_*` compute them on worked journals of one and two processors, and on wrong neighbours (specs/Worked, Wrong).
 //!
 //! That a run meets them is proved in `bm_law_laid` and `bm_law_seals`, from the one order of all entries, and in `bm_law_logs`, from

@@ -16,8 +16,10 @@ abbrev pub SweepsTold : List ℕ → Inboxes → Part
 SweepsTold [] boxes s part = Nothing s part
 SweepsTold (c ∷ cs) boxes s part =
     (concat (boxes c) ≡ [] → boxes c ≡ []) ×
-    Then (SweepWhere c (seven_lists (s.rows c) ++ concat (boxes c))) (SweepsTold cs (on_inbox c (λ parcels. []) boxes)) s part
+    Then (SweepWhere c (seven_lists (s.rows c) ++ concat (boxes c)))
+    (SweepsTold cs (on_inbox c (λ parcels. []) boxes)) s part
 
 -- the closing of processor p after this log, which left these parcels
 abbrev pub ClosingTold : ℕ → List ℕ → Log → Inboxes → Part
-ClosingTold p classes log boxes = Then (Stand 0 (entry.Ended ∷ close_of p)) (Then (EndsPeriods log) (SweepsTold classes boxes))
+ClosingTold p classes log boxes =
+    Then (Stand 0 (entry.Ended ∷ close_of p)) (Then (EndsPeriods log) (SweepsTold classes boxes))

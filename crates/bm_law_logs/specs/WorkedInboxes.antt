@@ -13,7 +13,10 @@ waiting parcels = on_inbox 10 (λ none. parcels) no_parcels
 
 -- Processor 0 sends itself a parcel, and receives it; then there is none.
 abbrev pub received_back : Log
-received_back = ordinary (entry.Send 10 0 (Whole (256 ∷ [])) ∷ entry.Receive 10 (Whole (256 ∷ [])) ∷ entry.Receive 10 (Whole []) ∷ [])
+received_back =
+    ordinary
+    (entry.Send 10 0 (Whole (256 ∷ [])) ∷ entry.Receive 10 (Whole (256 ∷ []))
+    ∷ entry.Receive 10 (Whole []) ∷ [])
 
 -- It sends itself two. The older one is received first; the newer one is.
 abbrev pub two_sent : Log

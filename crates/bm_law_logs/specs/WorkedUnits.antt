@@ -7,7 +7,8 @@ use Rattle.bm_law.specs.Ordinary.{ordinary}
 
 -- Unit 0 is given and freed, and given and freed with delay.
 abbrev pub freed_each_time : Log
-freed_each_time = ordinary (entry.Given 0 1 ∷ entry.Free 0 0 ∷ entry.GivenAfter 0 2 2 2 ∷ entry.Delay 0 0 ∷ [])
+freed_each_time =
+    ordinary (entry.Given 0 1 ∷ entry.Free 0 0 ∷ entry.GivenAfter 0 2 2 2 ∷ entry.Delay 0 0 ∷ [])
 
 -- It is given and never freed; it is freed twice; another unit is freed.
 abbrev pub never_freed : Log
@@ -21,4 +22,7 @@ other_freed = ordinary (entry.Given 0 1 ∷ entry.Free 1 0 ∷ [])
 
 -- The one unit that a class is opened with is given, so that the lists are empty behind it, and no free follows.
 abbrev pub kept : Log
-kept = ordinary (entry.Fill 10 (Whole (0 ∷ [])) ∷ entry.Enter 10 1 ∷ entry.Pop 10 0 ∷ entry.Count 10 0 ∷ entry.Leave 10 0 ∷ entry.Given 0 1 ∷ [])
+kept =
+    ordinary
+    (entry.Fill 10 (Whole (0 ∷ [])) ∷ entry.Enter 10 1 ∷ entry.Pop 10 0 ∷ entry.Count 10 0
+    ∷ entry.Leave 10 0 ∷ entry.Given 0 1 ∷ [])

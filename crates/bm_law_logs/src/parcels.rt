@@ -20,10 +20,12 @@ ghost use Rattle.bm_law_logs.specs.SweepsTold.{ClosingTold};
 /// handlers send nothing and receive nothing.
 pub fn parcels_law()
     ensures { (s : Parts) (fills scripts closing : Log) (boxes : Inboxes) →
-        HandlersStand s 0 ((fills ++ scripts) ++ closing) → HandlersDone s 0 ((fills ++ scripts) ++ closing) →
+        HandlersStand s 0 ((fills ++ scripts) ++ closing)
+        → HandlersDone s 0 ((fills ++ scripts) ++ closing) →
         Say 0 (AreFills (opened_classes s.types) (fresh_stock s.pages)) (opening 0) fills →
         AreScripts s (lines_of 0 s.runs) (after (opening 0) fills) scripts →
         LeavesParcels (fills ++ scripts) boxes →
-        ClosingTold 0 (opened_classes s.types) (fills ++ scripts) boxes (after (opening 0) (fills ++ scripts)) closing →
+        ClosingTold 0 (opened_classes s.types) (fills ++ scripts) boxes
+        (after (opening 0) (fills ++ scripts)) closing →
         ParcelLaw 0 ((fills ++ scripts) ++ closing) }
 {}

@@ -17,11 +17,14 @@ ghost use Rattle.bm_law_logs.specs.UnitsMoved.{FreedAsGiven, LeavesNothing};
 /// its units are freed so.
 pub fn returns_law()
     ensures together { (logs : List Log) → EachLog LeavesNothing logs → FreedAsGiven logs →
-        Each (λ to. to < length logs) (named receiver logs) → EachLog (ParcelsArrive logs) logs → ReturnsLaw logs }
+        Each (λ to. to < length logs) (named receiver logs) → EachLog (ParcelsArrive logs) logs
+        → ReturnsLaw logs }
     ensures journal { (s : Parts) (j : Journal) → LawfulLogs s j → FreedAsGiven j.logs →
-        Each (λ to. to < length j.logs) (named receiver j.logs) → EachLog (ParcelsArrive j.logs) j.logs → ReturnsLaw j.logs }
+        Each (λ to. to < length j.logs) (named receiver j.logs)
+        → EachLog (ParcelsArrive j.logs) j.logs → ReturnsLaw j.logs }
     ensures arrive { (p : ℕ) (log : Log) → ParcelLaw p log → ParcelsArrive (log ∷ []) p log }
-    ensures receivers { (p : ℕ) (log : Log) → ParcelLaw p log → Each (λ to. to ≡ p) (named_in receiver log) }
+    ensures receivers { (p : ℕ) (log : Log) → ParcelLaw p log
+        → Each (λ to. to ≡ p) (named_in receiver log) }
     ensures law { (s : Parts) (log : Log) →
         LawfulLog s 0 log → sends_alone s ≡ true → FreedAsGiven (log ∷ []) → ReturnsLaw (log ∷ []) }
 {}

@@ -2,7 +2,7 @@
 
 ghost use Rattle.std.specs.Prelude.{◌∷◌, []};
 ghost use Rattle.bm_law_scenario.specs.Parcels.{ParcelLaw};
-ghost use Rattle.bm_law_scenario.specs.WorkedDeferred.{one_block_log};
+ghost use Rattle.bm_law_lives.specs.WorkedBlock.{one_block_log};
 ghost use Rattle.bm_law_scenario.specs.WrongDeferred.{received, received_twice, sends, swept_from_inbox};
 ghost use Rattle.bm_law_lives.specs.Returns.{ParcelsArrive, ReturnsLaw};
 ghost use Rattle.bm_law_lives.specs.Together.{EachLog};

@@ -9,5 +9,6 @@ ghost use Rattle.bm_law_logs.specs.SweepsTold.{SweepsTold};
 
 /// Sweeps of the lists and of inboxes whose parcels are told are sweeps of the closing.
 pub fn sweeps_law()
-    ensures { (classes : List ℕ) (boxes : Inboxes) (s : State ℕ) (part : Log) → SweepsTold classes boxes s part → AreSweeps classes s part }
+    ensures { (classes : List ℕ) (boxes : Inboxes) (s : State ℕ) (part : Log)
+        → SweepsTold classes boxes s part → AreSweeps classes s part }
 {}

@@ -7,24 +7,30 @@ use Rattle.bm_law_order.specs.Orders.{Order}
 use Rattle.bm_law_order.specs.Polls.{for_processor}
 
 -- From a log: an entry with its level gives something by the state before it, and leaves a state.
-abbrev pub gathered : {S A : Type 0} → (S → ℕ × Entry → S) → (S → ℕ × Entry → List A) → S → Log → List A
+abbrev pub gathered :
+    {S A : Type 0} → (S → ℕ × Entry → S) → (S → ℕ × Entry → List A) → S → Log → List A
 gathered after gives s [] = []
 gathered after gives s (e ∷ es) = gives s e ++ gathered after gives (after s e) es
 
 -- from logs, each from this state on, where the first one is that of processor p
-abbrev pub gathered_from : {S A : Type 0} → (S → ℕ × Entry → S) → (ℕ → S → ℕ × Entry → List A) → S → ℕ → List Log → List A
+abbrev pub gathered_from :
+    {S A : Type 0} → (S → ℕ × Entry → S) → (ℕ → S → ℕ × Entry → List A) → S → ℕ → List Log → List A
 gathered_from after gives s p [] = []
-gathered_from after gives s p (log ∷ logs) = gathered after (gives p) s log ++ gathered_from after gives s (p + 1) logs
+gathered_from after gives s p (log ∷ logs) =
+    gathered after (gives p) s log ++ gathered_from after gives s (p + 1) logs
 
-abbrev pub gathered_by : {S A : Type 0} → (S → ℕ × Entry → S) → (ℕ → S → ℕ × Entry → List A) → S → List Log → List A
+abbrev pub gathered_by :
+    {S A : Type 0} → (S → ℕ × Entry → S) → (ℕ → S → ℕ × Entry → List A) → S → List Log → List A
 gathered_by after gives s logs = gathered_from after gives s 0 logs
 
 -- from an order, with a state for each processor
-abbrev pub gathered_over : {S A : Type 0} → (S → ℕ × Entry → S) → (ℕ → S → ℕ × Entry → List A) → Order → (ℕ → S) → List A
+abbrev pub gathered_over :
+    {S A : Type 0} → (S → ℕ × Entry → S) → (ℕ → S → ℕ × Entry → List A) → Order → (ℕ → S) → List A
 gathered_over after gives [] s = []
 gathered_over after gives (e ∷ o) s =
     let was = s e.processor in
-    gives e.processor was (e.level, e.entry) ++ gathered_over after gives o (for_processor e.processor (after was (e.level, e.entry)) s)
+    gives e.processor was (e.level, e.entry)
+    ++ gathered_over after gives o (for_processor e.processor (after was (e.level, e.entry)) s)
 
 -- ---- replies
 

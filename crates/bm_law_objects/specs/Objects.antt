@@ -35,7 +35,8 @@ pub record Objects : Type 0 where
   pub calls : ℕ → ℕ
 
 abbrev pub first_objects : Objects
-first_objects = record { asking = λ p l. None; made = λ u. None; slots = λ name. empty_slot; calls = λ p. 0 }
+first_objects =
+    record { asking = λ p l. None; made = λ u. None; slots = λ name. empty_slot; calls = λ p. 0 }
 
 -- ---- what an entry of level l of processor p makes of them
 
@@ -43,7 +44,8 @@ abbrev pub at_place : {A : Type 0} → (p l : ℕ) → A → (ℕ → ℕ → A)
 at_place p l x f q k = if eqb q p && eqb k l then x else f q k
 
 abbrev pub asking_after : (p l : ℕ) → Entry → (ℕ → ℕ → Option Asked) → ℕ → ℕ → Option Asked
-asking_after p l (entry.New name values) asking = at_place p l (Some (record { type_name = name; values = values })) asking
+asking_after p l (entry.New name values) asking =
+    at_place p l (Some (record { type_name = name; values = values })) asking
 asking_after p l (entry.Given u life) asking = at_place p l None asking
 asking_after p l (entry.GivenAfter u life stamp seen) asking = at_place p l None asking
 asking_after p l entry.Empty asking = at_place p l None asking
@@ -66,7 +68,8 @@ made_after _ asked made = made
 
 -- `tag` is the entry's, where it is a call
 abbrev pub slots_after : Entry → Tag → (List ℕ → Slot) → List ℕ → Slot
-slots_after (entry.Xchg name put was by) tag slots other = if bytes_eq name other then record { held = put; by = Some tag } else slots other
+slots_after (entry.Xchg name put was by) tag slots other =
+    if bytes_eq name other then record { held = put; by = Some tag } else slots other
 slots_after _ tag slots other = slots other
 
 abbrev pub objects_after : (p l : ℕ) → Entry → Objects → Objects
@@ -85,7 +88,8 @@ pub record Owned : Type 0 where
   pub objects : Objects
 
 abbrev pub owned_after : (p l : ℕ) → Entry → Owned → Owned
-owned_after p l e s = record { lives = lives_after p l e s.lives; objects = objects_after p l e s.objects }
+owned_after p l e s =
+    record { lives = lives_after p l e s.lives; objects = objects_after p l e s.objects }
 
 -- an object was asked for, and there is no reply yet
 pub record IsAsked (asking : Option Asked) : Type 0 where
@@ -100,7 +104,8 @@ pub record IsRead (u life place value : ℕ) (s : Owned) : Type 0 where
   pub value_is : slice_get asked.values place ≡ Some value
 
 -- The slot holds this, which that exchange put; and what is put lives.
-pub record IsExchange (slot : Slot) (put was : Option ObjId) (by : Option Tag) (lives : Lives) : Type 0 where
+pub record IsExchange (slot : Slot) (put was : Option ObjId) (by : Option Tag) (lives : Lives) :
+    Type 0 where
   pub was_is : was ≡ slot.held
   pub by_is : by ≡ slot.by
   pub alive : IfAlive put lives

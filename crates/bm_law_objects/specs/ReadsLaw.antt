@@ -23,7 +23,8 @@ pub record Read : Type 0 where
   pub value : ℕ
 
 abbrev pub read_of : Entry → List Read
-read_of (entry.Get u life place value) = record { unit = u; life = life; place = place; value = value } ∷ []
+read_of (entry.Get u life place value) =
+    record { unit = u; life = life; place = place; value = value } ∷ []
 read_of _ = []
 
 -- what a call for an object asks for
@@ -33,7 +34,8 @@ asked_by _ = None
 
 abbrev pub object_of : (u life : ℕ) → Option Asked → List Object
 object_of u life None = []
-object_of u life (Some asked) = record { unit = u; made = record { life = life; asked = asked } } ∷ []
+object_of u life (Some asked) =
+    record { unit = u; made = record { life = life; asked = asked } } ∷ []
 
 -- the object that a reply gives, where `last` has the last call of each level for an object
 abbrev pub given_by : (ℕ → Option Asked) → ℕ × Entry → List Object

@@ -39,7 +39,9 @@ stills_over u life o last = gathered_over (last_call dropped) (λ p. still_at u 
 
 -- As many acquires of a life saw a count of k as drops of it were answered that there were k + 1.
 abbrev pub ReferenceLaw : List Log → Type 0
-ReferenceLaw logs = (u life k : ℕ) → times k (named (acquired_at u life) logs) ≡ times (k + 1) (all_stills u life logs)
+ReferenceLaw logs =
+    (u life k : ℕ)
+    → times k (named (acquired_at u life) logs) ≡ times (k + 1) (all_stills u life logs)
 
 -- ---- at some time
 

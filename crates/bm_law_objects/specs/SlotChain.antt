@@ -21,7 +21,8 @@ pub record Exchange : Type 0 where
 -- the exchange of this slot that an entry of processor p is, if it is one, where n calls of its log stand before it
 abbrev pub exchange_of : (slot : List ℕ) → (p n : ℕ) → ℕ × Entry → List Exchange
 exchange_of slot p n (l, entry.Xchg name put was by) =
-    if bytes_eq name slot then record { tag = tag_after p n; put = put; was = was; by = by } ∷ [] else []
+    if bytes_eq name slot then record { tag = tag_after p n; put = put; was = was; by = by } ∷ []
+    else []
 exchange_of slot p n (l, _) = []
 
 -- those of a log, of all logs, and of an order whose processors have made so many calls before

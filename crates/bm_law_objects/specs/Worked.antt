@@ -40,15 +40,23 @@ pub record Says : Type 0 where
 
 -- Processor 0 makes an object of unit 3, reads it, and puts one of its two references into the slot.
 abbrev pub puts : Says → Order
-puts says = entries 0 0 (entry.New job (9 ∷ 4 ∷ []) ∷ entry.Given 3 1 ∷ says.acquire ∷ says.get ∷ exchanged one_slot (object 3 1) None None ∷ [])
+puts says =
+    entries 0 0
+    (entry.New job (9 ∷ 4 ∷ []) ∷ entry.Given 3 1 ∷ says.acquire ∷ says.get
+    ∷ exchanged one_slot (object 3 1) None None ∷ [])
 
 -- Processor 1 makes one of unit 2, puts it there for the other, and drops what it took.
 abbrev pub takes : Says → Order
-takes says = entries 1 0 (entry.New job (5 ∷ 6 ∷ []) ∷ entry.Given 2 1 ∷ says.second ∷ entry.Drop 3 1 ∷ entry.Still 2 ∷ [])
+takes says =
+    entries 1 0
+    (entry.New job (5 ∷ 6 ∷ []) ∷ entry.Given 2 1 ∷ says.second ∷ entry.Drop 3 1 ∷ entry.Still 2
+    ∷ [])
 
 -- A handler on processor 0 empties the slot, reads the other field of what it took, and drops it.
 abbrev pub empties : Says → Order
-empties says = entries 0 1 (says.third ∷ entry.Get 2 1 1 6 ∷ entry.Drop 2 1 ∷ entry.Last ∷ entry.Delay 2 1 ∷ [])
+empties says =
+    entries 0 1
+    (says.third ∷ entry.Get 2 1 1 6 ∷ entry.Drop 2 1 ∷ entry.Last ∷ entry.Delay 2 1 ∷ [])
 
 -- Processor 0 finds the slot empty, and drops its last reference.
 abbrev pub finds_none : Says → Order
@@ -81,9 +89,11 @@ abbrev pub five_exchanges : Order
 five_exchanges =
     entries 0 0 (exchanged one_slot None None None ∷ exchanged one_slot None None (call 0 1)
     ∷ entry.New job (1 ∷ []) ∷ entry.Given 3 1 ∷ exchanged one_slot (object 3 1) None (call 0 2)
-    ∷ entry.New job (2 ∷ []) ∷ entry.Given 2 1 ∷ exchanged one_slot (object 2 1) (object 3 1) (call 0 4)
+    ∷ entry.New job (2 ∷ []) ∷ entry.Given 2 1
+    ∷ exchanged one_slot (object 2 1) (object 3 1) (call 0 4)
     ∷ entry.Drop 3 1 ∷ entry.Last ∷ entry.Free 3 0
-    ∷ exchanged one_slot None (object 2 1) (call 0 6) ∷ entry.Drop 2 1 ∷ entry.Last ∷ entry.Free 2 0 ∷ [])
+    ∷ exchanged one_slot None (object 2 1) (call 0 6) ∷ entry.Drop 2 1 ∷ entry.Last ∷ entry.Free 2 0
+    ∷ [])
 
 -- ---- two slots, and handlers of two levels
 
@@ -98,9 +108,14 @@ s2 = codes "s2"
 abbrev pub two_slots : Order
 two_slots =
     entries 0 0 (entry.New job (1 ∷ []) ∷ entry.Given 3 1 ∷ exchanged s1 (object 3 1) None None
-    ∷ entry.New job (2 ∷ []) ∷ entry.Given 2 1 ∷ exchanged s2 (object 2 1) None None ∷ entry.New job (3 ∷ []) ∷ [])
-    ++ (entries 0 1 (exchanged s1 None (object 3 1) (call 0 2) ∷ entry.Drop 3 1 ∷ entry.Last ∷ entry.Free 3 0 ∷ [])
-    ++ (entries 0 2 (exchanged s2 None (object 2 1) (call 0 4) ∷ entry.Drop 2 1 ∷ entry.Last ∷ entry.Free 2 0 ∷ [])
+    ∷ entry.New job (2 ∷ []) ∷ entry.Given 2 1 ∷ exchanged s2 (object 2 1) None None
+    ∷ entry.New job (3 ∷ []) ∷ [])
+    ++ (entries 0 1
+    (exchanged s1 None (object 3 1) (call 0 2) ∷ entry.Drop 3 1 ∷ entry.Last ∷ entry.Free 3 0
+    ∷ [])
+    ++ (entries 0 2
+    (exchanged s2 None (object 2 1) (call 0 4) ∷ entry.Drop 2 1 ∷ entry.Last ∷ entry.Free 2 0
+    ∷ [])
     ++ entries 0 0 (entry.Given 1 1 ∷ entry.Drop 1 1 ∷ entry.Last ∷ entry.Free 1 0
     ∷ exchanged s1 None None (call 0 6) ∷ exchanged s2 None None (call 0 8) ∷ [])))
 
@@ -111,5 +126,7 @@ two_slots =
 abbrev pub asked_within : (value : ℕ) → Order
 asked_within value =
     entries 0 0 (entry.New job (1 ∷ []) ∷ [])
-    ++ (entries 0 1 (entry.New job (2 ∷ []) ∷ entry.Given 3 1 ∷ entry.Get 3 1 0 2 ∷ entry.Drop 3 1 ∷ entry.Last ∷ entry.Free 3 0 ∷ [])
+    ++ (entries 0 1
+    (entry.New job (2 ∷ []) ∷ entry.Given 3 1 ∷ entry.Get 3 1 0 2 ∷ entry.Drop 3 1 ∷ entry.Last
+    ∷ entry.Free 3 0 ∷ [])
     ++ entries 0 0 (entry.Given 2 1 ∷ entry.Get 2 1 0 value ∷ []))

@@ -15,7 +15,8 @@ lost_exchange = handed_on (record right { last = exchanged one_slot None (object
 
 -- Processor 1 names a call that isn't an exchange of any log.
 abbrev pub unknown_tag : Order
-unknown_tag = handed_on (record right { second = exchanged one_slot (object 2 1) (object 3 1) (call 0 9) })
+unknown_tag =
+    handed_on (record right { second = exchanged one_slot (object 2 1) (object 3 1) (call 0 9) })
 
 -- The handler takes what another exchange had put.
 abbrev pub other_object : Order
@@ -35,7 +36,11 @@ put_too_late = right_order ++ entries 1 0 (exchanged one_slot (object 2 1) None 
 
 -- What is put into the slot is a life that has ended, of a unit that has another one.
 abbrev pub put_old_life : Order
-put_old_life = right_order ++ entries 1 0 (entry.New job (7 ∷ []) ∷ entry.Given 2 2 ∷ exchanged one_slot (object 2 1) None (call 0 8) ∷ [])
+put_old_life =
+    right_order
+    ++ entries 1 0
+    (entry.New job (7 ∷ []) ∷ entry.Given 2 2 ∷ exchanged one_slot (object 2 1) None (call 0 8)
+    ∷ [])
 
 -- A unit is given at another level than asked for one.
 abbrev pub given_elsewhere : Order

@@ -63,7 +63,8 @@ pub fn counts_law()
         AllFit lives_after LivesFit o lives → ((v : ℕ) → IsCounted (lives.holds v)) →
         AreLast under_way lives.dropping last →
         times k (named_by (acquired_at u life) o) + count_above u life k lives
-        ≡ times (k + 1) (stills_over u life o last) + count_above u life k (over lives_after o lives) }
+        ≡ times (k + 1) (stills_over u life o last)
+        + count_above u life k (over lives_after o lives) }
     ensures logs { (logs : List Log) (o : Order) →
         IsOrderOf logs o → AllFit lives_after LivesFit o first_lives →
         ((u : ℕ) → (over lives_after o first_lives).holds u ≡ None) → ReferenceLaw logs }

@@ -29,15 +29,27 @@ recounted f u lives = with_life u (counted f (lives.holds u)) lives
 abbrev pub act_after : ℕ → Act → Shared → Shared
 act_after p (act.Enters d w) s = record s { words = with_word p d w s.words }
 act_after p (act.Leaves d w) s = record s { words = with_word p d w s.words }
-act_after p (act.Begins d n) s = record s { numbers = with_of d (begun p (of d s.numbers)) s.numbers; looks = with_of d nothing_looked s.looks }
-act_after p (act.Looks d words) s = record s { looks = with_of d (looked words (of d s.looks)) s.looks }
-act_after p (act.Finishes period) s = record s { numbers = with_of period.domain (ended (of period.domain s.numbers)) s.numbers; looks = with_of period.domain nothing_looked s.looks }
+act_after p (act.Begins d n) s =
+    record s {
+      numbers = with_of d (begun p (of d s.numbers)) s.numbers;
+      looks = with_of d nothing_looked s.looks;
+    }
+act_after p (act.Looks d words) s =
+    record s { looks = with_of d (looked words (of d s.looks)) s.looks }
+act_after p (act.Finishes period) s =
+    record s {
+      numbers = with_of period.domain (ended (of period.domain s.numbers)) s.numbers;
+      looks = with_of period.domain nothing_looked s.looks;
+    }
 act_after p (act.Fetches c want us) s = record s { pool = less_fetched c want s.pool }
 act_after p (act.Returns us) s = record s { pool = all_back (reverse (units_of us)) s.pool }
-act_after p (act.Sends c to us) s = record s { boxes = on_box to c (λ parcels. parcels ++ units_of us ∷ []) s.boxes }
+act_after p (act.Sends c to us) s =
+    record s { boxes = on_box to c (λ parcels. parcels ++ units_of us ∷ []) s.boxes }
 act_after p (act.Receives c us) s = record s { boxes = on_box p c (drop 1) s.boxes }
-act_after p (act.Drains c to us) s = record s { boxes = on_box to c (λ parcels. parcels ++ us ∷ []) s.boxes }
-act_after p (act.Releases c to us stamp seen) s = record s { boxes = on_box to c (λ parcels. parcels ++ us ∷ []) s.boxes }
+act_after p (act.Drains c to us) s =
+    record s { boxes = on_box to c (λ parcels. parcels ++ us ∷ []) s.boxes }
+act_after p (act.Releases c to us stamp seen) s =
+    record s { boxes = on_box to c (λ parcels. parcels ++ us ∷ []) s.boxes }
 act_after p (act.GivesBack us) s = record s { pool = all_back (reverse us) s.pool }
 act_after p (act.Makes u life type values seal) s = record s { lives = given_life p u s.lives }
 act_after p (act.Acquires u life seen) s = record s { lives = recounted (λ n. n + 1) u s.lives }

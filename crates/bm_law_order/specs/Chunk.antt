@@ -114,7 +114,9 @@ entries_of (Locking graph) = entry.Lock graph ∷ []
 entries_of (Unlocking graph) = entry.Unlock graph ∷ []
 entries_of (Calling graph position call owner tag) = call_entry graph position owner call ∷ []
 entries_of (GivingUp u life seen) = entry.Drop u life ∷ entry.Still seen ∷ []
-entries_of (Ending u life home delayed) = entry.Drop u life ∷ entry.Last ∷ (if delayed then entry.Delay u home else entry.Free u home) ∷ []
+entries_of (Ending u life home delayed) =
+    entry.Drop u life ∷ entry.Last ∷ (if delayed then entry.Delay u home else entry.Free u home)
+    ∷ []
 entries_of _ = []
 
 -- What a pass, a period that begins, a given unit, an exchange, a lock, a call on a list or tree, the end of a life and a batch that goes away say is judged by the log before them, and

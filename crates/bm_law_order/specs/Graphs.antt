@@ -54,27 +54,33 @@ empty_shelf = record { histories = λ name. []; within = λ u. None }
 
 -- Each reply of a history is right, of a list or of a tree.
 abbrev pub Replays : List Past → Type 0
-Replays history = (is_some (replay list_object history) || is_some (replay tree_object history)) ≡ true
+Replays history =
+    (is_some (replay list_object history) || is_some (replay tree_object history)) ≡ true
 
 -- one more call in the history of this name
 abbrev pub recorded : (name : List ℕ) → Past → (List ℕ → List Past) → List ℕ → List Past
-recorded name p histories other = if bytes_eq name other then histories other ++ p ∷ [] else histories other
+recorded name p histories other =
+    if bytes_eq name other then histories other ++ p ∷ [] else histories other
 
 abbrev pub moved : (place : ℕ) → Effect → (ℕ → Option Standing) → ℕ → Option Standing
-moved place (Puts id) within u = if eqb u id.unit then Some (record { life = id.life; place = place }) else within u
+moved place (Puts id) within u =
+    if eqb u id.unit then Some (record { life = id.life; place = place }) else within u
 moved place (Takes id) within u = if eqb u id.unit then None else within u
 moved place _ within u = within u
 
 -- What is put in stands in no list or tree; what is taken stands in this one; and a refused push names the one in which it stands.
 abbrev pub EffectFits : (place : ℕ) → Effect → (ℕ → Option Standing) → Type 0
 EffectFits place (Puts id) within = within id.unit ≡ None
-EffectFits place (Takes id) within = within id.unit ≡ Some (record { life = id.life; place = place })
-EffectFits place (Refuses id owner) within = within id.unit ≡ Some (record { life = id.life; place = owner })
+EffectFits place (Takes id) within =
+    within id.unit ≡ Some (record { life = id.life; place = place })
+EffectFits place (Refuses id owner) within =
+    within id.unit ≡ Some (record { life = id.life; place = owner })
 EffectFits place Looks within = Unit {0}
 
 -- The call with this tag on the list or tree of this name, among these names of maps, of which it is the next one: its position is the
 -- number of calls on it before, its reply is right after these, and what it does to its object fits where that stands.
-pub record Calls (names : List (List ℕ)) (name : List ℕ) (position : ℕ) (call : PastCall) (tag : Tag) (before now : Shelf) : Type 0 where
+pub record Calls (names : List (List ℕ)) (name : List ℕ) (position : ℕ) (call : PastCall)
+    (tag : Tag) (before now : Shelf) : Type 0 where
   pub at : position ≡ length (before.histories name)
   pub right : Replays (before.histories name ++ record { tag = tag; call = call } ∷ [])
   pub fits : EffectFits (place_of names name) (effect_of call) before.within
@@ -83,13 +89,15 @@ pub record Calls (names : List (List ℕ)) (name : List ℕ) (position : ℕ) (c
 
 -- Lists and trees before an act and after it.
 abbrev pub CalledBy : List (List ℕ) → Act → (before now : Shelf) → Type 0
-CalledBy names (act.Calls name position call tag) before now = Calls names name position call tag before now
+CalledBy names (act.Calls name position call tag) before now =
+    Calls names name position call tag before now
 CalledBy names _ before now = now ≡ before
 
 -- .. and of some acts, in order
 abbrev pub GraphsLead : List (List ℕ) → List Act → (before now : Shelf) → Type 0
 GraphsLead names [] before now = now ≡ before
-GraphsLead names (a ∷ more) before now = (mid : Shelf) × (CalledBy names a before mid × GraphsLead names more mid now)
+GraphsLead names (a ∷ more) before now =
+    (mid : Shelf) × (CalledBy names a before mid × GraphsLead names more mid now)
 
 -- ---- lists and trees by their places among the maps, each with its name
 
@@ -118,7 +126,8 @@ standing_or place (Some life) others = Some (record { life = life; place = place
 
 abbrev pub standing_from : (place : ℕ) → List NamedGraph → (u : ℕ) → Option Standing
 standing_from place [] u = None
-standing_from place (g ∷ gs) u = standing_or place (life_among u g.nodes) (standing_from (place + 1) gs u)
+standing_from place (g ∷ gs) u =
+    standing_or place (life_among u g.nodes) (standing_from (place + 1) gs u)
 
 -- what such lists and trees are
 abbrev pub shelf_of : List NamedGraph → Shelf
@@ -143,7 +152,11 @@ nodes_after (past.Remove id) ns = without_node id ns
 nodes_after _ ns = ns
 
 abbrev pub graph_after : PastCall → Tag → NamedGraph → NamedGraph
-graph_after call tag g = record g { history = g.history ++ record { tag = tag; call = call } ∷ []; nodes = nodes_after call g.nodes }
+graph_after call tag g =
+    record g {
+      history = g.history ++ record { tag = tag; call = call } ∷ [];
+      nodes = nodes_after call g.nodes;
+    }
 
 -- the lists and trees once a call was made on the one at a place
 abbrev pub graphs_after : (place : ℕ) → PastCall → Tag → List NamedGraph → List NamedGraph

@@ -40,7 +40,8 @@ with_life u life lives = record lives { holds = λ v. if eqb v u then life else 
 
 -- this drop is under way at level l of processor p, or none
 abbrev pub with_drop : (p l : ℕ) → Option Dropping → Lives → Lives
-with_drop p l drop lives = record lives { dropping = λ q k. if eqb q p && eqb k l then drop else lives.dropping q k }
+with_drop p l drop lives =
+    record lives { dropping = λ q k. if eqb q p && eqb k l then drop else lives.dropping q k }
 
 -- another number of references
 abbrev pub counted : (ℕ → ℕ) → Option Life → Option Life
@@ -54,18 +55,23 @@ maker_of (Some life) = Some life.maker
 -- what a reply makes of the drop that is under way
 abbrev pub answered_still : (p l : ℕ) → Option Dropping → Lives → Lives
 answered_still p l None lives = lives
-answered_still p l (Some d) lives = with_drop p l None (with_life d.unit (counted (λ k. k - 1) (lives.holds d.unit)) lives)
+answered_still p l (Some d) lives =
+    with_drop p l None (with_life d.unit (counted (λ k. k - 1) (lives.holds d.unit)) lives)
 
 abbrev pub answered_last : (p l : ℕ) → Option Dropping → Lives → Lives
 answered_last p l None lives = lives
-answered_last p l (Some d) lives = with_drop p l (Some (record d { ended = maker_of (lives.holds d.unit) })) (with_life d.unit None lives)
+answered_last p l (Some d) lives =
+    with_drop p l (Some (record d { ended = maker_of (lives.holds d.unit) }))
+    (with_life d.unit None lives)
 
 -- what an entry of level l of processor p makes of them
 abbrev pub lives_after : (p l : ℕ) → Entry → Lives → Lives
 lives_after p l (entry.Given u life) lives = given_life p u lives
 lives_after p l (entry.GivenAfter u life stamp seen) lives = given_life p u lives
-lives_after p l (entry.Acquire u life k) lives = with_life u (counted (λ n. n + 1) (lives.holds u)) lives
-lives_after p l (entry.Drop u life) lives = with_drop p l (Some (record { unit = u; life = life; ended = None })) lives
+lives_after p l (entry.Acquire u life k) lives =
+    with_life u (counted (λ n. n + 1) (lives.holds u)) lives
+lives_after p l (entry.Drop u life) lives =
+    with_drop p l (Some (record { unit = u; life = life; ended = None })) lives
 lives_after p l (entry.Still k) lives = answered_still p l (lives.dropping p l) lives
 lives_after p l entry.Last lives = answered_last p l (lives.dropping p l) lives
 lives_after p l (entry.Free u home) lives = with_drop p l None lives

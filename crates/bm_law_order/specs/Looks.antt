@@ -39,18 +39,21 @@ first_or words (word ∷ first) = word ∷ first
 -- processor, the plain one first.
 abbrev pub looked_at : (processors : ℕ) → Words → Domain → List ℕ
 looked_at processors words Plain = take processors words.plain
-looked_at processors words Tracing = in_turn (take processors words.plain) (take processors words.tracing)
+looked_at processors words Tracing =
+    in_turn (take processors words.plain) (take processors words.tracing)
 
 -- what an entry of level l of processor p makes of them, where these words would be found
 abbrev pub looks_after : (p l : ℕ) → Entry → (Domain → List ℕ) → Looks → Looks
-looks_after p l (entry.Begin d n) found looks = with_of d (record { first = found d; later = [] }) looks
+looks_after p l (entry.Begin d n) found looks =
+    with_of d (record { first = found d; later = [] }) looks
 looks_after p l (entry.Finish period) found looks = with_of period.domain nothing_looked looks
 looks_after p l _ found looks = looks
 
 -- each word was even at first, or is greater later
 abbrev pub Passes : List ℕ → List ℕ → Type 0
 Passes [] [] = Unit {0}
-Passes (first ∷ firsts) (later ∷ laters) = ((first % 2 ≡ 0) ⊎ (first < later)) × Passes firsts laters
+Passes (first ∷ firsts) (later ∷ laters) =
+    ((first % 2 ≡ 0) ⊎ (first < later)) × Passes firsts laters
 Passes _ _ = ⊥
 
 -- A period ends with the words that it had at its begin and with those that are found now, and they pass.
@@ -61,5 +64,6 @@ pub record HasPassed (period : Period) (found : List ℕ) (here : Looked) : Type
 
 -- what such an entry needs of them
 abbrev pub LooksFit : (p l : ℕ) → Entry → (Domain → List ℕ) → Looks → Type 0
-LooksFit p l (entry.Finish period) found looks = HasPassed period (found period.domain) (of period.domain looks)
+LooksFit p l (entry.Finish period) found looks =
+    HasPassed period (found period.domain) (of period.domain looks)
 LooksFit p l _ found looks = Unit {0}

@@ -25,7 +25,8 @@ IsKeyed _ fields = Unit {0}
 abbrev pub MadeBy : Act → (before now : Fields) → Type 0
 MadeBy (act.Makes u life type values seal) before now = now ≡ with_fields u values before
 MadeBy (act.Ends u life home delayed) before now = now ≡ with_fields u [] before
-MadeBy (act.Finds u life place value) before now = (slice_get (before u) place ≡ Some value) × (now ≡ before)
+MadeBy (act.Finds u life place value) before now =
+    (slice_get (before u) place ≡ Some value) × (now ≡ before)
 MadeBy (act.Calls graph position call tag) before now = IsKeyed call before × (now ≡ before)
 MadeBy _ before now = now ≡ before
 

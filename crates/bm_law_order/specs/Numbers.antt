@@ -31,7 +31,8 @@ ended here = record { number = here.number + 1; driver = None }
 -- what an entry of level l of processor p makes of them
 abbrev pub numbers_after : (p l : ℕ) → Entry → Numbers → Numbers
 numbers_after p l (entry.Begin d n) numbers = with_of d (begun p (of d numbers)) numbers
-numbers_after p l (entry.Finish period) numbers = with_of period.domain (ended (of period.domain numbers)) numbers
+numbers_after p l (entry.Finish period) numbers =
+    with_of period.domain (ended (of period.domain numbers)) numbers
 numbers_after p l _ numbers = numbers
 
 -- a period begins where none is in progress

@@ -34,9 +34,12 @@ over after [] s = s
 over after (e ∷ es) s = over after es (after e.processor e.level e.entry s)
 
 -- each entry finds what it needs, in the state that those before it leave
-abbrev pub AllFit : {S : Type 0} → ((p l : ℕ) → Entry → S → S) → ((p l : ℕ) → Entry → S → Type 0) → Order → S → Type 0
+abbrev pub AllFit :
+    {S : Type 0} → ((p l : ℕ) → Entry → S → S) → ((p l : ℕ) → Entry → S → Type 0) → Order → S
+    → Type 0
 AllFit after fits [] s = Unit {0}
-AllFit after fits (e ∷ es) s = fits e.processor e.level e.entry s × AllFit after fits es (after e.processor e.level e.entry s)
+AllFit after fits (e ∷ es) s =
+    fits e.processor e.level e.entry s × AllFit after fits es (after e.processor e.level e.entry s)
 
 -- so it is of all that is shared
 abbrev pub shared_over : Order → Shared → Shared

@@ -10,7 +10,8 @@ use Rattle.bm_law.specs.Pages.{prefill}
 
 -- all units of so many pages, none of which has a class
 abbrev pub fresh_pages : ℕ → Stock
-fresh_pages pages = record { classes = replicate pages None; units = replicate (256 * pages) unborn }
+fresh_pages pages =
+    record { classes = replicate pages None; units = replicate (256 * pages) unborn }
 
 -- a unit as the stock has it here
 abbrev pub bare : ℕ → UnitState

@@ -17,7 +17,8 @@ on_box p c f boxes q k = if eqb q p && eqb k c then f (boxes q k) else boxes q k
 
 -- what an entry of level l of processor p makes of them
 abbrev pub boxes_after : (p l : ℕ) → Entry → Boxes → Boxes
-boxes_after p l (entry.Send c to us) boxes = on_box to c (λ parcels. parcels ++ unit_list us ∷ []) boxes
+boxes_after p l (entry.Send c to us) boxes =
+    on_box to c (λ parcels. parcels ++ unit_list us ∷ []) boxes
 boxes_after p l (entry.Receive c us) boxes = on_box p c (drop 1) boxes
 boxes_after p l (entry.Sweep c us) boxes = on_box p c (λ parcels. []) boxes
 boxes_after p l _ boxes = boxes

@@ -41,7 +41,9 @@ polling_after p l e m =
 -- in progress, and the number is odd or has reached the stamp.
 pub record HasRested (p : ℕ) (d : Domain) (stamp : ℕ) (s : Shared) : Type 0 where
   pub waits : (of d s.numbers).driver ≡ Some p → Passes (of d s.looks).first (found s d) → ⊥
-  pub idle : (of d s.numbers).driver ≢ Some p → ((of d s.numbers).number % 2 ≡ 1) ⊎ (stamp ≤ (of d s.numbers).number)
+  pub idle :
+      (of d s.numbers).driver ≢ Some p
+      → ((of d s.numbers).number % 2 ≡ 1) ⊎ (stamp ≤ (of d s.numbers).number)
 
 -- it was so at one of these places
 abbrev pub AtSome : (Shared → Type 0) → List Shared → Type 0
@@ -62,12 +64,18 @@ pub record IsAwaited (d : Domain) (number : ℕ) (lists : State ℕ) : Type 0 wh
 
 abbrev pub PollFits : (p l : ℕ) → Entry → Polling → Type 0
 PollFits p l (entry.Begin d n) m = IsAwaited d n (m.lists p)
-PollFits p l (entry.Pass c d n) m = HasPolled p d (stamp_of d ((m.lists p).rows c).deferred) (m.places p)
+PollFits p l (entry.Pass c d n) m =
+    HasPolled p d (stamp_of d ((m.lists p).rows c).deferred) (m.places p)
 PollFits p l _ m = Unit {0}
 
 -- at the outset nobody has done anything
 abbrev pub no_polls : (processors pages : ℕ) → Polling
-no_polls processors pages = record { shared = fresh processors pages; lists = opening; places = λ p. fresh processors pages ∷ [] }
+no_polls processors pages =
+    record {
+      shared = fresh processors pages;
+      lists = opening;
+      places = λ p. fresh processors pages ∷ [];
+    }
 
 -- Each period of an order is begun for a batch that waits for it, and each pass ends a poll that has rested.
 abbrev pub IsPolled : (processors pages : ℕ) → Order → Type 0

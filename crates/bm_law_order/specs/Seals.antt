@@ -42,18 +42,21 @@ ended stamp seen wait = wait
 
 abbrev pub all_ended : (stamp seen : ℕ) → List ℕ → (ℕ → Wait) → ℕ → Wait
 all_ended stamp seen [] waits = waits
-all_ended stamp seen (u ∷ us) waits = let now = all_ended stamp seen us waits in on_unit u (ended stamp seen (now u)) now
+all_ended stamp seen (u ∷ us) waits =
+    let now = all_ended stamp seen us waits in on_unit u (ended stamp seen (now u)) now
 
 -- A batch that is sent behind a pass of its class has waited: its stamp, and the number that was seen. Other units of a parcel wait
 -- for what they did.
 abbrev pub waited : (class : ℕ) → Option ℕ → Option (ℕ × ℕ) → List ℕ → (ℕ → Wait) → ℕ → Wait
-waited c (Some stamp) (Some (d, seen)) us waits = if eqb c d then all_ended stamp seen us waits else waits
+waited c (Some stamp) (Some (d, seen)) us waits =
+    if eqb c d then all_ended stamp seen us waits else waits
 waited c _ _ us waits = waits
 
 abbrev pub waits_after : (p : ℕ) → Entry → Waiting → ℕ → Wait
 waits_after p (entry.Delay u home) m = on_unit u Batch m.waits
 waits_after p (entry.Free u home) m = on_unit u Nothing m.waits
-waits_after p (entry.Send c to us) m = waited c ((m.lists p).rows c).deferred.plain (m.passed p) (unit_list us) m.waits
+waits_after p (entry.Send c to us) m =
+    waited c ((m.lists p).rows c).deferred.plain (m.passed p) (unit_list us) m.waits
 waits_after p (entry.Given u life) m = on_unit u Nothing m.waits
 waits_after p (entry.GivenAfter u life stamp seen) m = on_unit u Nothing m.waits
 waits_after p _ m = m.waits
@@ -125,7 +128,8 @@ NoneAmong waits us = All (λ u. waits u ≢ Batch) us
 
 -- What units wait for before an act and after it: a unit begins a life with the seal of what it has waited for.
 abbrev pub WaitsBy : Act → (before now : ℕ → Wait) → Type 0
-WaitsBy (act.Makes u life type values seal) before now = (before u ≡ waited_for seal) × (HasPassed seal × (now ≡ on_unit u Nothing before))
+WaitsBy (act.Makes u life type values seal) before now =
+    (before u ≡ waited_for seal) × (HasPassed seal × (now ≡ on_unit u Nothing before))
 WaitsBy (act.Ends u life home delayed) before now = now ≡ on_unit u (wait_after delayed) before
 WaitsBy (act.Sends c to us) before now = (u : ℕ) → Goes (seal_among us u) (before u) (now u)
 WaitsBy (act.Returns us) before now = (u : ℕ) → Goes (seal_among us u) (before u) (now u)
@@ -156,7 +160,8 @@ waiting_over p log m = over waiting_after (by p log) m
 -- so it is of each chunk of a story, behind what the entries before it leave
 abbrev pub ReleasesFit : (p : ℕ) → Story → Waiting → Type 0
 ReleasesFit p [] m = Unit {0}
-ReleasesFit p (t ∷ ts) m = ReleaseFits p t.level t.chunk m × ReleasesFit p ts (waiting_over p (lines_of t) m)
+ReleasesFit p (t ∷ ts) m =
+    ReleaseFits p t.level t.chunk m × ReleasesFit p ts (waiting_over p (lines_of t) m)
 
 -- an entry that gives no unit; and so it is of each of them
 abbrev pub GivesNo : Entry → Type 0

@@ -26,13 +26,15 @@ with_slot name slot contents = λ other. if bytes_eq name other then slot else c
 -- What slots hold before an act and after it: an exchange takes out what the slot holds, which that call had put, and puts something in.
 abbrev pub ExchangedBy : Act → (before now : Contents) → Type 0
 ExchangedBy (act.Exchanges name put was by tag) before now =
-    (was ≡ (before name).held) × (by ≡ (before name).by) × (now ≡ with_slot name (record { held = put; by = Some tag }) before)
+    (was ≡ (before name).held) × (by ≡ (before name).by)
+    × (now ≡ with_slot name (record { held = put; by = Some tag }) before)
 ExchangedBy _ before now = now ≡ before
 
 -- .. and of some acts, in order
 abbrev pub SlotsLead : List Act → (before now : Contents) → Type 0
 SlotsLead [] before now = now ≡ before
-SlotsLead (a ∷ more) before now = (mid : Contents) × (ExchangedBy a before mid × SlotsLead more mid now)
+SlotsLead (a ∷ more) before now =
+    (mid : Contents) × (ExchangedBy a before mid × SlotsLead more mid now)
 
 -- ---- slots in a list, each with its name
 

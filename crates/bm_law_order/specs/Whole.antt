@@ -32,7 +32,8 @@ with_front x (piece ∷ pieces) = (x ∷ piece) ∷ pieces
 
 abbrev pub cut_behind : {A : Type 0} → (A → Bool) → List A → List (List A)
 cut_behind test [] = []
-cut_behind test (x ∷ xs) = if test x then (x ∷ []) ∷ cut_behind test xs else with_front x (cut_behind test xs)
+cut_behind test (x ∷ xs) =
+    if test x then (x ∷ []) ∷ cut_behind test xs else with_front x (cut_behind test xs)
 
 -- pieces, one after the other
 abbrev pub joined : {A : Type 0} → List (List A) → List A
@@ -95,7 +96,8 @@ rest_of p (pieces ∷ left) = by p (joined pieces) ++ rest_of (p + 1) left
 -- processor that hasn't ended takes turns until it has.
 abbrev pub in_turns : List ℕ → List (List Log) → Order
 in_turns [] left = rest_of 0 left
-in_turns (p ∷ turns) left = by p (first_of (get_or left p [])) ++ in_turns turns (set left p (drop 1 (get_or left p [])))
+in_turns (p ∷ turns) left =
+    by p (first_of (get_or left p [])) ++ in_turns turns (set left p (drop 1 (get_or left p [])))
   where
     first_of : List Log → Log
     first_of [] = []
@@ -114,4 +116,5 @@ swept log = from_first is_sweep (from_first is_finish_or_sweep (closing_of log))
 
 abbrev pub whole : (turns : List ℕ) → List Log → Order
 whole turns logs =
-    ascending 0 opening_of logs ++ in_turns turns (map turns_of logs) ++ ascending 0 given_up logs ++ ascending 0 periods_ended logs ++ ascending 0 swept logs
+    ascending 0 opening_of logs ++ in_turns turns (map turns_of logs) ++ ascending 0 given_up logs
+    ++ ascending 0 periods_ended logs ++ ascending 0 swept logs

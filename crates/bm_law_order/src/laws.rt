@@ -29,6 +29,7 @@ pub fn tie_law()
 /// Where the acts of a story tell what each unit waits for, and each batch goes away behind the pass of its class, with its stamp and the
 /// number that was seen there, each unit is given with what it has waited for; also where entries come after it that give none.
 pub fn wait_law()
-    ensures { (p : ℕ) (story : Story) (rest : Log) (now : ℕ → Wait) → WaitLeads (deeds story) (λ u. Nothing) now →
+    ensures { (p : ℕ) (story : Story) (rest : Log) (now : ℕ → Wait)
+        → WaitLeads (deeds story) (λ u. Nothing) now →
         ReleasesFit p story nobody_waits → GivesNone rest → IsSealed (by p (lines story ++ rest)) }
 {}

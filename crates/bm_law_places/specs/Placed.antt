@@ -23,7 +23,8 @@ AllPlaced w = (u : ℕ) → InOnePlace u w
 -- Wherever an order is cut in two, each unit is in exactly one place between the entries before the cut and those after it.
 abbrev pub IsPlaced : (processors pages : ℕ) → Order → Type 0
 IsPlaced processors pages order =
-    (done rest : Order) → order ≡ done ++ rest → AllPlaced (world_over done (outset processors pages))
+    (done rest : Order) → order ≡ done ++ rest
+    → AllPlaced (world_over done (outset processors pages))
 
 -- ---- what a processor has
 
@@ -51,7 +52,9 @@ pub record IsOnlyWith (p u : ℕ) (w : World) : Type 0 where
 -- and has begun as many lives.
 pub record IsUntouched (u : ℕ) (before now : World) : Type 0 where
   pub out : (stocked_at now.shared.pool.units u).out ≡ (stocked_at before.shared.pool.units u).out
-  pub inboxes : (p c : ℕ) → times u (concat (now.shared.boxes p c)) ≡ times u (concat (before.shared.boxes p c))
+  pub inboxes :
+      (p c : ℕ)
+      → times u (concat (now.shared.boxes p c)) ≡ times u (concat (before.shared.boxes p c))
   pub holds : now.shared.lives.holds u ≡ before.shared.lives.holds u
   pub begun : now.shared.lives.begun u ≡ before.shared.lives.begun u
 

@@ -23,7 +23,8 @@ all_of (step ∷ way) = step.0 ++ all_of way
 -- after each part the place names unit u once
 abbrev pub GoesThrough : ℕ → Way → World → Type 0
 GoesThrough u [] w = Unit {0}
-GoesThrough u (step ∷ way) w = (times_at u step.1 (world_over step.0 w) ≡ 1) × GoesThrough u way (world_over step.0 w)
+GoesThrough u (step ∷ way) w =
+    (times_at u step.1 (world_over step.0 w) ≡ 1) × GoesThrough u way (world_over step.0 w)
 
 -- Processor 1 allocates unit 256, and processor 0 frees it.
 abbrev pub borrowed : Way
@@ -38,17 +39,25 @@ borrowed =
 
 -- Processor 0 takes it off its list and sends it home, where it goes through both lists to the stock.
 abbrev pub sent_home : Way
-sent_home =
-    (entries 0 (entry.Enter 10 1 ∷ entry.Pop 10 256 ∷ entry.Count 10 1 ∷ entry.Leave 10 0 ∷ []), Hand 0 0)
+sent_home = (
+  entries 0 (entry.Enter 10 1 ∷ entry.Pop 10 256 ∷ entry.Count 10 1 ∷ entry.Leave 10 0 ∷ []),
+  Hand 0 0,
+)
     ∷ (entries 0 (entry.Send 10 1 (Whole (256 ∷ [])) ∷ []), Inbox 1 10)
-    ∷ (entries 1 (entry.Receive 10 (Whole (256 ∷ [])) ∷ entry.BeginSecond 10 (Whole (256 ∷ [])) ∷ []), Cache 1 10)
+    ∷ (
+      entries 1
+          (entry.Receive 10 (Whole (256 ∷ [])) ∷ entry.BeginSecond 10 (Whole (256 ∷ [])) ∷ []),
+      Cache 1 10,
+    )
     ∷ (entries 1 (entry.Return 10 (Whole (256 ∷ [])) ∷ []), Stock)
     ∷ []
 
 -- Processor 1 closes without receiving it, and sweeps it out of its inbox.
 abbrev pub swept_home : Way
-swept_home =
-    (entries 0 (entry.Enter 10 1 ∷ entry.Pop 10 256 ∷ entry.Count 10 1 ∷ entry.Leave 10 0 ∷ []), Hand 0 0)
+swept_home = (
+  entries 0 (entry.Enter 10 1 ∷ entry.Pop 10 256 ∷ entry.Count 10 1 ∷ entry.Leave 10 0 ∷ []),
+  Hand 0 0,
+)
     ∷ (entries 0 (entry.Send 10 1 (Whole (256 ∷ [])) ∷ []), Inbox 1 10)
     ∷ (entries 1 (entry.Sweep 10 (Whole (256 ∷ [])) ∷ []), Cache 1 10)
     ∷ []
@@ -57,7 +66,9 @@ swept_home =
 
 -- Both processors open with the same unit.
 abbrev pub filled_twice : Order
-filled_twice = entries 0 (entry.Fill 10 (Whole (0 ∷ [])) ∷ []) ++ entries 1 (entry.Fill 10 (Whole (0 ∷ [])) ∷ [])
+filled_twice =
+    entries 0 (entry.Fill 10 (Whole (0 ∷ [])) ∷ [])
+    ++ entries 1 (entry.Fill 10 (Whole (0 ∷ [])) ∷ [])
 
 -- The stock gives a unit that comes to no list.
 abbrev pub lost_at_fill : Order
@@ -65,7 +76,8 @@ lost_at_fill = entries 0 (entry.Fill 10 (Whole []) ∷ [])
 
 -- The unit that processor 0 has freed and pushed on its list is freed and pushed by processor 1 too.
 abbrev pub pushed_twice : Order
-pushed_twice = all_of borrowed ++ entries 1 (entry.Free 256 1 ∷ entry.Enter 10 1 ∷ entry.Push 10 256 ∷ [])
+pushed_twice =
+    all_of borrowed ++ entries 1 (entry.Free 256 1 ∷ entry.Enter 10 1 ∷ entry.Push 10 256 ∷ [])
 
 -- A unit is fetched that another processor has.
 abbrev pub fetched_from_other : Order
@@ -94,4 +106,7 @@ swept_from_stock = fills ++ entries 0 (entry.Sweep 10 (Whole (0 ∷ 512 ∷ []))
 
 -- The log of one processor with two pages, whose closing sweeps a unit that is in the stock.
 abbrev pub sweeps_from_stock : List Log
-sweeps_from_stock = ordinary (entry.Fill 10 (Whole (0 ∷ [])) ∷ entry.Ended ∷ entry.Sweep 10 (Whole (0 ∷ 256 ∷ [])) ∷ []) ∷ []
+sweeps_from_stock =
+    ordinary
+    (entry.Fill 10 (Whole (0 ∷ [])) ∷ entry.Ended ∷ entry.Sweep 10 (Whole (0 ∷ 256 ∷ [])) ∷ [])
+    ∷ []

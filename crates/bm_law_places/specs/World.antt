@@ -28,7 +28,8 @@ world_after p l e w = record {
 -- What a sweep takes from outside, after the units of the lists, is just what waits in the inbox. (Neither the lists nor the
 -- inboxes say so by themselves: the former say how the sweep begins, the latter how it ends.)
 abbrev pub SweepsInbox : (p l : ℕ) → Entry → World → Type 0
-SweepsInbox p l (entry.Sweep c us) w = brought (entry.Sweep c us) (w.lists p) ≡ concat (w.shared.boxes p c)
+SweepsInbox p l (entry.Sweep c us) w =
+    brought (entry.Sweep c us) (w.lists p) ≡ concat (w.shared.boxes p c)
 SweepsInbox p l _ w = Unit {0}
 
 -- The entry finds what it needs: of what is shared, and in the lists and hands of its processor.

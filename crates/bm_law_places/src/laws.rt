@@ -20,7 +20,8 @@ pub fn places_law()
     ensures outset { (processors pages : ℕ) → IsWellPlaced (outset processors pages) }
     ensures entry { (p l : ℕ) (e : Entry) (w : World) →
         IsWellPlaced w → Finds p l e w → IsWellPlaced (world_after p l e w) }
-    ensures along { (o : Order) (w : World) → IsWellPlaced w → AllFound o w → IsWellPlaced (world_over o w) }
+    ensures along { (o : Order) (w : World) → IsWellPlaced w → AllFound o w
+        → IsWellPlaced (world_over o w) }
     ensures all { (processors pages : ℕ) (o : Order) →
         AllFound o (outset processors pages) → IsPlaced processors pages o }
 {}
@@ -54,7 +55,8 @@ pub fn logs_law()
         EachLog (λ p log. AllName (opening p) log) logs →
         AllFit world_after SweepsInbox o (outset processors pages) → IsPlaced processors pages o }
     ensures one { (pages : ℕ) (log : Log) (last : State ℕ) →
-        IsLaid 1 pages (by 0 log) → Leaves 0 log last → ParcelLaw 0 log → IsPlaced 1 pages (by 0 log) }
+        IsLaid 1 pages (by 0 log) → Leaves 0 log last → ParcelLaw 0 log
+        → IsPlaced 1 pages (by 0 log) }
 {}
 
 /// A unit that is in a list or hand of one processor is there once, and is in none of another, in no inbox, out of the stock, and neither

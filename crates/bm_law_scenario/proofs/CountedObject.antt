@@ -27,8 +27,8 @@ use Rattle.bm_law_scenario.specs.Held as held
 use Rattle.bm_law_scenario.specs.Lawful.{HeadingOf, LawfulLog, LawfulLogs}
 use Rattle.bm_law_scenario.specs.Parcels.{ParcelLaw}
 use Rattle.bm_law_scenario.specs.Runs.{Run, RunsBlock}
-use Rattle.bm_law_scenario.specs.SectionWords.{SectionWords}
-use Rattle.bm_law_scenario.specs.Short.{all_entries}
+use Rattle.bm_law_lives.specs.SectionWords.{SectionWords}
+use Rattle.bm_law_lives.specs.Short.{all_entries}
 use Rattle.bm_law_scenario.specs.Worked.{item}
 use Rattle.bm_law_scenario.specs.WorkedDrops.{acquires, acquires_and_drops, both_hold, counted_call, counted_entries, counted_journal, counted_log, counted_object, counted_types, delays_and_raises, gives_one_up, holding_three, makes_and_shares, makes_counted, neither_holds, shared, shares_unless_null, y_holds, y_name}
 use Rattle.bm_law_scenario.specs.WorkedJournal.{block_of, item_id, one_page, swept, sweep_period, took, vector_of, x_name}

@@ -13,7 +13,7 @@ use Rattle.bm_law_scenario.specs.CallEntries.{IsOfStatement, IsOfHandler}
 use Rattle.bm_law_scenario.specs.Declared.{declared_in}
 use Rattle.bm_law_scenario.specs.Handlers.{AreHandlers, HandlerPhrase, HandlersDone, enclosed, more, none}
 use Rattle.bm_law_scenario.specs.Held.{no_names}
-use Rattle.bm_law_scenario.specs.SectionWords.{is_outside}
+use Rattle.bm_law_lives.specs.SectionWords.{is_outside}
 use Rattle.bm_law_scenario.proofs.Levels.{levels}
 use Rattle.bm_law_scenario.proofs.OfCall.{of-calls}
 use Rattle.bm_law_scenario.proofs.RunsAll.{Closed, block-all}

@@ -11,7 +11,7 @@ use Rattle.bm_law.proofs.Spans.{own-append}
 use Rattle.bm_law_scenario.specs.Declared.{declared_in}
 use Rattle.bm_law_scenario.specs.CallEntries.{IsOfStatement}
 use Rattle.bm_law_scenario.specs.Held.{no_names}
-use Rattle.bm_law_scenario.specs.SectionWords.{is_outside, word_after}
+use Rattle.bm_law_lives.specs.SectionWords.{is_outside, word_after}
 use Rattle.bm_law_scenario.specs.Handlers.{Handled, HandlerPhrase, HandlersDone, RunsThere, all_within, enclosed, is_within}
 use Rattle.bm_law_scenario.proofs.Cuts.{Before, cuts, last-cut}
 use Rattle.bm_law_scenario.proofs.OfCall.{OfCalls, of-calls}

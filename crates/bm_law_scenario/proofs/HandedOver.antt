@@ -27,8 +27,8 @@ use Rattle.bm_law_scenario.specs.Held as held
 use Rattle.bm_law_scenario.specs.Lawful.{HeadingOf, LawfulLog, LawfulLogs}
 use Rattle.bm_law_scenario.specs.Parcels.{ParcelLaw}
 use Rattle.bm_law_scenario.specs.Runs.{Run, RunsBlock}
-use Rattle.bm_law_scenario.specs.SectionWords.{SectionWords}
-use Rattle.bm_law_scenario.specs.Short.{all_entries}
+use Rattle.bm_law_lives.specs.SectionWords.{SectionWords}
+use Rattle.bm_law_lives.specs.Short.{all_entries}
 use Rattle.bm_law_scenario.specs.Worked.{item}
 use Rattle.bm_law_scenario.specs.WorkedJournal.{asks, block_of, drops_x, drops_x_unless_null, item_id, makes_x, one_page, took, types, vector_of, x_name}
 use Rattle.bm_law_scenario.specs.WorkedSlots.{begins, call_of, desk_id, dropped, empties, exchanges, given_away, giver, giver_entries, gives, gives_up, handed_over, handed_over_journal, holding, makes_and_puts, o_name, puts_x, puts_x_unless_null, second_page, slots, stops, sweep_period_of, sweeps_by, taker, taker_entries, takes, takes_x, the_object}

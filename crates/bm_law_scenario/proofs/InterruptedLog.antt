@@ -25,7 +25,7 @@ use Rattle.bm_law_scenario.specs.Runs.{Run, RunsBlock}
 use Rattle.bm_law_scenario.specs.Parcels.{ParcelLaw}
 use Rattle.bm_law_scenario.specs.Grammar.{IsLog}
 use Rattle.bm_law.specs.Ordinary.{ordinary}
-use Rattle.bm_law_scenario.specs.SectionWords.{SectionWords}
+use Rattle.bm_law_lives.specs.SectionWords.{SectionWords}
 use Rattle.bm_law_scenario.specs.Handlers.{HandlersDone}
 use Rattle.bm_law_scenario.specs.Lawful.{HeadingOf, LawfulLogs, LawfulLog}
 use Rattle.bm_law_scenario.specs.WorkedJournal.{asks, block_of, drops_x, drops_x_unless_null, gave, makes_and_drops, makes_x, one_object_log, one_page, swept, took, types, vector_of, x_name}
@@ -33,7 +33,7 @@ use Rattle.bm_law_scenario.specs.WorkedHandlers.{counted, finds_busy, handled, h
 use Rattle.bm_law_scenario.proofs.BlockParts.{RunsList, block-parts}
 use Rattle.bm_law_scenario.proofs.Opening.{first-four}
 use Rattle.bm_law_scenario.proofs.OneObject.{sweep}
-use Rattle.bm_law_scenario.specs.Short.{all_entries}
+use Rattle.bm_law_lives.specs.Short.{all_entries}
 use Rattle.bm_law_work.proofs.Pages.{short-named}
 use Rattle.bm_law_scenario.proofs.Freed.{no-count, uncounted}
 use Rattle.bm_law_scenario.proofs.Ran.{drop-runs, dropped, dropped-owns_nothing, new-runs}

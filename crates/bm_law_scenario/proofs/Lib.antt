@@ -36,7 +36,6 @@ pub mod WrongWork
 pub mod Parceled
 pub mod Periods
 pub mod WrongShort
-pub mod Words
 pub mod Cuts
 pub mod OfCall
 pub mod GoneBack

@@ -20,9 +20,9 @@ use Rattle.bm_law_scenario.specs.Held.{no_names}
 use Rattle.bm_law.specs.Ordinary.{ordinary}
 use Rattle.bm_law_scenario.specs.Grammar.{IsLog, lines_of}
 use Rattle.bm_law_scenario.specs.Parcels.{ParcelLaw}
-use Rattle.bm_law_scenario.specs.SectionWords.{SectionWords}
+use Rattle.bm_law_lives.specs.SectionWords.{SectionWords}
 use Rattle.bm_law_scenario.specs.Lawful.{HeadingOf, LawfulLog, LawfulLogs}
-use Rattle.bm_law_scenario.specs.Short.{all_entries}
+use Rattle.bm_law_lives.specs.Short.{all_entries}
 use Rattle.bm_law_work.proofs.Pages.{short-named}
 use Rattle.bm_law_scenario.specs.WorkedJournal.{asks, asked, took_none, ended, no_object, no_object_log, no_object_journal}
 use Rattle.bm_law_scenario.proofs.Ran.{with_null, null-runs, null-owns_nothing}

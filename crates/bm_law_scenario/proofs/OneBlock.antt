@@ -29,9 +29,9 @@ use Rattle.bm_law_scenario.specs.Parcels.{ParcelLaw}
 use Rattle.bm_law_scenario.specs.Grammar.{IsLog}
 use Rattle.bm_law.specs.Ordinary.{ordinary}
 use Rattle.bm_law_scenario.proofs.Unplanned.{done-ordinary}
-use Rattle.bm_law_scenario.specs.SectionWords.{SectionWords}
+use Rattle.bm_law_lives.specs.SectionWords.{SectionWords}
 use Rattle.bm_law_scenario.specs.Lawful.{HeadingOf, LawfulLogs, LawfulLog}
-use Rattle.bm_law_scenario.specs.Short.{all_entries}
+use Rattle.bm_law_lives.specs.Short.{all_entries}
 use Rattle.bm_law_work.proofs.Pages.{short-named}
 use Rattle.bm_law_scenario.specs.WorkedJournal.{vector_of, block_of, x_name, item_id, drops_x, drops_x_unless_null, sweep_period}
 use Rattle.bm_law_scenario.specs.WorkedDeferred.{block, makes_block, makes_and_drops_block, one_block, begins, takes, drops, work_reads, refills, work_ends, stops, closes, one_block_log, one_block_journal}

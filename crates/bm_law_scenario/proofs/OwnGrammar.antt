@@ -15,7 +15,7 @@ use Rattle.bm_law_scenario.specs.Declared.{declared_in}
 use Rattle.bm_law_scenario.specs.Held.{Names, no_names, OwnsNothing}
 use Rattle.bm_law_scenario.specs.Fills.{AreFills}
 use Rattle.bm_law_scenario.specs.Opened.{opened_classes}
-use Rattle.bm_law_scenario.specs.SectionWords.{SectionWords}
+use Rattle.bm_law_lives.specs.SectionWords.{SectionWords}
 use Rattle.bm_law_scenario.proofs.OwnRuns.{RunsBlock}
 use Rattle.bm_law_scenario.specs.Closing.{close_of, SweepOf}
 use Rattle.bm_law_scenario.specs.Grammar.{lines_of, section_of, starts_inside, stock_for}

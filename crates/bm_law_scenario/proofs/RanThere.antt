@@ -13,7 +13,7 @@ use Rattle.bm_law_scenario.specs.Declared.{declared_in}
 use Rattle.bm_law_scenario.specs.Handlers.{HandlerPhrase, HandlerRun, InSection, enclosed}
 use Rattle.bm_law_scenario.specs.Held.{no_names}
 use Rattle.bm_law_scenario.specs.Runs.{RunsBlock}
-use Rattle.bm_law_scenario.specs.SectionWords.{is_outside}
+use Rattle.bm_law_lives.specs.SectionWords.{is_outside}
 use Rattle.bm_law_scenario.proofs.SameRuns.{block-same}
 
 pub phrase-of-run : (s : Parts) (l : ℕ) (name : List ℕ) (w : ℕ) (lists : State ℕ) (log : Log) → HandlerRun s l name w lists log → Say l (HandlerPhrase s name w) lists log

@@ -20,7 +20,7 @@ use Rattle.bm_law_scenario.specs.Fills.{fresh_stock, numbers_of, prefill}
 use Rattle.bm_law_scenario.specs.Lawful as lawful
 use Rattle.bm_law.specs.Ordinary.{ordinary}
 use Rattle.bm_law_scenario.proofs.OwnGrammar.{IsLog, IsScript, LawfulLog, Swept}
-use Rattle.bm_law_scenario.specs.SectionWords.{SectionWords, word_fits, word_next, words_fit}
+use Rattle.bm_law_lives.specs.SectionWords.{SectionWords, word_fits, word_next, words_fit}
 use Rattle.bm_law_scenario.specs.WorkedJournal.{types, scenario_of, script_of}
 
 -- its entries

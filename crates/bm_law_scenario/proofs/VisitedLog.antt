@@ -27,8 +27,8 @@ use Rattle.bm_law_scenario.specs.Held as held
 use Rattle.bm_law_scenario.specs.Lawful.{HeadingOf, LawfulLog, LawfulLogs}
 use Rattle.bm_law_scenario.specs.Parcels.{ParcelLaw}
 use Rattle.bm_law_scenario.specs.Runs.{Run, RunsBlock}
-use Rattle.bm_law_scenario.specs.SectionWords.{SectionWords}
-use Rattle.bm_law_scenario.specs.Short.{all_entries}
+use Rattle.bm_law_lives.specs.SectionWords.{SectionWords}
+use Rattle.bm_law_lives.specs.Short.{all_entries}
 use Rattle.bm_law_scenario.specs.WorkedJournal.{one_page, sweep_period, x_name}
 use Rattle.bm_law_scenario.specs.WorkedLists.{asks_job, gives_up, holding_job, job_id, lock_of, long_block, pushed, pushes, q_id, reads_a, row_of, the_job, unlock_of, within}
 use Rattle.bm_law_scenario.specs.WorkedVisit.{away, begins, empties_others, empties_q, keeper, put_away, puts_away, stops, sweeps, visit_entries, visited, visited_journal, visited_log, visits}

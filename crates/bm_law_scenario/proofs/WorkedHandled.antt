@@ -21,7 +21,7 @@ use Rattle.bm_law_scenario.specs.Handlers.{HandlerPhrase, HandlersDone, InSectio
 use Rattle.bm_law_scenario.specs.Held.{Names, OwnsNothing, no_names}
 use Rattle.bm_law_scenario.proofs.OwnRuns.{Done, Run, RunsBlock}
 use Rattle.bm_law_scenario.specs.Runs.{RunsBlock as RunsBlock'}
-use Rattle.bm_law_scenario.specs.SectionWords.{SectionWords, word_after}
+use Rattle.bm_law_lives.specs.SectionWords.{SectionWords, word_after}
 use Rattle.bm_law_scenario.specs.Worked.{item}
 use Rattle.bm_law_scenario.specs.WorkedJournal.{asks, drops_x_unless_null, item_id, makes_and_drops, makes_x, script_of, took, types, vector_of, x_name}
 use Rattle.bm_law_scenario.specs.WorkedHandlers.{asks_too, back_as_other, behind_script, counted, encloses_inside, finds_busy, handled, handler, idle, interrupted, keeps, keeps_it, no_section, plain_script, taken, worked_behind, works_on}

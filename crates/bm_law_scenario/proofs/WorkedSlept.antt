@@ -16,8 +16,8 @@ use Rattle.bm_law_scenario.specs.Declared.{declared_in}
 use Rattle.bm_law_scenario.specs.Held.{no_names}
 use Rattle.bm_law_scenario.specs.Grammar.{IsLog, lines_of}
 use Rattle.bm_law_scenario.specs.Lawful.{HeadingOf, LawfulLog, LawfulLogs}
-use Rattle.bm_law_scenario.specs.SectionWords.{SectionWords}
-use Rattle.bm_law_scenario.specs.Short.{all_entries}
+use Rattle.bm_law_lives.specs.SectionWords.{SectionWords}
+use Rattle.bm_law_lives.specs.Short.{all_entries}
 use Rattle.bm_law_scenario.specs.WorkedSections.{asleep, asleep_log, awake, awake_log, stepless}
 use Rattle.bm_law_scenario.proofs.Ordinary.{all-ordinary, says, stands, then-of}
 use Rattle.bm_law_scenario.proofs.SameLogs.{scripts-told}

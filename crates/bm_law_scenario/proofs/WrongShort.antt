@@ -7,7 +7,7 @@ use Rattle.bm_journal.specs.declared.entry.Entry.{Entry}
 use Rattle.bm_law.specs.Pages.{HasShort, all_given, units_given, wanted}
 use Rattle.bm_law_work.proofs.Pages.{any_short, not-named}
 use Rattle.bm_law_scenario.specs.Lawful.{LawfulLogs}
-use Rattle.bm_law_scenario.specs.Short.{all_entries}
+use Rattle.bm_law_lives.specs.Short.{all_entries}
 use Rattle.bm_law_scenario.specs.WrongShort.{three_pages, third_unnamed}
 
 short-by : (e : Entry) (es : List Entry) (b : Bool) → nat_lt (length (units_given e)) (wanted e) ≡ b → (b || any_short es) ≡ true → (any_short es ≡ true → HasShort es) → HasShort (e ∷ es)

@@ -35,27 +35,37 @@ abbrev pub GivesBack : List TypeDeclaration → TypeId → Option ObjId → Part
 GivesBack types t None = Nothing
 GivesBack types t (Some o) = λ s part.
     (x : List ℕ) × (after : Names)
-    × Say 0 (λ own. RunsGivingUp types x (batch_in s) (with_name x (Object t o.unit o.life) no_names) own after) s part
+    × Say 0
+    (λ own. RunsGivingUp types x (batch_in s) (with_name x (Object t o.unit o.life) no_names)
+    own after)
+    s part
 
 -- a slot is exchanged with null, and what it held is given up
 abbrev pub EmptiesSlot : List TypeDeclaration → MapDeclaration → Part
 EmptiesSlot types slot s part =
     (was : Option ObjId) × (by : Option Tag)
-    × Then (Stand 0 (entry.Xchg slot.name None was by ∷ [])) (GivesBack types slot.type_id was) s part
+    × Then (Stand 0 (entry.Xchg slot.name None was by ∷ [])) (GivesBack types slot.type_id was) s
+    part
 
 -- a list is popped from the front n times, what it gave is given up each time, and then it is empty
 abbrev pub EmptiesList : List TypeDeclaration → MapDeclaration → ℕ → Part
-EmptiesList types list zero s part = (position : ℕ) × Stand 0 (entry.PopFront list.name None position ∷ []) s part
+EmptiesList types list zero s part =
+    (position : ℕ) × Stand 0 (entry.PopFront list.name None position ∷ []) s part
 EmptiesList types list (suc n) s part =
     (o : ObjId) × (position : ℕ)
-    × Then (Stand 0 (entry.PopFront list.name (Some o) position ∷ [])) (Then (GivesBack types list.type_id (Some o)) (EmptiesList types list n)) s part
+    × Then (Stand 0 (entry.PopFront list.name (Some o) position ∷ []))
+    (Then (GivesBack types list.type_id (Some o)) (EmptiesList types list n)) s part
 
 -- so is a tree: its first object is taken out each time
 abbrev pub EmptiesTree : List TypeDeclaration → MapDeclaration → ℕ → Part
-EmptiesTree types tree zero s part = (position : ℕ) × Stand 0 (entry.First tree.name None position ∷ []) s part
+EmptiesTree types tree zero s part =
+    (position : ℕ) × Stand 0 (entry.First tree.name None position ∷ []) s part
 EmptiesTree types tree (suc n) s part =
     (o : ObjId) × (seen taken : ℕ)
-    × Then (Stand 0 (entry.First tree.name (Some o) seen ∷ entry.Remove tree.name o.unit o.life taken ∷ [])) (Then (GivesBack types tree.type_id (Some o)) (EmptiesTree types tree n)) s part
+    × Then
+    (Stand 0
+    (entry.First tree.name (Some o) seen ∷ entry.Remove tree.name o.unit o.life taken ∷ []))
+    (Then (GivesBack types tree.type_id (Some o)) (EmptiesTree types tree n)) s part
 
 -- A map is emptied. (bpf_list_head_free and bpf_rb_root_free in kernel/bpf/helpers.c.)
 abbrev pub EmptiesMap : List TypeDeclaration → MapKind → MapDeclaration → Part
@@ -80,7 +90,9 @@ in_progress d begun (e ∷ es) = in_progress d (begun_after d begun e.1) es
 
 -- the end of the period that began with number n
 abbrev pub IsEnd : Domain → ℕ → List Entry → Type 0
-IsEnd d n own = (period : Period) × (period.domain ≡ d) × (period.number ≡ n + 1) × (own ≡ entry.Finish period ∷ [])
+IsEnd d n own =
+    (period : Period) × (period.domain ≡ d) × (period.number ≡ n + 1)
+    × (own ≡ entry.Finish period ∷ [])
 
 -- the end of a period exactly where one is in progress
 abbrev pub EndsOne : Domain → Option ℕ → Part
@@ -89,7 +101,9 @@ EndsOne d (Some n) = Say 0 (IsEnd d n)
 
 -- the periods that a processor has in progress after this log end, first the plain one
 abbrev pub EndsPeriods : Log → Part
-EndsPeriods log = Then (EndsOne Plain (in_progress Plain None log)) (EndsOne Tracing (in_progress Tracing None log))
+EndsPeriods log =
+    Then (EndsOne Plain (in_progress Plain None log))
+    (EndsOne Tracing (in_progress Tracing None log))
 
 -- A sweep that takes exactly these units, waits until its stamp is reached, and gives exactly these units back to the stock.
 pub record SweepOf (c : ℕ) (units : List ℕ) (own : List Entry) : Type 0 where
@@ -107,8 +121,11 @@ SweepWhere c (u ∷ us) = Say 0 (SweepOf c (u ∷ us))
 -- those of the inbox, of which the law of parcels tells.
 abbrev pub AreSweeps : List ℕ → Part
 AreSweeps [] s part = Nothing s part
-AreSweeps (c ∷ cs) s part = (inbox : List ℕ) × Then (SweepWhere c (seven_lists (s.rows c) ++ inbox)) (AreSweeps cs) s part
+AreSweeps (c ∷ cs) s part =
+    (inbox : List ℕ) × Then (SweepWhere c (seven_lists (s.rows c) ++ inbox)) (AreSweeps cs) s part
 
 -- the closing of processor p after this log
 abbrev pub Closing : Declared → ℕ → List ℕ → Log → Part
-Closing d p classes log = Then (Stand 0 (entry.Ended ∷ close_of p)) (Then (Empties p d) (Then (EndsPeriods log) (AreSweeps classes)))
+Closing d p classes log =
+    Then (Stand 0 (entry.Ended ∷ close_of p))
+    (Then (Empties p d) (Then (EndsPeriods log) (AreSweeps classes)))

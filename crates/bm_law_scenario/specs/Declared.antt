@@ -32,7 +32,8 @@ graph_kind true = kind.Tree
 graph_kind false = kind.List
 
 -- map m is a list, or a tree, that is declared so
-pub record IsGraph (maps : List MapDeclaration) (is_tree : Bool) (m : ℕ) (graph : MapDeclaration) : Type 0 where
+pub record IsGraph (maps : List MapDeclaration) (is_tree : Bool) (m : ℕ) (graph : MapDeclaration) :
+    Type 0 where
   pub found : slice_get maps m ≡ Some graph
   pub kind : graph.kind ≡ graph_kind is_tree
 

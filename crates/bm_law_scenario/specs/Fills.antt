@@ -10,7 +10,8 @@ use Rattle.bm_page.specs.UnitState.{UnitState}
 
 -- a stock of so many pages, none of which has a class by now
 abbrev pub fresh_stock : ℕ → Stock
-fresh_stock pages = record { classes = replicate pages None; units = replicate (256 * pages) unborn }
+fresh_stock pages =
+    record { classes = replicate pages None; units = replicate (256 * pages) unborn }
 
 -- the numbers of units
 abbrev pub numbers_of : List UnitState → List ℕ
@@ -20,7 +21,9 @@ numbers_of units = map (λ (u : UnitState). u.number) units
 abbrev pub AreFills : List ℕ → Stock → List Entry → Type 0
 AreFills [] pool own = own ≡ []
 AreFills (c ∷ cs) pool own =
-    (rest : List Entry) × (own ≡ entry.Fill c (Whole (numbers_of (fetched c (prefill c) pool).units)) ∷ rest) × AreFills cs (fetched c (prefill c) pool).pool rest
+    (rest : List Entry)
+    × (own ≡ entry.Fill c (Whole (numbers_of (fetched c (prefill c) pool).units)) ∷ rest)
+    × AreFills cs (fetched c (prefill c) pool).pool rest
 
 -- what such an opening leaves in the stock
 abbrev pub after_fills : List ℕ → Stock → Stock

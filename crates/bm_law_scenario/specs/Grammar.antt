@@ -44,20 +44,27 @@ starts_inside script = is_plain (section_of script.kind)
 
 -- A script's block runs from names that hold nothing to names that own nothing.
 abbrev pub IsBody : Parts → Script → Part
-IsBody s script l part = (names : Names) × RunsBlock (declared_in s) 0 (starts_inside script) (behind_statement s) script.body no_names names l part × ((x : List ℕ) → OwnsNothing (names x))
+IsBody s script l part =
+    (names : Names)
+    × RunsBlock (declared_in s) 0 (starts_inside script) (behind_statement s) script.body no_names
+    names l part
+    × ((x : List ℕ) → OwnsNothing (names x))
 
 -- A script in its section, whose word is w inside, and the deferred work after it.
 abbrev pub IsScript : Parts → Script → ℕ → Part
 IsScript s script w =
     Then (Stand 0 (entry.Script script.name ∷ entry.In (section_of script.kind) w ∷ []))
     (Then (IsBody s script)
-    (Then (Stand 0 (entry.Out (section_of script.kind) (w + 1) ∷ entry.Done script.name ∷ [])) (behind_script s)))
+    (Then (Stand 0 (entry.Out (section_of script.kind) (w + 1) ∷ entry.Done script.name ∷ []))
+    (behind_script s)))
 
 -- The scripts that these lines run, in order. Which word each section has, the words of the whole log tell: handlers in the
 -- deferred work behind a script have sections of their own.
 abbrev pub AreScripts : Parts → List RunLine → Part
 AreScripts s [] l part = Nothing l part
-AreScripts s (r ∷ rs) l part = (script : Script) × (slice_get s.scripts r.script.0 ≡ Some script) × (w : ℕ) × Then (IsScript s script w) (AreScripts s rs) l part
+AreScripts s (r ∷ rs) l part =
+    (script : Script) × (slice_get s.scripts r.script.0 ≡ Some script) × (w : ℕ)
+    × Then (IsScript s script w) (AreScripts s rs) l part
 
 -- the `run` lines of processor p
 abbrev pub lines_of : ℕ → List RunLine → List RunLine
@@ -69,7 +76,9 @@ stock_for s p = opening_stock (opened_classes s.types) s.pages p
 
 -- the opening of a cache for each class, and the scripts of processor p
 abbrev pub Front : Parts → ℕ → Part
-Front s p = Then (Say 0 (AreFills (opened_classes s.types) (stock_for s p))) (AreScripts s (lines_of p s.runs))
+Front s p =
+    Then (Say 0 (AreFills (opened_classes s.types) (stock_for s p)))
+    (AreScripts s (lines_of p s.runs))
 
 -- The log of processor p, while there is one: the opening, its scripts, and the closing.
 pub record IsLog (s : Parts) (p : ℕ) (log : Log) : Type 0 where
@@ -77,4 +86,5 @@ pub record IsLog (s : Parts) (p : ℕ) (log : Log) : Type 0 where
   pub closing : Log
   pub log_is : log ≡ front ++ closing
   pub is_front : Front s p (opening p) front
-  pub is_closing : Closing (declared_in s) p (opened_classes s.types) front (after (opening p) front) closing
+  pub is_closing :
+      Closing (declared_in s) p (opened_classes s.types) front (after (opening p) front) closing

@@ -14,12 +14,13 @@ use Rattle.bm_law_work.specs.Parts.{Nothing}
 use Rattle.bm_law_scenario.specs.Declared.{declared_in}
 use Rattle.bm_law_scenario.specs.Held.{Names, no_names, OwnsNothing}
 use Rattle.bm_law_scenario.specs.Runs.{Enclosed, Run, RunsAlone, RunsBlock}
-use Rattle.bm_law_scenario.specs.SectionWords.{is_outside, word_after}
+use Rattle.bm_law_lives.specs.SectionWords.{is_outside, word_after}
 
 -- These entries, in a plain section of their own where the word before is that of none, and as they stand where it is that of
 -- one.
 abbrev pub enclosed : ℕ → List Entry → List Entry
-enclosed w own = if is_outside w then entry.In Plain (w + 1) ∷ own ++ entry.Out Plain (w + 2) ∷ [] else own
+enclosed w own =
+    if is_outside w then entry.In Plain (w + 1) ∷ own ++ entry.Out Plain (w + 2) ∷ [] else own
 
 -- What a handler of this name leaves between its begin and its end, where the plain section's word was w before: the name is
 -- that of a handler script, whose block runs from names that hold nothing to names that own nothing. No deferred work runs
@@ -66,20 +67,24 @@ InSection false l w run names after = run names after
 -- What a handler of this level and name leaves where it stands, with whatever handlers of higher levels within it: from these lists
 -- its block runs, from names that hold nothing to names that own nothing, in a plain section of its own where the plain section's word
 -- was that of none before.
-pub record HandlerRun (s : Parts) (l : ℕ) (name : List ℕ) (w : ℕ) (lists : State ℕ) (part : Log) : Type 0 where
+pub record HandlerRun (s : Parts) (l : ℕ) (name : List ℕ) (w : ℕ) (lists : State ℕ) (part : Log) :
+    Type 0 where
   pub index : ℕ
   pub script : Script
   pub found : slice_get s.scripts index ≡ Some script
   pub called : script.name ≡ name
   pub handles : script.kind ≡ kind.Handler
   pub after : Names
-  pub runs : InSection (is_outside w) l w (RunsBlock (declared_in s) l true Nothing script.body) no_names after lists part
+  pub runs :
+      InSection (is_outside w) l w (RunsBlock (declared_in s) l true Nothing script.body) no_names
+      after lists part
   pub owns_nothing : (x : List ℕ) → OwnsNothing (after x)
 
 -- the same, from the lists that a log of processor p leaves which ends with the handler's begin
 abbrev pub RunsThere : Parts → (p l : ℕ) → (name : List ℕ) → (front part : Log) → Type 0
 RunsThere s p l name front part =
-    (lists : State ℕ) → Leaves p (front ++ (l, entry.Handler name) ∷ []) lists → HandlerRun s l name (word_after Plain front) lists part
+    (lists : State ℕ) → Leaves p (front ++ (l, entry.Handler name) ∷ []) lists
+    → HandlerRun s l name (word_after Plain front) lists part
 
 -- In a log of processor p each handler that has gone back went back by its name, left its phrase, and ran from the lists that were there.
 -- Others may still run.
@@ -92,4 +97,6 @@ HandlersDone s p log =
 -- whole handlers of one level, one after the other, by their entries
 pub data AreHandlers (s : Parts) : List Entry → Type 0 where
   none : AreHandlers s []
-  more : {own rest : List Entry} (name : List ℕ) (w : ℕ) → HandlerPhrase s name w own → AreHandlers s rest → AreHandlers s (entry.Handler name ∷ own ++ entry.Back name ∷ rest)
+  more :
+      {own rest : List Entry} (name : List ℕ) (w : ℕ) → HandlerPhrase s name w own
+      → AreHandlers s rest → AreHandlers s (entry.Handler name ∷ own ++ entry.Back name ∷ rest)

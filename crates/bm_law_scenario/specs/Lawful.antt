@@ -19,8 +19,8 @@ use Rattle.bm_law_scenario.specs.Opened.{opened}
 use Rattle.bm_law_scenario.specs.Grammar.{IsLog}
 use Rattle.bm_law_scenario.specs.Handlers.{HandlersDone}
 use Rattle.bm_law_scenario.specs.Parcels.{ParcelLaw, sends_alone}
-use Rattle.bm_law_scenario.specs.Short.{JournalShort}
-use Rattle.bm_law_scenario.specs.SectionWords.{SectionWords}
+use Rattle.bm_law_lives.specs.Short.{JournalShort}
+use Rattle.bm_law_lives.specs.SectionWords.{SectionWords}
 
 -- The heading names what the scenario declares.
 pub record HeadingOf (s : Parts) (j : Journal) : Type 0 where
@@ -52,7 +52,9 @@ is_graph_kind _ = true
 
 -- the names of the lists and trees that are declared, in order
 abbrev pub graph_names : List MapDeclaration → List (List ℕ)
-graph_names maps = map (λ (m : MapDeclaration). m.name) (filter (λ (m : MapDeclaration). is_graph_kind m.kind) maps)
+graph_names maps =
+    map (λ (m : MapDeclaration). m.name)
+    (filter (λ (m : MapDeclaration). is_graph_kind m.kind) maps)
 
 -- A journal: its heading; its logs, of which there is one a processor; where its caches and refills got fewer units than they
 -- wanted; a history for each list and tree; and its totals.

@@ -6,7 +6,6 @@ pub mod Runs
 pub mod Declared
 pub mod Fills
 pub mod Parcels
-pub mod SectionWords
 pub mod Closing
 pub mod Grammar
 pub mod CallEntries
@@ -20,7 +19,6 @@ pub mod WrongJournals
 pub mod WorkedText
 pub mod WorkedDeferred
 pub mod WrongDeferred
-pub mod Short
 pub mod WrongShort
 pub mod WorkedHandlers
 pub mod WorkedSections

@@ -13,7 +13,8 @@ abbrev pub object_size : TypeDeclaration → ℕ
 object_size t = size_of_form (type_form t)
 
 -- type t is declared so, and its objects are taken from class c
-pub record OfClass (types : List TypeDeclaration) (t c : ℕ) (declared : TypeDeclaration) : Type 0 where
+pub record OfClass (types : List TypeDeclaration) (t c : ℕ) (declared : TypeDeclaration) :
+    Type 0 where
   pub found : slice_get types t ≡ Some declared
   pub class : class_of_size (object_size declared) ≡ Some c
 
@@ -26,7 +27,8 @@ uses_class c t = is_class c (class_of_size (object_size t))
 
 -- the classes that some type uses, ascending
 abbrev pub opened_classes : List TypeDeclaration → List ℕ
-opened_classes types = filter (λ c. list_any (uses_class c) types) (0 ∷ 1 ∷ 2 ∷ 3 ∷ 4 ∷ 5 ∷ 6 ∷ 7 ∷ 8 ∷ 9 ∷ 10 ∷ [])
+opened_classes types =
+    filter (λ c. list_any (uses_class c) types) (0 ∷ 1 ∷ 2 ∷ 3 ∷ 4 ∷ 5 ∷ 6 ∷ 7 ∷ 8 ∷ 9 ∷ 10 ∷ [])
 
 -- each with its watermarks
 abbrev pub opened : List TypeDeclaration → List (ℕ × Marks)

@@ -26,7 +26,8 @@ ParcelFits p _ s boxes = Unit {0}
 -- all entries of a log fit, and at its end no parcel is left
 abbrev pub ParcelsFit : ℕ → State ℕ → Inboxes → Log → Type 0
 ParcelsFit p s boxes [] = (c : ℕ) → boxes c ≡ []
-ParcelsFit p s boxes (e ∷ es) = ParcelFits p e.1 s boxes × ParcelsFit p (next s e) (inboxes_after p e.1 boxes) es
+ParcelsFit p s boxes (e ∷ es) =
+    ParcelFits p e.1 s boxes × ParcelsFit p (next s e) (inboxes_after p e.1 boxes) es
 
 -- the law, over the log of processor p
 abbrev pub ParcelLaw : ℕ → Log → Type 0

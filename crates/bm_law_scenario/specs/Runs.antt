@@ -32,7 +32,8 @@ Done = Leaving part.Nothing
 
 -- one run, and then another one, from the names and the lists that the first one leaves
 abbrev pub Followed : Run → Run → Run
-Followed first second names after s part = (middle : Names) × Then (first names middle) (second middle after) s part
+Followed first second names after s part =
+    (middle : Names) × Then (first names middle) (second middle after) s part
 
 -- n times
 abbrev pub Times : Run → ℕ → Run
@@ -52,7 +53,9 @@ Chosen (Soft t g u life) first other = first
 
 -- What a block leaves in a plain section of its own, whose word is w inside.
 abbrev pub Enclosed : ℕ → Run → ℕ → Run
-Enclosed l block w names after = Then (Stand l (entry.In Plain w ∷ [])) (Then (block names after) (Stand l (entry.Out Plain (w + 1) ∷ [])))
+Enclosed l block w names after =
+    Then (Stand l (entry.In Plain w ∷ []))
+    (Then (block names after) (Stand l (entry.Out Plain (w + 1) ∷ [])))
 
 -- `section`: its block, in a plain section where there is none around it; a section inside another one leaves nothing of its own
 abbrev pub Within : Bool → ℕ → Run → Run
@@ -75,9 +78,12 @@ unlocked (Some graph) behind = part.Nothing
 abbrev mutual
   pub RunsAction : Declared → ℕ → (inside : Bool) → Part → Action → Run
   RunsAction d l i behind (New x t values) = Calls l (RunsNew d.types x t values)
-  RunsAction d l i behind (Drop x) = λ names after s. Calls l (RunsGivingUp d.types x (batch_in s)) names after s
+  RunsAction d l i behind (Drop x) =
+      λ names after s. Calls l (RunsGivingUp d.types x (batch_in s)) names after s
   RunsAction d l i behind (Acquire y x) = Calls l (RunsAcquire d.types y x)
-  RunsAction d l i behind (If' x body otherwise) = λ names. Chosen (names x) (RunsBlock d l i behind body) (RunsElse d l i behind otherwise) names
+  RunsAction d l i behind (If' x body otherwise) =
+      λ names. Chosen (names x) (RunsBlock d l i behind body) (RunsElse d l i behind otherwise)
+      names
   RunsAction d l i behind (Repeat n body) = Times (RunsBlock d l i behind body) n
   RunsAction d l i behind (Section body) = Within i l (RunsBlock d l true behind body)
   RunsAction d l i behind Yield = Leaving (Stand l (entry.Yield ∷ []))
@@ -85,9 +91,12 @@ abbrev mutual
   RunsAction d l i behind (Exchange y slot x) = Calls l (RunsExchange d.maps y slot x)
   RunsAction d l i behind (Lock graph) = Calls l (RunsLock d graph)
   RunsAction d l i behind Unlock = Calls l (RunsUnlock d)
-  RunsAction d l i behind (PushFront list x) = λ names after s. Calls l (RunsPutting d way.Front list x (batch_in s)) names after s
-  RunsAction d l i behind (PushBack list x) = λ names after s. Calls l (RunsPutting d way.Back list x (batch_in s)) names after s
-  RunsAction d l i behind (Add tree x) = λ names after s. Calls l (RunsPutting d way.Ordered tree x (batch_in s)) names after s
+  RunsAction d l i behind (PushFront list x) =
+      λ names after s. Calls l (RunsPutting d way.Front list x (batch_in s)) names after s
+  RunsAction d l i behind (PushBack list x) =
+      λ names after s. Calls l (RunsPutting d way.Back list x (batch_in s)) names after s
+  RunsAction d l i behind (Add tree x) =
+      λ names after s. Calls l (RunsPutting d way.Ordered tree x (batch_in s)) names after s
   RunsAction d l i behind (PopFront x list) = Calls l (RunsPop d end_.Front list x)
   RunsAction d l i behind (PopBack x list) = Calls l (RunsPop d end_.Back list x)
   RunsAction d l i behind (First x tree) = Calls l (RunsFirst d tree x)
@@ -106,11 +115,13 @@ abbrev mutual
   RunsRow d l i behind end_of-Statement = Done
   RunsRow d l i behind (more_of-Statement line action rest) =
       let lock = lock_after d.lock action in
-      Followed (Followed (RunsAction d l i behind action) (Leaving (unlocked lock behind))) (RunsRow (under lock d) l i behind rest)
+      Followed (Followed (RunsAction d l i behind action) (Leaving (unlocked lock behind)))
+      (RunsRow (under lock d) l i behind rest)
 
 -- A block in a plain section leaves these entries of its level, where nothing stands after a statement: they are those of some part of a
 -- log, of some level and begun with some lists, that is a run of the block.
-pub record RunsAlone (d : Declared) (body : Block) (names : Names) (own : List Entry) (after : Names) : Type 0 where
+pub record RunsAlone (d : Declared) (body : Block) (names : Names) (own : List Entry)
+    (after : Names) : Type 0 where
   pub level : ℕ
   pub lists : State ℕ
   pub log : Log

@@ -7,7 +7,8 @@ use Rattle.bm_lang.specs.declared.scenario.TypeDeclaration.{TypeDeclaration}
 
 -- a type by its name, its fields and its pad
 abbrev pub plain_type : List ℕ → List (List ℕ) → Option ℕ → TypeDeclaration
-plain_type name fields pad = record { line = 1; name = name; counted = false; node = None; fields = fields; pad = pad }
+plain_type name fields pad =
+    record { line = 1; name = name; counted = false; node = None; fields = fields; pad = pad }
 
 -- one field; two fields; three; and one with a pad
 abbrev pub item : TypeDeclaration
@@ -24,4 +25,6 @@ abbrev pub map_of : MapKind → List ℕ → MapDeclaration
 map_of kind name = record { line = 1; kind = kind; name = name; type_id = record { 0 = 0 } }
 
 abbrev pub three_maps : List MapDeclaration
-three_maps = map_of kind.List (codes "q") ∷ map_of kind.Slot (codes "spare") ∷ map_of kind.Tree (codes "t") ∷ []
+three_maps =
+    map_of kind.List (codes "q") ∷ map_of kind.Slot (codes "spare") ∷ map_of kind.Tree (codes "t")
+    ∷ []

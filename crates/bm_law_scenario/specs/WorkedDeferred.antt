@@ -1,11 +1,7 @@
 -- Worked scenarios with deferred work, each with its journal. Both have a type of 4088 bytes, whose units fill pages of their
--- own: class 10, with the marks 2 and 6 and the batch 3. There are two pages.
+-- own: class 10, with the marks 2 and 6 and the batch 3. There are two pages. The parts of their logs are those of bm_law_lives.
 use Rattle.std.specs.Prelude.{ℕ, IsTrue, true, refl, None, Some, List, [], ◌∷◌, ◌++◌, codes}
 use Rattle.std.proofs.Common.{lit≤}
-use Rattle.bm_journal.specs.declared.ids.Domain.TheVariants.{Plain, Tracing}
-use Rattle.bm_journal.specs.declared.units.Units.TheVariants.{Whole}
-use Rattle.bm_journal.specs.declared.entry.Entry.{Entry}
-use Rattle.bm_journal.specs.declared.entry.Entry.TheVariants as entry
 use Rattle.bm_journal.specs.declared.journal.Journal.{Journal}
 use Rattle.bm_journal.specs.WellFormed.{are_whole}
 use Rattle.bm_lang.specs.declared.scenario.Action.{New, Repeat}
@@ -16,7 +12,8 @@ use Rattle.bm_lang.specs.declared.scenario.TypeDeclaration.{TypeDeclaration}
 use Rattle.bm_law.specs.Lists.{Log}
 use Rattle.bm_law.specs.Ordinary.{ordinary}
 use Rattle.bm_law_scenario.specs.Worked.{plain_type}
-use Rattle.bm_law_scenario.specs.WorkedJournal.{block_of, x_name, item_id, drops_x_unless_null, script_of, sweep_period}
+use Rattle.bm_law_scenario.specs.WorkedJournal.{block_of, x_name, item_id, drops_x_unless_null, script_of}
+pub use Rattle.bm_law_lives.specs.WorkedBlock.{begins, takes, drops, work_reads, refills, work_ends, stops, closes, one_block_log}
 
 -- ---- the scenarios
 
@@ -55,47 +52,6 @@ makes_never = record { line = 7; action = Repeat 0 makes_and_drops_block }
 abbrev pub no_block : Parts
 no_block = with_work (block_of (makes_never ∷ []) (lit≤ tt) 9)
 
--- ---- the parts of their logs
-
--- the opening, up to the first statement
-abbrev pub begins : List Entry
-begins = entry.Fill 10 (Whole (0 ∷ [])) ∷ entry.Script (codes "main") ∷ entry.In Plain 1 ∷ []
-
--- the call, which is given unit 0 and leaves Free empty
-abbrev pub takes : List Entry
-takes = entry.New (codes "block") [] ∷ entry.Enter 10 1 ∷ entry.Pop 10 0 ∷ entry.Count 10 0 ∷ entry.Leave 10 0 ∷ entry.Raise 10 ∷ entry.Given 0 1 ∷ []
-
--- the drop, behind which Free has k units
-abbrev pub drops : ℕ → List Entry
-drops k = entry.Drop 0 1 ∷ entry.Last ∷ entry.Free 0 0 ∷ entry.Enter 10 1 ∷ entry.Push 10 0 ∷ entry.Count 10 k ∷ entry.Leave 10 0 ∷ []
-
--- a work begins, and reads a count of k
-abbrev pub work_reads : ℕ → List Entry
-work_reads k = entry.Work 10 ∷ entry.Receive 10 (Whole []) ∷ entry.Read 10 k ∷ []
-
--- a refill fetches a batch of three, of which the stock has the unit of its second page, which Free counts as the k-th
-abbrev pub refills : ℕ → List Entry
-refills k = entry.Fetch 10 3 (Whole (256 ∷ [])) ∷ entry.Enter 10 1 ∷ entry.Push 10 256 ∷ entry.Count 10 k ∷ entry.Leave 10 0 ∷ []
-
--- the end of a work in which nothing was freed with delay and nothing received
-abbrev pub work_ends : List Entry
-work_ends = entry.Enter 10 1 ∷ entry.TakeDelayed 10 (Whole []) ∷ entry.Leave 10 0 ∷ []
-
--- the script ends
-abbrev pub stops : List Entry
-stops = entry.Out Plain 2 ∷ entry.Done (codes "main") ∷ []
-
--- the closing, in which these units are swept
-abbrev pub closes : List ℕ → List Entry
-closes units =
-    entry.Ended ∷ entry.Close ∷
-    entry.Sweep 10 (Whole units) ∷
-    entry.Stamp 10 Tracing 2 ∷
-    entry.Begin Tracing 1 ∷
-    entry.Finish sweep_period ∷
-    entry.Pass 10 Tracing 2 ∷
-    entry.Return 10 (Whole units) ∷ []
-
 -- ---- the journals
 
 -- a journal of such a scenario
@@ -115,17 +71,18 @@ telling_work log whole totals = record {
   units_whole = whole;
 }
 
--- One object. The call leaves Free empty, so it raises the flag, and the work behind it brings a unit. The drop makes two,
--- which is enough; the work behind the script brings none.
-abbrev pub one_block_log : Log
-one_block_log = ordinary (begins ++ takes ++ work_reads 0 ++ refills 1 ++ work_ends ++ drops 2 ++ stops ++ work_reads 2 ++ work_ends ++ closes (0 ∷ 256 ∷ []))
-
+-- One object: the log is told in bm_law_lives.
 abbrev pub one_block_journal : Journal
-one_block_journal = telling_work one_block_log refl (28 ∷ 1 ∷ 0 ∷ 0 ∷ 1 ∷ 0 ∷ 0 ∷ 0 ∷ 0 ∷ 0 ∷ 0 ∷ 0 ∷ 1 ∷ 2 ∷ 2 ∷ 2 ∷ 0 ∷ 1 ∷ 0 ∷ [])
+one_block_journal =
+    telling_work one_block_log refl
+    (28 ∷ 1 ∷ 0 ∷ 0 ∷ 1 ∷ 0 ∷ 0 ∷ 0 ∷ 0 ∷ 0 ∷ 0 ∷ 0 ∷ 1 ∷ 2 ∷ 2 ∷ 2 ∷ 0 ∷ 1 ∷ 0 ∷ [])
 
 -- No object. No flag is up behind the statement, and no work stands there; that behind the script brings a unit.
 abbrev pub no_block_log : Log
-no_block_log = ordinary (begins ++ stops ++ work_reads 1 ++ refills 2 ++ work_ends ++ closes (256 ∷ 0 ∷ []))
+no_block_log =
+    ordinary (begins ++ stops ++ work_reads 1 ++ refills 2 ++ work_ends ++ closes (256 ∷ 0 ∷ []))
 
 abbrev pub no_block_journal : Journal
-no_block_journal = telling_work no_block_log refl (14 ∷ 0 ∷ 0 ∷ 0 ∷ 0 ∷ 0 ∷ 0 ∷ 0 ∷ 0 ∷ 0 ∷ 0 ∷ 0 ∷ 0 ∷ 1 ∷ 2 ∷ 2 ∷ 0 ∷ 1 ∷ 0 ∷ [])
+no_block_journal =
+    telling_work no_block_log refl
+    (14 ∷ 0 ∷ 0 ∷ 0 ∷ 0 ∷ 0 ∷ 0 ∷ 0 ∷ 0 ∷ 0 ∷ 0 ∷ 0 ∷ 0 ∷ 1 ∷ 2 ∷ 2 ∷ 0 ∷ 1 ∷ 0 ∷ [])

@@ -46,13 +46,19 @@ in_batch = on_row 0 (λ r. record r { deferred = record r.deferred { plain = Som
 
 -- unit 3 is given up, by a delayed free that raises the flag, by one that doesn't, and by a plain free
 abbrev pub delays : List Entry
-delays = entry.Drop 3 1 ∷ entry.Last ∷ entry.Delay 3 0 ∷ entry.Enter 0 1 ∷ entry.Delayed 0 3 ∷ entry.Leave 0 0 ∷ []
+delays =
+    entry.Drop 3 1 ∷ entry.Last ∷ entry.Delay 3 0 ∷ entry.Enter 0 1 ∷ entry.Delayed 0 3
+    ∷ entry.Leave 0 0 ∷ []
 
 abbrev pub delays_and_raises : List Entry
-delays_and_raises = entry.Drop 3 1 ∷ entry.Last ∷ entry.Delay 3 0 ∷ entry.Enter 0 1 ∷ entry.Delayed 0 3 ∷ entry.Leave 0 0 ∷ entry.Raise 0 ∷ []
+delays_and_raises =
+    entry.Drop 3 1 ∷ entry.Last ∷ entry.Delay 3 0 ∷ entry.Enter 0 1 ∷ entry.Delayed 0 3
+    ∷ entry.Leave 0 0 ∷ entry.Raise 0 ∷ []
 
 abbrev pub frees_plainly : List Entry
-frees_plainly = entry.Drop 3 1 ∷ entry.Last ∷ entry.Free 3 0 ∷ entry.Enter 0 1 ∷ entry.Push 0 3 ∷ entry.Count 0 4 ∷ entry.Leave 0 0 ∷ []
+frees_plainly =
+    entry.Drop 3 1 ∷ entry.Last ∷ entry.Free 3 0 ∷ entry.Enter 0 1 ∷ entry.Push 0 3
+    ∷ entry.Count 0 4 ∷ entry.Leave 0 0 ∷ []
 
 -- ---- references
 
@@ -95,10 +101,16 @@ makes_counted = record { line = 7; action = New x_name item_id [] }
 
 -- `if x { acquire y x drop x drop y }`, in this line
 abbrev pub acquires_and_drops : ℕ → List Statement
-acquires_and_drops line = record { line = line; action = Acquire y_name x_name } ∷ drops_x line ∷ record { line = line; action = Drop y_name } ∷ []
+acquires_and_drops line =
+    record { line = line; action = Acquire y_name x_name } ∷ drops_x line
+    ∷ record { line = line; action = Drop y_name } ∷ []
 
 abbrev pub shares_unless_null : ℕ → Statement
-shares_unless_null line = record { line = line; action = If' x_name (block_of (acquires_and_drops line) (lit≤ tt) line) None' }
+shares_unless_null line =
+    record {
+      line = line;
+      action = If' x_name (block_of (acquires_and_drops line) (lit≤ tt) line) None';
+    }
 
 abbrev pub makes_and_shares : Block
 makes_and_shares = block_of (makes_counted ∷ shares_unless_null 8 ∷ []) (lit≤ tt) 9
@@ -115,15 +127,20 @@ shared = acquires 1 ++ gives_one_up 2 ++ delays_and_raises
 
 abbrev pub counted_entries : List Entry
 counted_entries =
-    entry.Fill 0 (Whole one_page) ∷ entry.Script (codes "main") ∷ entry.In Plain 1 ∷ counted_call ++ shared ++ ended ++ swept (2 ∷ 1 ∷ 0 ∷ 3 ∷ [])
+    entry.Fill 0 (Whole one_page) ∷ entry.Script (codes "main") ∷ entry.In Plain 1 ∷ counted_call
+    ++ shared ++ ended ++ swept (2 ∷ 1 ∷ 0 ∷ 3 ∷ [])
 
 abbrev pub counted_log : Log
 counted_log = ordinary counted_entries
 
 -- two flags are raised, by the allocation and by the free; one drop is answered that a reference is left
 abbrev pub counted_journal : Journal
-counted_journal = journal_of 1 (counted_log ∷ []) refl (13 ∷ 1 ∷ 0 ∷ 0 ∷ 1 ∷ 1 ∷ 1 ∷ 0 ∷ 0 ∷ 0 ∷ 0 ∷ 0 ∷ 2 ∷ 0 ∷ 4 ∷ 4 ∷ 0 ∷ 1 ∷ 0 ∷ [])
+counted_journal =
+    journal_of 1 (counted_log ∷ []) refl
+    (13 ∷ 1 ∷ 0 ∷ 0 ∷ 1 ∷ 1 ∷ 1 ∷ 0 ∷ 0 ∷ 0 ∷ 0 ∷ 0 ∷ 2 ∷ 0 ∷ 4 ∷ 4 ∷ 0 ∷ 1 ∷ 0 ∷ [])
 
 -- the drop at level 2, as a handler has it: these entries alone, from these lists
 abbrev pub DropsAbove : State ℕ → List Entry → Type 0
-DropsAbove s own = RunsAction (unmapped counted_types) 2 true part.Nothing (Drop x_name) holding_three none_held s (at_level 2 own)
+DropsAbove s own =
+    RunsAction (unmapped counted_types) 2 true part.Nothing (Drop x_name) holding_three none_held s
+    (at_level 2 own)

@@ -36,7 +36,9 @@ abbrev pub job : TypeDeclaration
 job = record (plain_type (codes "job") (a_field ∷ []) None) { node = Some node.List }
 
 abbrev pub shared : TypeDeclaration
-shared = record (plain_type (codes "shared") (a_field ∷ []) None) { node = Some node.List; counted = true }
+shared =
+    record (plain_type (codes "shared") (a_field ∷ []) None)
+    { node = Some node.List; counted = true }
 
 abbrev pub leaf : TypeDeclaration
 leaf = record (plain_type (codes "leaf") (a_field ∷ []) None) { node = Some node.Tree }
@@ -77,7 +79,9 @@ s_id = record { 0 = 3 }
 
 -- under no lock; and under this one
 abbrev pub graphs : Declared
-graphs = record { types = job ∷ shared ∷ leaf ∷ []; maps = q_map ∷ r_map ∷ t_map ∷ s_map ∷ []; lock = None }
+graphs =
+    record
+    { types = job ∷ shared ∷ leaf ∷ []; maps = q_map ∷ r_map ∷ t_map ∷ s_map ∷ []; lock = None }
 
 abbrev pub within : MapId → Declared
 within g = under (Some g) graphs
@@ -90,10 +94,20 @@ works = Stand 0 (entry.Work 2 ∷ [])
 
 -- a block of these statements, of which there are at most eight
 abbrev pub row_of : (statements : List Statement) → length statements ≤ 8 → Vec Statement
-row_of statements few = record { ptr = null_ptr; len = length statements; cap = 8; alloc = record { memory = record { seal = tt } }; items = statements; ok = (refl, few); small = lit< tt }
+row_of statements few =
+    record {
+      ptr = null_ptr;
+      len = length statements;
+      cap = 8;
+      alloc = record { memory = record { seal = tt } };
+      items = statements;
+      ok = (refl, few);
+      small = lit< tt;
+    }
 
 abbrev pub long_block : (statements : List Statement) → length statements ≤ 8 → Block
-long_block statements few = roll-Block (record { statements = row_of statements few; end_line = 20 })
+long_block statements few =
+    roll-Block (record { statements = row_of statements few; end_line = 20 })
 
 abbrev pub makes : Statement
 makes = record { line = 10; action = New x_name job_id (7 ∷ []) }
@@ -135,7 +149,9 @@ abbrev pub the_job : ObjId
 the_job = record { unit = 3; life = 1 }
 
 abbrev pub asks_job : List Entry
-asks_job = entry.New (codes "job") (7 ∷ []) ∷ entry.Enter 2 1 ∷ entry.Pop 2 3 ∷ entry.Count 2 3 ∷ entry.Leave 2 0 ∷ entry.Raise 2 ∷ entry.Given 3 1 ∷ []
+asks_job =
+    entry.New (codes "job") (7 ∷ []) ∷ entry.Enter 2 1 ∷ entry.Pop 2 3 ∷ entry.Count 2 3
+    ∷ entry.Leave 2 0 ∷ entry.Raise 2 ∷ entry.Given 3 1 ∷ []
 
 abbrev pub lock_of : List ℕ → List Entry
 lock_of name = entry.Lock name ∷ []
@@ -157,7 +173,9 @@ work = entry.Work 2 ∷ []
 
 -- unit u is given up by a plain free
 abbrev pub gives_up : ℕ → List Entry
-gives_up u = entry.Drop u 1 ∷ entry.Last ∷ entry.Free u 0 ∷ entry.Enter 2 1 ∷ entry.Push 2 u ∷ entry.Count 2 4 ∷ entry.Leave 2 0 ∷ []
+gives_up u =
+    entry.Drop u 1 ∷ entry.Last ∷ entry.Free u 0 ∷ entry.Enter 2 1 ∷ entry.Push 2 u
+    ∷ entry.Count 2 4 ∷ entry.Leave 2 0 ∷ []
 
 -- `lock q`, and `unlock`
 abbrev pub locks : List Statement
@@ -175,7 +193,9 @@ popped_soft = with_name y_name (Object job_id 3 1) pushed
 
 -- under the lock no work stands; behind `unlock`, the drop and each `if` it does
 abbrev pub visit_entries : List Entry
-visit_entries = lock_of (codes "q") ++ pushes ++ reads_a ++ pops ++ (unlock_of (codes "q") ++ work) ++ (gives_up 3 ++ work) ++ work
+visit_entries =
+    lock_of (codes "q") ++ pushes ++ reads_a ++ pops ++ (unlock_of (codes "q") ++ work)
+    ++ (gives_up 3 ++ work) ++ work
 
 abbrev pub queue_entries : List Entry
 queue_entries = (asks_job ++ work) ++ (visit_entries ++ work)
@@ -233,7 +253,9 @@ abbrev pub removes : List Entry
 removes = entry.Remove (codes "t") 5 1 2 ∷ []
 
 abbrev pub grow_entries : List Entry
-grow_entries = lock_of (codes "t") ++ adds ++ finds ++ removes ++ (unlock_of (codes "t") ++ work) ++ (gives_up 5 ++ work) ++ work
+grow_entries =
+    lock_of (codes "t") ++ adds ++ finds ++ removes ++ (unlock_of (codes "t") ++ work)
+    ++ (gives_up 5 ++ work) ++ work
 
 -- ---- a refused push
 
@@ -271,4 +293,6 @@ Empties m own = EmptiesMap graphs.types m.kind m (opening 0) (ordinary own)
 
 -- a block in a plain section, where one entry stands in place of deferred work
 abbrev pub LeavesFrom : Declared → List Statement → Names → List Entry → Names → Type 0
-LeavesFrom d statements names own after = (few : length statements ≤ 8) × RunsBlock d 0 true works (long_block statements few) names after (opening 0) (ordinary own)
+LeavesFrom d statements names own after =
+    (few : length statements ≤ 8)
+    × RunsBlock d 0 true works (long_block statements few) names after (opening 0) (ordinary own)

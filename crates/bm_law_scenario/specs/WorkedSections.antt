@@ -33,21 +33,33 @@ abbrev pub awake : Parts
 awake = record (scenario_of 0 naps) { types = [] }
 
 abbrev pub asleep : Parts
-asleep = record awake { scripts = record (script_of 6 (codes "main") naps) { kind = kind.Sleepable } ∷ [] }
+asleep =
+    record awake
+    { scripts = record (script_of 6 (codes "main") naps) { kind = kind.Sleepable } ∷ [] }
 
 -- ---- their journals
 
 -- the script leaves these entries, and the processor ends
 abbrev pub ran : List Entry → Log
-ran own = ordinary (entry.Script (codes "main") ∷ own ++ entry.Done (codes "main") ∷ entry.Ended ∷ entry.Close ∷ [])
+ran own =
+    ordinary
+    (entry.Script (codes "main") ∷ own ++ entry.Done (codes "main") ∷ entry.Ended ∷ entry.Close
+    ∷ [])
 
 -- a journal of this log, in which no step stands
 abbrev pub stepless : (log : Log) → IsTrue (are_whole (log ∷ [])) → Journal
-stepless log whole = record (journal_of 0 (log ∷ []) whole (0 ∷ 0 ∷ 0 ∷ 0 ∷ 0 ∷ 0 ∷ 0 ∷ 0 ∷ 0 ∷ 0 ∷ 0 ∷ 0 ∷ 0 ∷ 0 ∷ 0 ∷ 0 ∷ 0 ∷ 0 ∷ 0 ∷ [])) { types = []; classes = [] }
+stepless log whole =
+    record
+    (journal_of 0 (log ∷ []) whole
+    (0 ∷ 0 ∷ 0 ∷ 0 ∷ 0 ∷ 0 ∷ 0 ∷ 0 ∷ 0 ∷ 0 ∷ 0 ∷ 0 ∷ 0 ∷ 0 ∷ 0 ∷ 0 ∷ 0 ∷ 0 ∷ 0 ∷ []))
+    { types = []; classes = [] }
 
 -- in a tracing section the outer `section` begins a plain one, and the inner one nothing
 abbrev pub asleep_log : Log
-asleep_log = ran (entry.In Tracing 1 ∷ entry.In Plain 1 ∷ entry.Yield ∷ entry.Out Plain 2 ∷ entry.Yield ∷ entry.Out Tracing 2 ∷ [])
+asleep_log =
+    ran
+    (entry.In Tracing 1 ∷ entry.In Plain 1 ∷ entry.Yield ∷ entry.Out Plain 2 ∷ entry.Yield
+    ∷ entry.Out Tracing 2 ∷ [])
 
 -- in a plain section neither begins one
 abbrev pub awake_log : Log
@@ -61,13 +73,25 @@ abbrev pub no_section : Log
 no_section = ran (entry.In Tracing 1 ∷ entry.Yield ∷ entry.Yield ∷ entry.Out Tracing 2 ∷ [])
 
 abbrev pub two_sections : Log
-two_sections = ran (entry.In Tracing 1 ∷ entry.In Plain 1 ∷ entry.Out Plain 2 ∷ entry.In Plain 3 ∷ entry.Yield ∷ entry.Out Plain 4 ∷ entry.Yield ∷ entry.Out Tracing 2 ∷ [])
+two_sections =
+    ran
+    (entry.In Tracing 1 ∷ entry.In Plain 1 ∷ entry.Out Plain 2 ∷ entry.In Plain 3 ∷ entry.Yield
+    ∷ entry.Out Plain 4 ∷ entry.Yield ∷ entry.Out Tracing 2 ∷ [])
 
 abbrev pub wide_section : Log
-wide_section = ran (entry.In Tracing 1 ∷ entry.In Plain 1 ∷ entry.Yield ∷ entry.Yield ∷ entry.Out Plain 2 ∷ entry.Out Tracing 2 ∷ [])
+wide_section =
+    ran
+    (entry.In Tracing 1 ∷ entry.In Plain 1 ∷ entry.Yield ∷ entry.Yield ∷ entry.Out Plain 2
+    ∷ entry.Out Tracing 2 ∷ [])
 
 abbrev pub open_section : Log
-open_section = ran (entry.In Tracing 1 ∷ entry.In Plain 1 ∷ entry.Yield ∷ entry.Yield ∷ entry.Out Tracing 2 ∷ [])
+open_section =
+    ran
+    (entry.In Tracing 1 ∷ entry.In Plain 1 ∷ entry.Yield ∷ entry.Yield ∷ entry.Out Tracing 2
+    ∷ [])
 
 abbrev pub one_yield : Log
-one_yield = ran (entry.In Tracing 1 ∷ entry.In Plain 1 ∷ entry.Yield ∷ entry.Out Plain 2 ∷ entry.Out Tracing 2 ∷ [])
+one_yield =
+    ran
+    (entry.In Tracing 1 ∷ entry.In Plain 1 ∷ entry.Yield ∷ entry.Out Plain 2
+    ∷ entry.Out Tracing 2 ∷ [])

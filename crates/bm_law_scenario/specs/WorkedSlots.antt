@@ -40,13 +40,22 @@ o_name = codes "o"
 -- `if o { drop o }`, and `if x { xchg o desk x if o { drop o } }`, in this line
 abbrev pub drops_o_unless_null : ℕ → Statement
 drops_o_unless_null line =
-    record { line = line; action = If' o_name (block_of (record { line = line; action = Drop o_name } ∷ []) (lit≤ tt) line) None' }
+    record {
+      line = line;
+      action =
+          If' o_name
+          (block_of (record { line = line; action = Drop o_name } ∷ []) (lit≤ tt) line)
+          None';
+    }
 
 abbrev pub puts_x : ℕ → List Statement
-puts_x line = record { line = line; action = Exchange o_name desk_id (Some x_name) } ∷ drops_o_unless_null line ∷ []
+puts_x line =
+    record { line = line; action = Exchange o_name desk_id (Some x_name) }
+    ∷ drops_o_unless_null line ∷ []
 
 abbrev pub puts_x_unless_null : ℕ → Statement
-puts_x_unless_null line = record { line = line; action = If' x_name (block_of (puts_x line) (lit≤ tt) line) None' }
+puts_x_unless_null line =
+    record { line = line; action = If' x_name (block_of (puts_x line) (lit≤ tt) line) None' }
 
 abbrev pub gives : Block
 gives = block_of (makes_x 8 ∷ puts_x_unless_null 9 ∷ []) (lit≤ tt) 10
@@ -63,7 +72,9 @@ handed_over = record (scenario_of 1 gives) {
   processors = 2;
   maps = slots;
   scripts = script_of 7 (codes "gives") gives ∷ script_of 11 (codes "takes") takes ∷ [];
-  runs = record { line = 15; processor = 0; script = record { 0 = 0 } } ∷ record { line = 16; processor = 1; script = record { 0 = 1 } } ∷ [];
+  runs =
+      record { line = 15; processor = 0; script = record { 0 = 0 } }
+      ∷ record { line = 16; processor = 1; script = record { 0 = 1 } } ∷ [];
 }
 
 -- ---- the names
@@ -94,7 +105,8 @@ call_of p n = Some (record { processor = p; serial = n })
 
 -- these units are swept, and go back to the stock after a tracing period, which begins with this number
 abbrev pub sweep_period_of : ℕ → Period
-sweep_period_of n = record { domain = Tracing; number = n; first = 2 ∷ 0 ∷ 2 ∷ 0 ∷ []; later = 2 ∷ 0 ∷ 2 ∷ 0 ∷ [] }
+sweep_period_of n =
+    record { domain = Tracing; number = n; first = 2 ∷ 0 ∷ 2 ∷ 0 ∷ []; later = 2 ∷ 0 ∷ 2 ∷ 0 ∷ [] }
 
 abbrev pub sweeps_by : (begin stamp : ℕ) → List ℕ → List Entry
 sweeps_by begin stamp units =
@@ -120,7 +132,9 @@ makes_and_puts = asks ∷ took 3 ++ exchanges the_object None None
 
 abbrev pub giver_with : Option Tag → List Entry
 giver_with by =
-    entry.Fill 0 (Whole one_page) ∷ begins (codes "gives") ++ makes_and_puts ++ stops (codes "gives") ++ entry.Ended ∷ entry.Close ∷ exchanges None None by ++ sweeps_by 1 2 (2 ∷ 1 ∷ 0 ∷ [])
+    entry.Fill 0 (Whole one_page) ∷ begins (codes "gives") ++ makes_and_puts
+    ++ stops (codes "gives") ++ entry.Ended ∷ entry.Close ∷ exchanges None None by
+    ++ sweeps_by 1 2 (2 ∷ 1 ∷ 0 ∷ [])
 
 abbrev pub empties : List Entry
 empties = exchanges None None (call_of 1 1)
@@ -130,11 +144,15 @@ giver_entries = giver_with (call_of 1 1)
 
 -- processor 1 takes what this call put there, and drops it with this home; the unit stands on its own free list then
 abbrev pub gives_up_to : (home : ℕ) → List Entry
-gives_up_to home = entry.Drop 3 1 ∷ entry.Last ∷ entry.Free 3 home ∷ entry.Enter 0 1 ∷ entry.Push 0 3 ∷ entry.Count 0 5 ∷ entry.Leave 0 0 ∷ []
+gives_up_to home =
+    entry.Drop 3 1 ∷ entry.Last ∷ entry.Free 3 home ∷ entry.Enter 0 1 ∷ entry.Push 0 3
+    ∷ entry.Count 0 5 ∷ entry.Leave 0 0 ∷ []
 
 abbrev pub taker_with : Option Tag → (home : ℕ) → List Entry
 taker_with by home =
-    entry.Fill 0 (Whole second_page) ∷ begins (codes "takes") ++ (exchanges None the_object by ++ gives_up_to home) ++ stops (codes "takes") ++ entry.Ended ∷ sweeps_by 3 4 (3 ∷ 7 ∷ 6 ∷ 5 ∷ 4 ∷ [])
+    entry.Fill 0 (Whole second_page) ∷ begins (codes "takes")
+    ++ (exchanges None the_object by ++ gives_up_to home) ++ stops (codes "takes")
+    ++ entry.Ended ∷ sweeps_by 3 4 (3 ∷ 7 ∷ 6 ∷ 5 ∷ 4 ∷ [])
 
 -- processor 0 has put it, and has given the unit
 abbrev pub gives_up : List Entry
@@ -150,11 +168,14 @@ abbrev pub taker : Log
 taker = ordinary taker_entries
 
 abbrev pub handed_over_journal : Journal
-handed_over_journal = record (journal_of 1 (giver ∷ taker ∷ []) refl (17 ∷ 1 ∷ 0 ∷ 0 ∷ 1 ∷ 0 ∷ 0 ∷ 3 ∷ 0 ∷ 0 ∷ 0 ∷ 0 ∷ 1 ∷ 0 ∷ 8 ∷ 8 ∷ 0 ∷ 2 ∷ 0 ∷ [])) {
-  processors = 2;
-  maps = desk ∷ [];
-  scripts = codes "gives" ∷ codes "takes" ∷ [];
-}
+handed_over_journal =
+    record
+    (journal_of 1 (giver ∷ taker ∷ []) refl
+    (17 ∷ 1 ∷ 0 ∷ 0 ∷ 1 ∷ 0 ∷ 0 ∷ 3 ∷ 0 ∷ 0 ∷ 0 ∷ 0 ∷ 1 ∷ 0 ∷ 8 ∷ 8 ∷ 0 ∷ 2 ∷ 0 ∷ [])) {
+      processors = 2;
+      maps = desk ∷ [];
+      scripts = codes "gives" ∷ codes "takes" ∷ [];
+    }
 
 -- ---- wrong ones
 

@@ -31,7 +31,8 @@ visits =
     record { line = 14; action = Unlock } ∷ []
 
 abbrev pub puts_away : List Statement
-puts_away = makes ∷ record { line = 15; action = If' x_name (long_block visits (lit≤ tt)) None' } ∷ []
+puts_away =
+    makes ∷ record { line = 15; action = If' x_name (long_block visits (lit≤ tt)) None' } ∷ []
 
 abbrev pub keeper : Block
 keeper = long_block puts_away (lit≤ tt)
@@ -59,10 +60,14 @@ stops = entry.Out Plain 2 ∷ entry.Done (codes "main") ∷ []
 
 -- the list is emptied, from this position on, and then the other maps
 abbrev pub empties_q : ℕ → List Entry
-empties_q n = entry.PopFront (codes "q") (Some the_job) n ∷ gives_up 3 ++ entry.PopFront (codes "q") None 2 ∷ []
+empties_q n =
+    entry.PopFront (codes "q") (Some the_job) n ∷ gives_up 3 ++ entry.PopFront (codes "q") None 2
+    ∷ []
 
 abbrev pub empties_others : List Entry
-empties_others = entry.PopFront (codes "r") None 0 ∷ entry.First (codes "t") None 0 ∷ entry.Xchg (codes "s") None None None ∷ []
+empties_others =
+    entry.PopFront (codes "r") None 0 ∷ entry.First (codes "t") None 0
+    ∷ entry.Xchg (codes "s") None None None ∷ []
 
 abbrev pub sweeps : List Entry
 sweeps =
@@ -76,7 +81,9 @@ sweeps =
 -- with this visit, and this emptying of the list
 abbrev pub log_with : (visit emptying : List Entry) → Log
 log_with visit emptying =
-    ordinary (entry.Fill 2 (Whole one_page) ∷ begins ++ (asks_job ++ visit) ++ stops ++ entry.Ended ∷ entry.Close ∷ (emptying ++ empties_others) ++ sweeps)
+    ordinary
+    (entry.Fill 2 (Whole one_page) ∷ begins ++ (asks_job ++ visit) ++ stops ++ entry.Ended
+    ∷ entry.Close ∷ (emptying ++ empties_others) ++ sweeps)
 
 abbrev pub visited_log : Log
 visited_log = log_with visit_entries (empties_q 1)
@@ -88,7 +95,9 @@ abbrev pub past_of : ℕ → PastCall → Past
 past_of serial call = record { tag = record { processor = 0; serial = serial }; call = call }
 
 abbrev pub history_q : List Past
-history_q = past_of 2 (past.PushBack the_job) ∷ past_of 4 (past.PopFront the_job) ∷ past_of 6 past.PopFrontNone ∷ []
+history_q =
+    past_of 2 (past.PushBack the_job) ∷ past_of 4 (past.PopFront the_job)
+    ∷ past_of 6 past.PopFrontNone ∷ []
 
 abbrev pub history_r : List Past
 history_r = past_of 7 past.PopFrontNone ∷ []
@@ -97,9 +106,12 @@ abbrev pub history_t : List Past
 history_t = past_of 8 past.FirstNone ∷ []
 
 abbrev pub visited_journal : Journal
-visited_journal = record (journal_of 1 (visited_log ∷ []) refl (13 ∷ 1 ∷ 0 ∷ 0 ∷ 1 ∷ 0 ∷ 0 ∷ 1 ∷ 1 ∷ 0 ∷ 1 ∷ 3 ∷ 1 ∷ 0 ∷ 4 ∷ 4 ∷ 0 ∷ 1 ∷ 0 ∷ [])) {
-  types = codes "job" ∷ codes "shared" ∷ codes "leaf" ∷ [];
-  maps = codes "q" ∷ codes "r" ∷ codes "t" ∷ codes "s" ∷ [];
-  classes = (2, record { low = 32; high = 96; batch = 48 }) ∷ [];
-  graphs = (codes "q", history_q) ∷ (codes "r", history_r) ∷ (codes "t", history_t) ∷ [];
-}
+visited_journal =
+    record
+    (journal_of 1 (visited_log ∷ []) refl
+    (13 ∷ 1 ∷ 0 ∷ 0 ∷ 1 ∷ 0 ∷ 0 ∷ 1 ∷ 1 ∷ 0 ∷ 1 ∷ 3 ∷ 1 ∷ 0 ∷ 4 ∷ 4 ∷ 0 ∷ 1 ∷ 0 ∷ [])) {
+      types = codes "job" ∷ codes "shared" ∷ codes "leaf" ∷ [];
+      maps = codes "q" ∷ codes "r" ∷ codes "t" ∷ codes "s" ∷ [];
+      classes = (2, record { low = 32; high = 96; batch = 48 }) ∷ [];
+      graphs = (codes "q", history_q) ∷ (codes "r", history_r) ∷ (codes "t", history_t) ∷ [];
+    }

@@ -18,14 +18,20 @@ telling_wrong log whole = telling_work log whole (totals_of (log ∷ []))
 
 -- One object: no work stands behind the call, which raised the flag.
 abbrev pub left_out_log : Log
-left_out_log = ordinary (begins ++ takes ++ drops 1 ++ stops ++ work_reads 1 ++ refills 2 ++ work_ends ++ closes (256 ∷ 0 ∷ []))
+left_out_log =
+    ordinary
+    (begins ++ takes ++ drops 1 ++ stops ++ work_reads 1 ++ refills 2 ++ work_ends
+    ++ closes (256 ∷ 0 ∷ []))
 
 abbrev pub left_out : Journal
 left_out = telling_wrong left_out_log refl
 
 -- No object: a work stands behind the statement, though no flag is up.
 abbrev pub not_asked_log : Log
-not_asked_log = ordinary (begins ++ work_reads 1 ++ refills 2 ++ work_ends ++ stops ++ work_reads 2 ++ work_ends ++ closes (256 ∷ 0 ∷ []))
+not_asked_log =
+    ordinary
+    (begins ++ work_reads 1 ++ refills 2 ++ work_ends ++ stops ++ work_reads 2 ++ work_ends
+    ++ closes (256 ∷ 0 ∷ []))
 
 abbrev pub not_asked : Journal
 not_asked = telling_wrong not_asked_log refl
@@ -41,11 +47,18 @@ not_behind = telling_wrong not_behind_log refl
 
 -- A drain sends a unit to this very processor.
 abbrev pub sends : Log
-sends = ordinary (entry.Fill 10 (Whole (0 ∷ 256 ∷ [])) ∷ entry.Enter 10 1 ∷ entry.Pop 10 256 ∷ entry.Count 10 1 ∷ entry.Leave 10 0 ∷ entry.Send 10 0 (Whole (256 ∷ [])) ∷ [])
+sends =
+    ordinary
+    (entry.Fill 10 (Whole (0 ∷ 256 ∷ [])) ∷ entry.Enter 10 1 ∷ entry.Pop 10 256
+    ∷ entry.Count 10 1 ∷ entry.Leave 10 0 ∷ entry.Send 10 0 (Whole (256 ∷ [])) ∷ [])
 
 -- It is received, or swept with the units of the lists.
 abbrev pub received : Log
-received = sends ++ ordinary (entry.Receive 10 (Whole (256 ∷ [])) ∷ entry.Receive 10 (Whole []) ∷ entry.Sweep 10 (Whole (0 ∷ 256 ∷ [])) ∷ [])
+received =
+    sends
+    ++ ordinary
+    (entry.Receive 10 (Whole (256 ∷ [])) ∷ entry.Receive 10 (Whole [])
+    ∷ entry.Sweep 10 (Whole (0 ∷ 256 ∷ [])) ∷ [])
 
 abbrev pub swept_from_inbox : Log
 swept_from_inbox = sends ++ ordinary (entry.Sweep 10 (Whole (0 ∷ 256 ∷ [])) ∷ [])
@@ -55,13 +68,22 @@ abbrev pub inbox_forgotten : Log
 inbox_forgotten = sends ++ ordinary (entry.Sweep 10 (Whole (0 ∷ [])) ∷ [])
 
 abbrev pub not_received : Log
-not_received = sends ++ ordinary (entry.Receive 10 (Whole []) ∷ entry.Sweep 10 (Whole (0 ∷ 256 ∷ [])) ∷ [])
+not_received =
+    sends ++ ordinary (entry.Receive 10 (Whole []) ∷ entry.Sweep 10 (Whole (0 ∷ 256 ∷ [])) ∷ [])
 
 abbrev pub other_received : Log
-other_received = sends ++ ordinary (entry.Receive 10 (Whole (512 ∷ [])) ∷ entry.Receive 10 (Whole []) ∷ entry.Sweep 10 (Whole (0 ∷ 512 ∷ [])) ∷ [])
+other_received =
+    sends
+    ++ ordinary
+    (entry.Receive 10 (Whole (512 ∷ [])) ∷ entry.Receive 10 (Whole [])
+    ∷ entry.Sweep 10 (Whole (0 ∷ 512 ∷ [])) ∷ [])
 
 abbrev pub received_twice : Log
-received_twice = sends ++ ordinary (entry.Receive 10 (Whole (256 ∷ [])) ∷ entry.Receive 10 (Whole (256 ∷ [])) ∷ entry.Sweep 10 (Whole (0 ∷ 256 ∷ 256 ∷ [])) ∷ [])
+received_twice =
+    sends
+    ++ ordinary
+    (entry.Receive 10 (Whole (256 ∷ [])) ∷ entry.Receive 10 (Whole (256 ∷ []))
+    ∷ entry.Sweep 10 (Whole (0 ∷ 256 ∷ 256 ∷ [])) ∷ [])
 
 -- ---- flags and periods
 
@@ -74,4 +96,5 @@ abbrev pub begun : Domain → ℕ → Log
 begun d n = ordinary (entry.Begin d n ∷ [])
 
 abbrev pub ends : Domain → ℕ → Log
-ends d n = ordinary (entry.Finish (record { domain = d; number = n; first = 0 ∷ []; later = 0 ∷ [] }) ∷ [])
+ends d n =
+    ordinary (entry.Finish (record { domain = d; number = n; first = 0 ∷ []; later = 0 ∷ [] }) ∷ [])

@@ -30,14 +30,16 @@ abbrev pub other_type : Journal
 other_type = record one_object_journal { types = codes "thing" ∷ [] }
 
 abbrev pub one_map : Journal
-one_map = record one_object_journal { maps = codes "slot" ∷ []; maps_differ = refl; owners_named = refl }
+one_map =
+    record one_object_journal { maps = codes "slot" ∷ []; maps_differ = refl; owners_named = refl }
 
 abbrev pub other_script : Journal
 other_script = record one_object_journal { scripts = codes "other" ∷ [] }
 
 -- another batch of the class
 abbrev pub other_marks : Journal
-other_marks = record one_object_journal { classes = (0, record { low = 32; high = 96; batch = 47 }) ∷ [] }
+other_marks =
+    record one_object_journal { classes = (0, record { low = 32; high = 96; batch = 47 }) ∷ [] }
 
 -- the history of a list that isn't there
 abbrev pub one_history : Journal
@@ -45,13 +47,17 @@ one_history = record one_object_journal { graphs = (codes "list", []) ∷ []; ow
 
 -- one step more than there are
 abbrev pub one_step_more : Journal
-one_step_more = record one_object_journal { totals = 14 ∷ 1 ∷ 0 ∷ 0 ∷ 1 ∷ 0 ∷ 0 ∷ 0 ∷ 0 ∷ 0 ∷ 0 ∷ 0 ∷ 1 ∷ 0 ∷ 4 ∷ 4 ∷ 0 ∷ 1 ∷ 0 ∷ [] }
+one_step_more =
+    record one_object_journal
+    { totals = 14 ∷ 1 ∷ 0 ∷ 0 ∷ 1 ∷ 0 ∷ 0 ∷ 0 ∷ 0 ∷ 0 ∷ 0 ∷ 0 ∷ 1 ∷ 0 ∷ 4 ∷ 4 ∷ 0 ∷ 1 ∷ 0 ∷ [] }
 
 -- ---- the number of logs
 
 -- one log too many, and none
 abbrev pub two_logs : Journal
-two_logs = journal_of 1 (one_object_log ∷ one_object_log ∷ []) refl (totals_of (one_object_log ∷ one_object_log ∷ []))
+two_logs =
+    journal_of 1 (one_object_log ∷ one_object_log ∷ []) refl
+    (totals_of (one_object_log ∷ one_object_log ∷ []))
 
 abbrev pub no_log : Journal
 no_log = journal_of 1 [] refl (totals_of [])
@@ -78,28 +84,39 @@ object_left = scenario_of 1 makes_alone
 
 -- The object is dropped twice.
 abbrev pub dropped_twice_log : Log
-dropped_twice_log = ordinary (asked one_page ++ took 3 ++ gave 3 4 ++ gave 3 5 ++ ended ++ swept (3 ∷ 3 ∷ 2 ∷ 1 ∷ 0 ∷ []))
+dropped_twice_log =
+    ordinary
+    (asked one_page ++ took 3 ++ gave 3 4 ++ gave 3 5 ++ ended
+    ++ swept (3 ∷ 3 ∷ 2 ∷ 1 ∷ 0 ∷ []))
 
 abbrev pub dropped_twice : Journal
 dropped_twice = telling dropped_twice_log refl
 
 -- Another object is dropped than the one that was given.
 abbrev pub other_dropped_log : Log
-other_dropped_log = ordinary (asked one_page ++ took 3 ++ gave 2 4 ++ ended ++ swept (2 ∷ 2 ∷ 1 ∷ 0 ∷ []))
+other_dropped_log =
+    ordinary (asked one_page ++ took 3 ++ gave 2 4 ++ ended ++ swept (2 ∷ 2 ∷ 1 ∷ 0 ∷ []))
 
 abbrev pub other_dropped : Journal
 other_dropped = telling other_dropped_log refl
 
 -- The call has another value than the statement.
 abbrev pub other_value_log : Log
-other_value_log = ordinary (entry.Fill 0 (Whole one_page) ∷ entry.Script (codes "main") ∷ entry.In Plain 1 ∷ entry.New (codes "item") (8 ∷ []) ∷ took 3 ++ gave 3 4 ++ ended ++ swept (3 ∷ 2 ∷ 1 ∷ 0 ∷ []))
+other_value_log =
+    ordinary
+    (entry.Fill 0 (Whole one_page) ∷ entry.Script (codes "main") ∷ entry.In Plain 1
+    ∷ entry.New (codes "item") (8 ∷ []) ∷ took 3 ++ gave 3 4 ++ ended
+    ++ swept (3 ∷ 2 ∷ 1 ∷ 0 ∷ []))
 
 abbrev pub other_value : Journal
 other_value = telling other_value_log refl
 
 -- The call is served from class 1, where there is no unit.
 abbrev pub other_class_log : Log
-other_class_log = ordinary (asked one_page ++ entry.Enter 1 1 ∷ entry.PopNone 1 ∷ entry.Leave 1 0 ∷ entry.Raise 1 ∷ entry.Empty ∷ ended ++ swept (3 ∷ 2 ∷ 1 ∷ 0 ∷ []))
+other_class_log =
+    ordinary
+    (asked one_page ++ entry.Enter 1 1 ∷ entry.PopNone 1 ∷ entry.Leave 1 0 ∷ entry.Raise 1
+    ∷ entry.Empty ∷ ended ++ swept (3 ∷ 2 ∷ 1 ∷ 0 ∷ []))
 
 abbrev pub other_class : Journal
 other_class = telling other_class_log refl
@@ -120,17 +137,21 @@ not_opened = telling not_opened_log refl
 
 -- The unit below the top is given.
 abbrev pub below_the_top_log : Log
-below_the_top_log = ordinary (asked one_page ++ took 2 ++ gave 2 4 ++ ended ++ swept (2 ∷ 3 ∷ 1 ∷ 0 ∷ []))
+below_the_top_log =
+    ordinary (asked one_page ++ took 2 ++ gave 2 4 ++ ended ++ swept (2 ∷ 3 ∷ 1 ∷ 0 ∷ []))
 
 abbrev pub below_the_top : Journal
 below_the_top = telling below_the_top_log refl
 
 -- The drop doesn't count the free units.
 abbrev pub uncounted_drop : List Entry
-uncounted_drop = entry.Drop 3 1 ∷ entry.Last ∷ entry.Free 3 0 ∷ entry.Enter 0 1 ∷ entry.Push 0 3 ∷ entry.Leave 0 0 ∷ []
+uncounted_drop =
+    entry.Drop 3 1 ∷ entry.Last ∷ entry.Free 3 0 ∷ entry.Enter 0 1 ∷ entry.Push 0 3
+    ∷ entry.Leave 0 0 ∷ []
 
 abbrev pub not_counted_log : Log
-not_counted_log = ordinary (asked one_page ++ took 3 ++ uncounted_drop ++ ended ++ swept (3 ∷ 2 ∷ 1 ∷ 0 ∷ []))
+not_counted_log =
+    ordinary (asked one_page ++ took 3 ++ uncounted_drop ++ ended ++ swept (3 ∷ 2 ∷ 1 ∷ 0 ∷ []))
 
 abbrev pub not_counted : Journal
 not_counted = telling not_counted_log refl
@@ -159,7 +180,10 @@ not_swept = telling not_swept_log refl
 
 -- The closing doesn't begin.
 abbrev pub not_closed_log : Log
-not_closed_log = ordinary (asked one_page ++ took 3 ++ gave 3 4 ++ entry.Out Plain 2 ∷ entry.Done (codes "main") ∷ entry.Ended ∷ swept (3 ∷ 2 ∷ 1 ∷ 0 ∷ []))
+not_closed_log =
+    ordinary
+    (asked one_page ++ took 3 ++ gave 3 4 ++ entry.Out Plain 2 ∷ entry.Done (codes "main")
+    ∷ entry.Ended ∷ swept (3 ∷ 2 ∷ 1 ∷ 0 ∷ []))
 
 abbrev pub not_closed : Journal
 not_closed = telling not_closed_log refl
@@ -177,12 +201,15 @@ empty_swept = journal_of 0 (empty_swept_log ∷ []) refl (totals_of (empty_swept
 
 -- a journal of this log alone, with the heading of the two scripts
 abbrev pub telling_three_calls : (log : Log) → IsTrue (are_whole (log ∷ [])) → Journal
-telling_three_calls log whole = record three_calls_journal { logs = log ∷ []; totals = totals_of (log ∷ []); units_whole = whole }
+telling_three_calls log whole =
+    record three_calls_journal
+    { logs = log ∷ []; totals = totals_of (log ∷ []); units_whole = whole }
 
 -- The script that is declared first runs first.
 abbrev pub main_first_log : Log
 main_first_log = ordinary (asked [] ++ took_none ++ entry.Out Plain 2 ∷ entry.Done (codes "main") ∷
-    entry.Script (codes "twice") ∷ entry.In Plain 3 ∷ asks ∷ took_none ++ asks ∷ took_none ++ entry.Out Plain 4 ∷ entry.Done (codes "twice") ∷
+    entry.Script (codes "twice") ∷ entry.In Plain 3 ∷ asks ∷ took_none ++ asks ∷ took_none
+    ++ entry.Out Plain 4 ∷ entry.Done (codes "twice") ∷
     entry.Ended ∷ entry.Close ∷ [])
 
 abbrev pub main_first : Journal
@@ -191,7 +218,8 @@ main_first = telling_three_calls main_first_log refl
 -- The block that is repeated twice runs once.
 abbrev pub repeated_once_log : Log
 repeated_once_log = ordinary (entry.Fill 0 (Whole []) ∷
-    entry.Script (codes "twice") ∷ entry.In Plain 1 ∷ asks ∷ took_none ++ entry.Out Plain 2 ∷ entry.Done (codes "twice") ∷
+    entry.Script (codes "twice") ∷ entry.In Plain 1 ∷ asks ∷ took_none ++ entry.Out Plain 2
+    ∷ entry.Done (codes "twice") ∷
     main_part ++ entry.Ended ∷ entry.Close ∷ [])
 
 abbrev pub repeated_once : Journal

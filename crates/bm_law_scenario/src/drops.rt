@@ -11,15 +11,21 @@ ghost use Rattle.bm_law_scenario.specs.WorkedJournal.{types, x_name};
 /// freed with delay, whatever is known of batches. And the journal of a script that makes a counted object, acquires a second reference
 /// to it and gives both up is lawful, in which the sweep takes the unit off Delayed.
 pub fn worked_drops()
-    ensures raised { RunsDrop counted_types x_name (batch_in no_batch) holding_three delays_and_raises none_held }
-    ensures waiting { RunsDrop counted_types x_name (batch_in in_batch) holding_three delays none_held }
-    ensures plainly { ¬ RunsDrop counted_types x_name any_batch holding_three frees_plainly none_held }
-    ensures unraised { ¬ RunsDrop counted_types x_name (batch_in no_batch) holding_three delays none_held }
-    ensures raised_again { ¬ RunsDrop counted_types x_name (batch_in in_batch) holding_three delays_and_raises none_held }
+    ensures raised { RunsDrop counted_types x_name (batch_in no_batch) holding_three
+        delays_and_raises none_held }
+    ensures waiting { RunsDrop counted_types x_name (batch_in in_batch) holding_three delays
+        none_held }
+    ensures plainly { ¬ RunsDrop counted_types x_name any_batch holding_three frees_plainly
+        none_held }
+    ensures unraised { ¬ RunsDrop counted_types x_name (batch_in no_batch) holding_three delays
+        none_held }
+    ensures raised_again { ¬ RunsDrop counted_types x_name (batch_in in_batch) holding_three
+        delays_and_raises none_held }
     ensures above_raised { DropsAbove no_batch delays_and_raises }
     ensures above_waiting { DropsAbove in_batch delays }
     ensures above_unraised { ¬ DropsAbove no_batch delays }
     ensures above_raised_again { ¬ DropsAbove in_batch delays_and_raises }
-    ensures uncounted { ¬ RunsDrop types x_name any_batch holding_three delays_and_raises none_held }
+    ensures uncounted { ¬ RunsDrop types x_name any_batch holding_three delays_and_raises
+        none_held }
     ensures journal { LawfulLogs counted_object counted_journal }
 {}

@@ -4,7 +4,7 @@ ghost use Rattle.std.specs.Prelude.{◌≡◌, false, []};
 ghost use Rattle.bm_journal.specs.declared.ids.Domain.TheVariants.{Plain};
 ghost use Rattle.bm_law_scenario.specs.Handlers.{HandlersDone};
 ghost use Rattle.bm_law_scenario.specs.Lawful.{LawfulLogs};
-ghost use Rattle.bm_law_scenario.specs.SectionWords.{SectionWords, words_fit};
+ghost use Rattle.bm_law_lives.specs.SectionWords.{SectionWords, words_fit};
 ghost use Rattle.bm_law_scenario.specs.WorkedHandlers.{asks_too, back_as_other, begins_with_two, behind_script, encloses_inside, ends_first, handled, idle, interrupted, interrupted_journal, keeps, keeps_it, no_section, plain_script, same_words, uninterrupted_journal};
 ghost use Rattle.bm_law_scenario.specs.WorkedJournal.{makes_and_drops};
 
@@ -29,7 +29,8 @@ pub fn wrong_handlers()
     ensures bare { ¬ HandlersDone (handled idle) 0 no_section }
     ensures plain { ¬ HandlersDone (handled idle) 0 plain_script }
     ensures back { ¬ HandlersDone (handled idle) 0 back_as_other }
-    ensures unplanned { ¬ LawfulLogs (record (handled (makes_and_drops 7 8 9)) { ats = [] }) interrupted_journal }
+    ensures unplanned { ¬ LawfulLogs (record (handled (makes_and_drops 7 8 9)) { ats = [] })
+        interrupted_journal }
     ensures left_out { ¬ LawfulLogs (handled (makes_and_drops 7 8 9)) uninterrupted_journal }
 {}
 

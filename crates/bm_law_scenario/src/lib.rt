@@ -5,8 +5,8 @@
 //!   is the one definition for scripts and handlers.
 //! - `IsLog` (specs/Grammar) is what a log is made of: fills, scripts with the work after them, the closing (specs/Fills, Works,
 //!   Closing).
-//! - `HandlerPhrase` and `HandlersDone` (specs/Handlers) are what handlers leave; `SectionWords` counts the words of sections.
-//! - `ParcelLaw` (specs/Parcels) and `JournalShort` (specs/Short) speak of parcels and of fewer units than were wanted.
+//! - `HandlerPhrase` and `HandlersDone` (specs/Handlers) are what handlers leave; `ParcelLaw` (specs/Parcels) speaks of parcels.
+//! - `SectionWords` and `JournalShort`, of `bm_law_lives`, count the words of sections and speak of fewer units than were wanted.
 //! - `LawfulLog` and `LawfulLogs` (specs/Lawful) put them together.
 //! - `handlers_law`, `unplanned_law` are laws; `worked_*` and `wrong_*` compute all of it on worked journals and on wrong
 //!   neighbours.

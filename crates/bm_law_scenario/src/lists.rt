@@ -21,7 +21,8 @@ pub fn worked_lists()
     ensures grows { LeavesFrom graphs grows holding_leaf grow_entries leaf_done }
     ensures grown { (x : List ℕ) → OwnsNothing (leaf_done x) }
     ensures null { RunsRemove (within t_id) t_id y_name f_name found_none [] removed_none }
-    ensures refused { RunsRefused (within r_id) to_back r_id x_name any_batch holding_shared refused_and_dropped shared_spent }
+    ensures refused { RunsRefused (within r_id) to_back r_id x_name any_batch holding_shared
+        refused_and_dropped shared_spent }
     ensures list { Empties q_map empties_list }
     ensures tree { Empties t_map empties_tree }
 {}
@@ -45,8 +46,10 @@ pub fn wrong_lists()
     ensures soft_popped { ¬ RunsPop (within q_id) from_front q_id y_name pushed pops popped_soft }
     ensures soft_unlocked { ¬ RunsUnlock (within q_id) pushed (unlock_of (codes "q")) pushed }
     ensures soft_read { ¬ RunsGet graphs.types x_name a_field left reads_a left }
-    ensures null_call { ¬ RunsRemove (within t_id) t_id y_name f_name found_none removes removed_none }
-    ensures undropped { ¬ RunsRefused (within r_id) to_back r_id x_name any_batch holding_shared refused shared_spent }
+    ensures null_call { ¬ RunsRemove (within t_id) t_id y_name f_name found_none removes
+        removed_none }
+    ensures undropped { ¬ RunsRefused (within r_id) to_back r_id x_name any_batch holding_shared
+        refused shared_spent }
     ensures list_left { ¬ Empties q_map takes_job }
     ensures tree_left { ¬ Empties t_map takes_leaf }
 {}

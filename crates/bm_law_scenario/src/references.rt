@@ -8,10 +8,13 @@ ghost use Rattle.bm_law_scenario.specs.WorkedJournal.{types, x_name};
 /// there are two. An acquire doesn't see that there is none, nor a drop that is answered so that there is one; objects of a type without
 /// a count have one reference alone; and a name doesn't keep the reference that it gave up.
 pub fn worked_references()
-    ensures acquired { RunsAcquire counted_types y_name x_name holding_three (acquires 1) both_hold }
+    ensures acquired { RunsAcquire counted_types y_name x_name holding_three (acquires 1)
+        both_hold }
     ensures left { RunsStill counted_types x_name both_hold (gives_one_up 2) y_holds }
-    ensures none_there { ¬ RunsAcquire counted_types y_name x_name holding_three (acquires 0) both_hold }
-    ensures acquired_uncounted { ¬ RunsAcquire types y_name x_name holding_three (acquires 1) both_hold }
+    ensures none_there { ¬ RunsAcquire counted_types y_name x_name holding_three (acquires 0)
+        both_hold }
+    ensures acquired_uncounted { ¬ RunsAcquire types y_name x_name holding_three (acquires 1)
+        both_hold }
     ensures none_left { ¬ RunsStill counted_types x_name both_hold (gives_one_up 1) y_holds }
     ensures left_uncounted { ¬ RunsStill types x_name both_hold (gives_one_up 2) y_holds }
     ensures kept { ¬ RunsStill counted_types x_name both_hold (gives_one_up 2) both_hold }

@@ -12,9 +12,14 @@ ghost use Rattle.bm_law_scenario.specs.WorkedSlots.{desk_id, exchanges, given_aw
 /// hold, puts null where an object is given, leaves the object with the name that gave it, or names a slot that isn't declared.
 pub fn worked_slots()
     ensures handed_over { LawfulLogs handed_over handed_over_journal }
-    ensures puts { RunsExchange slots o_name desk_id (Some x_name) holding (exchanges the_object None None) given_away }
-    ensures unheld { ¬ RunsExchange slots o_name desk_id (Some x_name) no_names (exchanges the_object None None) given_away }
-    ensures null { ¬ RunsExchange slots o_name desk_id (Some x_name) holding (exchanges None None None) given_away }
-    ensures kept { ¬ RunsExchange slots o_name desk_id (Some x_name) holding (exchanges the_object None None) kept }
-    ensures undeclared { ¬ RunsExchange [] o_name desk_id (Some x_name) holding (exchanges the_object None None) given_away }
+    ensures puts { RunsExchange slots o_name desk_id (Some x_name) holding
+        (exchanges the_object None None) given_away }
+    ensures unheld { ¬ RunsExchange slots o_name desk_id (Some x_name) no_names
+        (exchanges the_object None None) given_away }
+    ensures null { ¬ RunsExchange slots o_name desk_id (Some x_name) holding
+        (exchanges None None None) given_away }
+    ensures kept { ¬ RunsExchange slots o_name desk_id (Some x_name) holding
+        (exchanges the_object None None) kept }
+    ensures undeclared { ¬ RunsExchange [] o_name desk_id (Some x_name) holding
+        (exchanges the_object None None) given_away }
 {}

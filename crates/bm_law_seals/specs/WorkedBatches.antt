@@ -16,11 +16,17 @@ pushed_though_delayed = entries 0 (entry.Delay 0 0 ∷ entry.Enter 10 1 ∷ entr
 
 -- A batch takes its stamp in a handler.
 abbrev pub stamped_by_handler : Order
-stamped_by_handler = by 0 ((0, entry.Delay 0 0) ∷ (0, entry.Delayed 10 0) ∷ (0, entry.Batch 10 (Whole (0 ∷ []))) ∷ (1, entry.Stamp 10 Plain 2) ∷ [])
+stamped_by_handler =
+    by 0
+    ((0, entry.Delay 0 0) ∷ (0, entry.Delayed 10 0) ∷ (0, entry.Batch 10 (Whole (0 ∷ [])))
+    ∷ (1, entry.Stamp 10 Plain 2) ∷ [])
 
 -- A batch is sent with no pass before it.
 abbrev pub sent_unpassed : Order
-sent_unpassed = entries 0 (entry.Delay 0 0 ∷ entry.Delayed 10 0 ∷ entry.Batch 10 (Whole (0 ∷ [])) ∷ entry.Stamp 10 Plain 2 ∷ entry.Send 10 0 (Whole (0 ∷ [])) ∷ [])
+sent_unpassed =
+    entries 0
+    (entry.Delay 0 0 ∷ entry.Delayed 10 0 ∷ entry.Batch 10 (Whole (0 ∷ []))
+    ∷ entry.Stamp 10 Plain 2 ∷ entry.Send 10 0 (Whole (0 ∷ [])) ∷ [])
 
 -- A unit is given after a sweep.
 abbrev pub given_after_sweep : Order

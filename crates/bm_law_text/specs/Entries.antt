@@ -79,15 +79,24 @@ dropped words = None
 
 abbrev pub given : Words → Option Entry
 given (u ∷ l ∷ []) = after (object_id u l) (λ o. Some (entry.Given o.unit o.life))
-given (u ∷ l ∷ a ∷ s ∷ n ∷ []) = only_if (word_is (codes "after") a) (after (object_id u l) (λ o. after (number (2 ^ 32) s) (λ s. after (number (2 ^ 32) n) (λ n. Some (entry.GivenAfter o.unit o.life s n)))))
+given (u ∷ l ∷ a ∷ s ∷ n ∷ []) =
+    only_if (word_is (codes "after") a)
+    (after (object_id u l)
+    (λ o. after (number (2 ^ 32) s)
+    (λ s. after (number (2 ^ 32) n) (λ n. Some (entry.GivenAfter o.unit o.life s n)))))
 given words = None
 
 abbrev pub acquired : Words → Option Entry
-acquired (u ∷ l ∷ k ∷ []) = after (object_id u l) (λ o. after (number (2 ^ 32) k) (λ k. Some (entry.Acquire o.unit o.life k)))
+acquired (u ∷ l ∷ k ∷ []) =
+    after (object_id u l)
+    (λ o. after (number (2 ^ 32) k) (λ k. Some (entry.Acquire o.unit o.life k)))
 acquired words = None
 
 abbrev pub got : Words → Option Entry
-got (u ∷ l ∷ f ∷ v ∷ []) = after (object_id u l) (λ o. after (number (2 ^ 8) f) (λ f. after (number (2 ^ 32) v) (λ v. Some (entry.Get o.unit o.life f v))))
+got (u ∷ l ∷ f ∷ v ∷ []) =
+    after (object_id u l)
+    (λ o. after (number (2 ^ 8) f)
+    (λ f. after (number (2 ^ 32) v) (λ v. Some (entry.Get o.unit o.life f v))))
 got words = None
 
 -- ---- a name, and what was done there
@@ -103,7 +112,15 @@ past_word text (w ∷ words) = only_if (word_is text w) (Some words)
 
 abbrev pub exchanged : Words → Option Entry
 exchanged [] = None
-exchanged (n ∷ words) = after (name n) (λ n. after (past_word (codes "put") words) (λ words. after (object words) (λ put. after (past_word (codes "was") put.1) (λ words. after (object words) (λ was. after (past_word (codes "by") was.1) (λ words. after (call words) (λ by. Some (entry.Xchg n put.0 was.0 by))))))))
+exchanged (n ∷ words) =
+    after (name n)
+    (λ n. after (past_word (codes "put") words)
+    (λ words. after (object words)
+    (λ put. after (past_word (codes "was") put.1)
+    (λ words. after (object words)
+    (λ was. after (past_word (codes "by") was.1)
+    (λ words. after (call words)
+    (λ by. Some (entry.Xchg n put.0 was.0 by))))))))
 
 -- a position, behind `at`
 abbrev pub at_position : List ℕ → List ℕ → Option ℕ
@@ -126,11 +143,15 @@ abbrev pub pushed_at : Kind → List ℕ → Option ObjId → Option ℕ → Opt
 pushed_at k n o p = after (name n) (λ n. after o (λ o. after p (pushed_entry k n o)))
 
 abbrev pub refused_at : Kind → List ℕ → Option ObjId → List ℕ → List ℕ → Option ℕ → Option Entry
-refused_at k n o y owner p = only_if (word_is (codes "already") y) (after (name n) (λ n. after o (λ o. after (name owner) (λ owner. after p (refused_entry k n o owner)))))
+refused_at k n o y owner p =
+    only_if (word_is (codes "already") y)
+    (after (name n)
+    (λ n. after o (λ o. after (name owner) (λ owner. after p (refused_entry k n o owner)))))
 
 abbrev pub pushed : Kind → Words → Option Entry
 pushed k (n ∷ u ∷ l ∷ a ∷ p ∷ []) = pushed_at k n (object_id u l) (at_position a p)
-pushed k (n ∷ u ∷ l ∷ y ∷ owner ∷ a ∷ p ∷ []) = refused_at k n (object_id u l) y owner (at_position a p)
+pushed k (n ∷ u ∷ l ∷ y ∷ owner ∷ a ∷ p ∷ []) =
+    refused_at k n (object_id u l) y owner (at_position a p)
 pushed k words = None
 
 abbrev pub found_entry : Kind → List ℕ → Option ObjId → ℕ → Option Entry
@@ -140,7 +161,8 @@ found_entry kind.First n x p = Some (entry.First n x p)
 found_entry k n x p = None
 
 abbrev pub found_none : Kind → List ℕ → List ℕ → Option ℕ → Option Entry
-found_none k n x p = only_if (word_is (codes "none") x) (after (name n) (λ n. after p (found_entry k n None)))
+found_none k n x p =
+    only_if (word_is (codes "none") x) (after (name n) (λ n. after p (found_entry k n None)))
 
 abbrev pub found_at : Kind → List ℕ → Option ObjId → Option ℕ → Option Entry
 found_at k n o p = after (name n) (λ n. after o (λ o. after p (found_entry k n (Some o))))
@@ -153,7 +175,8 @@ found k words = None
 -- ---- the end of a period: the words before `later` and those behind it
 
 abbrev pub both_few : Words → Words → Option (List ℕ × List ℕ)
-both_few before behind = after (few 16 before) (λ first. after (few 16 behind) (λ later. Some (first, later)))
+both_few before behind =
+    after (few 16 before) (λ first. after (few 16 behind) (λ later. Some (first, later)))
 
 abbrev pub words_at : Words → ℕ → Option (List ℕ × List ℕ)
 words_at words place = both_few (take place words) (drop (place + 1) words)
@@ -162,7 +185,14 @@ abbrev pub looked_at : Words → Option (List ℕ × List ℕ)
 looked_at words = after (position (λ w. word_is (codes "later") w) words) (words_at words)
 
 abbrev pub finished : Words → Option Entry
-finished (d ∷ n ∷ f ∷ words) = only_if (word_is (codes "first") f) (after (domain d) (λ d. after (number (2 ^ 32) n) (λ n. after (looked_at words) (λ ws. Some (entry.Finish (record { domain = d; number = n; first = ws.0; later = ws.1 }))))))
+finished (d ∷ n ∷ f ∷ words) =
+    only_if (word_is (codes "first") f)
+    (after (domain d)
+    (λ d. after (number (2 ^ 32) n)
+    (λ n. after (looked_at words)
+    (λ ws. Some
+    (entry.Finish
+    (record { domain = d; number = n; first = ws.0; later = ws.1 }))))))
 finished words = None
 
 -- ---- a class, and what was done there
@@ -188,7 +218,8 @@ class_number_entry kind.Read c n = Some (entry.Read c n)
 class_number_entry k c n = None
 
 abbrev pub class_number : Kind → Words → Option Entry
-class_number k (c ∷ n ∷ []) = after (class c) (λ c. after (number (2 ^ 32) n) (class_number_entry k c))
+class_number k (c ∷ n ∷ []) =
+    after (class c) (λ c. after (number (2 ^ 32) n) (class_number_entry k c))
 class_number k words = None
 
 abbrev pub class_unit_entry : Kind → ℕ → ℕ → Option Entry
@@ -206,7 +237,9 @@ class_unit k (c ∷ u ∷ []) = after (class c) (λ c. after (number (2 ^ 16) u)
 class_unit k words = None
 
 abbrev pub popped : Words → Option Entry
-popped (c ∷ u ∷ []) = if word_is (codes "none") u then after (class c) (λ c. Some (entry.PopNone c)) else class_unit kind.Pop (c ∷ u ∷ [])
+popped (c ∷ u ∷ []) =
+    if word_is (codes "none") u then after (class c) (λ c. Some (entry.PopNone c))
+    else class_unit kind.Pop (c ∷ u ∷ [])
 popped words = None
 
 abbrev pub class_units_entry : Kind → ℕ → List ℕ → Option Entry
@@ -225,11 +258,17 @@ class_units k (c ∷ us) = after (class c) (λ c. after (numbers (2 ^ 16) us) (c
 class_units k words = None
 
 abbrev pub fetched : Words → Option Entry
-fetched (c ∷ n ∷ us) = after (class c) (λ c. after (number (2 ^ 32) n) (λ n. after (numbers (2 ^ 16) us) (λ us. Some (entry.Fetch c n (Whole us)))))
+fetched (c ∷ n ∷ us) =
+    after (class c)
+    (λ c. after (number (2 ^ 32) n)
+    (λ n. after (numbers (2 ^ 16) us) (λ us. Some (entry.Fetch c n (Whole us)))))
 fetched words = None
 
 abbrev pub sent : Words → Option Entry
-sent (c ∷ p ∷ us) = after (class c) (λ c. after (number (2 ^ 8) p) (λ p. after (numbers (2 ^ 16) us) (λ us. Some (entry.Send c p (Whole us)))))
+sent (c ∷ p ∷ us) =
+    after (class c)
+    (λ c. after (number (2 ^ 8) p)
+    (λ p. after (numbers (2 ^ 16) us) (λ us. Some (entry.Send c p (Whole us)))))
 sent words = None
 
 abbrev pub class_domain_entry : Kind → ℕ → Domain → ℕ → Option Entry
@@ -238,7 +277,9 @@ class_domain_entry kind.Pass c d n = Some (entry.Pass c d n)
 class_domain_entry k c d n = None
 
 abbrev pub class_domain : Kind → Words → Option Entry
-class_domain k (c ∷ d ∷ n ∷ []) = after (class c) (λ c. after (domain d) (λ d. after (number (2 ^ 32) n) (class_domain_entry k c d)))
+class_domain k (c ∷ d ∷ n ∷ []) =
+    after (class c)
+    (λ c. after (domain d) (λ d. after (number (2 ^ 32) n) (class_domain_entry k c d)))
 class_domain k words = None
 
 -- ---- the whole: the kind decides the form

@@ -77,12 +77,16 @@ EntryFits (entry.Get u l f v) = (u < 2 ^ 16) × (l < 2 ^ 32) × (f < 2 ^ 8) × (
 EntryFits (entry.Xchg name put was by) = IsName name × ObjectFits put × ObjectFits was × CallFits by
 EntryFits (entry.Lock name) = IsName name
 EntryFits (entry.Unlock name) = IsName name
-EntryFits (entry.PushFront name u l pos) = IsName name × (u < 2 ^ 16) × (l < 2 ^ 32) × (pos < 2 ^ 32)
+EntryFits (entry.PushFront name u l pos) =
+    IsName name × (u < 2 ^ 16) × (l < 2 ^ 32) × (pos < 2 ^ 32)
 EntryFits (entry.PushBack name u l pos) = IsName name × (u < 2 ^ 16) × (l < 2 ^ 32) × (pos < 2 ^ 32)
 EntryFits (entry.Add name u l pos) = IsName name × (u < 2 ^ 16) × (l < 2 ^ 32) × (pos < 2 ^ 32)
-EntryFits (entry.PushFrontAlready name u l owner pos) = IsName name × (u < 2 ^ 16) × (l < 2 ^ 32) × IsName owner × (pos < 2 ^ 32)
-EntryFits (entry.PushBackAlready name u l owner pos) = IsName name × (u < 2 ^ 16) × (l < 2 ^ 32) × IsName owner × (pos < 2 ^ 32)
-EntryFits (entry.AddAlready name u l owner pos) = IsName name × (u < 2 ^ 16) × (l < 2 ^ 32) × IsName owner × (pos < 2 ^ 32)
+EntryFits (entry.PushFrontAlready name u l owner pos) =
+    IsName name × (u < 2 ^ 16) × (l < 2 ^ 32) × IsName owner × (pos < 2 ^ 32)
+EntryFits (entry.PushBackAlready name u l owner pos) =
+    IsName name × (u < 2 ^ 16) × (l < 2 ^ 32) × IsName owner × (pos < 2 ^ 32)
+EntryFits (entry.AddAlready name u l owner pos) =
+    IsName name × (u < 2 ^ 16) × (l < 2 ^ 32) × IsName owner × (pos < 2 ^ 32)
 EntryFits (entry.PopFront name x pos) = IsName name × ObjectFits x × (pos < 2 ^ 32)
 EntryFits (entry.PopBack name x pos) = IsName name × ObjectFits x × (pos < 2 ^ 32)
 EntryFits (entry.First name x pos) = IsName name × ObjectFits x × (pos < 2 ^ 32)
@@ -159,7 +163,8 @@ LineFits maps (line_as.Class c m) = (c ≤ 10) × MarksFit m
 LineFits maps (line_as.Processor p) = p < 2 ^ 64
 LineFits maps (line_as.Entry l e) = (l ≤ 3) × EntryFits e × IsTrue (is_whole_entry e)
 LineFits maps (line_as.Graph n) = IsName n
-LineFits maps (line_as.Past p call) = (p < 2 ^ 64) × PastFits call × IsTrue (owner_below (length maps) call.call)
+LineFits maps (line_as.Past p call) =
+    (p < 2 ^ 64) × PastFits call × IsTrue (owner_below (length maps) call.call)
 LineFits maps (line_as.Total t v) = v < 2 ^ 64
 
 -- what the types keep of a whole journal; the rest are ghost fields of its own

@@ -31,11 +31,14 @@ line_tail maps (line_as.Size p g) = decimal p ∷ codes "pages" ∷ decimal g �
 line_tail maps (line_as.Types names) = names
 line_tail maps (line_as.Maps names) = names
 line_tail maps (line_as.Scripts names) = names
-line_tail maps (line_as.Class c m) = size c ∷ codes "marks" ∷ decimal m.low ∷ decimal m.high ∷ decimal m.batch ∷ []
+line_tail maps (line_as.Class c m) =
+    size c ∷ codes "marks" ∷ decimal m.low ∷ decimal m.high ∷ decimal m.batch ∷ []
 line_tail maps (line_as.Processor p) = decimal p ∷ []
 line_tail maps (line_as.Entry l e) = words_of e
 line_tail maps (line_as.Graph n) = n ∷ []
-line_tail maps (line_as.Past p past) = decimal p ∷ codes "by" ∷ decimal past.tag.processor ∷ decimal past.tag.serial ∷ past_words maps past.call
+line_tail maps (line_as.Past p past) =
+    decimal p ∷ codes "by" ∷ decimal past.tag.processor ∷ decimal past.tag.serial
+    ∷ past_words maps past.call
 line_tail maps (line_as.Total t v) = total_name t ∷ decimal v ∷ []
 
 -- the text of lines
@@ -72,7 +75,11 @@ total_items (t ∷ ts) (v ∷ vs) = line_as.Total t v ∷ total_items ts vs
 
 -- the lines behind the heading's first four
 abbrev pub body_items : Journal → List Line
-body_items j = class_items j.classes ++ (log_items 0 j.logs ++ (graph_items j.graphs ++ total_items all_totals j.totals))
+body_items j =
+    class_items j.classes
+    ++ (log_items 0 j.logs ++ (graph_items j.graphs ++ total_items all_totals j.totals))
 
 abbrev pub journal_items : Journal → List Line
-journal_items j = line_as.Size j.processors j.pages ∷ line_as.Types j.types ∷ line_as.Maps j.maps ∷ line_as.Scripts j.scripts ∷ body_items j
+journal_items j =
+    line_as.Size j.processors j.pages ∷ line_as.Types j.types ∷ line_as.Maps j.maps
+    ∷ line_as.Scripts j.scripts ∷ body_items j

@@ -39,12 +39,15 @@ unfoldable pub class : List ℕ → Option ℕ
 class word = after (number_of word) (λ n. find (λ c. size_of_class c == n) classes)
 
 unfoldable pub domain : List ℕ → Option Domain
-domain word = if word_is (codes "plain") word then Some Plain else (if word_is (codes "tracing") word then Some Tracing else None)
+domain word =
+    if word_is (codes "plain") word then Some Plain
+    else (if word_is (codes "tracing") word then Some Tracing else None)
 
 -- each word read, to the end of the line
 abbrev pub each_read : {A : Type 0} → (List ℕ → Option A) → Words → Option (List A)
 each_read read [] = Some []
-each_read read (word ∷ words) = after (read word) (λ x. after (each_read read words) (λ xs. Some (x ∷ xs)))
+each_read read (word ∷ words) =
+    after (read word) (λ x. after (each_read read words) (λ xs. Some (x ∷ xs)))
 
 -- numbers below a limit
 unfoldable pub numbers : ℕ → Words → Option (List ℕ)
@@ -60,11 +63,15 @@ few most words = after (numbers (2 ^ 32) words) (λ ns. only_if (nat_le (length 
 
 -- a unit and a life
 abbrev pub object_id : List ℕ → List ℕ → Option ObjId
-object_id u l = after (number (2 ^ 16) u) (λ u. after (number (2 ^ 32) l) (λ l. Some (record { unit = u; life = l })))
+object_id u l =
+    after (number (2 ^ 16) u)
+    (λ u. after (number (2 ^ 32) l) (λ l. Some (record { unit = u; life = l })))
 
 -- a call's processor and serial number
 abbrev pub tag : List ℕ → List ℕ → Option Tag
-tag p s = after (number (2 ^ 8) p) (λ p. after (number (2 ^ 32) s) (λ s. Some (record { processor = p; serial = s })))
+tag p s =
+    after (number (2 ^ 8) p)
+    (λ p. after (number (2 ^ 32) s) (λ s. Some (record { processor = p; serial = s })))
 
 -- an object or `none`, and the words after it
 abbrev pub object_some : List ℕ → Words → Option (Option ObjId × Words)

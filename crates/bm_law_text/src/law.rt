@@ -49,8 +49,10 @@ pub fn worked_lines()
     ensures above { line_of [] (words (codes "0 busy 4294967296")) ≡ None }
     ensures level { line_of [] (words (codes "4 busy 7")) ≡ None }
     ensures longer { line_of [] (words (codes "0 busy 7 7")) ≡ None }
-    ensures class { line_of [] (words (codes "1 pop 96 none")) ≡ Some (line_as.Entry 1 (entry.PopNone 3)) }
+    ensures class { line_of [] (words (codes "1 pop 96 none"))
+        ≡ Some (line_as.Entry 1 (entry.PopNone 3)) }
     ensures size { line_of [] (words (codes "1 pop 97 none")) ≡ None }
-    ensures maps { line_of [] (words (codes "maps q t")) ≡ Some (line_as.Maps (codes "q" ∷ codes "t" ∷ [])) }
+    ensures maps { line_of [] (words (codes "maps q t"))
+        ≡ Some (line_as.Maps (codes "q" ∷ codes "t" ∷ [])) }
     ensures twice { line_of [] (words (codes "maps q q")) ≡ None }
 {}

@@ -36,7 +36,9 @@ AddAll l c (u ∷ us) = Then (Say l (AddPhrase c u)) (AddAll l c us)
 
 -- one fetch of so many units from the stock, which may give fewer, but not more
 abbrev pub Fetches : ℕ → ℕ → ℕ → Part
-Fetches l c want s part = (units : List ℕ) × (length units ≤ want) × Then (Say l (IsOne (entry.Fetch c want (Whole units)))) (AddAll l c units) s part
+Fetches l c want s part =
+    (units : List ℕ) × (length units ≤ want)
+    × Then (Say l (IsOne (entry.Fetch c want (Whole units)))) (AddAll l c units) s part
 
 -- A refill goes on, with so many units left to bring: by one from the top of Ready, if there is one, else by one from the
 -- top of Second, and then by the rest of the refill; and where both are empty by one fetch of all that are left.
@@ -48,7 +50,8 @@ RefillBy l c left rest [] [] = Fetches l c left
 -- A refill of so many units.
 abbrev pub Refill : ℕ → ℕ → ℕ → Part
 Refill l c zero = Nothing
-Refill l c (suc n) = λ s. RefillBy l c (suc n) (Refill l c n) (s.rows c).deferred.ready (s.rows c).deferred.second s
+Refill l c (suc n) =
+    λ s. RefillBy l c (suc n) (Refill l c n) (s.rows c).deferred.ready (s.rows c).deferred.second s
 
 -- Drain. A unit that was moved, with the free count and the active number that its count and its leave name.
 pub record Moved : Type 0 where
@@ -58,7 +61,8 @@ pub record Moved : Type 0 where
 
 -- a take off Free, and one that finds Free empty
 abbrev pub take_of : ℕ → Moved → List Entry
-take_of c x = entry.Enter c 1 ∷ entry.Pop c x.unit ∷ entry.Count c x.count ∷ entry.Leave c x.active ∷ []
+take_of c x =
+    entry.Enter c 1 ∷ entry.Pop c x.unit ∷ entry.Count c x.count ∷ entry.Leave c x.active ∷ []
 
 abbrev pub empty_take : ℕ → ℕ → List Entry
 empty_take c a = entry.Enter c 1 ∷ entry.PopNone c ∷ entry.Leave c a ∷ []
@@ -69,7 +73,8 @@ takes c (x ∷ xs) = take_of c x ++ takes c xs
 
 -- the last take of a drain leaves at most the middle, or finds Free empty
 abbrev pub IsLastTake : ℕ → ℕ → List Entry → Type 0
-IsLastTake c middle own = ((x : Moved) × (x.count ≤ middle) × (own ≡ take_of c x)) ⊎ ((a : ℕ) × (own ≡ empty_take c a))
+IsLastTake c middle own =
+    ((x : Moved) × (x.count ≤ middle) × (own ≡ take_of c x)) ⊎ ((a : ℕ) × (own ≡ empty_take c a))
 
 -- the takes of a drain, each of which but the last leaves more than the middle
 pub record Unloads (c middle : ℕ) (own : List Entry) : Type 0 where
@@ -95,7 +100,9 @@ IsSend c own = (to : ℕ) × (units : List ℕ) × IsOne (entry.Send c to (Whole
 
 -- Units are taken off Free down to the middle, then all of Extra; what is in hand then goes to the target as one parcel.
 abbrev pub Drain : ℕ → ℕ → Part
-Drain l c = Then (Say l (Unloads c (middle_of_class c))) (Then (Say l (IsTakeExtra c)) (When (has_hand l) (Say l (IsSend c))))
+Drain l c =
+    Then (Say l (Unloads c (middle_of_class c)))
+    (Then (Say l (IsTakeExtra c)) (When (has_hand l) (Say l (IsSend c))))
 
 -- The free count is read: below the low mark a refill follows, above the high mark a drain.
 abbrev pub BalanceAt : ℕ → ℕ → ℕ → Part
@@ -104,7 +111,8 @@ BalanceAt l c count =
     (If (nat_lt (high_of_size (size_of_class c)) count) (Drain l c) Nothing)
 
 abbrev pub Balance : ℕ → ℕ → Part
-Balance l c s part = (count : ℕ) × Then (Say l (IsOne (entry.Read c count))) (BalanceAt l c count) s part
+Balance l c s part =
+    (count : ℕ) × Then (Say l (IsOne (entry.Read c count))) (BalanceAt l c count) s part
 
 -- after a parcel of these units the rest follows; after none nothing
 abbrev pub AfterParcel : List ℕ → Part → Part
@@ -115,11 +123,14 @@ AfterParcel (u ∷ us) rest = rest
 abbrev pub Receive : ℕ → ℕ → ℕ → Part
 Receive l c zero = Nothing
 Receive l c (suc n) = λ s part.
-    (units : List ℕ) × Then (Say l (IsOne (entry.Receive c (Whole units)))) (AfterParcel units (Receive l c n)) s part
+    (units : List ℕ)
+    × Then (Say l (IsOne (entry.Receive c (Whole units)))) (AfterParcel units (Receive l c n)) s
+    part
 
 -- a poll of a domain, and what follows the number that it sees
 abbrev pub Polled : ℕ → ℕ → Domain → (ℕ → Part) → Part
-Polled l c d rest s part = (own : List Entry) × (poll : PollPhrase c d own) × Then (Stand l own) (rest poll.seen) s part
+Polled l c d rest s part =
+    (own : List Entry) × (poll : PollPhrase c d own) × Then (Stand l own) (rest poll.seen) s part
 
 -- what happens to a batch of this domain, if one is in progress: where the number seen is at least its stamp, this part
 abbrev pub Passing : ℕ → ℕ → Domain → Option ℕ → Part → Part
@@ -138,7 +149,8 @@ IsLeave c own = (a : ℕ) × IsOne (entry.Leave c a) own
 
 -- ExtraDelayed is moved onto Delayed
 abbrev pub IsGathering : ℕ → List Entry → Type 0
-IsGathering c own = (units : List ℕ) × (own ≡ entry.Enter c 1 ∷ entry.TakeDelayed c (Whole units) ∷ [])
+IsGathering c own =
+    (units : List ℕ) × (own ≡ entry.Enter c 1 ∷ entry.TakeDelayed c (Whole units) ∷ [])
 
 -- Delayed holds a unit, and no plain batch is in progress
 abbrev pub may_batch : ℕ → State ℕ → Bool

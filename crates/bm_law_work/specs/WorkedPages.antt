@@ -10,7 +10,9 @@ fetched_by units = entry.Fill 10 (Whole (0 ∷ [])) ∷ entry.Fetch 10 3 (Whole 
 
 -- the same, where another cache fetches the unit of the next page behind it
 abbrev pub fetched_later : List Entry
-fetched_later = entry.Fill 10 (Whole (0 ∷ [])) ∷ entry.Fetch 10 3 (Whole []) ∷ entry.Fetch 10 1 (Whole (256 ∷ [])) ∷ []
+fetched_later =
+    entry.Fill 10 (Whole (0 ∷ [])) ∷ entry.Fetch 10 3 (Whole [])
+    ∷ entry.Fetch 10 1 (Whole (256 ∷ [])) ∷ []
 
 -- a cache of the least class begins with these
 abbrev pub filled_with : List ℕ → List Entry

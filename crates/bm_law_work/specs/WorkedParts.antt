@@ -22,7 +22,8 @@ IsAmong n m part log = part (after (opening 0) (take n log)) (take m (drop n log
 -- processor 0 with these units in Ready and in Second of class 10, which holds units of 4096 bytes
 abbrev pub with_lists : List ℕ → List ℕ → State ℕ
 with_lists ready second =
-    on_row 10 (λ r. record r { deferred = record r.deferred { ready = ready; second = second } }) (opening 0)
+    on_row 10 (λ r. record r { deferred = record r.deferred { ready = ready; second = second } })
+    (opening 0)
 
 -- a unit comes from a list, and is added to a Free of k
 abbrev pub brings : Entry → ℕ → ℕ → List Entry
@@ -34,10 +35,16 @@ fetches want k units = entry.Fetch 10 want (Whole units) ∷ adds 10 k units
 
 -- A refill of three where Ready holds one unit and Second two: the one of Ready comes first.
 abbrev pub from_both : Log
-from_both = at 0 (brings (entry.Ready 10 5) 5 0 ++ brings (entry.Second 10 9) 9 1 ++ brings (entry.Second 10 8) 8 2)
+from_both =
+    at 0
+    (brings (entry.Ready 10 5) 5 0 ++ brings (entry.Second 10 9) 9 1
+    ++ brings (entry.Second 10 8) 8 2)
 
 abbrev pub second_too_early : Log
-second_too_early = at 0 (brings (entry.Second 10 9) 9 0 ++ brings (entry.Ready 10 5) 5 1 ++ brings (entry.Second 10 8) 8 2)
+second_too_early =
+    at 0
+    (brings (entry.Second 10 9) 9 0 ++ brings (entry.Ready 10 5) 5 1
+    ++ brings (entry.Second 10 8) 8 2)
 
 -- A refill of three where there is one in Ready: one fetch of two, of which the stock has one. Not of three, not with three
 -- units though two were wanted, and not left out.
@@ -60,7 +67,12 @@ take_to u k = record { unit = u; count = k; active = 0 }
 -- processor 0 with these units in Delayed and Ready of class 1, and these batches in progress
 abbrev pub with_batches : List ℕ → Option ℕ → Option ℕ → State ℕ
 with_batches units plain tracing =
-    on_row 1 (λ r. record r { delayed = units; deferred = record r.deferred { ready = units; plain = plain; tracing = tracing } }) (opening 0)
+    on_row 1
+    (λ r. record r {
+      delayed = units;
+      deferred = record r.deferred { ready = units; plain = plain; tracing = tracing };
+    })
+    (opening 0)
 
 -- a poll of the plain domain that sees a number, and a parcel
 abbrev pub sent_at : ℕ → Log

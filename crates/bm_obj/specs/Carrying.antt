@@ -25,10 +25,15 @@ IsCarried c k = IfSome k.notes (λ notes. IsNoted c (notes c.to.unit))
 
 -- one note more, and one fewer
 abbrev pub with_note : Carried → Noted → Noted
-with_note c noted = record { refs = more c.to noted.refs; claim = option_map_or (λ graph. Some graph) c.claim noted.claim }
+with_note c noted =
+    record {
+      refs = more c.to noted.refs;
+      claim = option_map_or (λ graph. Some graph) c.claim noted.claim;
+    }
 
 abbrev pub without_note : Carried → Noted → Noted
-without_note c noted = record { refs = fewer noted.refs; claim = option_map_or (λ graph. None) c.claim noted.claim }
+without_note c noted =
+    record { refs = fewer noted.refs; claim = option_map_or (λ graph. None) c.claim noted.claim }
 
 -- A reference goes into a note, and the claim that the side has of the object goes with it.
 abbrev pub told_put_in : Carried → Known → Known
@@ -58,7 +63,9 @@ NoClaimFor graph k = (n : ℕ) → k.claims n ≡ Some graph → ⊥
 
 -- A page with one entry more, where it tells its history.
 abbrev pub with_entry : ℕ → Past → Page → Page
-with_entry at past page = record page { history = option_map (λ es. es ++ record { at = at; past = past } ∷ []) page.history }
+with_entry at past page =
+    record page
+    { history = option_map (λ es. es ++ record { at = at; past = past } ∷ []) page.history }
 
 -- A graph's history has the entry, and nothing waits for it.
 abbrev pub told_entered : ℕ → ℕ → Past → Known → Known
@@ -73,4 +80,5 @@ abbrev pub LeavesIn : Carried → Page → Type 0
 LeavesIn c page = IfSome page.history (λ es. LeavesItem (id_of c.to) es)
 
 abbrev pub MayLook : Carried → Known → Type 0
-MayLook c k = (graph : ℕ) × (c.claim ≡ Some graph) × (HasPage graph k × IfSome (k.pages graph) (LeavesIn c))
+MayLook c k =
+    (graph : ℕ) × (c.claim ≡ Some graph) × (HasPage graph k × IfSome (k.pages graph) (LeavesIn c))

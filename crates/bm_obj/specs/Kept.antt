@@ -15,7 +15,8 @@ use Rattle.bm_obj.specs.declared.type_def.TypeDef.{TypeDef}
 -- value for each field; it has a reference, and at least as many as slots and notes hold; without a count in its type it has one;
 -- while its claim is in hands there is a reference in hands, and while its claim is in a note there is one in a note; a graph that
 -- owns it is of its type; and there is room for all references that may still be acquired.
-pub record IsAlive (graphs : List ℕ) (defs : List TypeDef) (words : List Word) (acquires n : ℕ) (object : Object) : Type 0 where
+pub record IsAlive (graphs : List ℕ) (defs : List TypeDef) (words : List Word) (acquires n : ℕ)
+    (object : Object) : Type 0 where
   pub number : object.unit.number ≡ n
   pub unsealed : object.unit.seal ≡ None
   pub life : object.unit.life < 2 ^ 18
@@ -24,7 +25,8 @@ pub record IsAlive (graphs : List ℕ) (defs : List TypeDef) (words : List Word)
   pub some : 0 < object.count
   pub slots : times_held n words + object.noted ≤ object.count
   pub single : (type_at defs object.def).counted ≡ false → object.count ≡ 1
-  pub owned : is_some (claim_in (Some object)) ≡ true → times_held n words + object.noted < object.count
+  pub owned :
+      is_some (claim_in (Some object)) ≡ true → times_held n words + object.noted < object.count
   pub noted : object.carried ≡ true → (0 < object.noted) × (is_some object.owner ≡ true)
   pub graph : (g : ℕ) → object.owner ≡ Some g → IsGraphOf graphs object.def g
   pub room : object.count + acquires ≤ 2 ^ 30 + 1
@@ -38,11 +40,16 @@ abbrev pub word_at : List Word → ℕ → Option Reference
 word_at words s = held_by (slice_get words s)
 
 -- Each object is so, a type has at most 8 fields, and 2 ^ 30 references may be acquired in all. What a slot holds is a reference to an object that lives, and of the slot's type.
-pub record IsWorld (places : List UnitPlace) (words : List Word) (slots graphs : List ℕ) (defs : List TypeDef) (acquires : ℕ) : Type 0 where
+pub record IsWorld (places : List UnitPlace) (words : List Word) (slots graphs : List ℕ)
+    (defs : List TypeDef) (acquires : ℕ) : Type 0 where
   pub units : length places ≤ 2 ^ 16
   pub word_count : length words ≡ length slots
   pub fields : (d : ℕ) → (type_at defs d).fields ≤ 8
   pub few : acquires ≤ 2 ^ 30
-  pub alive : (n : ℕ) (object : Object) → object_at places n ≡ Some object → IsAlive graphs defs words acquires n object
-  pub lives : (s : ℕ) (r : Reference) → word_at words s ≡ Some r → option_map reference_to (object_at places r.unit) ≡ Some r
+  pub alive :
+      (n : ℕ) (object : Object) → object_at places n ≡ Some object
+      → IsAlive graphs defs words acquires n object
+  pub lives :
+      (s : ℕ) (r : Reference) → word_at words s ≡ Some r
+      → option_map reference_to (object_at places r.unit) ≡ Some r
   pub types : (s : ℕ) (r : Reference) → word_at words s ≡ Some r → r.def ≡ slice_index slots s

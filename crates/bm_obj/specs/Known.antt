@@ -38,7 +38,8 @@ pub record Known : Type 0 where
 
 -- the type of a number, and one without anything where there is none
 abbrev pub type_at : List TypeDef → ℕ → TypeDef
-type_at defs d = slice_index_or defs d (record { fields = 0; counted = false; node = Bare; pad = 0 })
+type_at defs d =
+    slice_index_or defs d (record { fields = 0; counted = false; node = Bare; pad = 0 })
 
 -- A graph of a type: there is one of this number, and its objects are of that type.
 abbrev pub IsGraphOf : List ℕ → ℕ → ℕ → Type 0
@@ -67,7 +68,8 @@ HasPage graph k = is_some (k.pages graph) ≡ true
 
 -- Where the side has the claim of an object, it has the graph's page too, and no change of another object's owner waits there.
 abbrev pub MayEnd : Reference → Known → Type 0
-MayEnd r k = IfSome (k.claims r.unit) (λ graph. HasPage graph k × NoOtherWaits (id_of r) (k.waits graph))
+MayEnd r k =
+    IfSome (k.claims r.unit) (λ graph. HasPage graph k × NoOtherWaits (id_of r) (k.waits graph))
 
 -- The unit of this number is the side's own, and has begun so many lives.
 abbrev pub IsMine : UnitState → Known → Type 0
@@ -100,7 +102,8 @@ spent r k = record k { refs = at_unit r.unit (fewer (k.refs r.unit)) k.refs }
 
 -- The first reference to the next life of a unit, made as an object of a type.
 abbrev pub first_reference : UnitState → ℕ → Reference
-first_reference unit def = record { unit = unit.number; life = unit.life + 1; def = def; maker = unit.home }
+first_reference unit def =
+    record { unit = unit.number; life = unit.life + 1; def = def; maker = unit.home }
 
 -- An object is made: its unit isn't the side's own any more, and the side has the first reference.
 abbrev pub told_made : Reference → Known → Known
@@ -118,7 +121,8 @@ told_released r (Last unit) k = spent r (record k { mine = at_unit r.unit (Some 
 -- The side gains what the slot held, and has spent what was put. What a reference shows is told by a function.
 abbrev pub told_exchanged : {T : Type 0} → (T → Reference) → (put old : Option T) → Known → Known
 told_exchanged reference put old k =
-    option_map_or (λ r. spent (reference r)) put (λ known. known) (option_map_or (λ r. gained (reference r)) old (λ known. known) k)
+    option_map_or (λ r. spent (reference r)) put (λ known. known)
+    (option_map_or (λ r. gained (reference r)) old (λ known. known) k)
 
 -- A claim that is won is the side's, and waits for its entry.
 abbrev pub told_claimed : Reference → ℕ → Claimed → Known → Known
@@ -161,4 +165,5 @@ IsLast (Last unit) = Unit {0}
 -- It was the last to this unit, which is of the class of its type.
 abbrev pub IsLastUnit : List TypeDef → Reference → Released → Type 0
 IsLastUnit defs r (Still count) = Unit {0}
-IsLastUnit defs r (Last unit) = IsUnitOf r unit × (class_of_size (type_size (type_at defs r.def)) ≡ Some unit.class)
+IsLastUnit defs r (Last unit) =
+    IsUnitOf r unit × (class_of_size (type_size (type_at defs r.def)) ≡ Some unit.class)

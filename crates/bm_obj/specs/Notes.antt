@@ -30,7 +30,8 @@ pub record Noted : Type 0 where
 -- One of the notes carries this: a reference that looks so, and the claim, or else a note without the claim is left.
 abbrev pub IsClaimNoted : Option ℕ → Noted → Type 0
 IsClaimNoted (Some graph) noted = noted.claim ≡ Some graph
-IsClaimNoted None noted = is_some noted.claim ≡ true → 1 < option_map_or (λ held. held.count) noted.refs 0
+IsClaimNoted None noted =
+    is_some noted.claim ≡ true → 1 < option_map_or (λ held. held.count) noted.refs 0
 
 abbrev pub IsNoted : Carried → Noted → Type 0
 IsNoted c noted = (option_map (λ held. held.to) noted.refs ≡ Some c.to) × IsClaimNoted c.claim noted

@@ -41,4 +41,10 @@ with_noted noted carried object = record object { noted = noted; carried = carri
 
 -- the references to an object all look so
 abbrev pub reference_to : Object → Reference
-reference_to object = record { unit = object.unit.number; life = object.unit.life; def = object.def; maker = object.unit.home }
+reference_to object =
+    record {
+      unit = object.unit.number;
+      life = object.unit.life;
+      def = object.def;
+      maker = object.unit.home;
+    }

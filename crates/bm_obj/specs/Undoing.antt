@@ -12,4 +12,5 @@ HoldsLife r held = IfSome held (λ h. (h.to ≡ r) × (0 < h.count))
 pub record IsOfLife (r : Reference) (k : Known) : Type 0 where
   pub hands : HoldsLife r (k.refs r.unit)
   pub notes : IfSome k.notes (λ notes. HoldsLife r (notes r.unit).refs)
-  pub claim : IfSome k.notes (λ notes. is_some (k.claims r.unit) ≡ true → (notes r.unit).claim ≡ None)
+  pub claim :
+      IfSome k.notes (λ notes. is_some (k.claims r.unit) ≡ true → (notes r.unit).claim ≡ None)

@@ -63,4 +63,6 @@ other = record { unit = 1; life = 4 }
 
 abbrev pub x_stays : List Entered
 x_stays =
-    record { at = 0; past = record { tag = tag_3; call = PushBack other } } ∷ record { at = 1; past = record { tag = tag_3; call = PushBack (id_of x) } } ∷ record { at = 2; past = record { tag = tag_3; call = PopFront other } } ∷ []
+    record { at = 0; past = record { tag = tag_3; call = PushBack other } }
+    ∷ record { at = 1; past = record { tag = tag_3; call = PushBack (id_of x) } }
+    ∷ record { at = 2; past = record { tag = tag_3; call = PopFront other } } ∷ []

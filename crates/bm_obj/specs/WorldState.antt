@@ -75,7 +75,9 @@ new_object unit def values = record {
 }
 
 abbrev pub made : UnitState → ℕ → List ℕ → World → World
-made unit def values world = record world { places = slice_set world.places unit.number (Lives (new_object unit def values)) }
+made unit def values world =
+    record world
+    { places = slice_set world.places unit.number (Lives (new_object unit def values)) }
 
 -- The object has one reference more. (bpf_refcount_acquire.)
 abbrev pub acquired : Reference → World → World
@@ -96,11 +98,13 @@ released r world = record world {
 -- .. and the answer: the count that was found, if it was above 1, else the object's unit
 abbrev pub IsReleased : Reference → World → Released → Type 0
 IsReleased r world (Still count) = (count ≡ count_of r world) × (1 < count)
-IsReleased r world (Last unit) = (count_of r world ≡ 1) × (option_map (λ object. object.unit) (found r world) ≡ Some unit)
+IsReleased r world (Last unit) =
+    (count_of r world ≡ 1) × (option_map (λ object. object.unit) (found r world) ≡ Some unit)
 
 -- A slot holds what was put, by this tag. (bpf_kptr_xchg.)
 abbrev pub exchanged : ℕ → Option Reference → Tag → World → World
-exchanged slot put tag world = record world { words = slice_set world.words slot (record { old = put; by = Some tag }) }
+exchanged slot put tag world =
+    record world { words = slice_set world.words slot (record { old = put; by = Some tag }) }
 
 -- A graph owns an object that no graph owned, and this waits for the entry in the graph's history; else nothing changes.
 -- (__bpf_list_add and __bpf_rbtree_add of kernel/bpf/helpers.c.)
@@ -127,7 +131,12 @@ unclaimed r world = record world {
 
 -- A reference goes into a note, and the claim with it, where it isn't in a note already.
 abbrev pub put_in : Reference → World → World
-put_in r world = record world { places = changed r.unit (λ object. with_noted (object.noted + 1) (is_some object.owner) object) world.places }
+put_in r world =
+    record world {
+      places =
+          changed r.unit (λ object. with_noted (object.noted + 1) (is_some object.owner) object)
+          world.places;
+    }
 
 -- .. and comes out of it
 abbrev pub still_carried : Option ℕ → Bool → Bool
@@ -136,7 +145,10 @@ still_carried (Some graph) carried = false
 
 abbrev pub taken_out : Carried → World → World
 taken_out c world = record world {
-  places = changed c.to.unit (λ object. with_noted (object.noted - 1) (still_carried c.claim object.carried) object) world.places;
+  places =
+      changed c.to.unit
+      (λ object. with_noted (object.noted - 1) (still_carried c.claim object.carried) object)
+      world.places;
 }
 
 -- A call is marked; and a graph's history has its entry.
@@ -176,7 +188,8 @@ noted_in (Some object) = record {
 -- The one side has all references and claims that are in hands, all units that aren't objects, and always the page of each graph,
 -- which tells no history.
 abbrev pub page_of : List ℕ → ℕ → Option Page
-page_of graphs graph = if nat_lt graph (length graphs) then Some (record { graph = graph; history = None }) else None
+page_of graphs graph =
+    if nat_lt graph (length graphs) then Some (record { graph = graph; history = None }) else None
 
 abbrev pub known_of : World → Known
 known_of world = record {

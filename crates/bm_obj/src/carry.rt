@@ -40,13 +40,15 @@ pub trait Carry: Objects {
         ensures of_type { IsClaimOfType (carried_from (Self.reference r) (Self.known self.old))
             (Self.known self.old) }
         ensures known { Self.known self.new
-            ≡ told_put_in (carried_from (Self.reference r) (Self.known self.old)) (Self.known self.old) };
+            ≡ told_put_in (carried_from (Self.reference r) (Self.known self.old))
+            (Self.known self.old) };
 
     /// Takes the reference out of a note, with the claim that the note carries, if it does; then the side has the graph's page.
     fn take_out(&mut self, n: Self::Note) -> Self::Ref
         requires item { is_some (Self.Note.item n) ≡ true }
         requires carried { IfSome (Self.Note.item n) (λ c. IsCarried c (Self.known self.old)) }
-        requires page { IfSome (Self.Note.item n) (λ c. HasClaimPage c.claim (Self.known self.old)) }
+        requires page { IfSome (Self.Note.item n)
+            (λ c. HasClaimPage c.claim (Self.known self.old)) }
         ensures answer { option_map (λ c. c.to) (Self.Note.item n) ≡ Some (Self.reference result) }
         ensures of_type { IfSome (Self.Note.item n) (λ c. IsClaimOfType c (Self.known self.old)) }
         ensures known { IfSome (Self.Note.item n) (λ c.
@@ -84,7 +86,8 @@ pub trait Carry: Objects {
         requires page { HasPage graph (Self.known self.old) }
         requires tag { (Self.known self.old).last ≡ Some past.now.tag }
         requires waits { (Self.known self.old).waits graph ≡ waits_for past.now.call }
-        ensures known { Self.known self.new ≡ told_entered graph at past.now (Self.known self.old) };
+        ensures known { Self.known self.new
+            ≡ told_entered graph at past.now (Self.known self.old) };
 
     /// A value of the object that a note carries, the one that the object was made with. The side has the page of the graph that has
     /// the object's claim, and where the page tells its history, that leaves the object as an item.

@@ -79,7 +79,8 @@ impl Model for OneWorld {
       last = world.last;
     } };
 
-    ghost invariant = { λ world. IsWorld world.places.items world.words.items world.slots.items world.graphs.types world.defs.items world.acquires };
+    ghost invariant = { λ world. IsWorld world.places.items world.words.items world.slots.items
+        world.graphs.types world.defs.items world.acquires };
 }
 
 impl OneWorld {

@@ -68,7 +68,8 @@ pub fn worked_notes()
     ensures claims { (known_of (put_in x one_claimed)).claims 1 ≡ None }
     ensures owner { owner_of x (put_in x one_claimed) ≡ Some 0 }
     ensures back { taken_out x_claimed (put_in x one_claimed) ≡ one_claimed }
-    ensures not_without { ¬ carried_from x (known_of one_claimed) ≡ carried_from x (known_of one_made) }
+    ensures not_without { ¬ carried_from x (known_of one_claimed)
+        ≡ carried_from x (known_of one_made) }
     ensures not_out { ¬ put_in x one_claimed ≡ one_claimed }
 {}
 

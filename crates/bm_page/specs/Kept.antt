@@ -18,7 +18,9 @@ pub record IsPool (classes : List (Option ℕ)) (lows : List ℕ) (units : List 
   pub low_count : length lows ≡ length classes
   pub unit_count : length units ≡ 256 * length classes
   pub placed : (u : ℕ) → (stocked_at units u).out ≡ true → u % 256 < units_on classes (u / 256)
-  pub used : (p : ℕ) → IsSome (class_at classes p) → (u : ℕ) × (u / 256 ≡ p) × ((stocked_at units u).out ≡ true)
+  pub used :
+      (p : ℕ) → IsSome (class_at classes p)
+      → (u : ℕ) × (u / 256 ≡ p) × ((stocked_at units u).out ≡ true)
   pub low : (p k : ℕ) → k < slice_index lows p → (stocked_at units (256 * p + k)).out ≡ true
   pub low_limit : (p : ℕ) → slice_index lows p ≤ 256
 

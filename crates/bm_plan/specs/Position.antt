@@ -29,7 +29,13 @@ level_in (due ∷ dues) = due.level
 
 -- before the log
 abbrev pub outset : List (List ℕ) → List AtLine → Position
-outset names lines = record { names = names; lines = lines; plan = record { left = lines; ended = false }; running = [] }
+outset names lines =
+    record {
+      names = names;
+      lines = lines;
+      plan = record { left = lines; ended = false };
+      running = [];
+    }
 
 -- once a handler has begun, which leaves this plan
 abbrev pub within : Due → Plan → Position → Position

@@ -12,7 +12,13 @@ two_planned = at_step 3 1 1 ∷ at_step 3 2 2 ∷ []
 
 -- where these haven't run, and these run
 abbrev pub at_position : List AtLine → List Due → Position
-at_position left running = record { names = script_names; lines = two_planned; plan = record { left = left; ended = false }; running = running }
+at_position left running =
+    record {
+      names = script_names;
+      lines = two_planned;
+      plan = record { left = left; ended = false };
+      running = running;
+    }
 
 abbrev pub handler_g : Due
 handler_g = record { script = record { 0 = 2 }; level = 2 }

@@ -30,7 +30,8 @@ pub struct Handlers {
 impl Handlers {
     /// The handlers that a scenario plans for a processor, none of which has run. Want of memory is the only refusal.
     pub fn create(alloc: Global, scenario: &Scenario, processor: u32) -> Result<Handlers, NoMemory>
-        ensures planned { IfOk result (λ h. h.planned ≡ record { left = planned_for processor scenario.now; ended = false }) }
+        ensures planned { IfOk result
+            (λ h. h.planned ≡ record { left = planned_for processor scenario.now; ended = false }) }
         ensures scripts { IfOk result (λ h. h.scripts ≡ length scenario.now.scripts) }
     {
         let planned = Planned::create(alloc, scenario, processor)?;
@@ -45,17 +46,22 @@ impl Handlers {
         ensures planned { self.new.planned ≡ plan_after step level self.old.planned }
         ensures scripts { self.new.scripts ≡ self.old.scripts }
         ensures none { IfNone result (self.new ≡ self.old) }
-        ensures one { OnSome result (length self.new.planned.left + 1 ≡ length self.old.planned.left) }
-        ensures takes { IfSome result (λ due. Takes due self.old.planned.left self.new.planned.left) }
+        ensures one { OnSome result
+            (length self.new.planned.left + 1 ≡ length self.old.planned.left) }
+        ensures takes { IfSome result
+            (λ due. Takes due self.old.planned.left self.new.planned.left) }
         ensures above { IfSome result (λ due. level < due.level) }
         ensures highest { IfSome result (λ due. due.level ≤ 3) }
         ensures script { IfSome result (λ due. due.script.0 < self.old.scripts) }
 
         // What code knows that is here, where this is the number of its next step: it has asked, or it is interrupted.
-        ensures asked { (p : Position) (log : Log) → AboutTo p log → p.plan ≡ self.old.planned → level_in p.running ≡ level →
+        ensures asked { (p : Position) (log : Log) → AboutTo p log → p.plan ≡ self.old.planned
+            → level_in p.running ≡ level →
             step ≡ next_number (steps_in log) → IfNone result (AskedAt p log) }
-        ensures begun { (p : Position) (log : Log) (name : List ℕ) → AboutTo p log → p.plan ≡ self.old.planned → level_in p.running ≡ level →
-            step ≡ next_number (steps_in log) → IfSome result (λ due. slice_get p.names due.script.0 ≡ Some name →
+        ensures begun { (p : Position) (log : Log) (name : List ℕ) → AboutTo p log
+            → p.plan ≡ self.old.planned → level_in p.running ≡ level →
+            step ≡ next_number (steps_in log)
+            → IfSome result (λ due. slice_get p.names due.script.0 ≡ Some name →
             StandsAt (within due self.new.planned p) (log ++ (due.level, entry.Handler name) ∷ [])) }
     {
         self.planned.take_due(step, level)

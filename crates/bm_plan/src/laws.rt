@@ -24,23 +24,30 @@ pub fn numbers_law()
 /// and begins; a step, an entry that is none, a handler that goes back, and the processor's end. Where no handler runs, the
 /// handlers of the log stand where they are due.
 pub fn position_law()
-    ensures outset { (names : List (List ℕ)) (lines : List AtLine) → StandsAt (outset names lines) [] }
+    ensures outset { (names : List (List ℕ)) (lines : List AtLine)
+        → StandsAt (outset names lines) [] }
     ensures goes_on { (p : Position) (log : Log) → StandsAt p log → AboutTo p log }
     ensures asks { (p : Position) (log : Log) → AboutTo p log →
         due_of (steps_in log + 1) (level_in p.running) p.plan ≡ None → AskedAt p log }
     ensures asked { (p : Position) (log : Log) → AskedAt p log →
         AboutTo p log × (due_of (steps_in log + 1) (level_in p.running) p.plan ≡ None) }
     ensures begins { (p : Position) (log : Log) (line : AtLine) (name : List ℕ) → AboutTo p log →
-        due_of (steps_in log + 1) (level_in p.running) p.plan ≡ Some line → slice_get p.names line.script.0 ≡ Some name →
-        StandsAt (within (told_of line) (plan_after (steps_in log + 1) (level_in p.running) p.plan) p) (log ++ (line.level, entry.Handler name) ∷ []) }
+        due_of (steps_in log + 1) (level_in p.running) p.plan ≡ Some line
+        → slice_get p.names line.script.0 ≡ Some name →
+        StandsAt
+        (within (told_of line) (plan_after (steps_in log + 1) (level_in p.running) p.plan)
+        p)
+        (log ++ (line.level, entry.Handler name) ∷ []) }
     ensures steps { (p : Position) (log : Log) (e : Entry) → kind_of e ≡ Steps → AskedAt p log →
         StandsAt p (log ++ (level_in p.running, e) ∷ []) }
     ensures stays { (p : Position) (log : Log) (e : Entry) → kind_of e ≡ Stays → StandsAt p log →
         StandsAt p (log ++ (level_in p.running, e) ∷ []) }
-    ensures returns { (p : Position) (log : Log) (due : Due) (dues : List Due) (name : List ℕ) → p.running ≡ due ∷ dues →
+    ensures returns { (p : Position) (log : Log) (due : Due) (dues : List Due) (name : List ℕ)
+        → p.running ≡ due ∷ dues →
         slice_get p.names due.script.0 ≡ Some name → StandsAt p log →
         AboutTo (record p { running = dues }) (log ++ (due.level, entry.Back name) ∷ []) }
     ensures ends { (p : Position) (log : Log) → p.running ≡ [] → StandsAt p log →
         StandsAt (record p { plan = record p.plan { ended = true } }) (log ++ (0, entry.Ended) ∷ []) }
-    ensures whole { (p : Position) (log : Log) → p.running ≡ [] → StandsAt p log → handlers_stand p.names p.lines log ≡ true }
+    ensures whole { (p : Position) (log : Log) → p.running ≡ [] → StandsAt p log
+        → handlers_stand p.names p.lines log ≡ true }
 {}

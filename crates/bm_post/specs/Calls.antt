@@ -20,7 +20,8 @@ pub record Takes (class : ℕ) (units : List UnitState) (before now : Rights) : 
   pub gains : Gains (numbers units) before now
 
 -- n units were appended to a list, no more than were wanted
-pub record Fetches (class want n : ℕ) (list longer : List UnitState) (before now : Rights) : Type 0 where
+pub record Fetches (class want n : ℕ) (list longer : List UnitState) (before now : Rights) :
+    Type 0 where
   pub units : List UnitState
   pub appended : longer ≡ list ++ units
   pub count : n ≡ length units
@@ -45,7 +46,10 @@ pub record Posts (tells : Bool) (before now : Known) : Type 0 where
 -- .. and the parcels that are told, if they are, went so
 pub record Mails (tells : Bool) (change : Inboxes → Inboxes) (before now : Known) : Type 0 where
   pub steps : List TableStep
-  pub known : now ≡ record before { steps = told tells before.steps steps; parcels = option_map change before.parcels }
+  pub known :
+      now
+      ≡ record before
+      { steps = told tells before.steps steps; parcels = option_map change before.parcels }
 
 -- A call that wasn't refused, with what it was given and what it answered, units by their numbers. A receive that found
 -- nothing has no units.
@@ -69,7 +73,8 @@ abbrev pub received : ℕ → List UnitState → PostCall
 received class units = Received class (numbers units)
 
 -- a list that is told has gained the call at its end
-pub record Gained (call : PostCall) (before : Option (List PostCall)) (now : List PostCall) : Type 0 where
+pub record Gained (call : PostCall) (before : Option (List PostCall)) (now : List PostCall) :
+    Type 0 where
   pub list : List PostCall
   pub told : before ≡ Some list
   pub more : now ≡ list ++ call ∷ []

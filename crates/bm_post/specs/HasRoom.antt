@@ -8,7 +8,8 @@ abbrev pub has_room : ℕ → ℕ → Bool
 has_room n life = nat_lt n (2 ^ 16) && nat_lt (life + 1) (2 ^ 32)
 
 -- that is what the test says
-pub room-of : (n life : ℕ) (seal : Option Seal) → has_room n life ≡ true → (n < 2 ^ 16) × (life + 1 < 2 ^ 32)
+pub room-of :
+    (n life : ℕ) (seal : Option Seal) → has_room n life ≡ true → (n < 2 ^ 16) × (life + 1 < 2 ^ 32)
 room-of n life seal h =
     let p = and_parts (nat_lt n (2 ^ 16)) (nat_lt (life + 1) (2 ^ 32)) h in
     (ltb-true n (2 ^ 16) p.0, ltb-true (life + 1) (2 ^ 32) p.1)

@@ -43,7 +43,8 @@ sent_to processor class units state =
 
 -- The oldest parcel of an inbox was taken.
 abbrev pub taken_by : ℕ → ℕ → PostState → PostState
-taken_by processor class state = with_inbox processor class (drop 1 (inbox processor class state)) state
+taken_by processor class state =
+    with_inbox processor class (drop 1 (inbox processor class state)) state
 
 -- One unit after the other goes back to the pool.
 abbrev pub all_returned : List UnitState → Stock → Stock
@@ -69,7 +70,13 @@ told_in state = λ c. if nat_lt c 11 then map numbers (inbox state.processor c s
 -- nothing.
 abbrev pub known_by : PostState → Known
 known_by state = record {
-  grace = record { processors = state.processors; processor = state.processor; plain = no_side; tracing = no_side };
+  grace =
+      record {
+        processors = state.processors;
+        processor = state.processor;
+        plain = no_side;
+        tracing = no_side;
+      };
   steps = [];
   parcels = Some (told_in state);
   objects = no_objects;

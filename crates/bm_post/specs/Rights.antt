@@ -16,7 +16,8 @@ numbers units = map number_of units
 -- a unit may go to another processor or back to the pool
 abbrev pub MayLeave : Rights → UnitState → Type 0
 MayLeave rights unit =
-    (rights.settled unit.number unit.life unit.seal ≡ true) ⊎ (rights.ripe unit.number unit.life unit.seal ≡ true)
+    (rights.settled unit.number unit.life unit.seal ≡ true)
+    ⊎ (rights.ripe unit.number unit.life unit.seal ≡ true)
 
 abbrev pub IsSettled : Rights → UnitState → Type 0
 IsSettled rights unit = rights.settled unit.number unit.life unit.seal ≡ true
@@ -52,8 +53,14 @@ AreSame before now = (n : ℕ) → now.mine n ≡ before.mine n
 pub record Lasting (tried : List ℕ) (before now : Rights) : Type 0 where
   pub settled : (n life : ℕ) (seal : Option Seal) → before.mine n ≡ true → now.mine n ≡ true →
       before.settled n life seal ≡ true → now.settled n life seal ≡ true
-  pub due : (n life : ℕ) (seal : Option Seal) → before.mine n ≡ true → now.mine n ≡ true → times n tried ≡ 0 →
+  pub due :
+      (n life : ℕ) (seal : Option Seal) → before.mine n ≡ true → now.mine n ≡ true
+      → times n tried ≡ 0 →
       before.due n life seal ≡ true → now.due n life seal ≡ true
-  pub ripe : (n life : ℕ) (seal : Option Seal) → before.mine n ≡ true → now.mine n ≡ true → times n tried ≡ 0 →
+  pub ripe :
+      (n life : ℕ) (seal : Option Seal) → before.mine n ≡ true → now.mine n ≡ true
+      → times n tried ≡ 0 →
       before.ripe n life seal ≡ true → now.ripe n life seal ≡ true
-  pub since : (d : Domain) (x n : ℕ) → before.mine n ≡ true → now.mine n ≡ true → before.since d x n ≡ true → now.since d x n ≡ true
+  pub since :
+      (d : Domain) (x n : ℕ) → before.mine n ≡ true → now.mine n ≡ true → before.since d x n ≡ true
+      → now.since d x n ≡ true

@@ -12,7 +12,8 @@ use bm_page::{Pool, Unit};
 
 /// Puts units back into the pool that they are out of, the last one first. No unit is there twice.
 pub fn put_all_back(pool: &mut Pool, units: Vec<Unit>)
-    requires out { All (λ (unit : UnitState). (stocked_at pool.old.units unit.number).out ≡ true) units.items }
+    requires out { All (λ (unit : UnitState). (stocked_at pool.old.units unit.number).out ≡ true)
+        units.items }
     requires once { (n : ℕ) → times n (numbers units.items) ≤ 1 }
     ensures { pool.new ≡ all_returned (reverse units.items) pool.old }
 {

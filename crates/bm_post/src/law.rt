@@ -9,6 +9,8 @@ ghost use Rattle.bm_post.specs.Rights.{Holds, MayLeave};
 
 /// Units that were fetched or received are mine, each of them once, and may be sent or put back at once.
 pub fn taken_law()
-    ensures holds { (class : ℕ) (units : List UnitState) (before now : Rights) → Takes class units before now → Holds now units }
-    ensures may_leave { (class : ℕ) (units : List UnitState) (before now : Rights) → Takes class units before now → All (MayLeave now) units }
+    ensures holds { (class : ℕ) (units : List UnitState) (before now : Rights)
+        → Takes class units before now → Holds now units }
+    ensures may_leave { (class : ℕ) (units : List UnitState) (before now : Rights)
+        → Takes class units before now → All (MayLeave now) units }
 {}

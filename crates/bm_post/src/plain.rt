@@ -49,7 +49,8 @@ impl Model for PlainPost {
       inboxes = post.inboxes.items;
     } };
 
-    ghost invariant = { λ post. IsPost post.processors post.processor post.pool post.inboxes.items };
+    ghost invariant = { λ post. IsPost post.processors post.processor post.pool
+        post.inboxes.items };
 }
 
 /// The place of an inbox among all.
@@ -83,7 +84,9 @@ impl PlainPost {
         requires limit { processors ≤ 8 }
         requires roomy { IsRoomy pool }
         ensures ok { IfOk result (λ post.
-            post ≡ record { pool = pool; processors = processors; processor = 0; inboxes = no_parcels }) }
+            post
+            ≡ record
+            { pool = pool; processors = processors; processor = 0; inboxes = no_parcels }) }
         ensures err { IfErr result (λ back. back ≡ pool) }
     {
         match Vec::with_capacity(alloc, INBOXES) {
@@ -164,13 +167,19 @@ impl Post for PlainPost {
     ghost calls = { λ _. None };
 
     fn fetch(&mut self, class: Class, want: usize, out: &mut Vec<Unit>) -> Result<usize, NoMemory>
-        ensures count { IfOk result (λ n. n ≡ length (stock_fetched class want self.old.pool).units) }
-        ensures units { OnOk result (out.new.items ≡ out.old.items ++ (stock_fetched class want self.old.pool).units) }
-        ensures state { OnOk result (self.new ≡ record self.old { pool = (stock_fetched class want self.old.pool).pool }) }
+        ensures count { IfOk result
+            (λ n. n ≡ length (stock_fetched class want self.old.pool).units) }
+        ensures units { OnOk result
+            (out.new.items ≡ out.old.items ++ (stock_fetched class want self.old.pool).units) }
+        ensures state { OnOk result
+            (self.new ≡ record self.old { pool = (stock_fetched class want self.old.pool).pool }) }
         ensures fewer { IfOk result (λ n. n < want → next_unit class self.new.pool ≡ None) }
-        ensures each { OnOk result (All (IsFromStock class self.old.pool) (stock_fetched class want self.old.pool).units) }
+        ensures each { OnOk result
+            (All (IsFromStock class self.old.pool) (stock_fetched class want self.old.pool).units) }
         ensures err_state { OnErr result (self.new ≡ self.old) }
-        ensures ok { IfOk result (λ n. Fetches class want n out.old.items out.new.items (rights_in self.old) (rights_in self.new)) }
+        ensures ok { IfOk result
+            (λ n. Fetches class want n out.old.items out.new.items (rights_in self.old)
+            (rights_in self.new)) }
         ensures err { OnErr result (out.new.items ≡ out.old.items) }
         ensures same { OnErr result (AreSame (rights_in self.old) (rights_in self.new)) }
         ensures lasts { Lasting [] (rights_in self.old) (rights_in self.new) }
@@ -182,7 +191,8 @@ impl Post for PlainPost {
     fn put_back(&mut self, units: Vec<Unit>)
         requires mine { Holds (rights_in self.old) units.items }
         requires fit { All (MayLeave (rights_in self.old)) units.items }
-        ensures state { self.new ≡ record self.old { pool = all_returned (reverse units.items) self.old.pool } }
+        ensures state { self.new
+            ≡ record self.old { pool = all_returned (reverse units.items) self.old.pool } }
         ensures back { GivesBack (numbers units.items) (rights_in self.old) (rights_in self.new) }
         ensures lasts { Lasting (numbers units.items) (rights_in self.old) (rights_in self.new) }
         ensures known { Posts false (known_by self.old) (known_by self.new) }
@@ -199,12 +209,14 @@ impl Post for PlainPost {
         ensures state { OnOk result (self.new ≡ sent_to to class units.items self.old) }
         ensures err_state { OnErr result (self.new ≡ self.old) }
         ensures refused { IfErr result (λ back. back.items ≡ units.items) }
-        ensures sent { OnOk result (GivesBack (numbers units.items) (rights_in self.old) (rights_in self.new)) }
+        ensures sent { OnOk result
+            (GivesBack (numbers units.items) (rights_in self.old) (rights_in self.new)) }
         ensures same { OnErr result (AreSame (rights_in self.old) (rights_in self.new)) }
         ensures lasts { Lasting (numbers units.items) (rights_in self.old) (rights_in self.new) }
         ensures may { OnErr result (All (MayLeave (rights_in self.new)) units.items) }
         ensures mails { OnOk result
-            (Mails false (parcel_sent to self.old.processor class (numbers units.items)) (known_by self.old) (known_by self.new)) }
+            (Mails false (parcel_sent to self.old.processor class (numbers units.items))
+            (known_by self.old) (known_by self.new)) }
     {
         let inboxes = &mut self.inboxes;
         inboxes[place_of(to, class)].push(units)
@@ -212,15 +224,18 @@ impl Post for PlainPost {
 
     fn receive(&mut self, class: Class) -> Option<Vec<Unit>>
         ensures oldest { IfSome result (λ units.
-            inbox self.old.processor class self.old ≡ units.items ∷ inbox self.old.processor class self.new) }
+            inbox self.old.processor class self.old
+            ≡ units.items ∷ inbox self.old.processor class self.new) }
         ensures none_waits { IfNone result (inbox self.old.processor class self.old ≡ []) }
         ensures state { IfSome result (λ _. self.new ≡ taken_by self.old.processor class self.old) }
         ensures none_state { IfNone result (self.new ≡ self.old) }
-        ensures some { IfSome result (λ units. Receives class units.items (rights_in self.old) (rights_in self.new)) }
+        ensures some { IfSome result
+            (λ units. Receives class units.items (rights_in self.old) (rights_in self.new)) }
         ensures none { IfNone result (AreSame (rights_in self.old) (rights_in self.new)) }
         ensures lasts { Lasting [] (rights_in self.old) (rights_in self.new) }
         ensures mails { Mails false (parcel_taken class) (known_by self.old) (known_by self.new) }
-        ensures oldest_told { oldest (told_in self.old class) ≡ option_map_or (λ units. numbers units.items) result [] }
+        ensures oldest_told { oldest (told_in self.old class)
+            ≡ option_map_or (λ units. numbers units.items) result [] }
         ensures none_told { IfNone result (told_in self.old class ≡ []) }
     {
         let place = place_of(self.processor, class);

@@ -32,28 +32,38 @@ pub trait Post: Knows {
     /// from each other. Which come, and when fewer do, is what the act says that it tells; on one thread it is what the
     /// stock gives. `NoMemory`, where `out` can't grow, is the only error and changes nothing.
     fn fetch(&mut self, class: Class, want: usize, out: &mut Vec<Unit>) -> Result<usize, NoMemory>
-        ensures ok { IfOk result (λ n. Fetches class want n out.old.items out.new.items (Self.rights self.old) (Self.rights self.new)) }
+        ensures ok { IfOk result
+            (λ n. Fetches class want n out.old.items out.new.items (Self.rights self.old)
+            (Self.rights self.new)) }
         ensures err { OnErr result (out.new.items ≡ out.old.items) }
         ensures same { OnErr result (AreSame (Self.rights self.old) (Self.rights self.new)) }
         ensures lasts { Lasting [] (Self.rights self.old) (Self.rights self.new) }
         ensures known { Posts Self.tells (Self.known self.old) (Self.known self.new) }
         ensures rest { StaysAtRest Self.rest self.old self.new }
-        ensures calls { IfOk result (λ n. TellsCall (fetched class want n out.old.items out.new.items) (calls self.old) (calls self.new)) }
+        ensures calls { IfOk result
+            (λ n. TellsCall (fetched class want n out.old.items out.new.items) (calls self.old)
+            (calls self.new)) }
         ensures no_call { OnErr result (KeepsCalls (calls self.old) (calls self.new)) }
-        ensures does { OnOk result (Self.does (act.Fetches class want (numbers (drop (length out.old.items) out.new.items)) ∷ []) self.old self.new) }
+        ensures does { OnOk result
+            (Self.does
+            (act.Fetches class want (numbers (drop (length out.old.items) out.new.items)) ∷ [])
+            self.old self.new) }
         ensures idle { OnErr result (Self.does [] self.old self.new) };
 
     /// Gives units back to the pool; none is fine. They are mine, and settled or ripe. Where all are settled, that is told.
     fn put_back(&mut self, units: Vec<Unit>)
         requires mine { Holds (Self.rights self.old) units.items }
         requires fit { All (MayLeave (Self.rights self.old)) units.items }
-        ensures back { GivesBack (numbers units.items) (Self.rights self.old) (Self.rights self.new) }
-        ensures lasts { Lasting (numbers units.items) (Self.rights self.old) (Self.rights self.new) }
+        ensures back { GivesBack (numbers units.items) (Self.rights self.old)
+            (Self.rights self.new) }
+        ensures lasts { Lasting (numbers units.items) (Self.rights self.old)
+            (Self.rights self.new) }
         ensures known { Posts Self.tells (Self.known self.old) (Self.known self.new) }
         ensures rest { StaysAtRest Self.rest self.old self.new }
         ensures calls { TellsCall (returned_call units.items) (calls self.old) (calls self.new) }
         ensures does { Self.does (act.Returns (sealed units.items) ∷ []) self.old self.new }
-        ensures gives { All (IsSettled (Self.rights self.old)) units.items → Self.does (act.GivesBack (numbers units.items) ∷ []) self.old self.new };
+        ensures gives { All (IsSettled (Self.rights self.old)) units.items
+            → Self.does (act.GivesBack (numbers units.items) ∷ []) self.old self.new };
 
     /// Sends units of a class to a processor's inbox, as one parcel; this one's own inbox too. They are mine, and settled
     /// or ripe. It refuses for want of memory alone, and then hands the units back, which are mine still.
@@ -64,39 +74,56 @@ pub trait Post: Knows {
         requires class { All (IsOf class) units.items }
         requires mine { Holds (Self.rights self.old) units.items }
         requires fit { All (MayLeave (Self.rights self.old)) units.items }
-        ensures sent { OnOk result (GivesBack (numbers units.items) (Self.rights self.old) (Self.rights self.new)) }
+        ensures sent { OnOk result
+            (GivesBack (numbers units.items) (Self.rights self.old) (Self.rights self.new)) }
         ensures refused { IfErr result (λ back. back.items ≡ units.items) }
         ensures same { OnErr result (AreSame (Self.rights self.old) (Self.rights self.new)) }
-        ensures lasts { Lasting (numbers units.items) (Self.rights self.old) (Self.rights self.new) }
+        ensures lasts { Lasting (numbers units.items) (Self.rights self.old)
+            (Self.rights self.new) }
         ensures may { OnErr result (All (MayLeave (Self.rights self.new)) units.items) }
         ensures mails { OnOk result
-            (Mails Self.tells (parcel_sent to (Self.known self.old).grace.processor class (numbers units.items)) (Self.known self.old) (Self.known self.new)) }
-        ensures known { OnErr result (Posts Self.tells (Self.known self.old) (Self.known self.new)) }
+            (Mails Self.tells
+            (parcel_sent to (Self.known self.old).grace.processor class (numbers units.items))
+            (Self.known self.old) (Self.known self.new)) }
+        ensures known { OnErr result
+            (Posts Self.tells (Self.known self.old) (Self.known self.new)) }
         ensures rest { StaysAtRest Self.rest self.old self.new }
-        ensures calls { OnOk result (TellsCall (sent to class units.items) (calls self.old) (calls self.new)) }
+        ensures calls { OnOk result
+            (TellsCall (sent to class units.items) (calls self.old) (calls self.new)) }
         ensures no_call { OnErr result (KeepsCalls (calls self.old) (calls self.new)) }
-        ensures does { OnOk result (Self.does (act.Sends class to (sealed units.items) ∷ []) self.old self.new) }
+        ensures does { OnOk result
+            (Self.does (act.Sends class to (sealed units.items) ∷ []) self.old self.new) }
         ensures drains { OnOk result (All (IsSettled (Self.rights self.old)) units.items
             → Self.does (act.Drains class to (numbers units.items) ∷ []) self.old self.new) }
-        ensures releases { OnOk result ((seal : Seal) → All (WaitedBy (Self.rights self.old) seal) units.items
-            → Self.does (act.Releases class to (numbers units.items) seal.stamp seal.seen ∷ []) self.old self.new) }
+        ensures releases { OnOk result ((seal : Seal)
+            → All (WaitedBy (Self.rights self.old) seal) units.items
+            → Self.does (act.Releases class to (numbers units.items) seal.stamp seal.seen ∷ [])
+            self.old self.new) }
         ensures idle { OnErr result (Self.does [] self.old self.new) };
 
     /// Takes the oldest parcel out of this processor's inbox of a class, as it was sent; `None` where it found the inbox
     /// empty. The units weren't mine before, and differ from each other.
     fn receive(&mut self, class: Class) -> Option<Vec<Unit>>
-        ensures some { IfSome result (λ units. Receives class units.items (Self.rights self.old) (Self.rights self.new)) }
+        ensures some { IfSome result
+            (λ units. Receives class units.items (Self.rights self.old) (Self.rights self.new)) }
         ensures none { IfNone result (AreSame (Self.rights self.old) (Self.rights self.new)) }
         ensures lasts { Lasting [] (Self.rights self.old) (Self.rights self.new) }
-        ensures mails { Mails Self.tells (parcel_taken class) (Self.known self.old) (Self.known self.new) }
+        ensures mails { Mails Self.tells (parcel_taken class) (Self.known self.old)
+            (Self.known self.new) }
         ensures oldest_told { IfSome (Self.known self.old).parcels
             (λ boxes. oldest (boxes class) ≡ option_map_or (λ units. numbers units.items) result []) }
-        ensures none_told { IfNone result (IfSome (Self.known self.old).parcels (λ boxes. boxes class ≡ [])) }
+        ensures none_told { IfNone result
+            (IfSome (Self.known self.old).parcels (λ boxes. boxes class ≡ [])) }
         ensures rest { StaysAtRest Self.rest self.old self.new }
-        ensures calls { IfSome result (λ units. TellsCall (received class units.items) (calls self.old) (calls self.new)) }
-        ensures empty { IfNone result (TellsCall (received class []) (calls self.old) (calls self.new)) }
-        ensures does { Self.does (act.Receives class (option_map_or (λ units. numbers units.items) result []) ∷ []) self.old self.new };
+        ensures calls { IfSome result
+            (λ units. TellsCall (received class units.items) (calls self.old) (calls self.new)) }
+        ensures empty { IfNone result
+            (TellsCall (received class []) (calls self.old) (calls self.new)) }
+        ensures does { Self.does
+            (act.Receives class (option_map_or (λ units. numbers units.items) result []) ∷ [])
+            self.old self.new };
 
     // What may be used again can be named, and can begin a life.
-    ghost room: { (p : Self) (n life : ℕ) (seal : Option Seal) → (Self.rights p).settled n life seal ≡ true → (n < 2 ^ 16) × (life + 1 < 2 ^ 32) };
+    ghost room: { (p : Self) (n life : ℕ) (seal : Option Seal)
+        → (Self.rights p).settled n life seal ≡ true → (n < 2 ^ 16) × (life + 1 < 2 ^ 32) };
 }

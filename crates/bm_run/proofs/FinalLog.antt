@@ -14,7 +14,7 @@ use Rattle.bm_law_scenario.specs.Grammar.{Front, IsLog, stock_for}
 use Rattle.bm_law_scenario.specs.Lawful.{LawfulLog}
 use Rattle.bm_law_scenario.specs.Opened.{opened_classes, uses_class}
 use Rattle.bm_law_scenario.specs.Parcels.{ParcelLaw, sends_alone}
-use Rattle.bm_law_scenario.specs.SectionWords.{SectionWords}
+use Rattle.bm_law_lives.specs.SectionWords.{SectionWords}
 use Rattle.bm_cache.specs.Opening.{Fills}
 use Rattle.bm_cache.specs.Tokens.{Token, number_of}
 use Rattle.bm_run.specs.Between.{IsFinal}

@@ -36,7 +36,7 @@ use Rattle.bm_law_scenario.specs.Runs.{lock_after}
 use Rattle.bm_law_scenario.specs.Handlers.{AreHandlers, HandlerPhrase, HandlersDone, enclosed, more, none}
 use Rattle.bm_law_scenario.specs.Held.{Held, Names, Nothing, Null, Object, Soft}
 use Rattle.bm_law_scenario.specs.Held as held
-use Rattle.bm_law_scenario.specs.SectionWords.{is_outside}
+use Rattle.bm_law_lives.specs.SectionWords.{is_outside}
 use Rattle.bm_law_scenario.proofs.EachLevel.{AllAbove, each-above}
 use Rattle.bm_law_scenario.proofs.Freed.{either-free}
 use Rattle.bm_law_scenario.proofs.Levels.{levels}

@@ -15,7 +15,8 @@ pub record IsSeatOf (lines : List RunLine) (p : ℕ) (own : Kept) (seat : Seat) 
 -- so are these, ascending from p, one for each of those that are kept
 abbrev pub AreSeats : List RunLine → (p : ℕ) → List Kept → List Seat → Type 0
 AreSeats lines p [] [] = Unit {0}
-AreSeats lines p (own ∷ kept) (seat ∷ seats) = IsSeatOf lines p own seat × AreSeats lines (p + 1) kept seats
+AreSeats lines p (own ∷ kept) (seat ∷ seats) =
+    IsSeatOf lines p own seat × AreSeats lines (p + 1) kept seats
 AreSeats lines p [] (seat ∷ seats) = ⊥
 AreSeats lines p (own ∷ kept) [] = ⊥
 

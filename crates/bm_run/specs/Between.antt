@@ -63,7 +63,8 @@ all_openings s = openings (opened_classes s.types) s.pages s.processors
 
 -- All processors of a program are between turns, which they take in this order, of which the rest is still to come. By what they may ask for
 -- yet, two calls for each map, and three for each object that may be in a list or tree, are left for the closing.
-pub record Between (g : Program) (turns rest : List ℕ) (seats : List Seat) (world : LivingState) : Type 0 where
+pub record Between (g : Program) (turns rest : List ℕ) (seats : List Seat) (world : LivingState) :
+    Type 0 where
   pub many : length seats ≡ g.scenario.now.processors
   pub order : Order
   pub taken : List (List Log)
@@ -72,10 +73,16 @@ pub record Between (g : Program) (turns rest : List ℕ) (seats : List Seat) (wo
   pub shares : List ℕ
   pub turned : TurnsSoFar g.scenario.now.processors turns rest taken (ended_of seats) order
   pub pieces : AreTaken g.scenario.now.processors taken (ended_of seats)
-  pub logs_are : (p : ℕ) → p < g.scenario.now.processors → get_or logs p [] ≡ opening_log g.scenario.now p ++ joined (get_or taken p [])
-  pub so_far : LogsSoFar g.scenario.now.processors g.scenario.now.pages (all_openings g.scenario.now ++ order) logs world
+  pub logs_are :
+      (p : ℕ) → p < g.scenario.now.processors
+      → get_or logs p [] ≡ opening_log g.scenario.now p ++ joined (get_or taken p [])
+  pub so_far :
+      LogsSoFar g.scenario.now.processors g.scenario.now.pages
+      (all_openings g.scenario.now ++ order) logs world
   pub waits : WaitsSoFar (all_openings g.scenario.now ++ order) world
-  pub seated : (p : ℕ) (seat : Seat) → slice_get seats p ≡ Some seat → IsSeated g p (get_or logs p []) (bases p) (get_or shares p 0) world seat
+  pub seated :
+      (p : ℕ) (seat : Seat) → slice_get seats p ≡ Some seat
+      → IsSeated g p (get_or logs p []) (bases p) (get_or shares p 0) world seat
   pub add_up : AddUp g.scenario.now.processors bases (in_hands (known_living world).objects)
   pub shares_many : length shares ≡ g.scenario.now.processors
   pub few : world.asked + sum_by (λ n. n) shares + 3 * 2 ^ 16 + 128 < 2 ^ 22
@@ -89,7 +96,8 @@ AllStopped seats = (p : ℕ) (seat : Seat) → slice_get seats p ≡ Some seat �
 -- What processor p leaves in its closing, after this front and with these lists, once nothing is left to give up: it ends the periods that it has in progress, and sweeps
 -- these classes, in whose inboxes these parcels wait by then. At the end nothing stands in their lists; the other classes are as
 -- they were, and no call is in a cache or has anything in hand.
-pub record ClosesAs (classes : List ℕ) (front : Log) (lists : State ℕ) (p : ℕ) (final finishes sweeps : Log) : Type 0 where
+pub record ClosesAs (classes : List ℕ) (front : Log) (lists : State ℕ) (p : ℕ)
+    (final finishes sweeps : Log) : Type 0 where
   pub finishes_at : AllAt 0 finishes
   pub finishes_are : EndsPeriods front lists finishes
   pub boxes : Inboxes
@@ -109,7 +117,8 @@ GivesFirst d p = Then (Stand 0 (close_of p)) (Empties p d)
 -- phrase, its end, and its closing, which gives up what the maps hold first.
 pub record IsFinal (s : Parts) (p : ℕ) (final given finishes sweeps : Log) : Type 0 where
   pub scripts : Log
-  pub final_is : final ≡ (opening_log s p ++ scripts) ++ ((0, entry.Ended) ∷ (given ++ (finishes ++ sweeps)))
+  pub final_is :
+      final ≡ (opening_log s p ++ scripts) ++ ((0, entry.Ended) ∷ (given ++ (finishes ++ sweeps)))
   pub are_scripts : AreScripts s (lines_of p s.runs) (opening_lists s p) scripts
   pub front_stands : HandlersStand s p (opening_log s p ++ scripts)
   pub front_done : HandlersDone s p (opening_log s p ++ scripts)
@@ -119,11 +128,14 @@ pub record IsFinal (s : Parts) (p : ℕ) (final given finishes sweeps : Log) : T
   pub given_is : GivesFirst (declared_in s) p lists given
   pub stands : HandlersStand s p final
   pub done : HandlersDone s p final
-  pub closes : ClosesAs (opened_classes s.types) (opening_log s p ++ scripts) (after lists given) p final finishes sweeps
+  pub closes :
+      ClosesAs (opened_classes s.types) (opening_log s p ++ scripts) (after lists given) p final
+      finishes sweeps
 
 -- All processors of a scenario have closed, and these are their logs: the turns made this order; then processor 0 began the closing,
 -- and emptied the maps; then each ended its periods, and then each swept its classes. These are the histories of all maps, of which that of a slot is empty.
-pub record AllClosed (s : Parts) (turns : List ℕ) (finals : List Log) (histories : List (List ℕ × List Past)) : Type 0 where
+pub record AllClosed (s : Parts) (turns : List ℕ) (finals : List Log)
+    (histories : List (List ℕ × List Past)) : Type 0 where
   pub order : Order
   pub taken : List (List Log)
   pub ended : List Bool
@@ -138,13 +150,38 @@ pub record AllClosed (s : Parts) (turns : List ℕ) (finals : List Log) (histori
   pub given_many : length given ≡ s.processors
   pub finishes_many : length finishes ≡ s.processors
   pub sweeps_many : length sweeps ≡ s.processors
-  pub finals_are : (p : ℕ) → p < s.processors → get_or finals p [] ≡ (opening_log s p ++ joined (get_or taken p [])) ++ (get_or given p [] ++ (get_or finishes p [] ++ get_or sweeps p []))
-  pub logs : (p : ℕ) → p < s.processors → IsFinal s p (get_or finals p []) (get_or given p []) (get_or finishes p []) (get_or sweeps p [])
+  pub finals_are :
+      (p : ℕ) → p < s.processors
+      → get_or finals p []
+      ≡ (opening_log s p ++ joined (get_or taken p []))
+      ++ (get_or given p [] ++ (get_or finishes p [] ++ get_or sweeps p []))
+  pub logs :
+      (p : ℕ) → p < s.processors
+      → IsFinal s p (get_or finals p []) (get_or given p []) (get_or finishes p [])
+      (get_or sweeps p [])
   pub world : LivingState
-  pub so_far : LogsSoFar s.processors s.pages (((all_openings s ++ order) ++ one_by_one 0 given) ++ (one_by_one 0 finishes ++ one_by_one 0 sweeps)) finals world
+  pub so_far :
+      LogsSoFar s.processors s.pages
+      (((all_openings s ++ order) ++ one_by_one 0 given)
+      ++ (one_by_one 0 finishes ++ one_by_one 0 sweeps))
+      finals world
   pub lives : (u : ℕ) → (known_living world).objects.lives u ≡ None
-  pub inboxes : (p c : ℕ) → (shared_over (((all_openings s ++ order) ++ one_by_one 0 given) ++ (one_by_one 0 finishes ++ one_by_one 0 sweeps)) (fresh s.processors s.pages)).boxes p c ≡ []
-  pub idle : (d : Domain) → (of d (shared_over (((all_openings s ++ order) ++ one_by_one 0 given) ++ (one_by_one 0 finishes ++ one_by_one 0 sweeps)) (fresh s.processors s.pages)).numbers).driver ≡ None
+  pub inboxes :
+      (p c : ℕ)
+      → (shared_over
+      (((all_openings s ++ order) ++ one_by_one 0 given)
+      ++ (one_by_one 0 finishes ++ one_by_one 0 sweeps))
+      (fresh s.processors s.pages)).boxes
+      p c
+      ≡ []
+  pub idle :
+      (d : Domain)
+      → (of d
+      (shared_over
+      (((all_openings s ++ order) ++ one_by_one 0 given)
+      ++ (one_by_one 0 finishes ++ one_by_one 0 sweeps))
+      (fresh s.processors s.pages)).numbers).driver
+      ≡ None
   pub names : graph_names_in world.graphs ≡ map (λ (m : MapDeclaration). m.name) s.maps
   pub unused : AreUnused s.maps world.graphs
   pub bare : (u : ℕ) → standing_from 0 world.graphs u ≡ None

@@ -49,7 +49,8 @@ use Rattle.bm_run.specs.SoFar.{at_turn}
 
 -- no processor is in a section
 abbrev pub AllOutside : LivingState → Type 0
-AllOutside world = (d : Domain) → AreEven world.side.grace.processors (domain_in d world.side.grace).words
+AllOutside world =
+    (d : Domain) → AreEven world.side.grace.processors (domain_in d world.side.grace).words
 
 -- each period in progress is that of one of the processors
 abbrev pub AllDriven : LivingState → Type 0
@@ -69,7 +70,9 @@ HasRoom classes p world = length classes ≤ (side_in p world.side.grace.tracing
 
 -- a call of ordinary code may begin on these caches and that side
 abbrev pub FineHere : Caches Recorded → LivingState → Type 0
-FineHere caches side = Fine (λ (r : Recorded). r.told) (λ r. r.counted) (tests_by (rights_living side)) side.side.grace.processors 0 caches
+FineHere caches side =
+    Fine (λ (r : Recorded). r.told) (λ r. r.counted) (tests_by (rights_living side))
+    side.side.grace.processors 0 caches
 
 -- ---- a step of one processor
 
@@ -87,9 +90,12 @@ NeedsFor Sweeps classes side = AllDone side × HasRoom classes side.side.grace.p
 
 -- A step went from what a processor kept and its side to those, and its log, which was this one, has grown by such a part of ordinary
 -- code alone, which is tied to the side.
-pub record Stepped (P : Part) (kept : Kept) (side : LivingState) (log : Log) (then : Kept) (now : LivingState) : Type 0 where
+pub record Stepped (P : Part) (kept : Kept) (side : LivingState) (log : Log) (then : Kept)
+    (now : LivingState) : Type 0 where
   pub added : Log
-  pub tied : Tied (polled knows_living true log side) (DoesHere knows_living) log side 0 [] [] (log ++ added) now
+  pub tied :
+      Tied (polled knows_living true log side) (DoesHere knows_living) log side 0 [] []
+      (log ++ added) now
   pub said : P (seen number_of (shown kept.caches)) added
   pub at : AllAt 0 added
   pub rests : IsResting then now (log ++ added)
@@ -99,16 +105,20 @@ pub record Stepped (P : Part) (kept : Kept) (side : LivingState) (log : Log) (th
   pub none : NoneBegun now.side.grace.processor now
 
 -- The periods that it had in progress ended.
-pub record EndsOf (classes : List ℕ) (kept : Kept) (side : LivingState) (log : Log) (then : Kept) (now : LivingState) : Type 0 where
+pub record EndsOf (classes : List ℕ) (kept : Kept) (side : LivingState) (log : Log) (then : Kept)
+    (now : LivingState) : Type 0 where
   pub step : Stepped (EndsBegun (known_living side)) kept side log then now
   pub lists : shown then.caches ≡ shown kept.caches
-  pub room : HasRoom classes side.side.grace.processor side → HasRoom classes now.side.grace.processor now
+  pub room :
+      HasRoom classes side.side.grace.processor side → HasRoom classes now.side.grace.processor now
 
 -- These classes were swept, with what waited in its inboxes.
-pub record SweepsOf (classes : List ℕ) (kept : Kept) (side : LivingState) (log : Log) (then : Kept) (now : LivingState) : Type 0 where
+pub record SweepsOf (classes : List ℕ) (kept : Kept) (side : LivingState) (log : Log) (then : Kept)
+    (now : LivingState) : Type 0 where
   pub step : Stepped (SweepsTold classes (told_in side.side.post)) kept side log then now
   pub empty : (c : ℕ) → 0 < times c classes → seven_lists ((shown then.caches).rows c) ≡ []
-  pub others : (c : ℕ) → times c classes ≡ 0 → (shown then.caches).rows c ≡ (shown kept.caches).rows c
+  pub others :
+      (c : ℕ) → times c classes ≡ 0 → (shown then.caches).rows c ≡ (shown kept.caches).rows c
   pub boxes : (c : ℕ) → 0 < times c classes → told_in now.side.post c ≡ []
   pub done : AllDone now
 
@@ -127,7 +137,8 @@ pub record Gathered : Type 0 where
 
 -- .. of so many processors as there are places
 abbrev pub gathered_with : List (Option Kept) → LivingState → List ℕ → Gathered
-gathered_with places world classes = record { processors = length places; places = places; world = Some world; classes = classes }
+gathered_with places world classes =
+    record { processors = length places; places = places; world = Some world; classes = classes }
 
 -- processor p keeps this
 abbrev pub Keeps : List (Option Kept) → ℕ → Kept → Type 0
@@ -170,7 +181,8 @@ OwnAfter Ends classes p kept world = HasRoom classes p world × NoneBegun p worl
 OwnAfter Sweeps classes p kept world = HoldsNone classes p kept world
 
 -- Processor p is among them, with what it has of its own; in its lists stands nothing of other classes than these.
-pub record IsAmong (Own : List ℕ → ℕ → Kept → LivingState → Type 0) (g : Gathered) (p : ℕ) : Type 0 where
+pub record IsAmong (Own : List ℕ → ℕ → Kept → LivingState → Type 0) (g : Gathered) (p : ℕ) :
+    Type 0 where
   pub world : LivingState
   pub world_is : g.world ≡ Some world
   pub together : AreTogether g.processors g.places world
@@ -222,7 +234,8 @@ units_waiting (Some world) p c = concat (told_boxes world.side.post p c)
 -- all units of some classes that processor p holds
 abbrev pub held_of : List ℕ → Gathered → ℕ → List ℕ
 held_of [] g p = []
-held_of (c ∷ cs) g p = units_kept (slice_get g.places p) c ++ (units_waiting g.world p c ++ held_of cs g p)
+held_of (c ∷ cs) g p =
+    units_kept (slice_get g.places p) c ++ (units_waiting g.world p c ++ held_of cs g p)
 
 -- ---- the begin and the end
 
@@ -232,17 +245,25 @@ AreFew g world = (length g.scenario.now.maps ≤ 64) × (items_in world.graphs �
 
 -- Processor 0 has begun the closing, behind this log: it noted that, and emptied the maps of the program. Names hold what they held, nothing is in lists and trees, no lock is
 -- held, it is in a section or in none as before, it asked for no more than that takes, and ordinary code could go on.
-pub record BeginsClosing (g : Program) (kept : Kept) (side : LivingState) (log : Log) (then : Kept) (now : LivingState) : Type 0 where
+pub record BeginsClosing (g : Program) (kept : Kept) (side : LivingState) (log : Log) (then : Kept)
+    (now : LivingState) : Type 0 where
   pub added : Log
   pub told : then.caches.recorder.told ≡ Some (log ++ added)
   pub said : GivesFirst (declared_in g.scenario.now) 0 (seen number_of (shown kept.caches)) added
   pub sound : Sound knows_living g (in_its_turn then now)
-  pub tied : Tied (polled knows_living false log side) (DoesHere knows_living) log side 0 [] [] (log ++ added) now
-  pub asks : asked_of knows_living g.scenario.now (in_its_turn then now) ≤ asked_of knows_living g.scenario.now (in_its_turn kept side) + (2 * length g.scenario.now.maps + 3 * items_in side.graphs)
+  pub tied :
+      Tied (polled knows_living false log side) (DoesHere knows_living) log side 0 [] []
+      (log ++ added) now
+  pub asks :
+      asked_of knows_living g.scenario.now (in_its_turn then now)
+      ≤ asked_of knows_living g.scenario.now (in_its_turn kept side)
+      + (2 * length g.scenario.now.maps + 3 * items_in side.graphs)
   pub hands : in_hands (known_living now).objects ≡ in_hands (known_living side).objects
   pub bare : (u : ℕ) → standing_from 0 now.graphs u ≡ None
   pub unlocked : then.locked ≡ None
-  pub parity : (d : Domain) → (of_side d (known_living now)).word % 2 ≡ (of_side d (known_living side)).word % 2
+  pub parity :
+      (d : Domain)
+      → (of_side d (known_living now)).word % 2 ≡ (of_side d (known_living side)).word % 2
 
 -- what its recorder tells, if it is there
 abbrev pub log_kept : Option Kept → Option Log
@@ -262,7 +283,8 @@ TellsHistories None histories = Unit {0}
 TellsHistories (Some world) histories = histories ≡ map history_told world.graphs
 
 -- They came by the steps of both phases to others that hold nothing, of which these are the logs, and the histories of all maps.
-pub record CloseTogether (before : Gathered) (logs : List Log) (histories : List (List ℕ × List Past)) : Type 0 where
+pub record CloseTogether (before : Gathered) (logs : List Log)
+    (histories : List (List ℕ × List Past)) : Type 0 where
   pub middle : Gathered
   pub now : Gathered
   pub ends : StepsBelow (TookStep Ends) before.processors before middle

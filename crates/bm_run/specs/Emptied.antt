@@ -14,7 +14,9 @@ use Rattle.bm_exec_levels.specs.declared.program.Program.{Program}
 
 -- Two calls may be made for each map, and three for each object that is in a list or tree.
 abbrev pub HasRoomFor : Program → Processor LivingState → Type 0
-HasRoomFor g m = asked_of knows_living g.scenario.now m + 2 * length g.scenario.now.maps + 3 * items_in (graphs_of knows_living m) < 2 ^ 22
+HasRoomFor g m =
+    asked_of knows_living g.scenario.now m + 2 * length g.scenario.now.maps
+    + 3 * items_in (graphs_of knows_living m) < 2 ^ 22
 
 -- It is processor 0, its log has the begin of the closing, and it holds no lock.
 pub record IsClosing (m : Processor LivingState) : Type 0 where

@@ -17,7 +17,8 @@ behind fills rest = record { fills = fills ++ rest.fills; pool = rest.pool }
 -- one class after the other fetches its units
 abbrev pub filling : List ℕ → Stock → Filling
 filling [] pool = record { fills = []; pool = pool }
-filling (c ∷ cs) pool = let f = fetched c (prefill c) pool in behind ((c, f.units) ∷ []) (filling cs f.pool)
+filling (c ∷ cs) pool =
+    let f = fetched c (prefill c) pool in behind ((c, f.units) ∷ []) (filling cs f.pool)
 
 abbrev pub units_in : List (ℕ × List UnitState) → List UnitState
 units_in [] = []

@@ -21,10 +21,13 @@ pub record AreLeft (ended : List Bool) (left : List (List Log)) : Type 0 where
 
 -- So many processors take turns in this order, of which the rest is still to come. By now they have taken turns with these pieces, and some
 -- have ended; the turns made this order. Whatever pieces are left, with them the order of all turns is this one and then theirs.
-pub record TurnsSoFar (processors : ℕ) (turns rest : List ℕ) (taken : List (List Log)) (ended : List Bool) (order : Order) : Type 0 where
+pub record TurnsSoFar (processors : ℕ) (turns rest : List ℕ) (taken : List (List Log))
+    (ended : List Bool) (order : Order) : Type 0 where
   pub taken_many : length taken ≡ processors
   pub ended_many : length ended ≡ processors
-  pub goes_on : (left : List (List Log)) → AreLeft ended left → in_turns turns (with_left taken left) ≡ order ++ in_turns rest left
+  pub goes_on :
+      (left : List (List Log)) → AreLeft ended left
+      → in_turns turns (with_left taken left) ≡ order ++ in_turns rest left
 
 -- Processor p is the lowest that hasn't ended.
 pub record IsLowest (ended : List Bool) (p : ℕ) : Type 0 where
@@ -58,11 +61,14 @@ pub record IsPiece (ends : Bool) (piece : Log) : Type 0 where
 pub data ArePieces : Bool → List Log → Type 0 where
   none : ArePieces false []
   last : {piece : Log} → IsPiece true piece → ArePieces true (piece ∷ [])
-  more : {ended : Bool} {piece : Log} {pieces : List Log} → IsPiece false piece → ArePieces ended pieces → ArePieces ended (piece ∷ pieces)
+  more :
+      {ended : Bool} {piece : Log} {pieces : List Log} → IsPiece false piece
+      → ArePieces ended pieces → ArePieces ended (piece ∷ pieces)
 
 -- these are the pieces of so many processors' turns so far, some of which have ended
 abbrev pub AreTaken : ℕ → List (List Log) → List Bool → Type 0
-AreTaken processors taken ended = (p : ℕ) → p < processors → ArePieces (get_or ended p true) (get_or taken p [])
+AreTaken processors taken ended =
+    (p : ℕ) → p < processors → ArePieces (get_or ended p true) (get_or taken p [])
 
 -- ---- the parts of a log
 
@@ -130,4 +136,6 @@ one_by_one p logs = ascending p (λ log. log) logs
 -- The order that a run makes: the processors open, one after the other; they take turns, which make this order; and they close, one after
 -- the other in each part of the closing.
 abbrev pub made_by : Order → RunParts → Order
-made_by order r = one_by_one 0 r.fills ++ (order ++ (one_by_one 0 r.given ++ (one_by_one 0 r.finishes ++ one_by_one 0 r.sweeps)))
+made_by order r =
+    one_by_one 0 r.fills
+    ++ (order ++ (one_by_one 0 r.given ++ (one_by_one 0 r.finishes ++ one_by_one 0 r.sweeps)))

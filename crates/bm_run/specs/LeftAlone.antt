@@ -26,7 +26,8 @@ use Rattle.bm_world.specs.ToldLiving.{told_living}
 -- Nothing happened to unit n between two worlds: it is in the stock or out as before, and in the inboxes as often; it lives or doesn't, has
 -- begun as many lives, and waits for the same.
 pub record StaysPut (n : ℕ) (before now : LivingState) : Type 0 where
-  pub out : (stocked_at now.side.post.pool.units n).out ≡ (stocked_at before.side.post.pool.units n).out
+  pub out :
+      (stocked_at now.side.post.pool.units n).out ≡ (stocked_at before.side.post.pool.units n).out
   pub inboxes : waits n now.side.post.inboxes ≡ waits n before.side.post.inboxes
   pub lives : is_some (unit_at now.slots n) ≡ is_some (unit_at before.slots n)
   pub begun : begun_at now.begun n ≡ begun_at before.begun n
@@ -38,19 +39,25 @@ pub record IsLeftAlone (lists : State Token) (before now : LivingState) : Type 0
   pub processors : now.side.grace.processors ≡ before.side.grace.processors
   pub processor : now.side.grace.processor ≡ before.side.grace.processor
   pub words : (d : Domain) → (side d (known_living now)).word ≡ (side d (known_living before)).word
-  pub begins : (d : Domain) → (side d (known_living before)).begins ≤ (side d (known_living now)).begins
+  pub begins :
+      (d : Domain) → (side d (known_living before)).begins ≤ (side d (known_living now)).begins
   pub asked : before.asked ≤ now.asked
   pub units : Each (λ c k u. StaysPut u.number before now) (λ u. StaysPut u.number before now) lists
 
 -- Acts keep for processor q what it may begin and the calls that were counted, and of each unit that they spare what it waits for, since the same stamps.
 pub record KeepsFor (q : ℕ) (acts : List Act) (before now : LivingState) : Type 0 where
-  pub begins : (d : Domain) → slice_index (domain_in d before.side.grace).begins q ≤ slice_index (domain_in d now.side.grace).begins q
+  pub begins :
+      (d : Domain)
+      → slice_index (domain_in d before.side.grace).begins q
+      ≤ slice_index (domain_in d now.side.grace).begins q
   pub asked : before.asked ≤ now.asked
-  pub standings : (n : ℕ) → AllSpare n acts → standing_at now.standings n ≡ standing_at before.standings n
+  pub standings :
+      (n : ℕ) → AllSpare n acts → standing_at now.standings n ≡ standing_at before.standings n
 
 -- A turn of processor p, by its story, from one world to another: each unit is in one place when it begins, each of its entries finds what it needs,
 -- and they lead from what is told of the one world to what is told of the other.
-pub record IsTurnOf (p : ℕ) (story : Story) (places : World) (before now : LivingState) : Type 0 where
+pub record IsTurnOf (p : ℕ) (story : Story) (places : World) (before now : LivingState) :
+    Type 0 where
   pub placed : IsWellPlaced places
   pub found : AllFound (by p (lines story)) places
   pub told : places.shared ≡ plainly (told_living before)
@@ -67,7 +74,8 @@ pub record IsTold (places : World) (world : LivingState) : Type 0 where
 
 -- .. and what a turn of processor p makes of it: these are its lists then, the others have theirs, and for each of them its acts keep what they may
 -- begin and what their units wait for
-pub record Turned (p : ℕ) (story : Story) (places : World) (lists : State ℕ) (before now : LivingState) : Type 0 where
+pub record Turned (p : ℕ) (story : Story) (places : World) (lists : State ℕ)
+    (before now : LivingState) : Type 0 where
   pub turn : IsTurnOf p story places before now
   pub told : IsTold (world_over (by p (lines story)) places) now
   pub own : (world_over (by p (lines story)) places).lists p ≡ lists

@@ -18,7 +18,9 @@ use Rattle.bm_exec_levels.specs.declared.processor.Processor.{Processor}
 
 -- how many statements some lines run on processor p at most
 abbrev pub lines_cost : ℕ → List Script → List RunLine → ℕ
-lines_cost p scripts runs = sum_by (λ (r : RunLine). cost_on p r.processor (script_cost (slice_get scripts r.script.0))) runs
+lines_cost p scripts runs =
+    sum_by (λ (r : RunLine). cost_on p r.processor (script_cost (slice_get scripts r.script.0)))
+    runs
 
 -- how many objects, works and words of plain sections were asked for, and how many more handlers that haven't run may ask for
 abbrev pub asks_in : Parts → Processor LivingState → ℕ

@@ -21,7 +21,8 @@ AnswersAll log = (rest : Log) → AreAnswered rest → AreAnswered (log ++ rest)
 
 -- These are the logs of so many processors so far, and this is their order, which leads to this world, the side of one of them: each
 -- entry finds what it needs there and in the lists and hands of its processor; and no drop of a log is without its answers.
-pub record LogsSoFar (processors pages : ℕ) (order : Order) (logs : List Log) (world : LivingState) : Type 0 where
+pub record LogsSoFar (processors pages : ℕ) (order : Order) (logs : List Log)
+    (world : LivingState) : Type 0 where
   pub many : length logs ≡ processors
   pub order_of : IsOrderOf logs order
   pub so_far : SoFar processors pages order world
@@ -44,6 +45,11 @@ pub record WaitsSoFar (order : Order) (world : LivingState) : Type 0 where
 
 -- A stretch of one processor's log was added, by which the world came to be another one: so it is with its entries, and each other
 -- processor was left alone, whose lists these are.
-pub record Stretched (processors pages p : ℕ) (order : Order) (logs : List Log) (added : Log) (world now : LivingState) : Type 0 where
-  pub so_far : LogsSoFar processors pages (order ++ by p added) (set logs p (get_or logs p [] ++ added)) now
-  pub alone : (q : ℕ) → q < processors → q ≢ p → (lists : State Token) → seen number_of lists ≡ after (opening q) (get_or logs q []) → IsLeftAlone lists (at_turn q world) (at_turn q now)
+pub record Stretched (processors pages p : ℕ) (order : Order) (logs : List Log) (added : Log)
+    (world now : LivingState) : Type 0 where
+  pub so_far :
+      LogsSoFar processors pages (order ++ by p added) (set logs p (get_or logs p [] ++ added)) now
+  pub alone :
+      (q : ℕ) → q < processors → q ≢ p → (lists : State Token)
+      → seen number_of lists ≡ after (opening q) (get_or logs q [])
+      → IsLeftAlone lists (at_turn q world) (at_turn q now)

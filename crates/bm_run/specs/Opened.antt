@@ -39,11 +39,22 @@ fresh_side n p pool = record {
 
 -- .. where no unit lives or has begun a life, none was asked for, and there is no slot, list or tree
 abbrev pub fresh_world : (processors p : ℕ) → Stock → LivingState
-fresh_world n p pool = record { side = fresh_side n p pool; slots = []; begun = []; standings = []; asked = 0; contents = []; graphs = [] }
+fresh_world n p pool =
+    record {
+      side = fresh_side n p pool;
+      slots = [];
+      begun = [];
+      standings = [];
+      asked = 0;
+      contents = [];
+      graphs = [];
+    }
 
 -- the slots of these maps, which hold nothing
 abbrev pub empty_slots : List MapDeclaration → List Named
-empty_slots maps = map (λ (m : MapDeclaration). let s : Named = record { name = m.name; slot = empty_slot } in s) maps
+empty_slots maps =
+    map (λ (m : MapDeclaration). let s : Named = record { name = m.name; slot = empty_slot } in s)
+    maps
 
 -- whether a map of this kind is a tree
 abbrev pub is_tree_kind : MapKind → Bool

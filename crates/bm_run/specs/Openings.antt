@@ -26,7 +26,8 @@ filling_of classes pages p = filling classes (opening_stock classes pages p)
 -- the openings of the processors below n, in ascending order
 abbrev pub openings : (classes : List ℕ) (pages n : ℕ) → Order
 openings classes pages zero = []
-openings classes pages (suc p) = openings classes pages p ++ by p (fill_log (filling_of classes pages p).fills)
+openings classes pages (suc p) =
+    openings classes pages p ++ by p (fill_log (filling_of classes pages p).fills)
 
 -- What processor p keeps once its caches were filled so: no work was asked for, its log has no call, it is in no section and holds no lock, none of the handlers that the
 -- scenario plans for it has run, and there is the memory that they need.
@@ -50,7 +51,8 @@ pub record AreNew (pool : Stock) (units : List UnitState) : Type 0 where
   pub out : All (λ (u : UnitState). (stocked_at pool.units u.number).out ≡ true) units
 
 -- processor p keeps caches that were filled in its turn
-pub record FilledInTurn (s : Parts) (classes : List ℕ) (pool : Stock) (p : ℕ) (kept : Kept) : Type 0 where
+pub record FilledInTurn (s : Parts) (classes : List ℕ) (pool : Stock) (p : ℕ) (kept : Kept) :
+    Type 0 where
   pub filled : IsFilled s p (filling_of classes s.pages p).fills kept
   pub units : AreNew pool (units_in (filling_of classes s.pages p).fills)
 
@@ -62,10 +64,12 @@ pub record AreFilled (s : Parts) (classes : List ℕ) (kept : List Kept) (pool :
 
 -- All processors of a program have opened, each with units of the stock that those before it have left, and the world is the side of
 -- processor 0. The order of their openings is so far as it is between two turns.
-pub record AreOpen (p : Program) (classes : List ℕ) (kept : List Kept) (world : LivingState) : Type 0 where
+pub record AreOpen (p : Program) (classes : List ℕ) (kept : List Kept) (world : LivingState) :
+    Type 0 where
   pub many : length kept ≡ p.scenario.now.processors
   pub each : (i : ℕ) (own : Kept) → slice_get kept i ≡ Some own
-      → IsOpen p.scenario.now.processors i p (filling_of classes p.scenario.now.pages i) (in_its_turn own (at_turn i world))
+      → IsOpen p.scenario.now.processors i p (filling_of classes p.scenario.now.pages i)
+      (in_its_turn own (at_turn i world))
   pub side : IsSideOf 0 world.side
   pub so_far : SoFar p.scenario.now.processors p.scenario.now.pages
       (openings classes p.scenario.now.pages p.scenario.now.processors) world

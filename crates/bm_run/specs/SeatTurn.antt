@@ -23,13 +23,15 @@ use Rattle.bm_run.specs.declared.seats.Seat.{Seat}
 -- ---- one processor
 
 -- It took a turn, which ended with a yield.
-pub record HasYielded (g : Program) (before : Processor LivingState) (r : Remaining) (now : Processor LivingState) (r' : Remaining) : Type 0 where
+pub record HasYielded (g : Program) (before : Processor LivingState) (r : Remaining)
+    (now : Processor LivingState) (r' : Remaining) : Type 0 where
   pub advanced : Advanced g.scenario.now (works_for g.scenario.now) before r now r'
   pub turn : YieldsLast 0 (log_of before) (log_of now)
   pub less : weight_left g.scenario.now r' < weight_left g.scenario.now r
 
 -- It took a turn to the end of its scripts, and then recorded that they have ended, since when no handler is due.
-pub record HasCeased (g : Program) (before : Processor LivingState) (r : Remaining) (now : Processor LivingState) (r' : Remaining) : Type 0 where
+pub record HasCeased (g : Program) (before : Processor LivingState) (r : Remaining)
+    (now : Processor LivingState) (r' : Remaining) : Type 0 where
   pub last : Processor LivingState
   pub advanced : Advanced g.scenario.now (works_for g.scenario.now) before r last r'
   pub turn : Unyielding 0 (log_of before) (log_of last)
@@ -41,7 +43,8 @@ pub record HasCeased (g : Program) (before : Processor LivingState) (r : Remaini
   pub same : now ≡ record last { caches = now.caches; handlers = now.handlers }
   pub planned : now.handlers.planned ≡ record last.handlers.planned { ended = true }
 
-abbrev pub has_gone : Bool → Program → Processor LivingState → Remaining → Processor LivingState → Remaining → Type 0
+abbrev pub has_gone :
+    Bool → Program → Processor LivingState → Remaining → Processor LivingState → Remaining → Type 0
 has_gone false g before r now r' = HasYielded g before r now r'
 has_gone true g before r now r' = HasCeased g before r now r'
 
@@ -54,20 +57,27 @@ pub record MayTurn (g : Program) (since : Log) (start : LivingState) (seat : Sea
   pub told : kept.caches.recorder.told ≡ Some since
   pub sound : Sound knows_living g (in_its_turn kept start)
   pub can : CanRun g.scenario.now (works_for g.scenario.now) (in_its_turn kept start) seat.remaining
-  pub room : used_in g.scenario.now (in_its_turn kept start) + cost_left g.scenario.now seat.remaining < 2 ^ 22
+  pub room :
+      used_in g.scenario.now (in_its_turn kept start) + cost_left g.scenario.now seat.remaining
+      < 2 ^ 22
 
 -- It took its turn, by which the world came to be another one, to which its log is tied.
-pub record TookTurn (g : Program) (since : Log) (start now : LivingState) (seat seat' : Seat) : Type 0 where
+pub record TookTurn (g : Program) (since : Log) (start now : LivingState) (seat seat' : Seat) :
+    Type 0 where
   pub kept : Kept
   pub kept_is : seat.kept ≡ Some kept
   pub kept_now : Kept
   pub kept_now_is : seat'.kept ≡ Some kept_now
   pub log : Log
   pub told : kept_now.caches.recorder.told ≡ Some log
-  pub tied : Tied (polled knows_living false since start) (DoesHere knows_living) since start 0 [] [] log now
+  pub tied :
+      Tied (polled knows_living false since start) (DoesHere knows_living) since start 0 [] [] log
+      now
   pub sound : Sound knows_living g (in_its_turn kept_now now)
   pub processor : seat'.remaining.processor ≡ seat.remaining.processor
-  pub went : has_gone seat'.ended g (in_its_turn kept start) seat.remaining (in_its_turn kept_now now) seat'.remaining
+  pub went :
+      has_gone seat'.ended g (in_its_turn kept start) seat.remaining (in_its_turn kept_now now)
+      seat'.remaining
 
 -- the log that a seat keeps
 abbrev pub told_or_none : Option Log → Log

@@ -41,12 +41,15 @@ opening_lists s p = after (opening p) (opening_log s p)
 -- Processor p has scripts to run, and can take its turn: whatever it still runs, with what it has recorded since its opening it runs the
 -- scripts of its lines.
 pub record IsRunning (s : Parts) (p : ℕ) (m : Processor LivingState) (r : Remaining) : Type 0 where
-  pub goes : (final : Option Log) → GrewBy (StillRuns s (works_for s) m r) (lists_of m) (log_of m) final → GrewBy (AreScripts s (lines_of p s.runs)) (opening_lists s p) (Some (opening_log s p)) final
+  pub goes :
+      (final : Option Log) → GrewBy (StillRuns s (works_for s) m r) (lists_of m) (log_of m) final
+      → GrewBy (AreScripts s (lines_of p s.runs)) (opening_lists s p) (Some (opening_log s p)) final
   pub can : CanRun s (works_for s) m r
 
 -- The scripts of processor p have ended, which is recorded: its log is its opening and they, in which each handler stood where it was
 -- due and left its phrase. It is in no section and holds no lock, and no handler is due on it any more.
-pub record HasStopped (s : Parts) (p : ℕ) (log : Log) (m : Processor LivingState) (r : Remaining) : Type 0 where
+pub record HasStopped (s : Parts) (p : ℕ) (log : Log) (m : Processor LivingState) (r : Remaining) :
+    Type 0 where
   pub scripts : Log
   pub log_is : log ≡ (opening_log s p ++ scripts) ++ (0, entry.Ended) ∷ []
   pub are_scripts : AreScripts s (lines_of p s.runs) (opening_lists s p) scripts
@@ -64,16 +67,22 @@ runs_or_stopped true s p log m r = HasStopped s p log m r
 
 -- what it may still ask for, and has asked for of its own: works, the words of its sections, and what its handlers and scripts have left
 abbrev pub seat_asks : Parts → Processor LivingState → Remaining → ℕ
-seat_asks s m r = ((m.settled + left_cost s (left_of m)) + (words_of knows_living m + word_of knows_living Tracing m)) + cost_left s r
+seat_asks s m r =
+    ((m.settled + left_cost s (left_of m))
+    + (words_of knows_living m + word_of knows_living Tracing m)) + cost_left s r
 
 -- Processor p of a program, between turns, where this is its log: ordinary code can go on on it. Beside the objects of `base` those live
 -- that its names hold, and it may ask for no more than its share.
-pub record IsSeated (g : Program) (p : ℕ) (log : Log) (base : Lives) (share : ℕ) (world : LivingState) (seat : Seat) : Type 0 where
+pub record IsSeated (g : Program) (p : ℕ) (log : Log) (base : Lives) (share : ℕ)
+    (world : LivingState) (seat : Seat) : Type 0 where
   pub kept : Kept
   pub kept_is : seat.kept ≡ Some kept
   pub told : kept.caches.recorder.told ≡ Some log
   pub processor : seat.remaining.processor ≡ p
   pub sound : Sound knows_living g (in_its_turn kept (at_turn p world))
-  pub runs : runs_or_stopped seat.ended g.scenario.now p log (in_its_turn kept (at_turn p world)) seat.remaining
-  pub owns : owned_by g.scenario.now base (in_hands (known_living world).objects) seat.remaining.begun
+  pub runs :
+      runs_or_stopped seat.ended g.scenario.now p log (in_its_turn kept (at_turn p world))
+      seat.remaining
+  pub owns :
+      owned_by g.scenario.now base (in_hands (known_living world).objects) seat.remaining.begun
   pub asks : seat_asks g.scenario.now (in_its_turn kept (at_turn p world)) seat.remaining ≤ share

@@ -21,13 +21,17 @@ use Rattle.bm_law_objects.specs.Objects.{Asked, IsOwned, Made, nothing_owned, ow
 -- A life, if the unit has one, is the last one that it began, and was made of what was asked for with these values.
 abbrev pub MadeAs : Option Life → (last : ℕ) → (values : List ℕ) → Option Made → Type 0
 MadeAs None last values made = Unit {0}
-MadeAs (Some life) last values made = (asked : Asked) × (made ≡ Some (record { life = last; asked = asked })) × (asked.values ≡ values)
+MadeAs (Some life) last values made =
+    (asked : Asked) × (made ≡ Some (record { life = last; asked = asked }))
+    × (asked.values ≡ values)
 
 -- So it is of each unit that lives, by an order and by what the world tells.
 abbrev pub IsMadeOf : Order → LivingState → Type 0
 IsMadeOf o world =
     let lives = (told_living world).lives in
-    (u : ℕ) → MadeAs (lives.holds u) (lives.begun u) (fields_told world u) ((over owned_after o nothing_owned).objects.made u)
+    (u : ℕ)
+    → MadeAs (lives.holds u) (lives.begun u) (fields_told world u)
+    ((over owned_after o nothing_owned).objects.made u)
 
 -- what an order makes of lists, trees and locks, where these are the names of the maps
 abbrev pub shelves_over : (names : List (List ℕ)) → Order → Shelved
@@ -48,9 +52,12 @@ pub record SoFar (processors pages : ℕ) (o : Order) (world : LivingState) : Ty
   pub slots : (over owned_after o nothing_owned).objects.slots ≡ named_in world.contents
   pub apart : are_apart (graph_names_in world.graphs) ≡ true
   pub shelved : IsShelved (graph_names_in world.graphs) o
-  pub histories : (shelves_over (graph_names_in world.graphs) o).shelves.histories ≡ history_in world.graphs
-  pub within : (shelves_over (graph_names_in world.graphs) o).shelves.within ≡ standing_from 0 world.graphs
-  pub unlocked : (name : List ℕ) → (shelves_over (graph_names_in world.graphs) o).shelves.holders name ≡ None
+  pub histories :
+      (shelves_over (graph_names_in world.graphs) o).shelves.histories ≡ history_in world.graphs
+  pub within :
+      (shelves_over (graph_names_in world.graphs) o).shelves.within ≡ standing_from 0 world.graphs
+  pub unlocked :
+      (name : List ℕ) → (shelves_over (graph_names_in world.graphs) o).shelves.holders name ≡ None
   pub unheld : (p : ℕ) → lock_in (part_of p o) ≡ None
 
 -- So it is while nothing was swept: units wait for what the world tells, and each was given with what it had waited for.
@@ -68,7 +75,8 @@ at_turn p world = record world {
 }
 
 -- In a turn of processor p its log has grown from one to another by entries that follow those so far, and the world is still its side.
-pub record TurnTaken (processors pages p : ℕ) (o : Order) (since log : Log) (world : LivingState) : Type 0 where
+pub record TurnTaken (processors pages p : ℕ) (o : Order) (since log : Log) (world : LivingState) :
+    Type 0 where
   pub added : Log
   pub log_is : log ≡ since ++ added
   pub so_far : SoFar processors pages (o ++ by p added) world

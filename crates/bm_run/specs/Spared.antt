@@ -5,4 +5,5 @@ use Rattle.bm_law.specs.State.{State, seven_lists}
 
 -- unit n is in a list or a hand
 abbrev pub Has : ℕ → State ℕ → Type 0
-Has n s = ((c : ℕ) × (0 < times n (seven_lists (s.rows c)))) ⊎ ((l : ℕ) × (0 < times n (s.sides l).hand))
+Has n s =
+    ((c : ℕ) × (0 < times n (seven_lists (s.rows c)))) ⊎ ((l : ℕ) × (0 < times n (s.sides l).hand))

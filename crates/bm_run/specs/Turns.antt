@@ -66,9 +66,12 @@ outermost b = record { whole = starts_inside b.script.now; begun = None }
 
 -- A script stands on a processor so that it can go on, for the classes w of the deferred work behind its statements: it is one of the
 -- scenario's, and the processor is in its section and holds no lock.
-pub record IsInScript (s : Parts) (w : Option (List ℕ)) (m : Processor LivingState) (b : Begun) : Type 0 where
+pub record IsInScript (s : Parts) (w : Option (List ℕ)) (m : Processor LivingState) (b : Begun) :
+    Type 0 where
   pub found : (i : ℕ) × (slice_get s.scripts i ≡ Some b.script.now)
-  pub can : CanGoOn (declared_in s) 0 (around_in m b) w (lists_of m) (in_hands (known_of knows_living m).objects) b.activation.names (blocks_of b)
+  pub can :
+      CanGoOn (declared_in s) 0 (around_in m b) w (lists_of m)
+      (in_hands (known_of knows_living m).objects) b.activation.names (blocks_of b)
   pub sections : Sectioned (outermost b) (around_in m b) (blocks_of b)
   pub within : starts_inside b.script.now ≡ true → m.inside ≡ true
   pub inside : word_of knows_living (domain_of b) m % 2 ≡ 1
@@ -83,49 +86,86 @@ pub record IsOutside (w : Option (List ℕ)) (m : Processor LivingState) : Type 
 
 -- what the statements that are left of it run
 abbrev pub RunsBlocks : Parts → Option (List ℕ) → Around → Begun → Part
-RunsBlocks s w z b l part = (last : Names) × RunsStack (declared_in s) 0 z w (blocks_of b) (held_by b) last l part × ((x : List ℕ) → OwnsNothing (last x))
+RunsBlocks s w z b l part =
+    (last : Names) × RunsStack (declared_in s) 0 z w (blocks_of b) (held_by b) last l part
+    × ((x : List ℕ) → OwnsNothing (last x))
 
 -- the end of a script with this word inside its section, and the deferred work after it
 abbrev pub EndsScript : Option (List ℕ) → Script → (word : ℕ) → Part
-EndsScript w script word = Then (Stand 0 (entry.Out (section_of script.kind) (word + 1) ∷ entry.Done script.name ∷ [])) (BehindScript w)
+EndsScript w script word =
+    Then (Stand 0 (entry.Out (section_of script.kind) (word + 1) ∷ entry.Done script.name ∷ []))
+    (BehindScript w)
 
 -- what is left of it
 abbrev pub RunsOn : Parts → Option (List ℕ) → Processor LivingState → Begun → Part
-RunsOn s w m b = Then (RunsBlocks s w (around_in m b) b) (EndsScript w b.script.now (word_of knows_living (domain_of b) m))
+RunsOn s w m b =
+    Then (RunsBlocks s w (around_in m b) b)
+    (EndsScript w b.script.now (word_of knows_living (domain_of b) m))
 
 -- A script has begun on a processor: its name and its section are recorded, what is left of it is its block, and beside the objects that
 -- lived before its names hold none.
-pub record HasBegun (s : Parts) (w : Option (List ℕ)) (script : Script) (before now : Processor LivingState) (b : Begun) : Type 0 where
+pub record HasBegun (s : Parts) (w : Option (List ℕ)) (script : Script)
+    (before now : Processor LivingState) (b : Begun) : Type 0 where
   pub same : b.script.now ≡ script
-  pub wrote : Wrote (Stand 0 (entry.Script script.name ∷ entry.In (section_of script.kind) (word_of knows_living (section_of script.kind) now) ∷ [])) before now
+  pub wrote :
+      Wrote
+      (Stand 0
+      (entry.Script script.name
+      ∷ entry.In (section_of script.kind)
+      (word_of knows_living (section_of script.kind) now)
+      ∷ []))
+      before now
   pub stands : IsInScript s w now b
-  pub runs : (l : State ℕ) (part : Log) → RunsBlocks s w (around_in now b) b l part → (last : Names) × RunsBlock (declared_in s) 0 (starts_inside script) (Behind w) script.body no_names last l part × ((x : List ℕ) → OwnsNothing (last x))
-  pub owns : (base : Lives) → in_hands (known_of knows_living before).objects ≡ base → Holds s.types base (in_hands (known_of knows_living now).objects) (held_by b)
+  pub runs :
+      (l : State ℕ) (part : Log) → RunsBlocks s w (around_in now b) b l part
+      → (last : Names)
+      × RunsBlock (declared_in s) 0 (starts_inside script) (Behind w) script.body no_names last
+      l part
+      × ((x : List ℕ) → OwnsNothing (last x))
+  pub owns :
+      (base : Lives) → in_hands (known_of knows_living before).objects ≡ base
+      → Holds s.types base (in_hands (known_of knows_living now).objects) (held_by b)
   pub cost : stack_cost (blocks_of b) ≡ block_cost script.body
   pub light : weight (blocks_of b) ≤ 2 * block_cost script.body + 1
   pub used : used_in s now ≤ used_in s before + 3
 
 -- Some of its statements were run, up to a `yield`: whatever is left of them then, with that they are what was left before.
-pub record WentOn (s : Parts) (w : Option (List ℕ)) (before now : Processor LivingState) (b b' : Begun) : Type 0 where
+pub record WentOn (s : Parts) (w : Option (List ℕ)) (before now : Processor LivingState)
+    (b b' : Begun) : Type 0 where
   pub same : b'.script.now ≡ b.script.now
-  pub grew : (mid : Option Log) → GrewBy (RunsBlocks s w (around_in now b') b') (lists_of now) (log_of now) mid → GrewBy (RunsBlocks s w (around_in before b) b) (lists_of before) (log_of before) mid
+  pub grew :
+      (mid : Option Log)
+      → GrewBy (RunsBlocks s w (around_in now b') b') (lists_of now) (log_of now) mid
+      → GrewBy (RunsBlocks s w (around_in before b) b) (lists_of before) (log_of before) mid
   pub stands : IsInScript s w now b'
-  pub owns : (base : Lives) → Holds s.types base (in_hands (known_of knows_living before).objects) (held_by b) → Holds s.types base (in_hands (known_of knows_living now).objects) (held_by b')
-  pub used : used_in s now + 3 * stack_cost (blocks_of b') ≤ used_in s before + 3 * stack_cost (blocks_of b)
+  pub owns :
+      (base : Lives)
+      → Holds s.types base (in_hands (known_of knows_living before).objects) (held_by b)
+      → Holds s.types base (in_hands (known_of knows_living now).objects) (held_by b')
+  pub used :
+      used_in s now + 3 * stack_cost (blocks_of b')
+      ≤ used_in s before + 3 * stack_cost (blocks_of b)
   pub less : weight (blocks_of b') < weight (blocks_of b)
 
 -- All its statements were run, its names own nothing, and the processor holds no lock.
-pub record HasRun (s : Parts) (w : Option (List ℕ)) (before now : Processor LivingState) (b : Begun) : Type 0 where
-  pub grew : GrewBy (RunsBlocks s w (around_in before b) b) (lists_of before) (log_of before) (log_of now)
+pub record HasRun (s : Parts) (w : Option (List ℕ)) (before now : Processor LivingState)
+    (b : Begun) : Type 0 where
+  pub grew :
+      GrewBy (RunsBlocks s w (around_in before b) b) (lists_of before) (log_of before) (log_of now)
   pub down : Behind w (lists_of now) []
   pub inside : now.inside ≡ starts_inside b.script.now
   pub unlocked : now.locked ≡ None
-  pub owns : (base : Lives) → Holds s.types base (in_hands (known_of knows_living before).objects) (held_by b) → in_hands (known_of knows_living now).objects ≡ base
+  pub owns :
+      (base : Lives)
+      → Holds s.types base (in_hands (known_of knows_living before).objects) (held_by b)
+      → in_hands (known_of knows_living now).objects ≡ base
   pub used : used_in s now ≤ used_in s before + 3 * stack_cost (blocks_of b)
 
 -- A script has ended on a processor, with the deferred work after it.
-pub record HasEnded (s : Parts) (w : Option (List ℕ)) (script : Script) (before now : Processor LivingState) : Type 0 where
-  pub wrote : Wrote (EndsScript w script (word_of knows_living (section_of script.kind) before)) before now
+pub record HasEnded (s : Parts) (w : Option (List ℕ)) (script : Script)
+    (before now : Processor LivingState) : Type 0 where
+  pub wrote :
+      Wrote (EndsScript w script (word_of knows_living (section_of script.kind) before)) before now
   pub outside : IsOutside w now
   pub lives : SameLives knows_living before now
   pub used : used_in s now ≤ used_in s before + 2
@@ -141,9 +181,12 @@ pub record IsNextOf (s : Parts) (script : Script) (r r' : Remaining) : Type 0 wh
   pub line : RunLine
   pub found : slice_get s.scripts line.script.0 ≡ Some script
   pub next : lines_left r ≡ line ∷ lines_left r'
-  pub cost : lines_cost r.processor s.scripts r.lines.now ≡ (10 + block_cost script.body) + lines_cost r.processor s.scripts r'.lines.now
+  pub cost :
+      lines_cost r.processor s.scripts r.lines.now
+      ≡ (10 + block_cost script.body) + lines_cost r.processor s.scripts r'.lines.now
 
-abbrev pub still_begun : Parts → Option (List ℕ) → Processor LivingState → Option Begun → Part → Part
+abbrev pub still_begun :
+    Parts → Option (List ℕ) → Processor LivingState → Option Begun → Part → Part
 still_begun s w m None rest = rest
 still_begun s w m (Some b) rest = Then (RunsOn s w m b) rest
 
@@ -156,7 +199,8 @@ stands_in s w m None = IsOutside w m
 stands_in s w m (Some b) = IsInScript s w m b
 
 -- The processor can take its turn.
-pub record CanRun (s : Parts) (w : Option (List ℕ)) (m : Processor LivingState) (r : Remaining) : Type 0 where
+pub record CanRun (s : Parts) (w : Option (List ℕ)) (m : Processor LivingState) (r : Remaining) :
+    Type 0 where
   pub stands : stands_in s w m r.begun
   pub declared : AreDeclared s r.lines.now
 
@@ -190,8 +234,11 @@ weight_left s r = begun_weight r.begun + 2 * lines_cost r.processor s.scripts r.
 
 -- What was run from one time to another: whatever the processor still runs then, with that it runs what it had to run before. It can
 -- take its turn. The objects that aren't its names' are as they were, and no more was asked for than what remains has become less.
-pub record Advanced (s : Parts) (w : Option (List ℕ)) (before : Processor LivingState) (r : Remaining) (now : Processor LivingState) (r' : Remaining) : Type 0 where
-  pub grew : (final : Option Log) → GrewBy (StillRuns s w now r') (lists_of now) (log_of now) final → GrewBy (StillRuns s w before r) (lists_of before) (log_of before) final
+pub record Advanced (s : Parts) (w : Option (List ℕ)) (before : Processor LivingState)
+    (r : Remaining) (now : Processor LivingState) (r' : Remaining) : Type 0 where
+  pub grew :
+      (final : Option Log) → GrewBy (StillRuns s w now r') (lists_of now) (log_of now) final
+      → GrewBy (StillRuns s w before r) (lists_of before) (log_of before) final
   pub ordinary : Ordinary knows_living before now
   pub can : CanRun s w now r'
   pub owns : (base : Lives) → Owns s base before r → Owns s base now r'

@@ -41,7 +41,11 @@ one_parts = record {
   fills = (0, entry.Fill 10 (Whole [])) ∷ [];
   pieces = begins ∷ ends ∷ [];
   given = [];
-  finishes = (0, entry.Finish (record { domain = Plain; number = 2; first = 0 ∷ 0 ∷ []; later = 2 ∷ 0 ∷ [] })) ∷ [];
+  finishes = (
+    0,
+    entry.Finish (record { domain = Plain; number = 2; first = 0 ∷ 0 ∷ []; later = 2 ∷ 0 ∷ [] }),
+  )
+      ∷ [];
   sweeps = [];
 }
 
@@ -76,7 +80,10 @@ lowest_first = by 1 begins ++ (by 0 enters ++ (by 0 leaves ++ by 1 ends))
 -- with the openings before the turns' order, and the closings after it
 abbrev pub with_closing : Order → Order
 with_closing order =
-    by 0 zero_parts.fills ++ (by 1 one_parts.fills ++ (order ++ (by 0 zero_parts.given ++ (by 1 one_parts.finishes ++ by 0 zero_parts.sweeps))))
+    by 0 zero_parts.fills
+    ++ (by 1 one_parts.fills
+    ++ (order
+    ++ (by 0 zero_parts.given ++ (by 1 one_parts.finishes ++ by 0 zero_parts.sweeps))))
 
 -- Wrong: when each had its turn, processor 1, the highest, takes its next one.
 abbrev pub highest_first : Order

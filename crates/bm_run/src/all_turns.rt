@@ -199,7 +199,8 @@ pub fn run_turns<'s>(
     requires checked { IsChecked program.now.scenario.now }
     requires works { behind_of deferred.now.behind ≡ works_for program.now.scenario.now }
     requires few { IfSome deferred.now.behind (λ classes. length classes.now ≤ 11) }
-    requires open { AreOpen program.now (opened_classes program.now.scenario.now.types) kept.items world }
+    requires open { AreOpen program.now (opened_classes program.now.scenario.now.types) kept.items
+        world }
     ensures between { IfOk result (λ r.
         Between program.now (named_turns program.now.scenario.now.turns) [] r.0.items r.1) }
     ensures stopped { IfOk result (λ r. AllStopped r.0.items) }

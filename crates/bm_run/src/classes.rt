@@ -41,7 +41,8 @@ fn object_bytes(declared: &TypeDeclaration) -> u32
 /// memory is the only refusal.
 pub(crate) fn type_classes(alloc: Global, types: &[TypeDeclaration]) -> Result<Vec<Class>, NoMemory>
     requires { list_all (λ (t : TypeDeclaration). has_size (type_form t)) types.now ≡ true }
-    ensures { IfOk result (λ classes. map Some classes.items ≡ map (λ t. class_of_size (object_size t)) types.now) }
+    ensures { IfOk result
+        (λ classes. map Some classes.items ≡ map (λ t. class_of_size (object_size t)) types.now) }
 {
     let mut classes = Vec::new(alloc);
     for declared in types {
@@ -81,7 +82,8 @@ pub(crate) fn opened_classes(
 
 /// Classes with their watermarks.
 pub(crate) fn with_marks(alloc: Global, classes: &[Class]) -> Result<Vec<(Class, Marks)>, NoMemory>
-    ensures { IfOk result (λ opened. opened.items ≡ map (λ c. (c, marks_of_size (size_of_class c))) classes.now) }
+    ensures { IfOk result
+        (λ opened. opened.items ≡ map (λ c. (c, marks_of_size (size_of_class c))) classes.now) }
 {
     let mut opened = Vec::new(alloc);
     for class in classes {

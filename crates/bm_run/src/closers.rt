@@ -417,8 +417,10 @@ fn close_begun(
     requires may { (p : ℕ) → p < length places.items →
         IsAmong (OwnBefore EndsPhase) (gathered_with places.items world classes.now) p }
     ensures closed { IfOk result (λ closed.
-        CloseTogether (gathered_with places.items world classes.now) closed.logs.items closed.histories.items) }
-    ensures whole { IfOk result (λ closed. All (λ log. IsTrue (is_whole_log log)) closed.logs.items) }
+        CloseTogether (gathered_with places.items world classes.now) closed.logs.items
+        closed.histories.items) }
+    ensures whole { IfOk result
+        (λ closed. All (λ log. IsTrue (is_whole_log log)) closed.logs.items) }
 {
     let mut closers = Closers {
         alloc,
@@ -473,12 +475,14 @@ pub fn close_seats<'s>(
     requires between { (turns : List ℕ) × Between program.now turns [] seats.items world }
     requires stopped { AllStopped seats.items }
     requires classes { classes.now ≡ opened_classes program.now.scenario.now.types }
-    requires apart { are_apart (map (λ (m : MapValue). m.name) program.now.scenario.now.maps) ≡ true }
+    requires apart { are_apart (map (λ (m : MapValue). m.name) program.now.scenario.now.maps)
+        ≡ true }
     requires few { length program.now.scenario.now.maps ≤ 64 }
     ensures closed { IfOk result (λ closed. (turns : List ℕ) →
         Between program.now turns [] seats.entry.items world →
         AllClosed program.now.scenario.now turns closed.logs.items closed.histories.items) }
-    ensures whole { IfOk result (λ closed. All (λ log. IsTrue (is_whole_log log)) closed.logs.items) }
+    ensures whole { IfOk result
+        (λ closed. All (λ log. IsTrue (is_whole_log log)) closed.logs.items) }
 {
     handled_law();
     world.few_items();

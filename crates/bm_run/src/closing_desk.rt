@@ -37,7 +37,8 @@ impl<B: Since<LivingSide>> Host<Keep> for ClosingDesk<B> {
 
     ghost with_held = { λ m c. record m { caches = c } };
 
-    ghost face = { λ m. record { level = 0; processors = (known_living m.side).grace.processors; through = 0 } };
+    ghost face = { λ m. record
+        { level = 0; processors = (known_living m.side).grace.processors; through = 0 } };
 
     ghost pending = { λ m. 0 };
 
@@ -61,13 +62,27 @@ impl<B: Since<LivingSide>> Host<Keep> for ClosingDesk<B> {
 
     ghost tests_back = { λ h c. refl };
 
-    ghost sound_back = { λ h c p e s. (p ∙ s.0, ends-back B.since B.start c.recorder.told h.caches.recorder.told h.side e s.1) };
+    ghost sound_back = { λ h c p e s. (
+      p ∙ s.0,
+      ends-back B.since B.start c.recorder.told h.caches.recorder.told h.side e s.1,
+    ) };
 
-    ghost asked_back = { λ h c p e s. (p ∙ s.0, ends-back B.since B.start c.recorder.told h.caches.recorder.told h.side e s.1) };
+    ghost asked_back = { λ h c p e s. (
+      p ∙ s.0,
+      ends-back B.since B.start c.recorder.told h.caches.recorder.told h.side e s.1,
+    ) };
 
-    ghost sound_stepped = { λ h c e i p a s. (p ∙ s.0, ends-quiet B.since B.start e h.caches.recorder.told c.recorder.told h.side (and_parts (is_step e) (is_quiet e) i).1 a s.1) };
+    ghost sound_stepped = { λ h c e i p a s. (
+      p ∙ s.0,
+      ends-quiet B.since B.start e h.caches.recorder.told c.recorder.told h.side
+          (and_parts (is_step e) (is_quiet e) i).1 a s.1,
+    ) };
 
-    ghost sound_said = { λ h c e i p a s. (p ∙ s.0, ends-quiet B.since B.start e h.caches.recorder.told c.recorder.told h.side (and_parts (is_reply e) (is_quiet e) i).1 a s.1) };
+    ghost sound_said = { λ h c e i p a s. (
+      p ∙ s.0,
+      ends-quiet B.since B.start e h.caches.recorder.told c.recorder.told h.side
+          (and_parts (is_reply e) (is_quiet e) i).1 a s.1,
+    ) };
 
     ghost sound_given = { λ h c u n x p a s. tt };
 
@@ -105,9 +120,11 @@ impl<B: Since<LivingSide>> Desk<Keep> for ClosingDesk<B> {
 
     ghost minds = { Unit {0} };
 
-    ghost rested = { λ d x m. IsHere m.caches m.side × RestsBy knows_living true B.since B.start 0 d x m.caches.recorder.told m.side };
+    ghost rested = { λ d x m. IsHere m.caches m.side
+        × RestsBy knows_living true B.since B.start 0 d x m.caches.recorder.told m.side };
 
-    ghost asked_rested = { λ d x done m. IsHere m.caches m.side × RestedBy knows_living true B.since B.start 0 d x done m.caches.recorder.told m.side };
+    ghost asked_rested = { λ d x done m. IsHere m.caches m.side
+        × RestedBy knows_living true B.since B.start 0 d x done m.caches.recorder.told m.side };
 
     fn world(&mut self) -> &mut LivingSide {
         &mut self.side
@@ -119,7 +136,8 @@ impl<B: Since<LivingSide>> Desk<Keep> for ClosingDesk<B> {
 
     ghost shared_apart = { λ h c. refl };
 
-    ghost face_apart = { λ h w a. ap (λ n. let f : Face = record { level = 0; processors = n; through = 0 } in f) a.processors };
+    ghost face_apart = { λ h w a. ap
+        (λ n. let f : Face = record { level = 0; processors = n; through = 0 } in f) a.processors };
 
     ghost pending_apart = { λ h w. refl };
 
@@ -129,59 +147,139 @@ impl<B: Since<LivingSide>> Desk<Keep> for ClosingDesk<B> {
 
     ghost processors_are = { λ h. refl };
 
-    ghost known_goes = { λ a b k. goes-still (known_living a.side) (known_living b.side) (ap known_living k) };
+    ghost known_goes = { λ a b k. goes-still (known_living a.side) (known_living b.side)
+        (ap known_living k) };
 
-    ghost keeps_stays = { λ a b k. alike-still (known_living a.side) (known_living b.side) (ap known_living k) };
+    ghost keeps_stays = { λ a b k. alike-still (known_living a.side) (known_living b.side)
+        (ap known_living k) };
 
-    ghost stays_join = { λ a b c k m. alike-joined (known_living a.side) (known_living b.side) (known_living c.side) k m };
+    ghost stays_join = { λ a b c k m. alike-joined (known_living a.side) (known_living b.side)
+        (known_living c.side) k m };
 
     ghost owes_open = { λ h s. s };
 
     ghost owes_shut = { λ h o. o };
 
-    ghost owes_done = { λ h w done more es a d o. (o.0 ∙ sym a.processor, ends-did B.since B.start done more es h.caches.recorder.told h.side w (d, a.processor, ap (λ (x : Objects). graph_names_in x.graphs) a.objects) o.1) };
+    ghost owes_done = { λ h w done more es a d o. (
+      o.0 ∙ sym a.processor,
+      ends-did B.since B.start done more es h.caches.recorder.told h.side w
+          (d, a.processor, ap (λ (x : Objects). graph_names_in x.graphs) a.objects) o.1,
+    ) };
 
-    ghost owes_said = { λ h c done es e i p a o. (p ∙ o.0, ends-said B.since B.start done es e h.caches.recorder.told c.recorder.told h.side a o.1) };
+    ghost owes_said = { λ h c done es e i p a o. (
+      p ∙ o.0,
+      ends-said B.since B.start done es e h.caches.recorder.told c.recorder.told h.side a o.1,
+    ) };
 
-    ghost owes_closed = { λ h done es x o. (o.0, ends-closed B.since B.start done es h.caches.recorder.told h.side x o.1) };
+    ghost owes_closed = { λ h done es x o. (
+      o.0,
+      ends-closed B.since B.start done es h.caches.recorder.told h.side x o.1,
+    ) };
 
     ghost asked_open = { λ h s. s };
 
-    ghost asked_done = { λ h w done more a d o. (o.0 ∙ sym a.processor, ends-did B.since B.start done more [] h.caches.recorder.told h.side w (d, a.processor, ap (λ (x : Objects). graph_names_in x.graphs) a.objects) o.1) };
+    ghost asked_done = { λ h w done more a d o. (
+      o.0 ∙ sym a.processor,
+      ends-did B.since B.start done more [] h.caches.recorder.told h.side w
+          (d, a.processor, ap (λ (x : Objects). graph_names_in x.graphs) a.objects) o.1,
+    ) };
 
-    ghost asked_closed = { λ h done x o. (o.0, ends-closed B.since B.start done [] h.caches.recorder.told h.side x o.1) };
+    ghost asked_closed = { λ h done x o. (
+      o.0,
+      ends-closed B.since B.start done [] h.caches.recorder.told h.side x o.1,
+    ) };
 
-    ghost asked_stepped = { λ h c done e i x p a o. (p ∙ o.0, ends-stepped B.since B.start done e h.caches.recorder.told c.recorder.told h.side x a o.1) };
+    ghost asked_stepped = { λ h c done e i x p a o. (
+      p ∙ o.0,
+      ends-stepped B.since B.start done e h.caches.recorder.told c.recorder.told h.side x a
+          o.1,
+    ) };
 
-    ghost asked_released = { λ h c i to us x n m p a o. (p ∙ o.0, law-released knows_living true B.since B.start 0 i to us x n h.caches.recorder.told c.recorder.told h.side (goes-in _ 0 i x n _ h.caches o.0 m) a o.1) };
+    ghost asked_released = { λ h c i to us x n m p a o. (
+      p ∙ o.0,
+      law-released knows_living true B.since B.start 0 i to us x n h.caches.recorder.told
+          c.recorder.told h.side (goes-in _ 0 i x n _ h.caches o.0 m) a o.1,
+    ) };
 
-    ghost rested_looked = { λ h d x f o. (o.0, rests-looked knows_living true B.since B.start 0 d x h.caches.recorder.told h.side f o.1) };
+    ghost rested_looked = { λ h d x f o. (
+      o.0,
+      rests-looked knows_living true B.since B.start 0 d x h.caches.recorder.told h.side f o.1,
+    ) };
 
-    ghost rested_begun = { λ h d x n b a f o. (o.0, rests-begun knows_living true B.since B.start 0 d x n _ h.caches h.side b o.0 (a tt) f o.1) };
+    ghost rested_begun = { λ h d x n b a f o. (
+      o.0,
+      rests-begun knows_living true B.since B.start 0 d x n _ h.caches h.side b o.0 (a tt) f
+          o.1,
+    ) };
 
-    ghost rested_read = { λ h d x n i z o. (o.0, rests-read knows_living true B.since B.start 0 d x n h.caches.recorder.told h.side i z o.1) };
+    ghost rested_read = { λ h d x n i z o. (
+      o.0,
+      rests-read knows_living true B.since B.start 0 d x n h.caches.recorder.told h.side i z
+          o.1,
+    ) };
 
-    ghost rested_missed = { λ h d x even n o. (o.0, rests-missed knows_living true B.since B.start 0 d x even n h.caches.recorder.told h.side o.1) };
+    ghost rested_missed = { λ h d x even n o. (
+      o.0,
+      rests-missed knows_living true B.since B.start 0 d x even n h.caches.recorder.told h.side
+          o.1,
+    ) };
 
-    ghost rested_whole = { λ h d x n ws p q b a o. (o.0, rests-whole knows_living true B.since B.start 0 d x n _ ws p h.caches h.side q b o.0 (a tt) o.1) };
+    ghost rested_whole = { λ h d x n ws p q b a o. (
+      o.0,
+      rests-whole knows_living true B.since B.start 0 d x n _ ws p h.caches h.side q b o.0 (a tt)
+          o.1,
+    ) };
 
-    ghost rested_sound = { λ h d x r. (r.0, rests-tied knows_living true B.since B.start 0 d x h.caches.recorder.told h.side r.1) };
+    ghost rested_sound = { λ h d x r. (
+      r.0,
+      rests-tied knows_living true B.since B.start 0 d x h.caches.recorder.told h.side r.1,
+    ) };
 
-    ghost rested_lent = { λ h w d x e r. subst (λ v. IsHere h.caches v × RestsBy knows_living true B.since B.start 0 d x h.caches.recorder.told v) (sym e) r };
+    ghost rested_lent = { λ h w d x e r. subst
+        (λ v. IsHere h.caches v
+        × RestsBy knows_living true B.since B.start 0 d x h.caches.recorder.told v)
+        (sym e) r };
 
-    ghost rested_kept = { λ a b d x k m s r. (s.0, law-kept knows_living true B.since B.start 0 d x a.caches.recorder.told b.caches.recorder.told a.side b.side m s.1 r.1) };
+    ghost rested_kept = { λ a b d x k m s r. (
+      s.0,
+      law-kept knows_living true B.since B.start 0 d x a.caches.recorder.told
+          b.caches.recorder.told a.side b.side m s.1 r.1,
+    ) };
 
-    ghost rested_done = { λ h w d x done more a m r. (r.0 ∙ sym a.processor, law-rested_done knows_living true B.since B.start 0 d x done more h.caches.recorder.told h.side w (m, a.processor, ap (λ (x : Objects). graph_names_in x.graphs) a.objects) r.1) };
+    ghost rested_done = { λ h w d x done more a m r. (
+      r.0 ∙ sym a.processor,
+      law-rested_done knows_living true B.since B.start 0 d x done more h.caches.recorder.told
+          h.side w (m, a.processor, ap (λ (x : Objects). graph_names_in x.graphs) a.objects)
+          r.1,
+    ) };
 
-    ghost rested_passed = { λ h c i d x n b p a r. (p ∙ r.0, law-passed knows_living true B.since B.start 0 i d x n h.caches.recorder.told c.recorder.told h.side (waits-in _ i d x _ h.caches r.0 (b tt)) a r.1) };
+    ghost rested_passed = { λ h c i d x n b p a r. (
+      p ∙ r.0,
+      law-passed knows_living true B.since B.start 0 i d x n h.caches.recorder.told
+          c.recorder.told h.side (waits-in _ i d x _ h.caches r.0 (b tt)) a r.1,
+    ) };
 }
 
 impl<B: Since<LivingSide>> Ended<Keep> for ClosingDesk<B> {
-    ghost owes_returned = { λ h i us o. (o.0, ends-returned B.since B.start i us h.caches.recorder.told h.side o.1) };
+    ghost owes_returned = { λ h i us o. (
+      o.0,
+      ends-returned B.since B.start i us h.caches.recorder.told h.side o.1,
+    ) };
 
-    ghost owes_noted = { λ h c done es more p a o. (p ∙ o.0, ends-noted B.since B.start done es more h.caches.recorder.told c.recorder.told h.side a o.1) };
+    ghost owes_noted = { λ h c done es more p a o. (
+      p ∙ o.0,
+      ends-noted B.since B.start done es more h.caches.recorder.told c.recorder.told h.side a
+          o.1,
+    ) };
 
-    ghost owes_told = { λ h done more es others s o. (o.0, ends-told B.since B.start done more es others h.caches.recorder.told h.side s o.1) };
+    ghost owes_told = { λ h done more es others s o. (
+      o.0,
+      ends-told B.since B.start done more es others h.caches.recorder.told h.side s o.1,
+    ) };
 
-    ghost owes_passed = { λ h d x n m c ws p e b w o. (o.0, ends-waited B.since B.start d x n m c ws p h.caches.recorder.told h.side e b (waits-in _ c d x _ h.caches o.0 w) o.1) };
+    ghost owes_passed = { λ h d x n m c ws p e b w o. (
+      o.0,
+      ends-waited B.since B.start d x n m c ws p h.caches.recorder.told h.side e b
+          (waits-in _ c d x _ h.caches o.0 w) o.1,
+    ) };
 }

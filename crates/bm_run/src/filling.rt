@@ -47,11 +47,15 @@ pub(crate) fn fill(
     classes: &[Class],
 ) -> Result<Vec<(Class, Vec<Unit>)>, NoMemory>
     requires unborn { IsUnborn pool.old.units }
-    ensures fills { IfOk result (λ fills. map (λ f. (f.0, f.1.items)) fills.items ≡ (filling classes.now pool.old).fills) }
+    ensures fills { IfOk result
+        (λ fills. map (λ f. (f.0, f.1.items)) fills.items ≡ (filling classes.now pool.old).fills) }
     ensures pool { OnOk result (pool.new ≡ (filling classes.now pool.old).pool) }
     ensures sits { IfOk result (λ fills. FillsSit (map (λ f. (f.0, f.1.items)) fills.items)) }
-    ensures unlived { IfOk result (λ fills. All (λ (u : UnitState). NeverLived u.life u.seal) (units_in (map (λ f. (f.0, f.1.items)) fills.items))) }
-    ensures out { IfOk result (λ fills. AreOut pool.new (units_in (map (λ f. (f.0, f.1.items)) fills.items))) }
+    ensures unlived { IfOk result
+        (λ fills. All (λ (u : UnitState). NeverLived u.life u.seal)
+        (units_in (map (λ f. (f.0, f.1.items)) fills.items))) }
+    ensures out { IfOk result
+        (λ fills. AreOut pool.new (units_in (map (λ f. (f.0, f.1.items)) fills.items))) }
     ensures unborn { IsUnborn pool.new.units }
 {
     let mut fills = Vec::new(alloc);

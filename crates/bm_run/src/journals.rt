@@ -175,11 +175,14 @@ fn logs_of(
 ) -> Result<Closed, NoMemory>
     requires fine { HasConditions scenario.now }
     requires checked { IsChecked scenario.now }
-    requires classes { map Some classes.now ≡ map (λ t. class_of_size (object_size t)) scenario.now.types }
+    requires classes { map Some classes.now
+        ≡ map (λ t. class_of_size (object_size t)) scenario.now.types }
     requires opened { opened.now ≡ opened_classes scenario.now.types }
     ensures closed { IfOk result (λ closed.
-        AllClosed scenario.now (named_turns scenario.now.turns) closed.logs.items closed.histories.items) }
-    ensures whole { IfOk result (λ closed. All (λ log. IsTrue (is_whole_log log)) closed.logs.items) }
+        AllClosed scenario.now (named_turns scenario.now.turns) closed.logs.items
+        closed.histories.items) }
+    ensures whole { IfOk result
+        (λ closed. All (λ log. IsTrue (is_whole_log log)) closed.logs.items) }
 {
     let parts = scenario.parts();
     let program = Program {

@@ -88,7 +88,8 @@ fn open_side(
     ensures side { IfOk result (λ world. world.side ≡ fresh_side processors 0 pool) }
     ensures slots { IfOk result (λ world. AllEmpty world.slots) }
     ensures begun { IfOk result (λ world. (n : ℕ) → begun_at world.begun n ≡ 0) }
-    ensures standings { IfOk result (λ world. (n : ℕ) → standing_at world.standings n ≡ WaitsForNothing) }
+    ensures standings { IfOk result
+        (λ world. (n : ℕ) → standing_at world.standings n ≡ WaitsForNothing) }
     ensures asked { IfOk result (λ world. world.asked ≡ 0) }
     ensures contents { IfOk result (λ world. world.contents ≡ contents) }
     ensures graphs { IfOk result (λ world. world.graphs ≡ graphs) }

@@ -142,10 +142,12 @@ pub fn turn_of<'s>(
     deferred: &'s Deferred<'s>,
     processor: u8,
 ) -> Result<LivingSide, NoMemory>
-    requires between { (turns rest : List ℕ) × Between program.now turns rest seats.old.items world }
+    requires between { (turns rest : List ℕ)
+        × Between program.now turns rest seats.old.items world }
     requires works { behind_of deferred.now.behind ≡ works_for program.now.scenario.now }
     requires few { IfSome deferred.now.behind (λ classes. length classes.now ≤ 11) }
-    requires there { (seat : SeatValue) × (slice_get seats.old.items processor ≡ Some seat) × (seat.ended ≡ false) }
+    requires there { (seat : SeatValue) × (slice_get seats.old.items processor ≡ Some seat)
+        × (seat.ended ≡ false) }
     ensures between { IfOk result (λ now. (turns rest after : List ℕ) →
         IsNextTurn (ended_of seats.old.items) rest processor after →
         Between program.now turns rest seats.old.items world →

@@ -42,8 +42,10 @@ pub(crate) fn note(own: &mut Processor<LivingSide>, entry: Entry)
     ensures processor { own.new.caches.processor ≡ own.old.caches.processor }
     ensures same { own.new ≡ record own.old { caches = own.new.caches } }
     ensures fine { FineAt knows_living 0 own.new }
-    ensures tied { IsTrue (is_quiet entry) → (since : Log) (start : LivingState) → TiedAt knows_living since start own.old → TiedAt knows_living since start own.new }
-    ensures sound { (p : ProgramValue) → kind_of entry ≡ StaysKind → is_marked entry ≡ false → IsInner entry → Sound knows_living p own.old → Sound knows_living p own.new }
+    ensures tied { IsTrue (is_quiet entry) → (since : Log) (start : LivingState)
+        → TiedAt knows_living since start own.old → TiedAt knows_living since start own.new }
+    ensures sound { (p : ProgramValue) → kind_of entry ≡ StaysKind → is_marked entry ≡ false
+        → IsInner entry → Sound knows_living p own.old → Sound knows_living p own.new }
 {
     own.caches.note(Level::ordinary(), entry);
 }
@@ -54,15 +56,20 @@ fn go_in(own: &mut Processor<LivingSide>, domain: Domain)
     requires outside { word_of knows_living domain own.old % 2 ≡ 0 }
     requires few { word_of knows_living domain own.old + 1 < 2 ^ 28 }
     requires room { word_of knows_living Plain own.old + 2 * length (left_of own.old) + 1 < 2 ^ 28 }
-    ensures wrote { Wrote (Stand 0 (entry.In domain (word_of knows_living domain own.old + 1) ∷ [])) own.old own.new }
+    ensures wrote { Wrote (Stand 0 (entry.In domain (word_of knows_living domain own.old + 1) ∷ []))
+        own.old own.new }
     ensures lists { shown own.new.caches ≡ shown own.old.caches }
     ensures processor { own.new.caches.processor ≡ own.old.caches.processor }
-    ensures known { known_of knows_living own.new ≡ entered false domain (known_of knows_living own.old) }
+    ensures known { known_of knows_living own.new
+        ≡ entered false domain (known_of knows_living own.old) }
     ensures inside { own.new.inside ≡ for_domain Plain domain true own.old.inside }
-    ensures same { own.new ≡ record own.old { caches = own.new.caches; side = own.new.side; inside = own.new.inside } }
+    ensures same { own.new
+        ≡ record own.old { caches = own.new.caches; side = own.new.side; inside = own.new.inside } }
     ensures fine { FineAt knows_living 0 own.new }
-    ensures tied { (since : Log) (start : LivingState) → TiedAt knows_living since start own.old → TiedAt knows_living since start own.new }
-    ensures sound { (p : ProgramValue) → Sound knows_living p own.old → Sound knows_living p own.new }
+    ensures tied { (since : Log) (start : LivingState) → TiedAt knows_living since start own.old
+        → TiedAt knows_living since start own.new }
+    ensures sound { (p : ProgramValue) → Sound knows_living p own.old
+        → Sound knows_living p own.new }
 {
     enter_section(own, Level::ordinary(), domain);
 }
@@ -72,15 +79,21 @@ fn go_out(own: &mut Processor<LivingSide>, domain: Domain)
     requires fine { FineAt knows_living 0 own.old }
     requires inside { word_of knows_living domain own.old % 2 ≡ 1 }
     requires room { word_of knows_living Plain own.old + 2 * length (left_of own.old) + 1 < 2 ^ 28 }
-    ensures wrote { Wrote (Stand 0 (entry.Out domain (word_of knows_living domain own.old + 1) ∷ [])) own.old own.new }
+    ensures wrote { Wrote
+        (Stand 0 (entry.Out domain (word_of knows_living domain own.old + 1) ∷ [])) own.old
+        own.new }
     ensures lists { shown own.new.caches ≡ shown own.old.caches }
     ensures processor { own.new.caches.processor ≡ own.old.caches.processor }
-    ensures known { known_of knows_living own.new ≡ left false domain (known_of knows_living own.old) }
+    ensures known { known_of knows_living own.new
+        ≡ left false domain (known_of knows_living own.old) }
     ensures inside { own.new.inside ≡ for_domain Plain domain false own.old.inside }
-    ensures same { own.new ≡ record own.old { caches = own.new.caches; side = own.new.side; inside = own.new.inside } }
+    ensures same { own.new
+        ≡ record own.old { caches = own.new.caches; side = own.new.side; inside = own.new.inside } }
     ensures fine { FineAt knows_living 0 own.new }
-    ensures tied { (since : Log) (start : LivingState) → TiedAt knows_living since start own.old → TiedAt knows_living since start own.new }
-    ensures sound { (p : ProgramValue) → Sound knows_living p own.old → Sound knows_living p own.new }
+    ensures tied { (since : Log) (start : LivingState) → TiedAt knows_living since start own.old
+        → TiedAt knows_living since start own.new }
+    ensures sound { (p : ProgramValue) → Sound knows_living p own.old
+        → Sound knows_living p own.new }
 {
     leave_section(own, Level::ordinary(), domain);
 }
@@ -91,13 +104,21 @@ pub(crate) fn begin_script(own: &mut Processor<LivingSide>, name: &Name, domain:
     requires outside { word_of knows_living domain own.old % 2 ≡ 0 }
     requires few { word_of knows_living domain own.old + 1 < 2 ^ 28 }
     requires room { word_of knows_living Plain own.old + 2 * length (left_of own.old) + 1 < 2 ^ 28 }
-    ensures wrote { Wrote (Stand 0 (entry.Script name.now ∷ entry.In domain (word_of knows_living domain own.old + 1) ∷ [])) own.old own.new }
+    ensures wrote { Wrote
+        (Stand 0
+        (entry.Script name.now ∷ entry.In domain (word_of knows_living domain own.old + 1)
+        ∷ []))
+        own.old own.new }
     ensures lists { shown own.new.caches ≡ shown own.old.caches }
-    ensures known { known_of knows_living own.new ≡ entered false domain (known_of knows_living own.old) }
+    ensures known { known_of knows_living own.new
+        ≡ entered false domain (known_of knows_living own.old) }
     ensures inside { own.new.inside ≡ for_domain Plain domain true own.old.inside }
-    ensures same { own.new ≡ record own.old { caches = own.new.caches; side = own.new.side; inside = own.new.inside } }
-    ensures tied { (since : Log) (start : LivingState) → TiedAt knows_living since start own.old → TiedAt knows_living since start own.new }
-    ensures sound { (p : ProgramValue) → Sound knows_living p own.old → Sound knows_living p own.new }
+    ensures same { own.new
+        ≡ record own.old { caches = own.new.caches; side = own.new.side; inside = own.new.inside } }
+    ensures tied { (since : Log) (start : LivingState) → TiedAt knows_living since start own.old
+        → TiedAt knows_living since start own.new }
+    ensures sound { (p : ProgramValue) → Sound knows_living p own.old
+        → Sound knows_living p own.new }
 {
     note(own, Entry::Script(name.duplicate()));
     go_in(own, domain);
@@ -108,13 +129,20 @@ pub(crate) fn end_script(own: &mut Processor<LivingSide>, name: &Name, domain: D
     requires fine { FineAt knows_living 0 own.old }
     requires inside { word_of knows_living domain own.old % 2 ≡ 1 }
     requires room { word_of knows_living Plain own.old + 2 * length (left_of own.old) + 1 < 2 ^ 28 }
-    ensures wrote { Wrote (Stand 0 (entry.Out domain (word_of knows_living domain own.old + 1) ∷ entry.Done name.now ∷ [])) own.old own.new }
+    ensures wrote { Wrote
+        (Stand 0
+        (entry.Out domain (word_of knows_living domain own.old + 1) ∷ entry.Done name.now ∷ []))
+        own.old own.new }
     ensures lists { shown own.new.caches ≡ shown own.old.caches }
-    ensures known { known_of knows_living own.new ≡ left false domain (known_of knows_living own.old) }
+    ensures known { known_of knows_living own.new
+        ≡ left false domain (known_of knows_living own.old) }
     ensures inside { own.new.inside ≡ for_domain Plain domain false own.old.inside }
-    ensures same { own.new ≡ record own.old { caches = own.new.caches; side = own.new.side; inside = own.new.inside } }
-    ensures tied { (since : Log) (start : LivingState) → TiedAt knows_living since start own.old → TiedAt knows_living since start own.new }
-    ensures sound { (p : ProgramValue) → Sound knows_living p own.old → Sound knows_living p own.new }
+    ensures same { own.new
+        ≡ record own.old { caches = own.new.caches; side = own.new.side; inside = own.new.inside } }
+    ensures tied { (since : Log) (start : LivingState) → TiedAt knows_living since start own.old
+        → TiedAt knows_living since start own.new }
+    ensures sound { (p : ProgramValue) → Sound knows_living p own.old
+        → Sound knows_living p own.new }
 {
     go_out(own, domain);
     note(own, Entry::Done(name.duplicate()));
@@ -130,10 +158,13 @@ pub(crate) fn settle_behind<'s, B: Since<LivingSide>>(
     requires tied { TiedAt knows_living B.since B.start own.old }
     requires room { asked_of knows_living program.now.scenario.now own.old + 1 < 2 ^ 22 }
     requires few { IfSome deferred.now.behind (λ classes. length classes.now ≤ 11) }
-    ensures wrote { OnOk result (Wrote (BehindScript (behind_of deferred.now.behind)) own.old own.new) }
+    ensures wrote { OnOk result
+        (Wrote (BehindScript (behind_of deferred.now.behind)) own.old own.new) }
     ensures down { OnOk result (Behind (behind_of deferred.now.behind) (lists_of own.new) []) }
     ensures lives { OnOk result (SameLives knows_living own.old own.new) }
-    ensures asked { OnOk result (asked_of knows_living program.now.scenario.now own.new ≤ asked_of knows_living program.now.scenario.now own.old + 1) }
+    ensures asked { OnOk result
+        (asked_of knows_living program.now.scenario.now own.new
+        ≤ asked_of knows_living program.now.scenario.now own.old + 1) }
     ensures statements { OnOk result (Statements knows_living own.old own.new) }
     ensures locked { OnOk result (own.new.locked ≡ own.old.locked) }
     ensures sound { OnOk result (Sound knows_living program.now own.new) }

@@ -87,7 +87,8 @@ fn begin<'s>(
     requires found { (i : ℕ) × (slice_get program.now.scenario.now.scripts i ≡ Some script.now) }
     requires outside { (d : DomainValue) → word_of knows_living d own.old % 2 ≡ 0 }
     requires unlocked { own.old.locked ≡ None }
-    requires room { used_in program.now.scenario.now own.old + 3 * block_cost script.now.body + 5 < 2 ^ 22 }
+    requires room { used_in program.now.scenario.now own.old + 3 * block_cost script.now.body + 5
+        < 2 ^ 22 }
     ensures begun { IfOk result (λ begun. (w : Option (List ℕ)) → Behind w (lists_of own.old) []
         → HasBegun program.now.scenario.now w script.now own.old own.new begun) }
     ensures yields { OnOk result (Unyielding 0 (log_of own.old) (log_of own.new)) }
@@ -111,15 +112,20 @@ fn go_on<'s, B: Since<LivingSide>>(
     requires sound { Sound knows_living program.now own.old }
     requires tied { TiedAt knows_living B.since B.start own.old }
     requires few { IfSome deferred.now.behind (λ classes. length classes.now ≤ 11) }
-    requires stands { IsInScript program.now.scenario.now (behind_of deferred.now.behind) own.old begun }
-    requires room { used_in program.now.scenario.now own.old + 3 * stack_cost (blocks_of begun) < 2 ^ 22 }
+    requires stands { IsInScript program.now.scenario.now (behind_of deferred.now.behind) own.old
+        begun }
+    requires room { used_in program.now.scenario.now own.old + 3 * stack_cost (blocks_of begun)
+        < 2 ^ 22 }
     ensures turn { IsTurn result.0 0 (log_of own.old) (log_of own.new) }
     ensures yielded { result.0 ≡ stopped.Yielded
-        → WentOn program.now.scenario.now (behind_of deferred.now.behind) own.old own.new begun.entry result.1 }
+        → WentOn program.now.scenario.now (behind_of deferred.now.behind) own.old own.new
+        begun.entry result.1 }
     ensures ended { result.0 ≡ stopped.Ended
-        → HasRun program.now.scenario.now (behind_of deferred.now.behind) own.old own.new begun.entry }
+        → HasRun program.now.scenario.now (behind_of deferred.now.behind) own.old own.new
+        begun.entry }
     ensures same { result.1.script.now ≡ begun.entry.script.now }
-    ensures scripted { IfWent result.0 (Scripted knows_living (starts_inside begun.entry.script.now) own.old own.new) }
+    ensures scripted { IfWent result.0
+        (Scripted knows_living (starts_inside begun.entry.script.now) own.old own.new) }
     ensures sound { IfWent result.0 (Sound knows_living program.now own.new) }
     ensures tied { IfWent result.0 (TiedAt knows_living B.since B.start own.new) }
 {
@@ -160,10 +166,13 @@ fn finish<'s, B: Since<LivingSide>>(
     requires few { IfSome deferred.now.behind (λ classes. length classes.now ≤ 11) }
     requires inside { word_of knows_living (section_of script.now.kind) own.old % 2 ≡ 1 }
     requires outer { own.old.inside ≡ starts_inside script.now }
-    requires apart { section_of script.now.kind ≡ Plain → word_of knows_living Tracing own.old % 2 ≡ 0 }
+    requires apart { section_of script.now.kind ≡ Plain
+        → word_of knows_living Tracing own.old % 2 ≡ 0 }
     requires unlocked { own.old.locked ≡ None }
     requires room { used_in program.now.scenario.now own.old + 2 < 2 ^ 22 }
-    ensures ended { OnOk result (HasEnded program.now.scenario.now (behind_of deferred.now.behind) script.now own.old own.new) }
+    ensures ended { OnOk result
+        (HasEnded program.now.scenario.now (behind_of deferred.now.behind) script.now own.old
+        own.new) }
     ensures yields { OnOk result (Unyielding 0 (log_of own.old) (log_of own.new)) }
     ensures sound { OnOk result (Sound knows_living program.now own.new) }
     ensures tied { OnOk result (TiedAt knows_living B.since B.start own.new) }
@@ -175,7 +184,8 @@ fn finish<'s, B: Since<LivingSide>>(
 // The script of the next `run` line of the processor, which is taken off those that remain; None where none remains.
 fn next_script<'s>(remaining: &mut Remaining<'s>, scenario: &'s Parts) -> Option<&'s Script>
     requires declared { AreDeclared scenario.now remaining.old.lines.now }
-    ensures some { IfSome result (λ script. IsNextOf scenario.now script.now remaining.old remaining.new) }
+    ensures some { IfSome result
+        (λ script. IsNextOf scenario.now script.now remaining.old remaining.new) }
     ensures none { IfNone result (lines_left remaining.old ≡ []) }
     ensures none_left { IfNone result (lines_left remaining.new ≡ []) }
     ensures declared { AreDeclared scenario.now remaining.new.lines.now }
@@ -206,11 +216,16 @@ fn next_begun<'s>(
 ) -> Result<Option<Begun<'s>>, NoMemory>
     requires sound { Sound knows_living program.now own.old }
     requires works { behind_of deferred.now.behind ≡ works_for program.now.scenario.now }
-    requires can { CanRun program.now.scenario.now (behind_of deferred.now.behind) own.old remaining.old }
-    requires room { used_in program.now.scenario.now own.old + cost_left program.now.scenario.now remaining.old < 2 ^ 22 }
-    ensures advanced { IfOk result (λ begun. Advanced program.now.scenario.now (behind_of deferred.now.behind)
+    requires can { CanRun program.now.scenario.now (behind_of deferred.now.behind) own.old
+        remaining.old }
+    requires room { used_in program.now.scenario.now own.old
+        + cost_left program.now.scenario.now remaining.old
+        < 2 ^ 22 }
+    ensures advanced { IfOk result
+        (λ begun. Advanced program.now.scenario.now (behind_of deferred.now.behind)
         own.old remaining.old own.new (record remaining.new { begun = begun })) }
-    ensures light { IfOk result (λ begun. weight_left program.now.scenario.now (record remaining.new { begun = begun })
+    ensures light { IfOk result
+        (λ begun. weight_left program.now.scenario.now (record remaining.new { begun = begun })
         ≤ weight_left program.now.scenario.now remaining.old) }
     ensures taken { OnOk result (remaining.new.begun ≡ None) }
     ensures processor { OnOk result (remaining.new.processor ≡ remaining.old.processor) }
@@ -242,15 +257,20 @@ pub fn take_turn<'s, B: Since<LivingSide>>(
     requires tied { TiedAt knows_living B.since B.start own.old }
     requires works { behind_of deferred.now.behind ≡ works_for program.now.scenario.now }
     requires few { IfSome deferred.now.behind (λ classes. length classes.now ≤ 11) }
-    requires can { CanRun program.now.scenario.now (behind_of deferred.now.behind) own.old remaining.old }
-    requires room { used_in program.now.scenario.now own.old + cost_left program.now.scenario.now remaining.old < 2 ^ 22 }
-    ensures advanced { OnOk result (Advanced program.now.scenario.now (behind_of deferred.now.behind)
+    requires can { CanRun program.now.scenario.now (behind_of deferred.now.behind) own.old
+        remaining.old }
+    requires room { used_in program.now.scenario.now own.old
+        + cost_left program.now.scenario.now remaining.old
+        < 2 ^ 22 }
+    ensures advanced { OnOk result (Advanced program.now.scenario.now
+        (behind_of deferred.now.behind)
         own.old remaining.old own.new remaining.new) }
     ensures turn { IfOk result (λ how. GoesTo how (log_of own.old) (log_of own.new)) }
     ensures left { IfOk result (λ how. NothingLeft how remaining.new) }
     ensures processor { OnOk result (remaining.new.processor ≡ remaining.old.processor) }
     ensures less { IfOk result (λ how. how ≡ turned.Yielded
-        → weight_left program.now.scenario.now remaining.new < weight_left program.now.scenario.now remaining.old) }
+        → weight_left program.now.scenario.now remaining.new
+        < weight_left program.now.scenario.now remaining.old) }
     ensures sound { OnOk result (Sound knows_living program.now own.new) }
     ensures tied { OnOk result (TiedAt knows_living B.since B.start own.new) }
 {

@@ -8,8 +8,12 @@ ghost use Rattle.bm_lang.specs.declared.fault.BadKind.TheVariants.{Byte, End, Un
 /// text, of one of separators, and behind a word; a word that stands twice; and a stray byte.
 pub fn worked_faults()
     ensures empty { fault_of [] ≡ Some (record { line = 1; column = 1; kind = End }) }
-    ensures separators { fault_of (32 ∷ 10 ∷ 9 ∷ []) ≡ Some (record { line = 2; column = 2; kind = End }) }
-    ensures behind { fault_of (codes "scenario") ≡ Some (record { line = 1; column = 9; kind = End }) }
-    ensures twice { fault_of (codes "scenario scenario") ≡ Some (record { line = 1; column = 10; kind = Unexpected }) }
-    ensures stray { fault_of (codes "scenario @") ≡ Some (record { line = 1; column = 10; kind = Byte }) }
+    ensures separators { fault_of (32 ∷ 10 ∷ 9 ∷ [])
+        ≡ Some (record { line = 2; column = 2; kind = End }) }
+    ensures behind { fault_of (codes "scenario")
+        ≡ Some (record { line = 1; column = 9; kind = End }) }
+    ensures twice { fault_of (codes "scenario scenario")
+        ≡ Some (record { line = 1; column = 10; kind = Unexpected }) }
+    ensures stray { fault_of (codes "scenario @")
+        ≡ Some (record { line = 1; column = 10; kind = Byte }) }
 {}

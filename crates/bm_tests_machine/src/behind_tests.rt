@@ -182,9 +182,11 @@ fn ends(given: Given) -> bool {
 
 /// Asks for a unit, and ends it; whether one was given.
 fn asks<R: Recorder, H: Desk<R> + Gives<R>>(host: &mut H, class: Class, left: u32) -> bool
-    requires at_rest { Settled R.log R.counts H.Host.sound H.Host.tests H.Host.face H.Host.held host.old }
+    requires at_rest { Settled R.log R.counts H.Host.sound H.Host.tests H.Host.face H.Host.held
+        host.old }
     requires begins { (d : Domain) → left ≤ (side d (H.W.Knows.known (H.shared host.old))).begins }
-    ensures at_rest { Settled R.log R.counts H.Host.sound H.Host.tests H.Host.face H.Host.held host.new }
+    ensures at_rest { Settled R.log R.counts H.Host.sound H.Host.tests H.Host.face H.Host.held
+        host.new }
     ensures begins { (d : Domain) → left ≤ (side d (H.W.Knows.known (H.shared host.new))).begins }
     ensures pending { H.Host.pending host.new ≤ H.Host.pending host.old }
 {
@@ -199,9 +201,13 @@ fn settles<R: Recorder, H: Desk<R>>(
     classes: &[Class],
     left: u32,
 )
-    requires at_rest { Settled R.log R.counts H.Host.sound H.Host.tests H.Host.face H.Host.held host.old }
-    requires begins { (d : Domain) → left + (length classes.now + 1) * (H.Host.pending host.old + 1) ≤ (side d (H.W.Knows.known (H.shared host.old))).begins }
-    ensures at_rest { Settled R.log R.counts H.Host.sound H.Host.tests H.Host.face H.Host.held host.new }
+    requires at_rest { Settled R.log R.counts H.Host.sound H.Host.tests H.Host.face H.Host.held
+        host.old }
+    requires begins { (d : Domain)
+        → left + (length classes.now + 1) * (H.Host.pending host.old + 1)
+        ≤ (side d (H.W.Knows.known (H.shared host.old))).begins }
+    ensures at_rest { Settled R.log R.counts H.Host.sound H.Host.tests H.Host.face H.Host.held
+        host.new }
     ensures begins { (d : Domain) → left ≤ (side d (H.W.Knows.known (H.shared host.new))).begins }
     ensures pending { H.Host.pending host.new ≤ H.Host.pending host.old }
 {
@@ -219,9 +225,13 @@ fn ends_script<R: Recorder, H: Desk<R>>(
     classes: &[Class],
     left: u32,
 )
-    requires at_rest { Settled R.log R.counts H.Host.sound H.Host.tests H.Host.face H.Host.held host.old }
-    requires begins { (d : Domain) → left + (length classes.now + (length classes.now + 1) * (H.Host.pending host.old + 1)) ≤ (side d (H.W.Knows.known (H.shared host.old))).begins }
-    ensures at_rest { Settled R.log R.counts H.Host.sound H.Host.tests H.Host.face H.Host.held host.new }
+    requires at_rest { Settled R.log R.counts H.Host.sound H.Host.tests H.Host.face H.Host.held
+        host.old }
+    requires begins { (d : Domain)
+        → left + (length classes.now + (length classes.now + 1) * (H.Host.pending host.old + 1))
+        ≤ (side d (H.W.Knows.known (H.shared host.old))).begins }
+    ensures at_rest { Settled R.log R.counts H.Host.sound H.Host.tests H.Host.face H.Host.held
+        host.new }
     ensures begins { (d : Domain) → left ≤ (side d (H.W.Knows.known (H.shared host.new))).begins }
     ensures pending { H.Host.pending host.new ≤ H.Host.pending host.old }
 {

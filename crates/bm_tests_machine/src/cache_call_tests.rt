@@ -175,9 +175,11 @@ fn three_nested_frees_leave_their_steps(rt: HostRuntime) {
 /// Asks for the four units of Free, and once more.
 fn take_all<R: Recorder>(rt: &impl Abort, ground: &mut Ground<R>, class: Class)
     requires sound { Holding 1 ground.old.kept.units.items }
-    requires fine { Fine R.log R.counts (tests_beside ground.old.kept.units.items) 1 0 ground.old.kept.caches }
+    requires fine { Fine R.log R.counts (tests_beside ground.old.kept.units.items) 1 0
+        ground.old.kept.caches }
     ensures sound { Holding 1 ground.new.kept.units.items }
-    ensures fine { Fine R.log R.counts (tests_beside ground.new.kept.units.items) 1 0 ground.new.kept.caches }
+    ensures fine { Fine R.log R.counts (tests_beside ground.new.kept.units.items) 1 0
+        ground.new.kept.caches }
 {
     assert_eq!(rt; take_one(rt, ground, class), Answer::Unit(3));
     assert_eq!(rt; take_one(rt, ground, class), Answer::Unit(2));
@@ -189,7 +191,8 @@ fn take_all<R: Recorder>(rt: &impl Abort, ground: &mut Ground<R>, class: Class)
 /// Frees the four units that are held last.
 fn free_four<R: Recorder>(ground: &mut Ground<R>)
     requires sound { Holding 1 ground.old.kept.units.items }
-    requires fine { Fine R.log R.counts (tests_beside ground.old.kept.units.items) 1 0 ground.old.kept.caches }
+    requires fine { Fine R.log R.counts (tests_beside ground.old.kept.units.items) 1 0
+        ground.old.kept.caches }
 {
     free_one(ground);
     free_one(ground);

@@ -68,10 +68,14 @@ pub(crate) struct OneByOne {
 
 /// The first four units of a page, one by one.
 pub(crate) fn first_four(rt: &(impl Abort + AllocGlobal)) -> OneByOne
-    ensures numbers { (result.a.number ≡ 0) × (result.b.number ≡ 1) × (result.c.number ≡ 2) × (result.d.number ≡ 3) }
-    ensures classes { (result.a.class ≡ 0) × (result.b.class ≡ 0) × (result.c.class ≡ 0) × (result.d.class ≡ 0) }
-    ensures homes { (result.a.home ≡ 0) × (result.b.home ≡ 0) × (result.c.home ≡ 0) × (result.d.home ≡ 0) }
-    ensures lives { (result.a.life ≡ 0) × (result.b.life ≡ 0) × (result.c.life ≡ 0) × (result.d.life ≡ 0) }
+    ensures numbers { (result.a.number ≡ 0) × (result.b.number ≡ 1) × (result.c.number ≡ 2)
+        × (result.d.number ≡ 3) }
+    ensures classes { (result.a.class ≡ 0) × (result.b.class ≡ 0) × (result.c.class ≡ 0)
+        × (result.d.class ≡ 0) }
+    ensures homes { (result.a.home ≡ 0) × (result.b.home ≡ 0) × (result.c.home ≡ 0)
+        × (result.d.home ≡ 0) }
+    ensures lives { (result.a.life ≡ 0) × (result.b.life ≡ 0) × (result.c.life ≡ 0)
+        × (result.d.life ≡ 0) }
 {
     let mut units = four(rt);
     let d = last(rt, &mut units, 3);
@@ -137,7 +141,8 @@ pub(crate) fn two_and_two<R: Recorder>(
     requires counts { R.counts recorder ≡ no_counts }
     requires log { IfSome (R.log recorder) (λ es. es ≡ []) }
     ensures sound { Holding 1 result.kept.units.items }
-    ensures fine { Fine R.log R.counts (tests_beside result.kept.units.items) 1 0 result.kept.caches }
+    ensures fine { Fine R.log R.counts (tests_beside result.kept.units.items) 1 0
+        result.kept.caches }
 {
     let OneByOne { a, b, c, d } = first_four(rt);
     let free = pair(rt, a, b);
@@ -157,7 +162,8 @@ pub(crate) fn four_free<R: Recorder>(rt: &(impl Abort + AllocGlobal), recorder: 
     requires counts { R.counts recorder ≡ no_counts }
     requires log { IfSome (R.log recorder) (λ es. es ≡ []) }
     ensures sound { Holding 1 result.kept.units.items }
-    ensures fine { Fine R.log R.counts (tests_beside result.kept.units.items) 1 0 result.kept.caches }
+    ensures fine { Fine R.log R.counts (tests_beside result.kept.units.items) 1 0
+        result.kept.caches }
 {
     let OneByOne { a, b, c, d } = first_four(rt);
     let mut free = pair(rt, a, b);
@@ -188,8 +194,10 @@ pub(crate) fn take_and_free<R: Recorder>(
     delayed: bool,
 ) -> Answer
     requires sound { Holding 1 ground.old.kept.units.items }
-    requires fine { Fine R.log R.counts (tests_beside ground.old.kept.units.items) 1 0 ground.old.kept.caches }
-    ensures { Fine R.log R.counts (tests_beside ground.new.kept.units.items) 1 0 ground.new.kept.caches }
+    requires fine { Fine R.log R.counts (tests_beside ground.old.kept.units.items) 1 0
+        ground.old.kept.caches }
+    ensures { Fine R.log R.counts (tests_beside ground.new.kept.units.items) 1 0
+        ground.new.kept.caches }
 {
     match alloc(ground, class) {
         Given::Unit(unit) => {
@@ -205,9 +213,11 @@ pub(crate) fn take_and_free<R: Recorder>(
 /// Asks for a unit, and holds it.
 pub(crate) fn take_one<R: Recorder>(rt: &impl Abort, ground: &mut Ground<R>, class: Class) -> Answer
     requires sound { Holding 1 ground.old.kept.units.items }
-    requires fine { Fine R.log R.counts (tests_beside ground.old.kept.units.items) 1 0 ground.old.kept.caches }
+    requires fine { Fine R.log R.counts (tests_beside ground.old.kept.units.items) 1 0
+        ground.old.kept.caches }
     ensures sound { Holding 1 ground.new.kept.units.items }
-    ensures fine { Fine R.log R.counts (tests_beside ground.new.kept.units.items) 1 0 ground.new.kept.caches }
+    ensures fine { Fine R.log R.counts (tests_beside ground.new.kept.units.items) 1 0
+        ground.new.kept.caches }
 {
     match alloc(ground, class) {
         Given::Unit(unit) => {
@@ -223,9 +233,11 @@ pub(crate) fn take_one<R: Recorder>(rt: &impl Abort, ground: &mut Ground<R>, cla
 /// Frees the unit that is held last.
 pub(crate) fn free_one<R: Recorder>(ground: &mut Ground<R>)
     requires sound { Holding 1 ground.old.kept.units.items }
-    requires fine { Fine R.log R.counts (tests_beside ground.old.kept.units.items) 1 0 ground.old.kept.caches }
+    requires fine { Fine R.log R.counts (tests_beside ground.old.kept.units.items) 1 0
+        ground.old.kept.caches }
     ensures sound { Holding 1 ground.new.kept.units.items }
-    ensures fine { Fine R.log R.counts (tests_beside ground.new.kept.units.items) 1 0 ground.new.kept.caches }
+    ensures fine { Fine R.log R.counts (tests_beside ground.new.kept.units.items) 1 0
+        ground.new.kept.caches }
 {
     if let Some(unit) = ground.kept.units.pop() {
         handler(ground, unit, false);

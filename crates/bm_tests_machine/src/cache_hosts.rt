@@ -119,7 +119,8 @@ impl<R: Recorder> Host<R> for Ground<R> {
 impl<'a, R: Recorder> Host<R> for First<'a, R> {
     ghost held = { λ m. m.kept.now.caches };
 
-    ghost with_held = { λ m c. record m { kept = record m.kept { now = record m.kept.now { caches = c } } } };
+    ghost with_held = { λ m c. record m
+        { kept = record m.kept { now = record m.kept.now { caches = c } } } };
 
     ghost face = { λ m. record { level = m.level; processors = 1; through = m.kept.ghost_name } };
 
@@ -185,7 +186,8 @@ impl<'a, R: Recorder> Host<R> for First<'a, R> {
 impl<'a, R: Recorder> Host<R> for Second<'a, R> {
     ghost held = { λ m. m.kept.now.caches };
 
-    ghost with_held = { λ m c. record m { kept = record m.kept { now = record m.kept.now { caches = c } } } };
+    ghost with_held = { λ m c. record m
+        { kept = record m.kept { now = record m.kept.now { caches = c } } } };
 
     ghost face = { λ m. record { level = m.level; processors = 1; through = m.kept.ghost_name } };
 
@@ -267,8 +269,10 @@ fn run_first<'a, R: Recorder>(kept: &'a mut Kept<R>, level: Level)
     requires fine { Fine R.log R.counts (tests_beside kept.old.units.items) 1 1 kept.old.caches }
     ensures holding { Holding 1 kept.new.units.items }
     ensures fine { Fine R.log R.counts (tests_beside kept.new.units.items) 1 1 kept.new.caches }
-    ensures came { Came R.log 1 (tests_beside kept.old.units.items) (tests_beside kept.new.units.items) kept.old.caches kept.new.caches }
-    ensures left { handlers_left kept.new.plan.first_left kept.new.plan.second_left ≤ handlers_left kept.old.plan.first_left kept.old.plan.second_left }
+    ensures came { Came R.log 1 (tests_beside kept.old.units.items)
+        (tests_beside kept.new.units.items) kept.old.caches kept.new.caches }
+    ensures left { handlers_left kept.new.plan.first_left kept.new.plan.second_left
+        ≤ handlers_left kept.old.plan.first_left kept.old.plan.second_left }
 {
     let delayed = kept.plan.delayed;
     if let Some(unit) = kept.units.pop() {
@@ -285,8 +289,10 @@ fn run_second<'a, R: Recorder>(kept: &'a mut Kept<R>, level: Level)
     requires fine { Fine R.log R.counts (tests_beside kept.old.units.items) 1 2 kept.old.caches }
     ensures holding { Holding 1 kept.new.units.items }
     ensures fine { Fine R.log R.counts (tests_beside kept.new.units.items) 1 2 kept.new.caches }
-    ensures came { Came R.log 2 (tests_beside kept.old.units.items) (tests_beside kept.new.units.items) kept.old.caches kept.new.caches }
-    ensures left { handlers_left kept.new.plan.first_left kept.new.plan.second_left ≤ handlers_left kept.old.plan.first_left kept.old.plan.second_left }
+    ensures came { Came R.log 2 (tests_beside kept.old.units.items)
+        (tests_beside kept.new.units.items) kept.old.caches kept.new.caches }
+    ensures left { handlers_left kept.new.plan.first_left kept.new.plan.second_left
+        ≤ handlers_left kept.old.plan.first_left kept.old.plan.second_left }
 {
     let delayed = kept.plan.delayed;
     if let Some(unit) = kept.units.pop() {
@@ -299,14 +305,17 @@ fn run_second<'a, R: Recorder>(kept: &'a mut Kept<R>, level: Level)
 /// What a handler does: it frees a unit.
 pub(crate) fn handler<R: Recorder, H: Host<R>>(host: &mut H, unit: Unit, delayed: bool)
     requires frees { H.frees unit.number unit.home host.old }
-    requires fine { Fine R.log R.counts (H.tests host.old) (H.face host.old).processors (H.face host.old).level (H.held host.old) }
+    requires fine { Fine R.log R.counts (H.tests host.old) (H.face host.old).processors
+        (H.face host.old).level (H.held host.old) }
     requires fresh { stands unit.number (seen number_of (shown (H.held host.old))) ≡ 0 }
     requires lives { unit.life + 1 < 4294967296 }
     requires home { unit.home < (H.face host.old).processors }
     requires reusable { Reusable (H.tests host.old) unit }
     requires waits { Waits (H.tests host.old) unit }
-    ensures came { Came R.log (H.face host.old).level (H.tests host.old) (H.tests host.new) (H.held host.old) (H.held host.new) }
-    ensures fine { Fine R.log R.counts (H.tests host.new) (H.face host.new).processors (H.face host.new).level (H.held host.new) }
+    ensures came { Came R.log (H.face host.old).level (H.tests host.old) (H.tests host.new)
+        (H.held host.old) (H.held host.new) }
+    ensures fine { Fine R.log R.counts (H.tests host.new) (H.face host.new).processors
+        (H.face host.new).level (H.held host.new) }
     ensures goes { Goes H.face H.pending H.keeps host.old host.new }
     ensures sound { H.sound host.new }
 {

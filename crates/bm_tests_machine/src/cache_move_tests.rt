@@ -179,7 +179,10 @@ fn two_beside<R: Recorder>(rt: &(impl Abort + AllocGlobal), recorder: R) -> Besi
     ensures placed { Placed R.log R.counts result.caches }
     ensures ready { Ready 0 (shown result.caches) }
     ensures sit { All (Sits 0) result.units.items }
-    ensures fresh { (n : ℕ) → stands n (seen number_of (shown result.caches)) + times n (map number_of result.units.items) ≤ 1 }
+    ensures fresh { (n : ℕ)
+        → stands n (seen number_of (shown result.caches))
+        + times n (map number_of result.units.items)
+        ≤ 1 }
 {
     let OneByOne { a, b, c, d } = first_four(rt);
     let free = pair(rt, a, b);
@@ -200,7 +203,8 @@ fn receive<R: Recorder>(
     requires placed { Placed R.log R.counts caches.old }
     requires ready { Ready 0 (shown caches.old) }
     requires sit { All (Sits class) units.items }
-    requires fresh { (n : ℕ) → stands n (seen number_of (shown caches.old)) + times n (map number_of units.items) ≤ 1 }
+    requires fresh { (n : ℕ)
+        → stands n (seen number_of (shown caches.old)) + times n (map number_of units.items) ≤ 1 }
     ensures placed { Placed R.log R.counts caches.new }
     ensures quiet { ((shown caches.new).sides 0).mark ≡ Quiet }
 {

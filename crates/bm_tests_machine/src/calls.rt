@@ -35,8 +35,10 @@ pub(crate) fn work_once<R: Recorder, H: Desk<R>>(
     class: Class,
     left: u32,
 )
-    requires rests { Rests R.log R.counts H.Host.sound H.Host.tests H.Host.face H.Host.held (λ h. H.W.Knows.known (H.shared h)) class (left + 1) host.old }
-    ensures rests { Rests R.log R.counts H.Host.sound H.Host.tests H.Host.face H.Host.held (λ h. H.W.Knows.known (H.shared h)) class left host.new }
+    requires rests { Rests R.log R.counts H.Host.sound H.Host.tests H.Host.face H.Host.held
+        (λ h. H.W.Knows.known (H.shared h)) class (left + 1) host.old }
+    ensures rests { Rests R.log R.counts H.Host.sound H.Host.tests H.Host.face H.Host.held
+        (λ h. H.W.Knows.known (H.shared h)) class left host.new }
     ensures processors { (H.Host.face host.new).processors ≡ (H.Host.face host.old).processors }
 {
     let _left = left;
@@ -50,8 +52,10 @@ pub(crate) fn given_unit<R: Recorder, H: Desk<R>>(
     class: Class,
     left: u32,
 ) -> Unit
-    requires rests { Rests R.log R.counts H.Host.sound H.Host.tests H.Host.face H.Host.held (λ h. H.W.Knows.known (H.shared h)) class left host.old }
-    ensures rests { Rests R.log R.counts (H.Host.gave result.number (result.life + 1)) H.Host.tests H.Host.face H.Host.held (λ h. H.W.Knows.known (H.shared h)) class left host.new }
+    requires rests { Rests R.log R.counts H.Host.sound H.Host.tests H.Host.face H.Host.held
+        (λ h. H.W.Knows.known (H.shared h)) class left host.old }
+    ensures rests { Rests R.log R.counts (H.Host.gave result.number (result.life + 1)) H.Host.tests
+        H.Host.face H.Host.held (λ h. H.W.Knows.known (H.shared h)) class left host.new }
     ensures gone { Gone (H.Host.tests host.new) (shown (H.Host.held host.new)) (given.Unit result) }
     ensures processors { (H.Host.face host.new).processors ≡ (H.Host.face host.old).processors }
 {
@@ -69,12 +73,14 @@ pub(crate) fn free_with_delay<R: Recorder, H: Desk<R>>(
     unit: Unit,
     left: u32,
 )
-    requires rests { Rests R.log R.counts (H.Host.frees unit.number unit.home) H.Host.tests H.Host.face H.Host.held (λ h. H.W.Knows.known (H.shared h)) class left host.old }
+    requires rests { Rests R.log R.counts (H.Host.frees unit.number unit.home) H.Host.tests
+        H.Host.face H.Host.held (λ h. H.W.Knows.known (H.shared h)) class left host.old }
     requires fresh { stands unit.number (seen number_of (shown (H.Host.held host.old))) ≡ 0 }
     requires lives { unit.life + 1 < 2 ^ 32 }
     requires home { unit.home < (H.Host.face host.old).processors }
     requires suits { Waits (H.Host.tests host.old) unit }
-    ensures rests { Rests R.log R.counts H.Host.sound H.Host.tests H.Host.face H.Host.held (λ h. H.W.Knows.known (H.shared h)) class left host.new }
+    ensures rests { Rests R.log R.counts H.Host.sound H.Host.tests H.Host.face H.Host.held
+        (λ h. H.W.Knows.known (H.shared h)) class left host.new }
     ensures processors { (H.Host.face host.new).processors ≡ (H.Host.face host.old).processors }
 {
     let _left = (class, left);

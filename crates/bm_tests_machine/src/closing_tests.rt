@@ -137,7 +137,8 @@ fn desk_over<R: Recorder, S: World>(
     requires sit { All (Sits class) free.items }
     requires once { (n : ℕ) → times n (map number_of free.items) ≤ 1 }
     requires reusable { All (Reusable (tests_by (S.Knows.rights lent))) free.items }
-    ensures fine { Fine R.log R.counts (tests_by (S.Knows.rights result.side)) (S.Knows.known result.side).grace.processors 0 result.caches }
+    ensures fine { Fine R.log R.counts (tests_by (S.Knows.rights result.side))
+        (S.Knows.known result.side).grace.processors 0 result.caches }
     ensures side { result.side ≡ lent }
 {
     let caches = opened(rt, recorder, class, free);
@@ -150,8 +151,10 @@ fn given_unit<R: Recorder, H: Ended<R>>(
     host: &mut H,
     class: Class,
 ) -> Unit
-    requires at_end { AtEnd R.log R.counts H.Host.sound H.Host.tests H.Host.face H.Host.held host.old }
-    ensures at_end { AtEnd R.log R.counts (H.Host.gave result.number (result.life + 1)) H.Host.tests H.Host.face H.Host.held host.new }
+    requires at_end { AtEnd R.log R.counts H.Host.sound H.Host.tests H.Host.face H.Host.held
+        host.old }
+    ensures at_end { AtEnd R.log R.counts (H.Host.gave result.number (result.life + 1)) H.Host.tests
+        H.Host.face H.Host.held host.new }
     ensures gone { Gone (H.Host.tests host.new) (shown (H.Host.held host.new)) (given.Unit result) }
     ensures keeps { H.Host.keeps host.old host.new }
 {
@@ -163,12 +166,14 @@ fn given_unit<R: Recorder, H: Ended<R>>(
 
 /// It is freed with delay.
 fn free_with_delay<R: Recorder, H: Ended<R>>(host: &mut H, unit: Unit)
-    requires at_end { AtEnd R.log R.counts (H.Host.frees unit.number unit.home) H.Host.tests H.Host.face H.Host.held host.old }
+    requires at_end { AtEnd R.log R.counts (H.Host.frees unit.number unit.home) H.Host.tests
+        H.Host.face H.Host.held host.old }
     requires fresh { stands unit.number (seen number_of (shown (H.Host.held host.old))) ≡ 0 }
     requires lives { unit.life + 1 < 2 ^ 32 }
     requires home { unit.home < (H.Host.face host.old).processors }
     requires suits { Waits (H.Host.tests host.old) unit }
-    ensures at_end { AtEnd R.log R.counts H.Host.sound H.Host.tests H.Host.face H.Host.held host.new }
+    ensures at_end { AtEnd R.log R.counts H.Host.sound H.Host.tests H.Host.face H.Host.held
+        host.new }
     ensures keeps { H.Host.keeps host.old host.new }
 {
     free_delayed(host, unit);
@@ -240,9 +245,14 @@ fn all_units_of_a_class_are_swept(rt: HostRuntime) {
 fn begin_plain<S: World>(rt: &impl Abort, lent: &mut S)
     requires rest { (d : DomainValue) → S.Knows.rest lent.old d 0 }
     requires begins { 0 < (side Plain (S.Knows.known lent.old)).begins }
-    ensures rest { (d : DomainValue) → (n : ℕ) × (S.Knows.rest lent.new d n × (ended_at (side d (S.Knows.known lent.new)).number n % 2 ≡ 0)) }
-    ensures begins { (side Tracing (S.Knows.known lent.new)).begins ≡ (side Tracing (S.Knows.known lent.old)).begins }
-    ensures processors { (S.Knows.known lent.new).grace.processors ≡ (S.Knows.known lent.old).grace.processors }
+    ensures rest { (d : DomainValue)
+        → (n : ℕ)
+        × (S.Knows.rest lent.new d n
+        × (ended_at (side d (S.Knows.known lent.new)).number n % 2 ≡ 0)) }
+    ensures begins { (side Tracing (S.Knows.known lent.new)).begins
+        ≡ (side Tracing (S.Knows.known lent.old)).begins }
+    ensures processors { (S.Knows.known lent.new).grace.processors
+        ≡ (S.Knows.known lent.old).grace.processors }
 {
     match lent.begin(Domain::Plain, 0) {
         Began::Won => {}

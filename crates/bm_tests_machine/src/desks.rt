@@ -34,7 +34,11 @@ pub(crate) fn desk_with<R: Recorder, S: World>(
     requires log { IfSome (R.log recorder) (λ es. es ≡ []) }
     requires processors { (S.Knows.known lent).grace.processors ≡ 2 }
     requires begins { (d : Domain) → 4 ≤ (side_of d (S.Knows.known lent)).begins }
-    ensures rests { Rests R.log R.counts (λ m. Unit {0}) (λ m. tests_by (S.Knows.rights m.kept.side)) (λ m. record { level = 0; processors = (S.Knows.known m.kept.side).grace.processors; through = 0 }) (λ m. m.kept.caches) (λ m. S.Knows.known m.kept.side) class 4 result }
+    ensures rests { Rests R.log R.counts (λ m. Unit {0})
+        (λ m. tests_by (S.Knows.rights m.kept.side))
+        (λ m. record
+        { level = 0; processors = (S.Knows.known m.kept.side).grace.processors; through = 0 })
+        (λ m. m.kept.caches) (λ m. S.Knows.known m.kept.side) class 4 result }
     ensures processors { (S.Knows.known result.kept.side).grace.processors ≡ 2 }
 {
     let mut side = lent;
@@ -70,7 +74,8 @@ pub(crate) fn desk_over<R: Recorder, S: World>(
     requires log { IfSome (R.log recorder) (λ es. es ≡ []) }
     requires some { 0 < (S.Knows.known lent).grace.processors }
     requires few { (S.Knows.known lent).grace.processors ≤ 8 }
-    ensures fine { Fine R.log R.counts (tests_by (S.Knows.rights result.side)) (S.Knows.known result.side).grace.processors 1 result.caches }
+    ensures fine { Fine R.log R.counts (tests_by (S.Knows.rights result.side))
+        (S.Knows.known result.side).grace.processors 1 result.caches }
     ensures dated { Dated (tests_by (S.Knows.rights result.side)) (shown result.caches) }
     ensures side { result.side ≡ lent }
     ensures empty { shown result.caches ≡ opening 0 }

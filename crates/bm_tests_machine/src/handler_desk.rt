@@ -49,7 +49,8 @@ impl<R: Recorder, S: World> Host<R> for Ground<R, S> {
 
     ghost with_held = { λ m c. record m { kept = record m.kept { caches = c } } };
 
-    ghost face = { λ m. record { level = 0; processors = (S.Knows.known m.kept.side).grace.processors; through = 0 } };
+    ghost face = { λ m. record
+        { level = 0; processors = (S.Knows.known m.kept.side).grace.processors; through = 0 } };
 
     ghost pending = { λ m. if m.waits then 1 else 0 };
 
@@ -138,7 +139,8 @@ impl<R: Recorder, S: World> Desk<R> for Ground<R, S> {
 
     ghost shared_apart = { λ h c. refl };
 
-    ghost face_apart = { λ h w a. ap (λ n. let f : Face = record { level = 0; processors = n; through = 0 } in f) a.processors };
+    ghost face_apart = { λ h w a. ap
+        (λ n. let f : Face = record { level = 0; processors = n; through = 0 } in f) a.processors };
 
     ghost pending_apart = { λ h w. refl };
 
@@ -148,11 +150,14 @@ impl<R: Recorder, S: World> Desk<R> for Ground<R, S> {
 
     ghost processors_are = { λ h. refl };
 
-    ghost known_goes = { λ a b k. goes-still (S.Knows.known a.kept.side) (S.Knows.known b.kept.side) (ap S.Knows.known k) };
+    ghost known_goes = { λ a b k. goes-still (S.Knows.known a.kept.side) (S.Knows.known b.kept.side)
+        (ap S.Knows.known k) };
 
-    ghost keeps_stays = { λ a b k. alike-still (S.Knows.known a.kept.side) (S.Knows.known b.kept.side) (ap S.Knows.known k) };
+    ghost keeps_stays = { λ a b k. alike-still (S.Knows.known a.kept.side)
+        (S.Knows.known b.kept.side) (ap S.Knows.known k) };
 
-    ghost stays_join = { λ a b c k m. alike-joined (S.Knows.known a.kept.side) (S.Knows.known b.kept.side) (S.Knows.known c.kept.side) k m };
+    ghost stays_join = { λ a b c k m. alike-joined (S.Knows.known a.kept.side)
+        (S.Knows.known b.kept.side) (S.Knows.known c.kept.side) k m };
 
     ghost owes_open = { λ h s. s };
 
@@ -198,9 +203,14 @@ impl<R: Recorder, S: World> Desk<R> for Ground<R, S> {
 impl<'a, R: Recorder, S: World> Host<R> for Upper<'a, R, S> {
     ghost held = { λ m. m.kept.now.caches };
 
-    ghost with_held = { λ m c. record m { kept = record m.kept { now = record m.kept.now { caches = c } } } };
+    ghost with_held = { λ m c. record m
+        { kept = record m.kept { now = record m.kept.now { caches = c } } } };
 
-    ghost face = { λ m. record { level = m.level; processors = (S.Knows.known m.kept.now.side).grace.processors; through = m.kept.ghost_name } };
+    ghost face = { λ m. record {
+      level = m.level;
+      processors = (S.Knows.known m.kept.now.side).grace.processors;
+      through = m.kept.ghost_name;
+    } };
 
     ghost pending = { λ m. 0 };
 
@@ -266,9 +276,12 @@ fn level_one() -> Level
 
 /// The handler: it takes seven units.
 fn run_handler<R: Recorder, S: World>(kept: &mut Kept<R, S>, held: &mut Vec<Unit>, class: Class)
-    requires fine { Fine R.log R.counts (tests_by (S.Knows.rights kept.old.side)) (S.Knows.known kept.old.side).grace.processors 1 kept.old.caches }
-    ensures fine { Fine R.log R.counts (tests_by (S.Knows.rights kept.new.side)) (S.Knows.known kept.new.side).grace.processors 1 kept.new.caches }
-    ensures came { Came R.log 1 (tests_by (S.Knows.rights kept.old.side)) (tests_by (S.Knows.rights kept.new.side)) kept.old.caches kept.new.caches }
+    requires fine { Fine R.log R.counts (tests_by (S.Knows.rights kept.old.side))
+        (S.Knows.known kept.old.side).grace.processors 1 kept.old.caches }
+    ensures fine { Fine R.log R.counts (tests_by (S.Knows.rights kept.new.side))
+        (S.Knows.known kept.new.side).grace.processors 1 kept.new.caches }
+    ensures came { Came R.log 1 (tests_by (S.Knows.rights kept.old.side))
+        (tests_by (S.Knows.rights kept.new.side)) kept.old.caches kept.new.caches }
     ensures side { kept.new.side ≡ kept.old.side }
 {
     let mut upper = Upper {
@@ -282,9 +295,12 @@ fn run_handler<R: Recorder, S: World>(kept: &mut Kept<R, S>, held: &mut Vec<Unit
 /// Seven allocations.
 fn take_seven<R: Recorder, H: Gives<R>>(host: &mut H, held: &mut Vec<Unit>, class: Class)
     requires sound { H.sound host.old }
-    requires fine { Fine R.log R.counts (H.tests host.old) (H.face host.old).processors (H.face host.old).level (H.held host.old) }
-    ensures came { Came R.log (H.face host.old).level (H.tests host.old) (H.tests host.new) (H.held host.old) (H.held host.new) }
-    ensures fine { Fine R.log R.counts (H.tests host.new) (H.face host.new).processors (H.face host.new).level (H.held host.new) }
+    requires fine { Fine R.log R.counts (H.tests host.old) (H.face host.old).processors
+        (H.face host.old).level (H.held host.old) }
+    ensures came { Came R.log (H.face host.old).level (H.tests host.old) (H.tests host.new)
+        (H.held host.old) (H.held host.new) }
+    ensures fine { Fine R.log R.counts (H.tests host.new) (H.face host.new).processors
+        (H.face host.new).level (H.held host.new) }
     ensures goes { Goes H.face H.pending H.keeps host.old host.new }
     ensures sound { H.sound host.new }
 {
@@ -296,9 +312,12 @@ fn take_seven<R: Recorder, H: Gives<R>>(host: &mut H, held: &mut Vec<Unit>, clas
 /// An allocation, and the unit is held.
 fn take_one<R: Recorder, H: Gives<R>>(host: &mut H, held: &mut Vec<Unit>, class: Class)
     requires sound { H.sound host.old }
-    requires fine { Fine R.log R.counts (H.tests host.old) (H.face host.old).processors (H.face host.old).level (H.held host.old) }
-    ensures came { Came R.log (H.face host.old).level (H.tests host.old) (H.tests host.new) (H.held host.old) (H.held host.new) }
-    ensures fine { Fine R.log R.counts (H.tests host.new) (H.face host.new).processors (H.face host.new).level (H.held host.new) }
+    requires fine { Fine R.log R.counts (H.tests host.old) (H.face host.old).processors
+        (H.face host.old).level (H.held host.old) }
+    ensures came { Came R.log (H.face host.old).level (H.tests host.old) (H.tests host.new)
+        (H.held host.old) (H.held host.new) }
+    ensures fine { Fine R.log R.counts (H.tests host.new) (H.face host.new).processors
+        (H.face host.new).level (H.held host.new) }
     ensures goes { Goes H.face H.pending H.keeps host.old host.new }
     ensures sound { H.sound host.new }
 {

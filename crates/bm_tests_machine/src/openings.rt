@@ -33,7 +33,8 @@ pub(crate) fn side_over(rt: &(impl Abort + AllocGlobal), processors: u8, pages: 
     requires some { 0 < processors }
     requires few { processors ≤ 8 }
     requires pages { pages ≤ 256 }
-    ensures grace { result.grace ≡ record { processors = processors; processor = 0; plain = idle; tracing = idle } }
+    ensures grace { result.grace
+        ≡ record { processors = processors; processor = 0; plain = idle; tracing = idle } }
 {
     match PlainPost::create(rt.alloc(), pool_of(rt, pages), processors) {
         Ok(post) => OneSide::new(post, PlainGrace::new(processors)),
@@ -43,7 +44,8 @@ pub(crate) fn side_over(rt: &(impl Abort + AllocGlobal), processors: u8, pages: 
 
 /// The side of the first of two processors over one page, with tests by which units wait.
 pub(crate) fn waiting_side(rt: &(impl Abort + AllocGlobal)) -> WaitingSide
-    ensures { result.side.grace ≡ record { processors = 2; processor = 0; plain = idle; tracing = idle } }
+    ensures { result.side.grace
+        ≡ record { processors = 2; processor = 0; plain = idle; tracing = idle } }
 {
     match WaitingSide::create(rt.alloc(), side_over(rt, 2, 1)) {
         Ok(side) => side,

@@ -54,25 +54,33 @@ fn class(rt: &impl Abort) -> Class {
 /// Reads the number of a domain, and answers the stamp of it, which is no step of the log by itself. So it is for desks
 /// that aren't tied to their logs.
 fn read_stamp<R: Recorder, H: Desk<R>>(host: &mut H, domain: Domain) -> u32
-    requires stands { Stands R.log R.counts H.Host.sound H.Host.tests H.Host.face H.Host.held host.old }
+    requires stands { Stands R.log R.counts H.Host.sound H.Host.tests H.Host.face H.Host.held
+        host.old }
     requires apart { (h : H) (w : H.W) → H.Host.sound h → H.Host.sound (H.with_shared h w) }
     ensures positive { 0 < result }
-    ensures since { (u : Token) → Either (H.Host.tests host.old) u → Passes (H.Host.tests host.new) (since_test domain result) u }
-    ensures called { Called H.Host.face H.Host.pending H.stays H.Host.held (λ h. H.W.Knows.known (H.shared h)) (λ h. H.W.Knows.rights (H.shared h)) 0 0 host.old host.new }
-    ensures stands { Stands R.log R.counts H.Host.sound H.Host.tests H.Host.face H.Host.held host.new }
+    ensures since { (u : Token) → Either (H.Host.tests host.old) u
+        → Passes (H.Host.tests host.new) (since_test domain result) u }
+    ensures called { Called H.Host.face H.Host.pending H.stays H.Host.held
+        (λ h. H.W.Knows.known (H.shared h)) (λ h. H.W.Knows.rights (H.shared h)) 0 0 host.old
+        host.new }
+    ensures stands { Stands R.log R.counts H.Host.sound H.Host.tests H.Host.face H.Host.held
+        host.new }
 {
     host.world().stamp(domain)
 }
 
 /// A stamp of the plain domain, and what a poll for it answers, on a desk that doesn't mind for which batch it is.
 fn stamp_and_poll<R: Recorder, H: Desk<R>>(host: &mut H, class: Class) -> (u32, Done)
-    requires stands { Stands R.log R.counts H.Host.sound H.Host.tests H.Host.face H.Host.held host.old }
+    requires stands { Stands R.log R.counts H.Host.sound H.Host.tests H.Host.face H.Host.held
+        host.old }
     requires apart { (h : H) (w : H.W) → H.Host.sound h → H.Host.sound (H.with_shared h w) }
     requires free { H.minds → ⊥ }
     requires room { 0 < (side Plain (H.W.Knows.known (H.shared host.old))).begins }
     ensures stays { H.stays host.old host.new }
-    ensures begins { (side Plain (H.W.Knows.known (H.shared host.old))).begins ≤ (side Plain (H.W.Knows.known (H.shared host.new))).begins + 1 }
-    ensures stands { Stands R.log R.counts H.Host.sound H.Host.tests H.Host.face H.Host.held host.new }
+    ensures begins { (side Plain (H.W.Knows.known (H.shared host.old))).begins
+        ≤ (side Plain (H.W.Knows.known (H.shared host.new))).begins + 1 }
+    ensures stands { Stands R.log R.counts H.Host.sound H.Host.tests H.Host.face H.Host.held
+        host.new }
 {
     let stamp = read_stamp(host, Domain::Plain);
     let seen = poll(host, class, Domain::Plain, stamp);

@@ -174,9 +174,15 @@ fn give_and_free<R: Recorder>(
     class: Class,
     left: u32,
 )
-    requires rests { Rests R.log R.counts (λ m. Unit {0}) (λ m. tests_by (rights_in m.kept.side.post)) (λ m. record { level = 0; processors = m.kept.side.grace.processors; through = 0 }) (λ m. m.kept.caches) (λ m. known_of m.kept.side) class left desk.old }
+    requires rests { Rests R.log R.counts (λ m. Unit {0})
+        (λ m. tests_by (rights_in m.kept.side.post))
+        (λ m. record { level = 0; processors = m.kept.side.grace.processors; through = 0 })
+        (λ m. m.kept.caches) (λ m. known_of m.kept.side) class left desk.old }
     requires processors { desk.old.kept.side.grace.processors ≡ 2 }
-    ensures rests { Rests R.log R.counts (λ m. Unit {0}) (λ m. tests_by (rights_in m.kept.side.post)) (λ m. record { level = 0; processors = m.kept.side.grace.processors; through = 0 }) (λ m. m.kept.caches) (λ m. known_of m.kept.side) class left desk.new }
+    ensures rests { Rests R.log R.counts (λ m. Unit {0})
+        (λ m. tests_by (rights_in m.kept.side.post))
+        (λ m. record { level = 0; processors = m.kept.side.grace.processors; through = 0 })
+        (λ m. m.kept.caches) (λ m. known_of m.kept.side) class left desk.new }
     ensures processors { desk.new.kept.side.grace.processors ≡ 2 }
 {
     let unit = given_unit(rt, desk, class, left);

@@ -34,7 +34,8 @@ impl<R: Recorder, S: World> Host<R> for StillDesk<R, S> {
 
     ghost with_held = { λ m c. record m { caches = c } };
 
-    ghost face = { λ m. record { level = 0; processors = (S.Knows.known m.side).grace.processors; through = 0 } };
+    ghost face = { λ m. record
+        { level = 0; processors = (S.Knows.known m.side).grace.processors; through = 0 } };
 
     ghost pending = { λ m. 0 };
 
@@ -116,7 +117,8 @@ impl<R: Recorder, S: World> Desk<R> for StillDesk<R, S> {
 
     ghost shared_apart = { λ h c. refl };
 
-    ghost face_apart = { λ h w a. ap (λ n. let f : Face = record { level = 0; processors = n; through = 0 } in f) a.processors };
+    ghost face_apart = { λ h w a. ap
+        (λ n. let f : Face = record { level = 0; processors = n; through = 0 } in f) a.processors };
 
     ghost pending_apart = { λ h w. refl };
 
@@ -126,11 +128,14 @@ impl<R: Recorder, S: World> Desk<R> for StillDesk<R, S> {
 
     ghost processors_are = { λ h. refl };
 
-    ghost known_goes = { λ a b k. goes-still (S.Knows.known a.side) (S.Knows.known b.side) (ap S.Knows.known k) };
+    ghost known_goes = { λ a b k. goes-still (S.Knows.known a.side) (S.Knows.known b.side)
+        (ap S.Knows.known k) };
 
-    ghost keeps_stays = { λ a b k. alike-still (S.Knows.known a.side) (S.Knows.known b.side) (ap S.Knows.known k) };
+    ghost keeps_stays = { λ a b k. alike-still (S.Knows.known a.side) (S.Knows.known b.side)
+        (ap S.Knows.known k) };
 
-    ghost stays_join = { λ a b c k m. alike-joined (S.Knows.known a.side) (S.Knows.known b.side) (S.Knows.known c.side) k m };
+    ghost stays_join = { λ a b c k m. alike-joined (S.Knows.known a.side) (S.Knows.known b.side)
+        (S.Knows.known c.side) k m };
 
     ghost owes_open = { λ h s. s };
 

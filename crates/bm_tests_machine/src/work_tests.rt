@@ -212,11 +212,14 @@ fn receive<R: Recorder>(caches: &mut Caches<R>, class: Class, units: Vec<Unit>)
     requires ready { Ready 0 (shown caches.old) }
     requires aimed { Aimed 1 caches.old }
     requires sit { All (Sits class) units.items }
-    requires fresh { (n : ℕ) → stands n (seen number_of (shown caches.old)) + times n (map number_of units.items) ≤ 1 }
+    requires fresh { (n : ℕ)
+        → stands n (seen number_of (shown caches.old)) + times n (map number_of units.items) ≤ 1 }
     ensures placed { Placed R.log R.counts caches.new }
     ensures ready { Ready 0 (shown caches.new) }
     ensures aimed { Aimed 1 caches.new }
-    ensures stands { (n : ℕ) → stands n (seen number_of (shown caches.new)) ≡ stands n (seen number_of (shown caches.old)) + times n (map number_of units.items) }
+    ensures stands { (n : ℕ)
+        → stands n (seen number_of (shown caches.new))
+        ≡ stands n (seen number_of (shown caches.old)) + times n (map number_of units.items) }
 {
     let _class = class.index();
     caches.take_parcel(Level::ordinary(), class, units);
@@ -230,7 +233,9 @@ fn set_second<R: Recorder>(rt: &impl Abort, caches: &mut Caches<R>, class: Class
     ensures placed { Placed R.log R.counts caches.new }
     ensures ready { Ready 0 (shown caches.new) }
     ensures aimed { Aimed 1 caches.new }
-    ensures stands { (n : ℕ) → stands n (seen number_of (shown caches.new)) ≡ stands n (seen number_of (shown caches.old)) }
+    ensures stands { (n : ℕ)
+        → stands n (seen number_of (shown caches.new))
+        ≡ stands n (seen number_of (shown caches.old)) }
 {
     let _class = class.index();
     if caches.counts(class).ready == 0 {

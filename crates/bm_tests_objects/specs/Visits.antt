@@ -73,16 +73,21 @@ items_in (graph.Tree tree) = None
 
 -- The graph's page may go out: the side has it, with no claim for the graph, and nothing waits.
 abbrev pub MayLeave : World → Type 0
-MayLeave world = HasPage 0 (known_of world) × NoClaimFor 0 (known_of world) × (waiting_at world.waits 0 ≡ None)
+MayLeave world =
+    HasPage 0 (known_of world) × NoClaimFor 0 (known_of world) × (waiting_at world.waits 0 ≡ None)
 
 -- A visit finds this world, a list of these items, and the page of graph 0.
 abbrev pub Finds : World → List (Item Note) → World → Graph Note → Note → Type 0
-Finds world items now lent page = (now ≡ world) × (items_in lent ≡ Some items) × (page ≡ note.Page 0)
+Finds world items now lent page =
+    (now ≡ world) × (items_in lent ≡ Some items) × (page ≡ note.Page 0)
 
 -- It leaves the page there; and where the list has an entry for it, this world and a list of these items.
-abbrev pub LeavesBy : {A : Type 0} → World → List (Item Note) → Option A → World → Graph Note → Note → Type 0
-LeavesBy world items at now left page = (page ≡ note.Page 0) × IfSome at (λ _. (now ≡ world) × (items_in left ≡ Some items))
+abbrev pub LeavesBy :
+    {A : Type 0} → World → List (Item Note) → Option A → World → Graph Note → Note → Type 0
+LeavesBy world items at now left page =
+    (page ≡ note.Page 0) × IfSome at (λ _. (now ≡ world) × (items_in left ≡ Some items))
 
 -- a shelf of one list of these items, with its page
 abbrev pub IsShelf : List (Item Note) → List (Graph Note × Note) → Type 0
-IsShelf items shelf = (lent : Graph Note) × (shelf ≡ (lent, note.Page 0) ∷ []) × (items_in lent ≡ Some items)
+IsShelf items shelf =
+    (lent : Graph Note) × (shelf ≡ (lent, note.Page 0) ∷ []) × (items_in lent ≡ Some items)

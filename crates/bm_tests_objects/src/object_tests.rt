@@ -24,7 +24,8 @@ fn exchange_once(
     requires keeps { IfSome put (λ r. MayGo r (known_of world.old)) }
     requires processor { world.old.processor ≡ 0 }
     requires serial { serial < 2 ^ 18 }
-    ensures state { world.new ≡ exchanged 0 put (record { processor = 0; serial = serial }) world.old }
+    ensures state { world.new
+        ≡ exchanged 0 put (record { processor = 0; serial = serial }) world.old }
     ensures known { known_of world.new ≡ told_exchanged (λ r. r) put result (known_of world.old) }
 {
     let tag = Tag {

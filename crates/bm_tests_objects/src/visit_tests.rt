@@ -191,7 +191,8 @@ impl Visit<Note> for PushVisit {
         Finds (world_with in_hands None None) [] v.world graph page × (v.x ≡ Some first) };
 
     ghost visits = { λ _ _ _ v graph page.
-        LeavesBy (world_with in_list None (Some (tag_of 1))) (first_item ∷ []) v.at v.world graph page };
+        LeavesBy (world_with in_list None (Some (tag_of 1))) (first_item ∷ []) v.at v.world graph
+        page };
 
     fn visit(&mut self, graph: &mut Graph<Note>, page: &mut Option<Note>) {
         page_to(&mut self.world, page);

@@ -26,7 +26,8 @@ pub(crate) fn living_side(
     ensures asked { result.asked ≡ 0 }
     ensures contents { result.contents ≡ slots }
     ensures graphs { result.graphs ≡ graphs }
-    ensures grace { result.side.grace ≡ record { processors = 1; processor = 0; plain = idle; tracing = idle } }
+    ensures grace { result.side.grace
+        ≡ record { processors = 1; processor = 0; plain = idle; tracing = idle } }
 {
     match PlainPost::create(rt.alloc(), one_page(rt), 1) {
         Ok(post) => match LivingSide::create(

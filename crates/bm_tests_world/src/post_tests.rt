@@ -23,7 +23,8 @@ fn fetch_all<P: Post>(
     ensures class { All (IsOf class) result.items }
     ensures holds { Holds (P.rights post.new) result.items }
     ensures fit { All (MayLeave (P.rights post.new)) result.items }
-    ensures processors { (P.Knows.known post.new).grace.processors ≡ (P.Knows.known post.old).grace.processors }
+    ensures processors { (P.Knows.known post.new).grace.processors
+        ≡ (P.Knows.known post.old).grace.processors }
 {
     let mut units = Vec::new(rt.alloc());
     let count = post
@@ -48,7 +49,8 @@ fn send_one<P: Post>(rt: &impl Abort, post: &mut P, to: u8, class: Class, units:
     requires class { All (IsOf class) units.items }
     requires holds { Holds (P.rights post.old) units.items }
     requires fit { All (MayLeave (P.rights post.old)) units.items }
-    ensures processors { (P.Knows.known post.new).grace.processors ≡ (P.Knows.known post.old).grace.processors }
+    ensures processors { (P.Knows.known post.new).grace.processors
+        ≡ (P.Knows.known post.old).grace.processors }
 {
     match post.send(to, class, units) {
         Ok(()) => {}

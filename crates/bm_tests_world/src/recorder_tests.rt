@@ -138,7 +138,7 @@ fn log_of(alloc: Global, entries: Vec<Entry>) -> Result<Log, Fail> {
     for entry in entries {
         items.push((Level::ordinary(), entry))?;
     }
-    Ok(Log::new(items))
+    Ok(Log::of(alloc, items.as_slice()).ok().ok_or("memory")?)
 }
 
 #[test]
@@ -236,7 +236,8 @@ fn are_kept(rt: &impl Abort, alloc: Global, rows: &[Row]) -> Result<(), Fail> {
         let counts = keep.counts();
         are_counted(rt, &counts, *lengths, *hand, *number);
         let log = keep.into_log().ok_or("a log")?;
-        assert_eq!(rt; log.as_slice().len(), *number);
+        let lines = log.text().iter().filter(|byte| **byte == b'\n').count();
+        assert_eq!(rt; lines, *number);
     }
     Ok(())
 }

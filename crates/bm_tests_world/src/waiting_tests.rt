@@ -20,7 +20,8 @@ use std::process::Abort;
 
 /// The side of the first of two processors, where nobody has done anything.
 fn waiting_side(rt: &(impl Abort + AllocGlobal)) -> WaitingSide
-    ensures { result.side.grace ≡ record { processors = 2; processor = 0; plain = idle; tracing = idle } }
+    ensures { result.side.grace
+        ≡ record { processors = 2; processor = 0; plain = idle; tracing = idle } }
 {
     match PlainPost::create(rt.alloc(), one_page(rt), 2) {
         Ok(post) => match WaitingSide::create(rt.alloc(), OneSide::new(post, PlainGrace::new(2))) {
@@ -55,7 +56,8 @@ pub(crate) fn pass_period<W: World>(rt: &impl Abort, world: &mut W, even: u32)
     requires idle { (side Plain (W.Knows.known world.old)).number ≡ 0 }
     requires room { 0 < (side Plain (W.Knows.known world.old)).begins }
     ensures ages { Ages (W.Knows.rights world.old) (W.Knows.rights world.new) }
-    ensures processors { (W.Knows.known world.new).grace.processors ≡ (W.Knows.known world.old).grace.processors }
+    ensures processors { (W.Knows.known world.new).grace.processors
+        ≡ (W.Knows.known world.old).grace.processors }
     ensures objects { (W.Knows.known world.new).objects ≡ (W.Knows.known world.old).objects }
 {
     assert!(rt; world.begin(Domain::Plain, even) == Began::Won);
@@ -71,7 +73,8 @@ pub(crate) fn seal_if_passed<W: World>(world: &mut W, unit: &mut Unit, stamp: u3
     ensures leaves { result ≡ true → MayLeave (W.Knows.rights world.new) unit.new }
     ensures mine { (W.Knows.rights world.new).mine unit.new.number ≡ true }
     ensures class { unit.new.class ≡ unit.old.class }
-    ensures processors { (W.Knows.known world.new).grace.processors ≡ (W.Knows.known world.old).grace.processors }
+    ensures processors { (W.Knows.known world.new).grace.processors
+        ≡ (W.Knows.known world.old).grace.processors }
     ensures objects { (W.Knows.known world.new).objects ≡ (W.Knows.known world.old).objects }
 {
     match world.done(Domain::Plain, stamp) {

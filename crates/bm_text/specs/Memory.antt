@@ -43,7 +43,8 @@ read_gives left most = if length left == 0 then End else Got (min (length left) 
 
 -- what a read into so much room answers
 abbrev pub read_answer : Tape → ℕ → Read
-read_answer tape room = if is_planned tape.calls then Failed else read_gives tape.left (min tape.piece room)
+read_answer tape room =
+    if is_planned tape.calls then Failed else read_gives tape.left (min tape.piece room)
 
 -- how many bytes an answer gives
 abbrev pub bytes_got : Read → ℕ
@@ -83,7 +84,9 @@ write_answer sheet given = if write_fails sheet then WriteFailed else Took (byte
 -- the sink after a write of these bytes
 abbrev pub after_write : Sheet → List ℕ → Sheet
 after_write sheet bytes = record {
-  written = if write_fails sheet then sheet.written else sheet.written ++ take (bytes_taken sheet (length bytes)) bytes;
+  written =
+      if write_fails sheet then sheet.written
+      else sheet.written ++ take (bytes_taken sheet (length bytes)) bytes;
   flushed = sheet.flushed;
   room = sheet.room;
   piece = sheet.piece;

@@ -13,4 +13,5 @@ TakesCount old new count = (taken : List ℕ) × Consumes old new taken × (leng
 
 -- the bytes taken were appended to a list
 abbrev pub TakesInto : Option (List ℕ) → Option (List ℕ) → List ℕ → List ℕ → Type 0
-TakesInto old new before after = (taken : List ℕ) × Consumes old new taken × (after ≡ before ++ taken)
+TakesInto old new before after =
+    (taken : List ℕ) × Consumes old new taken × (after ≡ before ++ taken)

@@ -43,7 +43,8 @@ impl<R: io::Read> Source for StdSource<R> {
     fn read(&mut self, into: &mut [u8]) -> Read
         requires { 0 < length into.old }
         ensures within { ReadsWithin result (length into.old) }
-        ensures bytes { ReadTakes (R.remaining self.old.inner) (R.remaining self.new.inner) result into.new }
+        ensures bytes { ReadTakes (R.remaining self.old.inner) (R.remaining self.new.inner) result
+            into.new }
         ensures cause { ReadFaults self.old.faults self.new.faults result }
         ensures never_falls { self.old.faults ≤ self.new.faults }
         ensures counted { self.new.faults < 2 ^ 64 }
@@ -96,7 +97,8 @@ impl<W: io::Write> Sink for StdSink<W> {
     fn write(&mut self, bytes: &[u8]) -> Wrote
         requires { 0 < length bytes.now }
         ensures within { WritesWithin result (length bytes.now) }
-        ensures bytes { WriteAdds (W.contents self.old.inner) (W.contents self.new.inner) result bytes.now }
+        ensures bytes { WriteAdds (W.contents self.old.inner) (W.contents self.new.inner) result
+            bytes.now }
         ensures cause { WriteFaults self.old.faults self.new.faults result }
         ensures never_falls { self.old.faults ≤ self.new.faults }
         ensures counted { self.new.faults < 2 ^ 64 }

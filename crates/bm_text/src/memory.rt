@@ -29,7 +29,8 @@ impl Model for MemSource {
 
     ghost Value = { Tape };
 
-    ghost view = { λ s. record { left = drop s.at s.bytes.items; piece = s.piece; calls = s.plan } };
+    ghost view = { λ s. record
+        { left = drop s.at s.bytes.items; piece = s.piece; calls = s.plan } };
 
     ghost invariant = { λ s. (s.at ≤ length s.bytes.items) × (1 ≤ s.piece) };
 }
@@ -108,9 +109,16 @@ impl Model for MemSink {
 
     ghost Value = { Sheet };
 
-    ghost view = { λ s. record { written = s.bytes.items; flushed = s.flushed; room = s.room; piece = s.piece; calls = s.plan } };
+    ghost view = { λ s. record {
+      written = s.bytes.items;
+      flushed = s.flushed;
+      room = s.room;
+      piece = s.piece;
+      calls = s.plan;
+    } };
 
-    ghost invariant = { λ s. (length s.bytes.items ≤ s.room) × (s.room ≤ vec_capacity s.bytes) × (1 ≤ s.piece) };
+    ghost invariant = { λ s. (length s.bytes.items ≤ s.room) × (s.room ≤ vec_capacity s.bytes)
+        × (1 ≤ s.piece) };
 }
 
 impl MemSink {
@@ -192,7 +200,8 @@ impl Sink for MemSink {
     /// Fails exactly where its number stands in the list.
     fn flush(&mut self) -> Flushed
         ensures bytes { Keeps (Some self.old.written) (Some self.new.written) }
-        ensures flushed { FlushSets (Some self.old.flushed) (Some self.new.written) (Some self.new.flushed) result }
+        ensures flushed { FlushSets (Some self.old.flushed) (Some self.new.written)
+            (Some self.new.flushed) result }
         ensures cause { FlushFaults self.old.calls.faults self.new.calls.faults result }
         ensures never_falls { self.old.calls.faults ≤ self.new.calls.faults }
         ensures counted { self.new.calls.faults < 2 ^ 64 }

@@ -47,7 +47,8 @@ pub trait Sink {
     /// Flushes what was written. It appends nothing.
     fn flush(&mut self) -> Flushed
         ensures bytes { Keeps (written self.old) (written self.new) }
-        ensures flushed { FlushSets (flushed self.old) (written self.new) (flushed self.new) result }
+        ensures flushed { FlushSets (flushed self.old) (written self.new) (flushed self.new)
+            result }
         ensures cause { FlushFaults (faults self.old) (faults self.new) result }
         ensures never_falls { faults self.old ≤ faults self.new }
         ensures counted { faults self.new < 2 ^ 64 };

@@ -17,7 +17,8 @@ pub(crate) struct Plan {
 impl Model for Plan {
     ghost Value = { Calls };
 
-    ghost view = { λ plan. record { fail = plan.fail.items; made = plan.made; faults = plan.faults } };
+    ghost view = { λ plan. record
+        { fail = plan.fail.items; made = plan.made; faults = plan.faults } };
 }
 
 impl Plan {

@@ -43,9 +43,12 @@ pub fn read_all<S: Source>(
     ensures within { IfOk result (λ bytes. vec_len bytes ≤ limit) }
 
     // When each error comes.
-    ensures read { IsErrOf result TextFault.Read → Rose (S.faults source.old) (S.faults source.new) }
-    ensures too_long { IsErrOf result TextFault.TooLong → TakesCount (S.left source.old) (S.left source.new) (limit + 1) }
-    ensures over { IfSome (S.left source.old) (λ left. IsErrOf result TextFault.TooLong → limit < length left) }
+    ensures read { IsErrOf result TextFault.Read
+        → Rose (S.faults source.old) (S.faults source.new) }
+    ensures too_long { IsErrOf result TextFault.TooLong
+        → TakesCount (S.left source.old) (S.left source.new) (limit + 1) }
+    ensures over { IfSome (S.left source.old)
+        (λ left. IsErrOf result TextFault.TooLong → limit < length left) }
 
     // At any answer.
     ensures taken { TakesSome (S.left source.old) (S.left source.new) }
@@ -64,12 +67,14 @@ fn read_piece<S: Source>(
     limit: usize,
 ) -> Result<bool, TextFault>
     requires { vec_len bytes.old ≤ limit }
-    ensures more { OnOk result (TakesInto (S.left source.old) (S.left source.new) bytes.old.items bytes.new.items) }
+    ensures more { OnOk result
+        (TakesInto (S.left source.old) (S.left source.new) bytes.old.items bytes.new.items) }
     ensures end { IfOk result (λ more. OnFalse more (IsAtEnd (S.left source.new))) }
     ensures progress { IfOk result (λ more. OnTrue more (vec_len bytes.old < vec_len bytes.new)) }
     ensures within { OnOk result (vec_len bytes.new ≤ limit) }
 
-    ensures read { IsErrOf result TextFault.Read → Rose (S.faults source.old) (S.faults source.new) }
+    ensures read { IsErrOf result TextFault.Read
+        → Rose (S.faults source.old) (S.faults source.new) }
     ensures too_long { IsErrOf result TextFault.TooLong →
         TakesCount (S.left source.old) (S.left source.new) (limit + 1 - vec_len bytes.old) }
 
@@ -95,11 +100,13 @@ fn read_piece<S: Source>(
 /// flush failed, and comes only where the sink failed.
 pub fn write_all<K: Sink>(sink: &mut K, bytes: &[u8]) -> Result<(), usize>
     ensures written { OnOk result (Appends (K.written sink.old) (K.written sink.new) bytes.now) }
-    ensures flushed { OnOk result (AllFlushed (K.flushed sink.old) (K.written sink.new) (K.flushed sink.new)) }
+    ensures flushed { OnOk result
+        (AllFlushed (K.flushed sink.old) (K.written sink.new) (K.flushed sink.new)) }
     ensures faultless { OnOk result (K.faults sink.new ≡ K.faults sink.old) }
 
     ensures count { IfErr result (λ n. n ≤ length bytes.now) }
-    ensures prefix { IfErr result (λ n. Appends (K.written sink.old) (K.written sink.new) (take n bytes.now)) }
+    ensures prefix { IfErr result
+        (λ n. Appends (K.written sink.old) (K.written sink.new) (take n bytes.now)) }
     ensures not_flushed { OnErr result (K.flushed sink.new ≡ K.flushed sink.old) }
     ensures cause { OnErr result (Rose (K.faults sink.old) (K.faults sink.new)) }
 

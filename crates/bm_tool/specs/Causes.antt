@@ -47,7 +47,9 @@ pub record IsScriptRejected (bytes name : List ℕ) (line : ℕ) (rule : Rule) :
 -- the refusal of a scenario not all of whose scripts are accepted, where memory didn't run out
 abbrev pub IsRejection : Parts → Refusal → Type 0
 IsRejection s refusal.OutOfMemory = ⊤
-IsRejection s (refusal.Rejected name line rule) = (place : ℕ) × IsRejected s place line rule × IsSomeAnd (slice_get s.scripts place) (λ (x : Script). x.name ≡ name)
+IsRejection s (refusal.Rejected name line rule) =
+    (place : ℕ) × IsRejected s place line rule
+    × IsSomeAnd (slice_get s.scripts place) (λ (x : Script). x.name ≡ name)
 IsRejection s refusal.Usage = ⊥
 IsRejection s refusal.ReadFailed = ⊥
 IsRejection s refusal.WriteFailed = ⊥
@@ -61,8 +63,10 @@ InputCause left before after refusal.Usage = ⊥
 InputCause left before after refusal.ReadFailed = Rose before after
 InputCause left before after refusal.WriteFailed = ⊥
 InputCause left before after refusal.OutOfMemory = ⊤
-InputCause left before after (refusal.Text bad) = IfSome left (λ bytes. (length bytes ≤ input_limit) × IsUnread bytes bad)
-InputCause left before after (refusal.Rejected script line rule) = IfSome left (λ bytes. IsScriptRejected bytes script line rule)
+InputCause left before after (refusal.Text bad) =
+    IfSome left (λ bytes. (length bytes ≤ input_limit) × IsUnread bytes bad)
+InputCause left before after (refusal.Rejected script line rule) =
+    IfSome left (λ bytes. IsScriptRejected bytes script line rule)
 InputCause left before after (refusal.Limit l) = IfSome left (λ bytes. IsExceeded bytes l)
 
 -- The cause of each refusal: also of the words, and of the sink's count of faults before and after. Want of memory comes for any
@@ -70,5 +74,7 @@ InputCause left before after (refusal.Limit l) = IfSome left (λ bytes. IsExceed
 abbrev pub Cause : List (List ℕ) → Option (List ℕ) → ℕ → ℕ → ℕ → ℕ → Refusal → Type 0
 Cause words left before after out_before out_after refusal.Usage = command_of words ≡ None
 Cause words left before after out_before out_after refusal.WriteFailed = Rose out_before out_after
-Cause words left before after out_before out_after refusal.OutOfMemory = (c : Command) × (command_of words ≡ Some c)
-Cause words left before after out_before out_after r = (c : Reading) × (command_of words ≡ Some (Read c)) × InputCause left before after r
+Cause words left before after out_before out_after refusal.OutOfMemory =
+    (c : Command) × (command_of words ≡ Some c)
+Cause words left before after out_before out_after r =
+    (c : Reading) × (command_of words ≡ Some (Read c)) × InputCause left before after r

@@ -43,14 +43,17 @@ generated_text count start = printed (spell_scenario (generated count start))
 -- a journal of a text's scenario, lawful and laid
 abbrev pub ServesGenerated : (text : List ℕ) → Option Journal → Type 0
 ServesGenerated text None = ⊥
-ServesGenerated text (Some journal) = (s : Parts) × IsPrepared text s × Lawful s journal × Laid s journal
+ServesGenerated text (Some journal) =
+    (s : Parts) × IsPrepared text s × Lawful s journal × Laid s journal
 
 -- What a command answers of the bytes that were left in the source: `replay` a lawful journal that is laid, `check` none. `gen`
 -- answers such a journal of the generated scenario, whatever was left, or none, where it prints that scenario's text.
 abbrev pub Serves : Command → Option (List ℕ) → Option Journal → Type 0
-Serves (Read Check) left journal = (journal ≡ None) × IfSome left (λ bytes. (s : Parts) × IsPrepared bytes s)
+Serves (Read Check) left journal =
+    (journal ≡ None) × IfSome left (λ bytes. (s : Parts) × IsPrepared bytes s)
 Serves (Read (Replay totals)) left None = ⊥
-Serves (Read (Replay totals)) left (Some journal) = IfSome left (λ bytes. (s : Parts) × IsPrepared bytes s × Lawful s journal × Laid s journal)
+Serves (Read (Replay totals)) left (Some journal) =
+    IfSome left (λ bytes. (s : Parts) × IsPrepared bytes s × Lawful s journal × Laid s journal)
 Serves (Gen count start false) left journal = ServesGenerated (generated_text count start) journal
 Serves (Gen count start true) left journal = journal ≡ None
 
@@ -71,14 +74,18 @@ out_text (Gen count start true) journal = generated_text count start
 
 -- a text was written and flushed
 abbrev pub Printed : List ℕ → Option (List ℕ) → Option (List ℕ) → Option ℕ → Option ℕ → Type 0
-Printed text old new flushed_before flushed_after = Appends old new text × AllFlushed flushed_before new flushed_after
+Printed text old new flushed_before flushed_after =
+    Appends old new text × AllFlushed flushed_before new flushed_after
 
 -- a front of a text was written
 abbrev pub PrintedInPart : List ℕ → Option (List ℕ) → Option (List ℕ) → Type 0
 PrintedInPart text old new = (n : ℕ) × (n ≤ length text) × Appends old new (take n text)
 
 -- A refusal: the status is its, it has its cause, and its line was told.
-pub record Refuses (words : List (List ℕ)) (left : Option (List ℕ)) (before after out_before out_after : ℕ) (old new : Option (List ℕ)) (err_before err_after status : ℕ) : Type 0 where
+pub record Refuses (words : List (List ℕ)) (left : Option (List ℕ))
+    (before after out_before out_after : ℕ) (old new : Option (List ℕ))
+    (err_before err_after status : ℕ) :
+    Type 0 where
   pub refusal : Refusal
   pub status_is : status ≡ status_of refusal
   pub cause : Cause words left before after out_before out_after refusal

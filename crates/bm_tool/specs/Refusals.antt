@@ -25,10 +25,14 @@ status_of (refusal.Rejected script line rule) = 6
 status_of (refusal.Limit l) = 7
 
 unfoldable pub bad_text_line : BadText → List ℕ
-bad_text_line bad = codes "bpfmem: line " ++ decimal bad.line ++ codes " column " ++ decimal bad.column ++ codes ": " ++ kind_text bad.kind ++ 10 ∷ []
+bad_text_line bad =
+    codes "bpfmem: line " ++ decimal bad.line ++ codes " column " ++ decimal bad.column
+    ++ codes ": " ++ kind_text bad.kind ++ 10 ∷ []
 
 unfoldable pub rejected_line : List ℕ → ℕ → Rule → List ℕ
-rejected_line script line rule = codes "bpfmem: script " ++ script ++ codes " line " ++ decimal line ++ codes ": rule " ++ decimal (number_of rule) ++ 10 ∷ []
+rejected_line script line rule =
+    codes "bpfmem: script " ++ script ++ codes " line " ++ decimal line ++ codes ": rule "
+    ++ decimal (number_of rule) ++ 10 ∷ []
 
 unfoldable pub limit_line : Limit → List ℕ
 limit_line l = codes "bpfmem: limit " ++ limit_text l ++ 10 ∷ []
@@ -54,4 +58,7 @@ IsLong (refusal.Limit l) = ⊥
 
 -- a line was written, or where the device's count of faults rose a front of it
 abbrev pub Told : Option (List ℕ) → Option (List ℕ) → ℕ → ℕ → List ℕ → Type 0
-Told old new faults_before faults_after line = Appends old new line ⊎ (Rose faults_before faults_after × ((n : ℕ) × (n ≤ length line) × Appends old new (take n line)))
+Told old new faults_before faults_after line =
+    Appends old new line
+    ⊎ (Rose faults_before faults_after
+    × ((n : ℕ) × (n ≤ length line) × Appends old new (take n line)))

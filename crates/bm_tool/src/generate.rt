@@ -22,7 +22,8 @@ fn made_text(alloc: Global, count: PieceCount, start: u64) -> Result<Vec<u8>, No
 
 // Runs the scenario of a count of pieces and a start, for its totals. Want of memory is the only refusal.
 fn run_generated(alloc: Global, count: PieceCount, start: u64) -> Result<Done, NoMemory>
-    ensures serves { IfOk result (λ done. ServesGenerated (generated_text count start) done.journal) }
+    ensures serves { IfOk result
+        (λ done. ServesGenerated (generated_text count start) done.journal) }
     ensures text { IfOk result (λ done. done.text.items ≡ totals_in done.journal) }
 {
     generated_texts_are_servable();
@@ -44,8 +45,10 @@ pub(crate) fn generate(
     start: u64,
     text: bool,
 ) -> Result<Done, NoMemory>
-    ensures serves { IfOk result (λ done. (left : Option (List ℕ)) → Serves (Gen count start text) left done.journal) }
-    ensures text { IfOk result (λ done. done.text.items ≡ out_text (Gen count start text) done.journal) }
+    ensures serves { IfOk result
+        (λ done. (left : Option (List ℕ)) → Serves (Gen count start text) left done.journal) }
+    ensures text { IfOk result
+        (λ done. done.text.items ≡ out_text (Gen count start text) done.journal) }
 {
     if !text {
         return run_generated(alloc, count, start);

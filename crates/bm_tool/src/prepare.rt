@@ -30,7 +30,8 @@ pub(crate) struct Done {
 fn read(alloc: Global, bytes: &[u8]) -> Result<Scenario, Refusal>
     requires { length bytes.now ≤ input_limit }
     ensures reads { IfOk result (Reads bytes.now) }
-    ensures cause { IfErr result (λ r. (before after : ℕ) → InputCause (Some bytes.now) before after r) }
+    ensures cause { IfErr result
+        (λ r. (before after : ℕ) → InputCause (Some bytes.now) before after r) }
 {
     match read_scenario(alloc, bytes) {
         Ok(scenario) => Ok(scenario),
@@ -63,7 +64,8 @@ fn rejection(fault: CheckFault, scenario: &Parts) -> Refusal
 fn prepare(alloc: Global, bytes: &[u8]) -> Result<Checked, Refusal>
     requires { length bytes.now ≤ input_limit }
     ensures prepared { IfOk result (IsPrepared bytes.now) }
-    ensures cause { IfErr result (λ r. (before after : ℕ) → InputCause (Some bytes.now) before after r) }
+    ensures cause { IfErr result
+        (λ r. (before after : ℕ) → InputCause (Some bytes.now) before after r) }
 {
     let scenario = read(alloc, bytes)?;
     if let Some(limit) = limits(&scenario) {
@@ -120,7 +122,8 @@ pub(crate) fn serve(alloc: Global, command: Reading, bytes: &[u8]) -> Result<Don
     requires { length bytes.now ≤ input_limit }
     ensures serves { IfOk result (λ done. Serves (Read command) (Some bytes.now) done.journal) }
     ensures text { IfOk result (λ done. done.text.items ≡ out_text (Read command) done.journal) }
-    ensures cause { IfErr result (λ r. (before after : ℕ) → InputCause (Some bytes.now) before after r) }
+    ensures cause { IfErr result
+        (λ r. (before after : ℕ) → InputCause (Some bytes.now) before after r) }
 {
     let checked = prepare(alloc, bytes)?;
     match perform(alloc, command, bytes, &checked) {

@@ -40,7 +40,8 @@ fn input<S: Source>(alloc: Global, source: &mut S) -> Result<Vec<u8>, Refusal>
     ensures all { IfOk result (λ bytes. IfSome (S.left source.old) (λ left. bytes.items ≡ left)) }
     ensures within { IfOk result (λ bytes. vec_len bytes ≤ input_limit) }
     ensures end { OnOk result (IsAtEnd (S.left source.new)) }
-    ensures cause { IfErr result (InputCause (S.left source.old) (S.faults source.old) (S.faults source.new)) }
+    ensures cause { IfErr result
+        (InputCause (S.left source.old) (S.faults source.old) (S.faults source.new)) }
 {
     match read_all(alloc, source, INPUT_LIMIT) {
         Ok(bytes) => Ok(bytes),
@@ -55,7 +56,8 @@ fn run<S: Source>(alloc: Global, command: Reading, source: &mut S) -> Result<Don
     ensures serves { IfOk result (λ done. Serves (Read command) (S.left source.old) done.journal) }
     ensures text { IfOk result (λ done. done.text.items ≡ out_text (Read command) done.journal) }
     ensures end { OnOk result (IsAtEnd (S.left source.new)) }
-    ensures cause { IfErr result (InputCause (S.left source.old) (S.faults source.old) (S.faults source.new)) }
+    ensures cause { IfErr result
+        (InputCause (S.left source.old) (S.faults source.old) (S.faults source.new)) }
 {
     let bytes = input(alloc, source)?;
     serve(alloc, command, bytes.as_slice())
@@ -63,7 +65,8 @@ fn run<S: Source>(alloc: Global, command: Reading, source: &mut S) -> Result<Don
 
 // Writes a line once. A fault changes nothing else.
 fn put<E: Sink>(err: &mut E, line: &[u8])
-    ensures { Told (E.written err.old) (E.written err.new) (E.faults err.old) (E.faults err.new) line.now }
+    ensures { Told (E.written err.old) (E.written err.new) (E.faults err.old) (E.faults err.new)
+        line.now }
 {
     let _ = write_all(err, line);
 }
@@ -72,7 +75,8 @@ fn put<E: Sink>(err: &mut E, line: &[u8])
 fn tell_long<E: Sink>(err: &mut E, refusal: Refusal, line: Result<Vec<u8>, NoMemory>) -> Refusal
     requires { IfOk line (λ text. text.items ≡ line_of refusal) }
     ensures same { (result ≡ refusal) ⊎ (result ≡ OutOfMemory) }
-    ensures told { Told (E.written err.old) (E.written err.new) (E.faults err.old) (E.faults err.new) (line_of result) }
+    ensures told { Told (E.written err.old) (E.written err.new) (E.faults err.old)
+        (E.faults err.new) (line_of result) }
 {
     match line {
         Ok(text) => {
@@ -89,7 +93,8 @@ fn tell_long<E: Sink>(err: &mut E, refusal: Refusal, line: Result<Vec<u8>, NoMem
 // Writes the line of a refusal, and answers the refusal. Where there is no memory for the line it is that.
 fn tell<E: Sink>(alloc: Global, err: &mut E, refusal: Refusal) -> Refusal
     ensures same { (result ≡ refusal) ⊎ (IsLong refusal × (result ≡ OutOfMemory)) }
-    ensures told { Told (E.written err.old) (E.written err.new) (E.faults err.old) (E.faults err.new) (line_of result) }
+    ensures told { Told (E.written err.old) (E.written err.new) (E.faults err.old)
+        (E.faults err.new) (line_of result) }
 {
     match refusal {
         Refusal::Usage => {
@@ -125,10 +130,15 @@ fn print<K: Sink, E: Sink>(out: &mut K, err: &mut E, done: Done) -> Answer
     ensures status { (result.status ≡ 0) ⊎ (result.status ≡ 3) }
     ensures journal { result.journal ≡ done.journal }
     ensures failed { result.status ≡ 3 → Rose (K.faults out.old) (K.faults out.new) }
-    ensures printed { result.status ≡ 0 → Printed done.text.items (K.written out.old) (K.written out.new) (K.flushed out.old) (K.flushed out.new) }
-    ensures in_part { result.status ≡ 3 → PrintedInPart done.text.items (K.written out.old) (K.written out.new) }
+    ensures printed { result.status ≡ 0
+        → Printed done.text.items (K.written out.old) (K.written out.new) (K.flushed out.old)
+        (K.flushed out.new) }
+    ensures in_part { result.status ≡ 3
+        → PrintedInPart done.text.items (K.written out.old) (K.written out.new) }
     ensures silent { result.status ≡ 0 → E.written err.new ≡ E.written err.old }
-    ensures told { result.status ≡ 3 → Told (E.written err.old) (E.written err.new) (E.faults err.old) (E.faults err.new) (line_of WriteFailed) }
+    ensures told { result.status ≡ 3
+        → Told (E.written err.old) (E.written err.new) (E.faults err.old) (E.faults err.new)
+        (line_of WriteFailed) }
 {
     let Done { journal, text } = done;
     match write_all(out, text.as_slice()) {
@@ -142,8 +152,10 @@ fn print<K: Sink, E: Sink>(out: &mut K, err: &mut E, done: Done) -> Answer
 
 // The answer of a refusal, whose line is written.
 fn refused<E: Sink>(alloc: Global, err: &mut E, refusal: Refusal) -> Answer
-    ensures told { (r : RefusalValue) × ((r ≡ refusal) ⊎ (IsLong refusal × (r ≡ OutOfMemory))) × (result.status ≡ status_of r)
-        × Told (E.written err.old) (E.written err.new) (E.faults err.old) (E.faults err.new) (line_of r) }
+    ensures told { (r : RefusalValue) × ((r ≡ refusal) ⊎ (IsLong refusal × (r ≡ OutOfMemory)))
+        × (result.status ≡ status_of r)
+        × Told (E.written err.old) (E.written err.new) (E.faults err.old) (E.faults err.new)
+        (line_of r) }
     ensures journal { result.journal ≡ None }
 {
     let told = tell(alloc, err, refusal);
@@ -158,7 +170,8 @@ fn refused<E: Sink>(alloc: Global, err: &mut E, refusal: Refusal) -> Answer
 pub fn out_of_memory<E: Sink>(err: &mut E) -> Answer
     ensures status { result.status ≡ status_of OutOfMemory }
     ensures journal { result.journal ≡ None }
-    ensures told { Told (E.written err.old) (E.written err.new) (E.faults err.old) (E.faults err.new) (line_of OutOfMemory) }
+    ensures told { Told (E.written err.old) (E.written err.new) (E.faults err.old)
+        (E.faults err.new) (line_of OutOfMemory) }
 {
     put(err, b"bpfmem: out of memory\n");
     Answer {
@@ -184,15 +197,21 @@ pub fn bpfmem<S: Source, K: Sink, E: Sink>(
     err: &mut E,
 ) -> Answer
     // Each refusal has its status, its cause and its line.
-    ensures refused { result.status ≢ 0 → Refuses (texts words.now) (S.left source.old) (S.faults source.old) (S.faults source.new)
-        (K.faults out.old) (K.faults out.new) (E.written err.old) (E.written err.new) (E.faults err.old) (E.faults err.new) result.status }
+    ensures refused { result.status ≢ 0
+        → Refuses (texts words.now) (S.left source.old) (S.faults source.old) (S.faults source.new)
+        (K.faults out.old) (K.faults out.new) (E.written err.old) (E.written err.new)
+        (E.faults err.old) (E.faults err.new) result.status }
     ensures usage { (result.status ≡ 1) ↔ (command_of (texts words.now) ≡ None) }
 
     // Where all was done, or only the writing failed: what the command serves, and what was written.
     ensures served { (result.status ≡ 0) ⊎ (result.status ≡ 3)
-        → (c : Asked) × (command_of (texts words.now) ≡ Some c) × Serves c (S.left source.old) result.journal
-        × (result.status ≡ 0 → Printed (out_text c result.journal) (K.written out.old) (K.written out.new) (K.flushed out.old) (K.flushed out.new))
-        × (result.status ≡ 3 → PrintedInPart (out_text c result.journal) (K.written out.old) (K.written out.new)) }
+        → (c : Asked) × (command_of (texts words.now) ≡ Some c)
+        × Serves c (S.left source.old) result.journal
+        × (result.status ≡ 0
+        → Printed (out_text c result.journal) (K.written out.old) (K.written out.new)
+        (K.flushed out.old) (K.flushed out.new))
+        × (result.status ≡ 3
+        → PrintedInPart (out_text c result.journal) (K.written out.old) (K.written out.new)) }
     ensures silent { result.status ≡ 0 → E.written err.new ≡ E.written err.old }
     ensures all_taken { (c : Asking) → command_of (texts words.now) ≡ Some (Read c)
         → (result.status ≡ 0) ⊎ (result.status ≡ 3) → IsAtEnd (S.left source.new) }
@@ -204,14 +223,17 @@ pub fn bpfmem<S: Source, K: Sink, E: Sink>(
         → (S.left source.new ≡ S.left source.old) × (S.faults source.new ≡ S.faults source.old) }
 
     // A command that reads, a text that it can serve, and no fault of the source or the sink: then all is done, or memory ran out.
-    ensures complete { (c : Asking) → command_of (texts words.now) ≡ Some (Read c) → IsSome (S.left source.old)
+    ensures complete { (c : Asking) → command_of (texts words.now) ≡ Some (Read c)
+        → IsSome (S.left source.old)
         → IfSome (S.left source.old) IsServable
-        → Stayed (S.faults source.old) (S.faults source.new) → Stayed (K.faults out.old) (K.faults out.new)
+        → Stayed (S.faults source.old) (S.faults source.new)
+        → Stayed (K.faults out.old) (K.faults out.new)
         → (result.status ≡ 0) ⊎ (result.status ≡ 4) }
 
     // `gen` takes nothing from the source. Where no fault of the sink came, all is done, or memory ran out; else it may be the writing
     // that failed.
-    ensures made { (count start : ℕ) (text : Bool) → command_of (texts words.now) ≡ Some (Gen count start text)
+    ensures made { (count start : ℕ) (text : Bool)
+        → command_of (texts words.now) ≡ Some (Gen count start text)
         → (S.left source.new ≡ S.left source.old) × (S.faults source.new ≡ S.faults source.old)
         × ((result.status ≡ 0) ⊎ (result.status ≡ 4) ⊎ (result.status ≡ 3))
         × (Stayed (K.faults out.old) (K.faults out.new) → (result.status ≡ 0) ⊎ (result.status ≡ 4)) }

@@ -17,7 +17,8 @@ IsLevel ls height q = (right : Bool) → height q ≡ dark ls q + height (kid_of
 
 -- this place is not red below a red one, nor a red root
 abbrev pub IsCalm : List Link → ℕ → Type 0
-IsCalm ls q = (1 ≤ dark ls q + dark ls (link ls q).parent) × ((link ls q).parent ≡ none → dark ls q ≡ 1)
+IsCalm ls q =
+    (1 ≤ dark ls q + dark ls (link ls q).parent) × ((link ls q).parent ≡ none → dark ls q ≡ 1)
 
 -- both rules hold at all of these places
 pub record Coloured (ls : List Link) (order : List ℕ) : Type 0 where
@@ -54,7 +55,9 @@ pub record ShortAt (ls : List Link) (order : List ℕ) (at up : ℕ) : Type 0 wh
   pub here : at ≢ none → (1 ≤ count at order) × ((link ls at).parent ≡ up)
   pub side : Bool
   pub short : up ≢ none → IsShort ls height at up side
-  pub calm : (q : ℕ) → 1 ≤ count q order → q ≢ at → (link ls q).parent ≢ at → 1 ≤ dark ls q + dark ls (link ls q).parent
+  pub calm :
+      (q : ℕ) → 1 ≤ count q order → q ≢ at → (link ls q).parent ≢ at
+      → 1 ≤ dark ls q + dark ls (link ls q).parent
   pub top : (q : ℕ) → 1 ≤ count q order → q ≢ at → (link ls q).parent ≡ none → dark ls q ≡ 1
 
 -- the black sibling has a red far kid

@@ -42,7 +42,8 @@ module _ {T : Type 0} where
   -- from `at` on, these free places each name the next
   abbrev pub Chain : List (Slot T) → ℕ → List ℕ → Type 0
   Chain slots at [] = at ≡ none
-  Chain slots at (p ∷ ps) = (at ≡ p) × ((next : ℕ) × (slice_get slots p ≡ Some (Free next)) × Chain slots next ps)
+  Chain slots at (p ∷ ps) =
+      (at ≡ p) × ((next : ℕ) × (slice_get slots p ≡ Some (Free next)) × Chain slots next ps)
 
   -- the links hold the places with an item, in the order of their keys, and every other place is in the chain of free ones
   pub record IsSound (links : List Link) (slots : List (Slot T)) (root free len : ℕ) : Type 0 where

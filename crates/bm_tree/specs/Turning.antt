@@ -16,5 +16,6 @@ pub record Turned (ls ms : List Link) (x y b u : ℕ) (right : Bool) : Type 0 wh
 -- `at` goes down to the side `right`, and its kid of the other side, if there is one, comes up
 abbrev pub Turns : (old new : List Link) (root at : ℕ) (right : Bool) → Type 0
 Turns old new root at right =
-    (order : List ℕ) → Holds old root order → 1 ≤ count at order → let rising = kid_of (link old at) (not right) in rising ≢ none
+    (order : List ℕ) → Holds old root order → 1 ≤ count at order
+    → let rising = kid_of (link old at) (not right) in rising ≢ none
     → Turned old new at rising (kid_of (link old rising) right) (link old at).parent right

@@ -129,7 +129,8 @@ fn climb_black(links: &mut [Link], place: u32, above: u32) -> (u32, u32)
     ensures same_tree { SameTree links.old links.new }
     ensures inside { StaysIn links.old above result.1 }
     ensures colours { ClimbsShort links.old links.new place above result.0 result.1 }
-    ensures stops { ¬ GoesUp links.new result.0 result.1 (sibling_of (link links.new result.1) result.0) }
+    ensures stops { ¬ GoesUp links.new result.0 result.1
+        (sibling_of (link links.new result.1) result.0) }
 {
     let mut at = place;
     let mut up = above;

@@ -16,7 +16,8 @@ use crate::links::{Link, NONE, attach, kid, leftmost, link_at, only_kid, splice,
 pub(crate) fn descend<T>(links: &[Link], slots: &[Slot<T>], root: u32, key: u32) -> (u32, bool)
     requires holds { Holds links.now root (order_of links.now root) }
     requires sorted { Sorted (key_of slots.now) (order_of links.now root) }
-    ensures { Gap links.now (key_of slots.now) root key result.0 result.1 (order_of links.now root) }
+    ensures { Gap links.now (key_of slots.now) root key result.0 result.1
+        (order_of links.now root) }
 {
     let mut up = NONE;
     let mut right = false;
@@ -83,7 +84,8 @@ pub(crate) fn enter<T>(
     requires fresh { count place (order_of links.old root) ≡ 0 }
     requires inside { place < length links.old }
     requires few { length (order_of links.old root) < length links.old }
-    ensures order { Entered (key_of slots.now) key place (order_of links.old root) links.new result }
+    ensures order { Entered (key_of slots.now) key place (order_of links.old root) links.new
+        result }
     ensures colours { Coloured links.new (order_of links.new result) }
 {
     let (up, right) = descend(links, slots, root, key);

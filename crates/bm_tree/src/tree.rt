@@ -162,7 +162,8 @@ impl<T> RedBlack<T> {
 
     /// Takes the first row out, with its key and its item. None exactly where the tree is empty.
     pub fn pop_least(&mut self) -> Option<(u32, T)>
-        ensures popped { MatchOption result (self.old.rows ≡ []) (IsFirst self.old.rows self.new.rows) }
+        ensures popped { MatchOption result (self.old.rows ≡ [])
+            (IsFirst self.old.rows self.new.rows) }
         ensures absent { IfNone result (self.new ≡ self.old) }
         ensures makes_room { IfSome result (λ _. self.new.spare ≡ self.old.spare + 1) }
     {

@@ -10,7 +10,9 @@ digits_value n (b ∷ bs) = digits_value (10 * n + (b - 48)) bs
 
 -- the number below 2 ^ 64 that decimal digits stand for behind n, if the bytes are digits and it is
 abbrev pub number_behind : ℕ → List ℕ → Option ℕ
-number_behind n bytes = if list_all is_ascii_digit bytes && nat_lt (digits_value n bytes) (2 ^ 64) then Some (digits_value n bytes) else None
+number_behind n bytes =
+    if list_all is_ascii_digit bytes && nat_lt (digits_value n bytes) (2 ^ 64)
+    then Some (digits_value n bytes) else None
 
 -- the number that the bytes are in decimal digits, without a leading zero but for `0` itself
 abbrev pub number_of : List ℕ → Option ℕ

@@ -17,8 +17,10 @@ batch_of Tracing d = d.second
 -- A batch that has its stamp is of units that have been mine since that stamp, a plain batch isn't empty, and the units of
 -- Second may be used again.
 pub record DatedRow (tests : Tests) (d : Deferred Token) : Type 0 where
-  pub plain : (x : ℕ) → d.plain ≡ Some (suc x) → All (Passes tests (since_test Plain (suc x))) d.first
-  pub tracing : (x : ℕ) → d.tracing ≡ Some (suc x) → All (Passes tests (since_test Tracing (suc x))) d.second
+  pub plain :
+      (x : ℕ) → d.plain ≡ Some (suc x) → All (Passes tests (since_test Plain (suc x))) d.first
+  pub tracing :
+      (x : ℕ) → d.tracing ≡ Some (suc x) → All (Passes tests (since_test Tracing (suc x))) d.second
   pub some : (x : ℕ) → d.plain ≡ Some x → 0 < length d.first
   pub settled : All (Reusable tests) d.second
 

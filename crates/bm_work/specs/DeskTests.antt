@@ -38,7 +38,9 @@ stamp_at (suc zero) = (Tracing, 0)
 stamp_at (suc (suc n)) = ((stamp_at n).0, suc (stamp_at n).1)
 
 abbrev pub fact_at : ℕ → Fact
-fact_at k = let p = pair_at k in record { domain = (stamp_at p.0).0; stamp = (stamp_at p.0).1; number = p.1 }
+fact_at k =
+    let p = pair_at k in
+    record { domain = (stamp_at p.0).0; stamp = (stamp_at p.0).1; number = p.1 }
 
 -- the places of pairs, stamps and facts in these lists
 abbrev pub triangle : ℕ → ℕ
@@ -69,5 +71,6 @@ tests_by rights (suc (suc k)) n life seal = holds_of rights (fact_at k) n life
 
 -- A number was seen that passes a stamp: a unit that waited, and has been mine since the stamp, is ripe by both.
 abbrev pub Ripened : Tests → Tests → Domain → ℕ → Done → Token → Type 0
-Ripened before now d x (Passed number) u = Waits before u → Passes before (since_test d x) u → Passes now (ripe_test d x number) u
+Ripened before now d x (Passed number) u =
+    Waits before u → Passes before (since_test d x) u → Passes now (ripe_test d x number) u
 Ripened before now d x (NotYet number) u = Unit {0}

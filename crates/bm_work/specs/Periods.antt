@@ -19,7 +19,8 @@ Sees c d number own = (poll : PollPhrase c d own) × (poll.seen ≡ number)
 
 -- a parcel of some units, or none
 abbrev pub GetsParcel : ℕ → Bool → List Entry → Type 0
-GetsParcel c true own = (units : List ℕ) × (0 < length units) × (own ≡ entry.Receive c (Whole units) ∷ [])
+GetsParcel c true own =
+    (units : List ℕ) × (0 < length units) × (own ≡ entry.Receive c (Whole units) ∷ [])
 GetsParcel c false own = own ≡ entry.Receive c (Whole []) ∷ []
 
 -- the first of these units is added to Free

@@ -20,10 +20,14 @@ abbrev pub Fails : List ℕ → List ℕ → Type 0
 Fails first later = ¬ ArePassed (length later) first later
 
 -- the words of a period were looked at in vain, and it goes on; or it ended then
-abbrev pub LooksOrEnds : {H : Type 0} → (H → Known) → (List Act → List Entry → H → Type 0) → Domain → List Act → List Entry → H → Type 0
+abbrev pub LooksOrEnds :
+    {H : Type 0} → (H → Known) → (List Act → List Entry → H → Type 0) → Domain → List Act
+    → List Entry → H → Type 0
 LooksOrEnds known owes d done es h =
-    (owes (done ++ act.Looks d (side d (known h)).later ∷ []) es h × Fails (side d (known h)).first (side d (known h)).later)
-    ⊎ ((ws : List ℕ) × (p : Period) × (p.domain ≡ d) × ((side d (known h)).number ≡ 0) × owes ((done ++ act.Looks d ws ∷ []) ++ act.Finishes p ∷ []) (es ++ entry.Finish p ∷ []) h)
+    (owes (done ++ act.Looks d (side d (known h)).later ∷ []) es h
+    × Fails (side d (known h)).first (side d (known h)).later)
+    ⊎ ((ws : List ℕ) × (p : Period) × (p.domain ≡ d) × ((side d (known h)).number ≡ 0)
+    × owes ((done ++ act.Looks d ws ∷ []) ++ act.Finishes p ∷ []) (es ++ entry.Finish p ∷ []) h)
 
 -- a number that a poll for a stamp begins no period at
 abbrev pub IsIdle : ℕ → ℕ → Type 0
@@ -37,9 +41,12 @@ abbrev pub PollsForSome : {R : Type 0} → Type 0 → Domain → ℕ → Caches 
 PollsForSome minds d x c = minds → (i : ℕ) × (stamp_of d ((shown c).rows i).deferred ≡ Some x)
 
 -- The caches are those of one of so many processors, and by the lists that its log leaves the batch of this class has this stamp.
-pub record HasStamp {R : Type 0} (log : R → Option Log) (processors i : ℕ) (d : Domain) (x : ℕ) (c : Caches R) : Type 0 where
+pub record HasStamp {R : Type 0} (log : R → Option Log) (processors i : ℕ) (d : Domain) (x : ℕ)
+    (c : Caches R) : Type 0 where
   pub processor : c.processor < processors
-  pub told : IfSome (log c.recorder) (λ es. stamp_of d ((after (opening c.processor) es).rows i).deferred ≡ Some x)
+  pub told :
+      IfSome (log c.recorder)
+      (λ es. stamp_of d ((after (opening c.processor) es).rows i).deferred ≡ Some x)
 
 -- ---- a batch that goes away
 
@@ -63,6 +70,7 @@ pub record GoesFrom (p l i stamp seen : ℕ) (log : Log) : Type 0 where
   pub passed : EndsWith l (entry.Pass i Plain seen) log
 
 -- So it is by the log of these caches, which are those of one of so many processors.
-pub record MayGo {R : Type 0} (log : R → Option Log) (processors l i stamp seen : ℕ) (c : Caches R) : Type 0 where
+pub record MayGo {R : Type 0} (log : R → Option Log) (processors l i stamp seen : ℕ)
+    (c : Caches R) : Type 0 where
   pub processor : c.processor < processors
   pub told : IfSome (log c.recorder) (GoesFrom c.processor l i stamp seen)

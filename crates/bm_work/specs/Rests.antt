@@ -13,7 +13,10 @@ use Rattle.bm_work.specs.Works.{Stands}
 
 -- The desk stands, at the level of ordinary code, no call is in a cache or has anything in hand, the plain batch of this class,
 -- if there is one, has its stamp, and so many periods of each domain may still begin.
-pub record Rests {H R : Type 0} (log : R → Option Log) (counts : R → Counts) (is_sound : H → Type 0) (tests : H → Tests) (faces : H → Face) (holds : H → Caches R) (known : H → Known) (c n : ℕ) (h : H) : Type 0 where
+pub record Rests {H R : Type 0} (log : R → Option Log) (counts : R → Counts) (is_sound : H → Type 0)
+    (tests : H → Tests) (faces : H → Face) (holds : H → Caches R) (known : H → Known) (c n : ℕ)
+    (h : H) :
+    Type 0 where
   pub stands : Stands log counts is_sound tests faces holds h
   pub ordinary : (faces h).level ≡ 0
   pub quiet : Ready (faces h).level (shown (holds h))

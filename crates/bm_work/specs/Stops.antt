@@ -41,7 +41,8 @@ BeginSecond l c = When (may_begin c) (Then (Say l (IsSecond c)) (Say l (IsStamp 
 -- a number was seen that passes the stamp, and the parcel, or the return, doesn't come
 abbrev pub StopPassed : ℕ → ℕ → Domain → Option ℕ → Part
 StopPassed l c d None s part = ⊥
-StopPassed l c d (Some stamp) s part = (n : ℕ) × (stamp ≤ n) × Then (Say l (Sees c d n)) (Missing l) s part
+StopPassed l c d (Some stamp) s part =
+    (n : ℕ) × (stamp ≤ n) × Then (Say l (Sees c d n)) (Missing l) s part
 
 abbrev pub FirstStop : ℕ → ℕ → Part
 FirstStop l c s = StopPassed l c Plain (s.rows c).deferred.plain s
@@ -51,19 +52,23 @@ SecondStop l c s = StopPassed l c Tracing (s.rows c).deferred.tracing s
 
 -- The fetch of a refill of so many units, or the parcel of a drain, doesn't come.
 abbrev pub RefillStop : ℕ → ℕ → ℕ → Part
-RefillStop l c want s part = (left : ℕ) × (0 < left) × Then (FromLists l c want left) (Missing l) s part
+RefillStop l c want s part =
+    (left : ℕ) × (0 < left) × Then (FromLists l c want left) (Missing l) s part
 
 abbrev pub DrainStop : ℕ → ℕ → Part
-DrainStop l c = Then (Then (Say l (Unloads c (middle_of_class c))) (Say l (IsTakeExtra c))) (Missing l)
+DrainStop l c =
+    Then (Then (Say l (Unloads c (middle_of_class c))) (Say l (IsTakeExtra c))) (Missing l)
 
 -- by the count that was read
 abbrev pub StopAt : ℕ → ℕ → ℕ → Part
 StopAt l c count s part =
-    ((count < low_of_size (size_of_class c)) × RefillStop l c (batch_of_size (size_of_class c)) s part)
+    ((count < low_of_size (size_of_class c))
+    × RefillStop l c (batch_of_size (size_of_class c)) s part)
     ⊎ ((high_of_size (size_of_class c) < count) × DrainStop l c s part)
 
 abbrev pub BalanceStop : ℕ → ℕ → Part
-BalanceStop l c s part = (count : ℕ) × Then (Say l (IsOne (entry.Read c count))) (StopAt l c count) s part
+BalanceStop l c s part =
+    (count : ℕ) × Then (Say l (IsOne (entry.Read c count))) (StopAt l c count) s part
 
 -- The work of a class stops at a refill's fetch, at a drain's parcel, at the first stage's parcel or at the return.
 abbrev pub WorkStop : ℕ → ℕ → Part

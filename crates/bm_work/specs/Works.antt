@@ -20,7 +20,10 @@ use Rattle.bm_work.specs.Onward.{Onward}
 
 -- A call of the desk's level may begin or go on: its caches are as calls need them, each batch that has a stamp is of units
 -- that have been the side's since then, and what else the host needs.
-pub record Stands {H R : Type 0} (log : R → Option Log) (counts : R → Counts) (is_sound : H → Type 0) (tests : H → Tests) (faces : H → Face) (holds : H → Caches R) (h : H) : Type 0 where
+pub record Stands {H R : Type 0} (log : R → Option Log) (counts : R → Counts)
+    (is_sound : H → Type 0) (tests : H → Tests) (faces : H → Face) (holds : H → Caches R)
+    (h : H) :
+    Type 0 where
   pub sound : is_sound h
   pub fine : Fine log counts (tests h) (faces h).processors ((faces h).level + 1) (holds h)
   pub dated : Dated (tests h) (shown (holds h))
@@ -37,7 +40,10 @@ tracing_of Tracing = 1
 -- The side was called and nothing else: the caches, the face and what waits are as they were, the rights age, the side is the
 -- same processor's, with the same periods in progress, and of the periods that may still begin at most so many plain and
 -- tracing ones are used up.
-pub record Called {H R : Type 0} (faces : H → Face) (waits : H → ℕ) (keeps : H → H → Type 0) (holds : H → Caches R) (known : H → Known) (rights : H → Rights) (plain tracing : ℕ) (before now : H) : Type 0 where
+pub record Called {H R : Type 0} (faces : H → Face) (waits : H → ℕ) (keeps : H → H → Type 0)
+    (holds : H → Caches R) (known : H → Known) (rights : H → Rights) (plain tracing : ℕ)
+    (before now : H) :
+    Type 0 where
   pub held : holds now ≡ holds before
   pub face : faces now ≡ faces before
   pub pending : waits now ≡ waits before
@@ -46,10 +52,14 @@ pub record Called {H R : Type 0} (faces : H → Face) (waits : H → ℕ) (keeps
   pub same_side : (known now).grace.processor ≡ (known before).grace.processor
   pub numbers : (d : Domain) → (side d (known now)).number ≡ (side d (known before)).number
   pub plain_begins : (known before).grace.plain.begins ≤ (known now).grace.plain.begins + plain
-  pub tracing_begins : (known before).grace.tracing.begins ≤ (known now).grace.tracing.begins + tracing
+  pub tracing_begins :
+      (known before).grace.tracing.begins ≤ (known now).grace.tracing.begins + tracing
 
 -- The same, but that a period may have begun or ended.
-pub record Turned {H R : Type 0} (faces : H → Face) (waits : H → ℕ) (keeps : H → H → Type 0) (holds : H → Caches R) (known : H → Known) (rights : H → Rights) (plain tracing : ℕ) (before now : H) : Type 0 where
+pub record Turned {H R : Type 0} (faces : H → Face) (waits : H → ℕ) (keeps : H → H → Type 0)
+    (holds : H → Caches R) (known : H → Known) (rights : H → Rights) (plain tracing : ℕ)
+    (before now : H) :
+    Type 0 where
   pub held : holds now ≡ holds before
   pub face : faces now ≡ faces before
   pub pending : waits now ≡ waits before
@@ -57,11 +67,15 @@ pub record Turned {H R : Type 0} (faces : H → Face) (waits : H → ℕ) (keeps
   pub ages : Ages (rights before) (rights now)
   pub same_side : (known now).grace.processor ≡ (known before).grace.processor
   pub plain_begins : (known before).grace.plain.begins ≤ (known now).grace.plain.begins + plain
-  pub tracing_begins : (known before).grace.tracing.begins ≤ (known now).grace.tracing.begins + tracing
+  pub tracing_begins :
+      (known before).grace.tracing.begins ≤ (known now).grace.tracing.begins + tracing
 
 -- The post was called and nothing else: the caches, the face and what waits are as they were, what was true of units that
 -- aren't among these is true, and what is known of grace periods is as it was.
-pub record Posted {H R : Type 0} (faces : H → Face) (waits : H → ℕ) (keeps : H → H → Type 0) (holds : H → Caches R) (known : H → Known) (tests : H → Tests) (gone : List ℕ) (before now : H) : Type 0 where
+pub record Posted {H R : Type 0} (faces : H → Face) (waits : H → ℕ) (keeps : H → H → Type 0)
+    (holds : H → Caches R) (known : H → Known) (tests : H → Tests) (gone : List ℕ)
+    (before now : H) :
+    Type 0 where
   pub held : holds now ≡ holds before
   pub face : faces now ≡ faces before
   pub pending : waits now ≡ waits before
@@ -72,24 +86,35 @@ pub record Posted {H R : Type 0} (faces : H → Face) (waits : H → ℕ) (keeps
 -- A call was made: the log has grown by exactly this part at the desk's level, with whatever handlers between; the desk goes
 -- on; where no handler ran there are entries of its own level alone, and no flag was raised; each active number is as it was;
 -- and at most so many plain and tracing periods have begun.
-pub record Works {H R : Type 0} (log : R → Option Log) (faces : H → Face) (waits : H → ℕ) (stays : H → H → Type 0) (holds : H → Caches R) (known : H → Known) (plain tracing : ℕ) (part : ℕ → Part) (before now : H) : Type 0 where
-  pub phrase : GrewBy (part (faces before).level) (seen number_of (shown (holds before))) (log (holds before).recorder) (log (holds now).recorder)
+pub record Works {H R : Type 0} (log : R → Option Log) (faces : H → Face) (waits : H → ℕ)
+    (stays : H → H → Type 0) (holds : H → Caches R) (known : H → Known) (plain tracing : ℕ)
+    (part : ℕ → Part) (before now : H) :
+    Type 0 where
+  pub phrase :
+      GrewBy (part (faces before).level) (seen number_of (shown (holds before)))
+      (log (holds before).recorder) (log (holds now).recorder)
   pub goes : Goes faces waits stays before now
   pub alone : Unbroken faces waits holds log before now
   pub flags : RaisesNone waits holds before now
   pub processor : (holds now).processor ≡ (holds before).processor
-  pub active : (k : ℕ) → ((shown (holds now)).rows k).active ≡ ((shown (holds before)).rows k).active
+  pub active :
+      (k : ℕ) → ((shown (holds now)).rows k).active ≡ ((shown (holds before)).rows k).active
   pub plain_begins : (known before).grace.plain.begins ≤ (known now).grace.plain.begins + plain
-  pub tracing_begins : (known before).grace.tracing.begins ≤ (known now).grace.tracing.begins + tracing
+  pub tracing_begins :
+      (known before).grace.tracing.begins ≤ (known now).grace.tracing.begins + tracing
   pub same_side : (known now).grace.processor ≡ (known before).grace.processor
 
 -- A call stopped for want of memory: the log has grown by this part, and the caches are placed.
-pub record Stopped {H R : Type 0} (log : R → Option Log) (counts : R → Counts) (faces : H → Face) (holds : H → Caches R) (part : ℕ → Part) (before now : H) : Type 0 where
-  pub phrase : GrewBy (part (faces before).level) (seen number_of (shown (holds before))) (log (holds before).recorder) (log (holds now).recorder)
+pub record Stopped {H R : Type 0} (log : R → Option Log) (counts : R → Counts) (faces : H → Face)
+    (holds : H → Caches R) (part : ℕ → Part) (before now : H) : Type 0 where
+  pub phrase :
+      GrewBy (part (faces before).level) (seen number_of (shown (holds before)))
+      (log (holds before).recorder) (log (holds now).recorder)
   pub placed : Placed log counts (holds now)
 
 -- The caches alone changed, and the host goes on.
-pub record Handled {H W : Type 0} (faces : H → Face) (waits : H → ℕ) (keeps : H → H → Type 0) (shared : H → W) (tests : H → Tests) (before now : H) : Type 0 where
+pub record Handled {H W : Type 0} (faces : H → Face) (waits : H → ℕ) (keeps : H → H → Type 0)
+    (shared : H → W) (tests : H → Tests) (before now : H) : Type 0 where
   pub face : faces now ≡ faces before
   pub pending : waits now ≡ waits before
   pub stays : keeps before now

@@ -41,15 +41,29 @@ fn bring_all<R: Recorder, H: Desk<R>>(
     class: Class,
     want: u32,
 ) -> Result<(), NoMemory>
-    requires stands { Stands R.log R.counts H.Host.sound H.Host.tests H.Host.face H.Host.held host.old }
+    requires stands { Stands R.log R.counts H.Host.sound H.Host.tests H.Host.face H.Host.held
+        host.old }
     requires idle { (shown (H.Host.held host.old)).sides (H.Host.face host.old).level ≡ idle_side }
     requires active { ((shown (H.Host.held host.old)).rows class).active ≡ 0 }
-    ensures ok { OnOk result (Works R.log H.Host.face H.Host.pending H.stays H.Host.held (λ h. H.W.Knows.known (H.shared h)) 0 0 (λ l. Refill l class want) host.old host.new) }
-    ensures err { OnErr result (Stopped R.log R.counts H.Host.face H.Host.held (λ l. RefillStop l class want) host.old host.new) }
-    ensures batches { OnOk result ((((shown (H.Host.held host.new)).rows class).deferred.plain ≡ ((shown (H.Host.held host.old)).rows class).deferred.plain) × (((shown (H.Host.held host.new)).rows class).deferred.tracing ≡ ((shown (H.Host.held host.old)).rows class).deferred.tracing)) }
-    ensures kept { OnOk result ((k : ℕ) → k ≢ class → ((shown (H.Host.held host.new)).rows k).deferred ≡ ((shown (H.Host.held host.old)).rows k).deferred) }
-    ensures side { OnOk result ((shown (H.Host.held host.new)).sides (H.Host.face host.old).level ≡ idle_side) }
-    ensures back { OnOk result (Stands R.log R.counts H.Host.sound H.Host.tests H.Host.face H.Host.held host.new) }
+    ensures ok { OnOk result
+        (Works R.log H.Host.face H.Host.pending H.stays H.Host.held
+        (λ h. H.W.Knows.known (H.shared h)) 0 0 (λ l. Refill l class want) host.old host.new) }
+    ensures err { OnErr result
+        (Stopped R.log R.counts H.Host.face H.Host.held (λ l. RefillStop l class want) host.old
+        host.new) }
+    ensures batches { OnOk result
+        ((((shown (H.Host.held host.new)).rows class).deferred.plain
+        ≡ ((shown (H.Host.held host.old)).rows class).deferred.plain)
+        × (((shown (H.Host.held host.new)).rows class).deferred.tracing
+        ≡ ((shown (H.Host.held host.old)).rows class).deferred.tracing)) }
+    ensures kept { OnOk result
+        ((k : ℕ) → k ≢ class
+        → ((shown (H.Host.held host.new)).rows k).deferred
+        ≡ ((shown (H.Host.held host.old)).rows k).deferred) }
+    ensures side { OnOk result
+        ((shown (H.Host.held host.new)).sides (H.Host.face host.old).level ≡ idle_side) }
+    ensures back { OnOk result
+        (Stands R.log R.counts H.Host.sound H.Host.tests H.Host.face H.Host.held host.new) }
 {
     let left = refill(host, class, want);
     fetch_rest(alloc, host, class, left)
@@ -57,12 +71,17 @@ fn bring_all<R: Recorder, H: Desk<R>>(
 
 /// Whether a unit is in hand.
 fn holds_some<R: Recorder, H: Desk<R>>(host: &mut H, class: Class) -> bool
-    requires stands { Stands R.log R.counts H.Host.sound H.Host.tests H.Host.face H.Host.held host.old }
-    ensures answer { result ≡ has_hand (H.Host.face host.old).level (seen number_of (shown (H.Host.held host.old))) }
+    requires stands { Stands R.log R.counts H.Host.sound H.Host.tests H.Host.face H.Host.held
+        host.old }
+    ensures answer { result
+        ≡ has_hand (H.Host.face host.old).level (seen number_of (shown (H.Host.held host.old))) }
     ensures same { (H.Host.held host.new) ≡ (H.Host.held host.old) }
-    ensures handled { Handled H.Host.face H.Host.pending H.stays H.shared H.Host.tests host.old host.new }
-    ensures posted { Posted H.Host.face H.Host.pending H.stays H.Host.held (λ h. H.W.Knows.known (H.shared h)) H.Host.tests ([]) host.old host.new }
-    ensures stands { Stands R.log R.counts H.Host.sound H.Host.tests H.Host.face H.Host.held host.new }
+    ensures handled { Handled H.Host.face H.Host.pending H.stays H.shared H.Host.tests host.old
+        host.new }
+    ensures posted { Posted H.Host.face H.Host.pending H.stays H.Host.held
+        (λ h. H.W.Knows.known (H.shared h)) H.Host.tests ([]) host.old host.new }
+    ensures stands { Stands R.log R.counts H.Host.sound H.Host.tests H.Host.face H.Host.held
+        host.new }
 {
     let _class = class;
     let level = host.level();
@@ -77,15 +96,25 @@ fn drain<R: Recorder, H: Desk<R>>(
     class: Class,
     middle: u32,
 ) -> Result<(), NoMemory>
-    requires stands { Stands R.log R.counts H.Host.sound H.Host.tests H.Host.face H.Host.held host.old }
+    requires stands { Stands R.log R.counts H.Host.sound H.Host.tests H.Host.face H.Host.held
+        host.old }
     requires idle { (shown (H.Host.held host.old)).sides (H.Host.face host.old).level ≡ idle_side }
     requires active { ((shown (H.Host.held host.old)).rows class).active ≡ 0 }
     requires middle { middle ≡ middle_of_class class }
-    ensures ok { OnOk result (Works R.log H.Host.face H.Host.pending H.stays H.Host.held (λ h. H.W.Knows.known (H.shared h)) 0 0 (λ l. Drain l class) host.old host.new) }
-    ensures err { OnErr result (Stopped R.log R.counts H.Host.face H.Host.held (λ l. DrainStop l class) host.old host.new) }
-    ensures deferred { OnOk result ((k : ℕ) → ((shown (H.Host.held host.new)).rows k).deferred ≡ ((shown (H.Host.held host.old)).rows k).deferred) }
-    ensures side { OnOk result ((shown (H.Host.held host.new)).sides (H.Host.face host.old).level ≡ idle_side) }
-    ensures back { OnOk result (Stands R.log R.counts H.Host.sound H.Host.tests H.Host.face H.Host.held host.new) }
+    ensures ok { OnOk result
+        (Works R.log H.Host.face H.Host.pending H.stays H.Host.held
+        (λ h. H.W.Knows.known (H.shared h)) 0 0 (λ l. Drain l class) host.old host.new) }
+    ensures err { OnErr result
+        (Stopped R.log R.counts H.Host.face H.Host.held (λ l. DrainStop l class) host.old
+        host.new) }
+    ensures deferred { OnOk result
+        ((k : ℕ)
+        → ((shown (H.Host.held host.new)).rows k).deferred
+        ≡ ((shown (H.Host.held host.old)).rows k).deferred) }
+    ensures side { OnOk result
+        ((shown (H.Host.held host.new)).sides (H.Host.face host.old).level ≡ idle_side) }
+    ensures back { OnOk result
+        (Stands R.log R.counts H.Host.sound H.Host.tests H.Host.face H.Host.held host.new) }
 {
     unload_to_hand(host, class, middle);
     if !holds_some(host, class) {
@@ -101,15 +130,30 @@ fn balance_at<R: Recorder, H: Desk<R>>(
     class: Class,
     count: u32,
 ) -> Result<(), NoMemory>
-    requires stands { Stands R.log R.counts H.Host.sound H.Host.tests H.Host.face H.Host.held host.old }
+    requires stands { Stands R.log R.counts H.Host.sound H.Host.tests H.Host.face H.Host.held
+        host.old }
     requires idle { (shown (H.Host.held host.old)).sides (H.Host.face host.old).level ≡ idle_side }
     requires active { ((shown (H.Host.held host.old)).rows class).active ≡ 0 }
-    ensures ok { OnOk result (Works R.log H.Host.face H.Host.pending H.stays H.Host.held (λ h. H.W.Knows.known (H.shared h)) 0 0 (λ l. BalanceAt l class count) host.old host.new) }
-    ensures err { OnErr result (Stopped R.log R.counts H.Host.face H.Host.held (λ l. StopAt l class count) host.old host.new) }
-    ensures batches { OnOk result ((((shown (H.Host.held host.new)).rows class).deferred.plain ≡ ((shown (H.Host.held host.old)).rows class).deferred.plain) × (((shown (H.Host.held host.new)).rows class).deferred.tracing ≡ ((shown (H.Host.held host.old)).rows class).deferred.tracing)) }
-    ensures kept { OnOk result ((k : ℕ) → k ≢ class → ((shown (H.Host.held host.new)).rows k).deferred ≡ ((shown (H.Host.held host.old)).rows k).deferred) }
-    ensures side { OnOk result ((shown (H.Host.held host.new)).sides (H.Host.face host.old).level ≡ idle_side) }
-    ensures back { OnOk result (Stands R.log R.counts H.Host.sound H.Host.tests H.Host.face H.Host.held host.new) }
+    ensures ok { OnOk result
+        (Works R.log H.Host.face H.Host.pending H.stays H.Host.held
+        (λ h. H.W.Knows.known (H.shared h)) 0 0 (λ l. BalanceAt l class count) host.old
+        host.new) }
+    ensures err { OnErr result
+        (Stopped R.log R.counts H.Host.face H.Host.held (λ l. StopAt l class count) host.old
+        host.new) }
+    ensures batches { OnOk result
+        ((((shown (H.Host.held host.new)).rows class).deferred.plain
+        ≡ ((shown (H.Host.held host.old)).rows class).deferred.plain)
+        × (((shown (H.Host.held host.new)).rows class).deferred.tracing
+        ≡ ((shown (H.Host.held host.old)).rows class).deferred.tracing)) }
+    ensures kept { OnOk result
+        ((k : ℕ) → k ≢ class
+        → ((shown (H.Host.held host.new)).rows k).deferred
+        ≡ ((shown (H.Host.held host.old)).rows k).deferred) }
+    ensures side { OnOk result
+        ((shown (H.Host.held host.new)).sides (H.Host.face host.old).level ≡ idle_side) }
+    ensures back { OnOk result
+        (Stands R.log R.counts H.Host.sound H.Host.tests H.Host.face H.Host.held host.new) }
 {
     let marks = marks(class);
     if count < marks.low {
@@ -128,15 +172,29 @@ fn balance<R: Recorder, H: Desk<R>>(
     host: &mut H,
     class: Class,
 ) -> Result<(), NoMemory>
-    requires stands { Stands R.log R.counts H.Host.sound H.Host.tests H.Host.face H.Host.held host.old }
+    requires stands { Stands R.log R.counts H.Host.sound H.Host.tests H.Host.face H.Host.held
+        host.old }
     requires idle { (shown (H.Host.held host.old)).sides (H.Host.face host.old).level ≡ idle_side }
     requires active { ((shown (H.Host.held host.old)).rows class).active ≡ 0 }
-    ensures ok { OnOk result (Works R.log H.Host.face H.Host.pending H.stays H.Host.held (λ h. H.W.Knows.known (H.shared h)) 0 0 (λ l. Balance l class) host.old host.new) }
-    ensures err { OnErr result (Stopped R.log R.counts H.Host.face H.Host.held (λ l. BalanceStop l class) host.old host.new) }
-    ensures batches { OnOk result ((((shown (H.Host.held host.new)).rows class).deferred.plain ≡ ((shown (H.Host.held host.old)).rows class).deferred.plain) × (((shown (H.Host.held host.new)).rows class).deferred.tracing ≡ ((shown (H.Host.held host.old)).rows class).deferred.tracing)) }
-    ensures kept { OnOk result ((k : ℕ) → k ≢ class → ((shown (H.Host.held host.new)).rows k).deferred ≡ ((shown (H.Host.held host.old)).rows k).deferred) }
-    ensures side { OnOk result ((shown (H.Host.held host.new)).sides (H.Host.face host.old).level ≡ idle_side) }
-    ensures back { OnOk result (Stands R.log R.counts H.Host.sound H.Host.tests H.Host.face H.Host.held host.new) }
+    ensures ok { OnOk result
+        (Works R.log H.Host.face H.Host.pending H.stays H.Host.held
+        (λ h. H.W.Knows.known (H.shared h)) 0 0 (λ l. Balance l class) host.old host.new) }
+    ensures err { OnErr result
+        (Stopped R.log R.counts H.Host.face H.Host.held (λ l. BalanceStop l class) host.old
+        host.new) }
+    ensures batches { OnOk result
+        ((((shown (H.Host.held host.new)).rows class).deferred.plain
+        ≡ ((shown (H.Host.held host.old)).rows class).deferred.plain)
+        × (((shown (H.Host.held host.new)).rows class).deferred.tracing
+        ≡ ((shown (H.Host.held host.old)).rows class).deferred.tracing)) }
+    ensures kept { OnOk result
+        ((k : ℕ) → k ≢ class
+        → ((shown (H.Host.held host.new)).rows k).deferred
+        ≡ ((shown (H.Host.held host.old)).rows k).deferred) }
+    ensures side { OnOk result
+        ((shown (H.Host.held host.new)).sides (H.Host.face host.old).level ≡ idle_side) }
+    ensures back { OnOk result
+        (Stands R.log R.counts H.Host.sound H.Host.tests H.Host.face H.Host.held host.new) }
 {
     let count = read_free(host, class);
     balance_at(alloc, host, class, count)
@@ -148,19 +206,32 @@ fn work_through<R: Recorder, H: Desk<R>>(
     host: &mut H,
     class: Class,
 ) -> Result<(), NoMemory>
-    requires stands { Stands R.log R.counts H.Host.sound H.Host.tests H.Host.face H.Host.held host.old }
+    requires stands { Stands R.log R.counts H.Host.sound H.Host.tests H.Host.face H.Host.held
+        host.old }
     requires idle { (shown (H.Host.held host.old)).sides (H.Host.face host.old).level ≡ idle_side }
     requires active { ((shown (H.Host.held host.old)).rows class).active ≡ 0 }
     requires plain { 0 < (side Plain (H.W.Knows.known (H.shared host.old))).begins }
     requires tracing { 0 < (side Tracing (H.W.Knows.known (H.shared host.old))).begins }
-    requires stamped { is_unstamped ((shown (H.Host.held host.old)).rows class).deferred.plain ≡ false }
-    ensures ok { OnOk result (Works R.log H.Host.face H.Host.pending H.stays H.Host.held (λ h. H.W.Knows.known (H.shared h)) 1 1 (λ l. Work l class) host.old host.new) }
-    ensures err { OnErr result (Stopped R.log R.counts H.Host.face H.Host.held (λ l. WorkStop l class) host.old host.new) }
-    ensures lowered { OnOk result (H.Host.pending host.new ≡ H.Host.pending host.old → ((shown (H.Host.held host.new)).rows class).raised ≡ false) }
-    ensures stamped { OnOk result (is_unstamped ((shown (H.Host.held host.new)).rows class).deferred.plain ≡ false) }
-    ensures kept { OnOk result ((k : ℕ) → k ≢ class → ((shown (H.Host.held host.new)).rows k).deferred ≡ ((shown (H.Host.held host.old)).rows k).deferred) }
-    ensures side { OnOk result ((shown (H.Host.held host.new)).sides (H.Host.face host.old).level ≡ idle_side) }
-    ensures back { OnOk result (Stands R.log R.counts H.Host.sound H.Host.tests H.Host.face H.Host.held host.new) }
+    requires stamped { is_unstamped ((shown (H.Host.held host.old)).rows class).deferred.plain
+        ≡ false }
+    ensures ok { OnOk result
+        (Works R.log H.Host.face H.Host.pending H.stays H.Host.held
+        (λ h. H.W.Knows.known (H.shared h)) 1 1 (λ l. Work l class) host.old host.new) }
+    ensures err { OnErr result
+        (Stopped R.log R.counts H.Host.face H.Host.held (λ l. WorkStop l class) host.old host.new) }
+    ensures lowered { OnOk result
+        (H.Host.pending host.new ≡ H.Host.pending host.old
+        → ((shown (H.Host.held host.new)).rows class).raised ≡ false) }
+    ensures stamped { OnOk result
+        (is_unstamped ((shown (H.Host.held host.new)).rows class).deferred.plain ≡ false) }
+    ensures kept { OnOk result
+        ((k : ℕ) → k ≢ class
+        → ((shown (H.Host.held host.new)).rows k).deferred
+        ≡ ((shown (H.Host.held host.old)).rows k).deferred) }
+    ensures side { OnOk result
+        ((shown (H.Host.held host.new)).sides (H.Host.face host.old).level ≡ idle_side) }
+    ensures back { OnOk result
+        (Stands R.log R.counts H.Host.sound H.Host.tests H.Host.face H.Host.held host.new) }
 {
     lower_flag(host, class);
     receive_up_to(alloc, host, class, 64);
@@ -175,19 +246,30 @@ fn work_through<R: Recorder, H: Desk<R>>(
 /// a refill's fetch, a parcel or a return, and the caches stand. From `bpf_mem_refill` of kernel/bpf/memalloc.c; on the way of
 /// delayed units to their pages, this project's own.
 pub fn work<R: Recorder, H: Desk<R>>(alloc: Global, host: &mut H, class: Class) -> Worked
-    requires stands { Stands R.log R.counts H.Host.sound H.Host.tests H.Host.face H.Host.held host.old }
+    requires stands { Stands R.log R.counts H.Host.sound H.Host.tests H.Host.face H.Host.held
+        host.old }
     requires idle { (shown (H.Host.held host.old)).sides (H.Host.face host.old).level ≡ idle_side }
     requires active { ((shown (H.Host.held host.old)).rows class).active ≡ 0 }
     requires plain { 0 < (side Plain (H.W.Knows.known (H.shared host.old))).begins }
     requires tracing { 0 < (side Tracing (H.W.Knows.known (H.shared host.old))).begins }
-    requires stamped { is_unstamped ((shown (H.Host.held host.old)).rows class).deferred.plain ≡ false }
-    ensures done { result ≡ worked.Done → Works R.log H.Host.face H.Host.pending H.stays H.Host.held (λ h. H.W.Knows.known (H.shared h)) 1 1 (λ l. Work l class) host.old host.new }
-    ensures memory { result ≡ worked.NoMemory → Stopped R.log R.counts H.Host.face H.Host.held (λ l. WorkStop l class) host.old host.new }
-    ensures lowered { result ≡ worked.Done → H.Host.pending host.new ≡ H.Host.pending host.old → ((shown (H.Host.held host.new)).rows class).raised ≡ false }
-    ensures stamped { result ≡ worked.Done → is_unstamped ((shown (H.Host.held host.new)).rows class).deferred.plain ≡ false }
-    ensures kept { result ≡ worked.Done → (k : ℕ) → k ≢ class → ((shown (H.Host.held host.new)).rows k).deferred ≡ ((shown (H.Host.held host.old)).rows k).deferred }
-    ensures side { result ≡ worked.Done → (shown (H.Host.held host.new)).sides (H.Host.face host.old).level ≡ idle_side }
-    ensures back { result ≡ worked.Done → Stands R.log R.counts H.Host.sound H.Host.tests H.Host.face H.Host.held host.new }
+    requires stamped { is_unstamped ((shown (H.Host.held host.old)).rows class).deferred.plain
+        ≡ false }
+    ensures done { result ≡ worked.Done
+        → Works R.log H.Host.face H.Host.pending H.stays H.Host.held
+        (λ h. H.W.Knows.known (H.shared h)) 1 1 (λ l. Work l class) host.old host.new }
+    ensures memory { result ≡ worked.NoMemory
+        → Stopped R.log R.counts H.Host.face H.Host.held (λ l. WorkStop l class) host.old host.new }
+    ensures lowered { result ≡ worked.Done → H.Host.pending host.new ≡ H.Host.pending host.old
+        → ((shown (H.Host.held host.new)).rows class).raised ≡ false }
+    ensures stamped { result ≡ worked.Done
+        → is_unstamped ((shown (H.Host.held host.new)).rows class).deferred.plain ≡ false }
+    ensures kept { result ≡ worked.Done → (k : ℕ) → k ≢ class
+        → ((shown (H.Host.held host.new)).rows k).deferred
+        ≡ ((shown (H.Host.held host.old)).rows k).deferred }
+    ensures side { result ≡ worked.Done
+        → (shown (H.Host.held host.new)).sides (H.Host.face host.old).level ≡ idle_side }
+    ensures back { result ≡ worked.Done
+        → Stands R.log R.counts H.Host.sound H.Host.tests H.Host.face H.Host.held host.new }
 {
     match work_through(alloc, host, class) {
         Ok(()) => Worked::Done,

@@ -34,12 +34,19 @@ fn room_for_hand<R: Recorder, H: Desk<R>>(
     host: &mut H,
     class: Class,
 ) -> Result<Vec<u16>, NoMemory>
-    requires stands { Stands R.log R.counts H.Host.asked H.Host.tests H.Host.face H.Host.held host.old }
-    ensures room { IfOk result (λ v. (vec_len v ≡ 0) × (length ((shown (H.Host.held host.old)).sides (H.Host.face host.old).level).hand ≤ vec_capacity v)) }
+    requires stands { Stands R.log R.counts H.Host.asked H.Host.tests H.Host.face H.Host.held
+        host.old }
+    ensures room { IfOk result
+        (λ v. (vec_len v ≡ 0)
+        × (length ((shown (H.Host.held host.old)).sides (H.Host.face host.old).level).hand
+        ≤ vec_capacity v)) }
     ensures same { (H.Host.held host.new) ≡ (H.Host.held host.old) }
-    ensures handled { Handled H.Host.face H.Host.pending H.stays H.shared H.Host.tests host.old host.new }
-    ensures posted { Posted H.Host.face H.Host.pending H.stays H.Host.held (λ h. H.W.Knows.known (H.shared h)) H.Host.tests ([]) host.old host.new }
-    ensures stands { Stands R.log R.counts H.Host.asked H.Host.tests H.Host.face H.Host.held host.new }
+    ensures handled { Handled H.Host.face H.Host.pending H.stays H.shared H.Host.tests host.old
+        host.new }
+    ensures posted { Posted H.Host.face H.Host.pending H.stays H.Host.held
+        (λ h. H.W.Knows.known (H.shared h)) H.Host.tests ([]) host.old host.new }
+    ensures stands { Stands R.log R.counts H.Host.asked H.Host.tests H.Host.face H.Host.held
+        host.new }
 {
     let _class = class;
     let level = host.level();
@@ -53,12 +60,19 @@ fn room_for_first<R: Recorder, H: Desk<R>>(
     host: &mut H,
     class: Class,
 ) -> Result<Vec<u16>, NoMemory>
-    requires stands { Stands R.log R.counts H.Host.asked H.Host.tests H.Host.face H.Host.held host.old }
-    ensures room { IfOk result (λ v. (vec_len v ≡ 0) × (length ((shown (H.Host.held host.old)).rows class).deferred.first ≤ vec_capacity v)) }
+    requires stands { Stands R.log R.counts H.Host.asked H.Host.tests H.Host.face H.Host.held
+        host.old }
+    ensures room { IfOk result
+        (λ v. (vec_len v ≡ 0)
+        × (length ((shown (H.Host.held host.old)).rows class).deferred.first
+        ≤ vec_capacity v)) }
     ensures same { (H.Host.held host.new) ≡ (H.Host.held host.old) }
-    ensures handled { Handled H.Host.face H.Host.pending H.stays H.shared H.Host.tests host.old host.new }
-    ensures posted { Posted H.Host.face H.Host.pending H.stays H.Host.held (λ h. H.W.Knows.known (H.shared h)) H.Host.tests ([]) host.old host.new }
-    ensures stands { Stands R.log R.counts H.Host.asked H.Host.tests H.Host.face H.Host.held host.new }
+    ensures handled { Handled H.Host.face H.Host.pending H.stays H.shared H.Host.tests host.old
+        host.new }
+    ensures posted { Posted H.Host.face H.Host.pending H.stays H.Host.held
+        (λ h. H.W.Knows.known (H.shared h)) H.Host.tests ([]) host.old host.new }
+    ensures stands { Stands R.log R.counts H.Host.asked H.Host.tests H.Host.face H.Host.held
+        host.new }
 {
     let count = host.caches().counts(class).first;
     Ok(Vec::with_capacity(alloc, count as usize)?)
@@ -70,12 +84,19 @@ fn room_for_second<R: Recorder, H: Desk<R>>(
     host: &mut H,
     class: Class,
 ) -> Result<Vec<u16>, NoMemory>
-    requires stands { Stands R.log R.counts H.Host.asked H.Host.tests H.Host.face H.Host.held host.old }
-    ensures room { IfOk result (λ v. (vec_len v ≡ 0) × (length ((shown (H.Host.held host.old)).rows class).deferred.second ≤ vec_capacity v)) }
+    requires stands { Stands R.log R.counts H.Host.asked H.Host.tests H.Host.face H.Host.held
+        host.old }
+    ensures room { IfOk result
+        (λ v. (vec_len v ≡ 0)
+        × (length ((shown (H.Host.held host.old)).rows class).deferred.second
+        ≤ vec_capacity v)) }
     ensures same { (H.Host.held host.new) ≡ (H.Host.held host.old) }
-    ensures handled { Handled H.Host.face H.Host.pending H.stays H.shared H.Host.tests host.old host.new }
-    ensures posted { Posted H.Host.face H.Host.pending H.stays H.Host.held (λ h. H.W.Knows.known (H.shared h)) H.Host.tests ([]) host.old host.new }
-    ensures stands { Stands R.log R.counts H.Host.asked H.Host.tests H.Host.face H.Host.held host.new }
+    ensures handled { Handled H.Host.face H.Host.pending H.stays H.shared H.Host.tests host.old
+        host.new }
+    ensures posted { Posted H.Host.face H.Host.pending H.stays H.Host.held
+        (λ h. H.W.Knows.known (H.shared h)) H.Host.tests ([]) host.old host.new }
+    ensures stands { Stands R.log R.counts H.Host.asked H.Host.tests H.Host.face H.Host.held
+        host.new }
 {
     let count = host.caches().counts(class).second;
     Ok(Vec::with_capacity(alloc, count as usize)?)
@@ -88,15 +109,27 @@ pub fn send_hand<R: Recorder, H: Desk<R>>(
     host: &mut H,
     class: Class,
 ) -> Result<(), NoMemory>
-    requires stands { Stands R.log R.counts H.Host.sound H.Host.tests H.Host.face H.Host.held host.old }
-    requires quiet { ((shown (H.Host.held host.old)).sides (H.Host.face host.old).level).mark ≡ mark.Quiet }
-    requires fit { All (Fit (H.Host.tests host.old) class) ((shown (H.Host.held host.old)).sides (H.Host.face host.old).level).hand }
-    requires some { 0 < length ((shown (H.Host.held host.old)).sides (H.Host.face host.old).level).hand }
-    ensures ok { OnOk result (Works R.log H.Host.face H.Host.pending H.stays H.Host.held (λ h. H.W.Knows.known (H.shared h)) 0 0 (λ l. Say l (IsSend class)) host.old host.new) }
-    ensures err { OnErr result (Stopped R.log R.counts H.Host.face H.Host.held (λ l. Missing l) host.old host.new) }
-    ensures deferred { OnOk result ((k : ℕ) → ((shown (H.Host.held host.new)).rows k).deferred ≡ ((shown (H.Host.held host.old)).rows k).deferred) }
-    ensures side { OnOk result ((shown (H.Host.held host.new)).sides (H.Host.face host.old).level ≡ idle_side) }
-    ensures back { OnOk result (Stands R.log R.counts H.Host.sound H.Host.tests H.Host.face H.Host.held host.new) }
+    requires stands { Stands R.log R.counts H.Host.sound H.Host.tests H.Host.face H.Host.held
+        host.old }
+    requires quiet { ((shown (H.Host.held host.old)).sides (H.Host.face host.old).level).mark
+        ≡ mark.Quiet }
+    requires fit { All (Fit (H.Host.tests host.old) class)
+        ((shown (H.Host.held host.old)).sides (H.Host.face host.old).level).hand }
+    requires some { 0
+        < length ((shown (H.Host.held host.old)).sides (H.Host.face host.old).level).hand }
+    ensures ok { OnOk result
+        (Works R.log H.Host.face H.Host.pending H.stays H.Host.held
+        (λ h. H.W.Knows.known (H.shared h)) 0 0 (λ l. Say l (IsSend class)) host.old host.new) }
+    ensures err { OnErr result
+        (Stopped R.log R.counts H.Host.face H.Host.held (λ l. Missing l) host.old host.new) }
+    ensures deferred { OnOk result
+        ((k : ℕ)
+        → ((shown (H.Host.held host.new)).rows k).deferred
+        ≡ ((shown (H.Host.held host.old)).rows k).deferred) }
+    ensures side { OnOk result
+        ((shown (H.Host.held host.new)).sides (H.Host.face host.old).level ≡ idle_side) }
+    ensures back { OnOk result
+        (Stands R.log R.counts H.Host.sound H.Host.tests H.Host.face H.Host.held host.new) }
 {
     pause(host);
     let numbers = room_for_hand(alloc, host, class)?;
@@ -111,19 +144,34 @@ pub fn send_first<R: Recorder, H: Desk<R>>(
     class: Class,
     seal: Seal,
 ) -> Result<(), NoMemory>
-    requires stands { Stands R.log R.counts H.Host.sound H.Host.tests H.Host.face H.Host.held host.old }
+    requires stands { Stands R.log R.counts H.Host.sound H.Host.tests H.Host.face H.Host.held
+        host.old }
     requires idle { (shown (H.Host.held host.old)).sides (H.Host.face host.old).level ≡ idle_side }
-    requires ripe { All (Passes (H.Host.tests host.old) (ripe_test Plain seal.stamp seal.seen)) ((shown (H.Host.held host.old)).rows class).deferred.first }
-    requires stamped { ((shown (H.Host.held host.old)).rows class).deferred.plain ≡ Some seal.stamp }
+    requires ripe { All (Passes (H.Host.tests host.old) (ripe_test Plain seal.stamp seal.seen))
+        ((shown (H.Host.held host.old)).rows class).deferred.first }
+    requires stamped { ((shown (H.Host.held host.old)).rows class).deferred.plain
+        ≡ Some seal.stamp }
     requires taken { 0 < seal.stamp }
-    requires passed { LastIs R.log (H.Host.face host.old).level (entry.Pass class Plain seal.seen) (H.Host.held host.old) }
+    requires passed { LastIs R.log (H.Host.face host.old).level (entry.Pass class Plain seal.seen)
+        (H.Host.held host.old) }
     requires some { 0 < length ((shown (H.Host.held host.old)).rows class).deferred.first }
-    ensures ok { OnOk result (Works R.log H.Host.face H.Host.pending H.stays H.Host.held (λ h. H.W.Knows.known (H.shared h)) 0 0 (λ l. Say l (IsSend class)) host.old host.new) }
-    ensures err { OnErr result (Stopped R.log R.counts H.Host.face H.Host.held (λ l. Missing l) host.old host.new) }
-    ensures deferred { OnOk result (((shown (H.Host.held host.new)).rows class).deferred ≡ record ((shown (H.Host.held host.old)).rows class).deferred { first = []; plain = None }) }
-    ensures kept { OnOk result ((k : ℕ) → k ≢ class → ((shown (H.Host.held host.new)).rows k).deferred ≡ ((shown (H.Host.held host.old)).rows k).deferred) }
-    ensures side { OnOk result ((shown (H.Host.held host.new)).sides (H.Host.face host.old).level ≡ idle_side) }
-    ensures back { OnOk result (Stands R.log R.counts H.Host.sound H.Host.tests H.Host.face H.Host.held host.new) }
+    ensures ok { OnOk result
+        (Works R.log H.Host.face H.Host.pending H.stays H.Host.held
+        (λ h. H.W.Knows.known (H.shared h)) 0 0 (λ l. Say l (IsSend class)) host.old host.new) }
+    ensures err { OnErr result
+        (Stopped R.log R.counts H.Host.face H.Host.held (λ l. Missing l) host.old host.new) }
+    ensures deferred { OnOk result
+        (((shown (H.Host.held host.new)).rows class).deferred
+        ≡ record ((shown (H.Host.held host.old)).rows class).deferred
+        { first = []; plain = None }) }
+    ensures kept { OnOk result
+        ((k : ℕ) → k ≢ class
+        → ((shown (H.Host.held host.new)).rows k).deferred
+        ≡ ((shown (H.Host.held host.old)).rows k).deferred) }
+    ensures side { OnOk result
+        ((shown (H.Host.held host.new)).sides (H.Host.face host.old).level ≡ idle_side) }
+    ensures back { OnOk result
+        (Stands R.log R.counts H.Host.sound H.Host.tests H.Host.face H.Host.held host.new) }
 {
     pause(host);
     let numbers = room_for_first(alloc, host, class)?;
@@ -137,15 +185,29 @@ pub fn return_second<R: Recorder, H: Desk<R>>(
     host: &mut H,
     class: Class,
 ) -> Result<(), NoMemory>
-    requires stands { Stands R.log R.counts H.Host.sound H.Host.tests H.Host.face H.Host.held host.old }
+    requires stands { Stands R.log R.counts H.Host.sound H.Host.tests H.Host.face H.Host.held
+        host.old }
     requires idle { (shown (H.Host.held host.old)).sides (H.Host.face host.old).level ≡ idle_side }
-    requires progress { IsTrue (is_some ((shown (H.Host.held host.old)).rows class).deferred.tracing) }
-    ensures ok { OnOk result (Works R.log H.Host.face H.Host.pending H.stays H.Host.held (λ h. H.W.Knows.known (H.shared h)) 0 0 (λ l. Say l (IsReturn class)) host.old host.new) }
-    ensures err { OnErr result (Stopped R.log R.counts H.Host.face H.Host.held (λ l. Missing l) host.old host.new) }
-    ensures deferred { OnOk result (((shown (H.Host.held host.new)).rows class).deferred ≡ record ((shown (H.Host.held host.old)).rows class).deferred { second = []; tracing = None }) }
-    ensures kept { OnOk result ((k : ℕ) → k ≢ class → ((shown (H.Host.held host.new)).rows k).deferred ≡ ((shown (H.Host.held host.old)).rows k).deferred) }
-    ensures side { OnOk result ((shown (H.Host.held host.new)).sides (H.Host.face host.old).level ≡ idle_side) }
-    ensures back { OnOk result (Stands R.log R.counts H.Host.sound H.Host.tests H.Host.face H.Host.held host.new) }
+    requires progress { IsTrue
+        (is_some ((shown (H.Host.held host.old)).rows class).deferred.tracing) }
+    ensures ok { OnOk result
+        (Works R.log H.Host.face H.Host.pending H.stays H.Host.held
+        (λ h. H.W.Knows.known (H.shared h)) 0 0 (λ l. Say l (IsReturn class)) host.old
+        host.new) }
+    ensures err { OnErr result
+        (Stopped R.log R.counts H.Host.face H.Host.held (λ l. Missing l) host.old host.new) }
+    ensures deferred { OnOk result
+        (((shown (H.Host.held host.new)).rows class).deferred
+        ≡ record ((shown (H.Host.held host.old)).rows class).deferred
+        { second = []; tracing = None }) }
+    ensures kept { OnOk result
+        ((k : ℕ) → k ≢ class
+        → ((shown (H.Host.held host.new)).rows k).deferred
+        ≡ ((shown (H.Host.held host.old)).rows k).deferred) }
+    ensures side { OnOk result
+        ((shown (H.Host.held host.new)).sides (H.Host.face host.old).level ≡ idle_side) }
+    ensures back { OnOk result
+        (Stands R.log R.counts H.Host.sound H.Host.tests H.Host.face H.Host.held host.new) }
 {
     pause(host);
     let numbers = room_for_second(alloc, host, class)?;

@@ -1,6 +1,6 @@
 //! Deferred work on a desk, which is the caches of a processor together with its side of all that processors share.
 //!
-//! - `Desk` is the trait: a host (`Host` of `bm_cache`) with a world (`World` of `bm_world`), what the processor owes its log
+//! - `Desk` is the trait: a host (`Host` of `bm_cache`) with a world (`World` of `bm_post`), what the processor owes its log
 //!   (`owes`), and why a poll may rest (`rested`).
 //! - `work` is the work of a class: it receives parcels, refills or drains, and carries both stages of delayed frees on. `Worked`
 //!   says how it ended.

@@ -26,67 +26,118 @@ use bm_work_lists::{
 
 /// The work of a class begins: its flag is lowered.
 pub fn lower_flag<R: Recorder, H: Desk<R>>(host: &mut H, class: Class)
-    requires stands { Stands R.log R.counts H.Host.sound H.Host.tests H.Host.face H.Host.held host.old }
-    ensures works { Works R.log H.Host.face H.Host.pending H.stays H.Host.held (λ h. H.W.Knows.known (H.shared h)) 0 0 (λ l. Say l (IsOne (entry.Work class))) host.old host.new }
+    requires stands { Stands R.log R.counts H.Host.sound H.Host.tests H.Host.face H.Host.held
+        host.old }
+    ensures works { Works R.log H.Host.face H.Host.pending H.stays H.Host.held
+        (λ h. H.W.Knows.known (H.shared h)) 0 0 (λ l. Say l (IsOne (entry.Work class))) host.old
+        host.new }
     ensures lowered { ((shown (H.Host.held host.new)).rows class).raised ≡ false }
-    ensures deferred { (k : ℕ) → ((shown (H.Host.held host.new)).rows k).deferred ≡ ((shown (H.Host.held host.old)).rows k).deferred }
-    ensures side { (shown (H.Host.held host.new)).sides (H.Host.face host.old).level ≡ (shown (H.Host.held host.old)).sides (H.Host.face host.old).level }
-    ensures stands { Stands R.log R.counts H.Host.sound H.Host.tests H.Host.face H.Host.held host.new }
+    ensures deferred { (k : ℕ)
+        → ((shown (H.Host.held host.new)).rows k).deferred
+        ≡ ((shown (H.Host.held host.old)).rows k).deferred }
+    ensures side { (shown (H.Host.held host.new)).sides (H.Host.face host.old).level
+        ≡ (shown (H.Host.held host.old)).sides (H.Host.face host.old).level }
+    ensures stands { Stands R.log R.counts H.Host.sound H.Host.tests H.Host.face H.Host.held
+        host.new }
 {
     begin_work(host, class);
 }
 
 /// A point, and the free count is read.
 pub fn read_free<R: Recorder, H: Desk<R>>(host: &mut H, class: Class) -> u32
-    requires stands { Stands R.log R.counts H.Host.sound H.Host.tests H.Host.face H.Host.held host.old }
-    ensures works { Works R.log H.Host.face H.Host.pending H.stays H.Host.held (λ h. H.W.Knows.known (H.shared h)) 0 0 (λ l. Say l (IsOne (entry.Read class result))) host.old host.new }
-    ensures deferred { (k : ℕ) → ((shown (H.Host.held host.new)).rows k).deferred ≡ ((shown (H.Host.held host.old)).rows k).deferred }
-    ensures side { (shown (H.Host.held host.new)).sides (H.Host.face host.old).level ≡ (shown (H.Host.held host.old)).sides (H.Host.face host.old).level }
-    ensures stands { Stands R.log R.counts H.Host.sound H.Host.tests H.Host.face H.Host.held host.new }
+    requires stands { Stands R.log R.counts H.Host.sound H.Host.tests H.Host.face H.Host.held
+        host.old }
+    ensures works { Works R.log H.Host.face H.Host.pending H.stays H.Host.held
+        (λ h. H.W.Knows.known (H.shared h)) 0 0 (λ l. Say l (IsOne (entry.Read class result)))
+        host.old host.new }
+    ensures deferred { (k : ℕ)
+        → ((shown (H.Host.held host.new)).rows k).deferred
+        ≡ ((shown (H.Host.held host.old)).rows k).deferred }
+    ensures side { (shown (H.Host.held host.new)).sides (H.Host.face host.old).level
+        ≡ (shown (H.Host.held host.old)).sides (H.Host.face host.old).level }
+    ensures stands { Stands R.log R.counts H.Host.sound H.Host.tests H.Host.face H.Host.held
+        host.new }
 {
     read_count(host, class)
 }
 
 /// The first unit in hand is added to Free, and the others stay in hand.
 pub fn add_one<R: Recorder, H: Desk<R>>(host: &mut H, class: Class)
-    requires stands { Stands R.log R.counts H.Host.sound H.Host.tests H.Host.face H.Host.held host.old }
+    requires stands { Stands R.log R.counts H.Host.sound H.Host.tests H.Host.face H.Host.held
+        host.old }
     requires idle { ((shown (H.Host.held host.old)).rows class).active ≡ 0 }
-    requires quiet { ((shown (H.Host.held host.old)).sides (H.Host.face host.old).level).mark ≡ mark.Quiet }
-    requires hand { (u : Token) × (rest : List Token) × (((shown (H.Host.held host.old)).sides (H.Host.face host.old).level).hand ≡ u ∷ rest) × Fit (H.Host.tests host.old) class u }
-    ensures works { Works R.log H.Host.face H.Host.pending H.stays H.Host.held (λ h. H.W.Knows.known (H.shared h)) 0 0 (λ l. Say l (AddsFirst class (map number_of ((shown (H.Host.held host.old)).sides (H.Host.face host.old).level).hand))) host.old host.new }
-    ensures deferred { (k : ℕ) → ((shown (H.Host.held host.new)).rows k).deferred ≡ ((shown (H.Host.held host.old)).rows k).deferred }
-    ensures side { (shown (H.Host.held host.new)).sides (H.Host.face host.old).level ≡ record { hand = drop 1 ((shown (H.Host.held host.old)).sides (H.Host.face host.old).level).hand; mark = mark.Quiet } }
-    ensures lasts { All (Same (H.Host.tests host.old) (H.Host.tests host.new)) (drop 1 ((shown (H.Host.held host.old)).sides (H.Host.face host.old).level).hand) }
-    ensures stands { Stands R.log R.counts H.Host.sound H.Host.tests H.Host.face H.Host.held host.new }
+    requires quiet { ((shown (H.Host.held host.old)).sides (H.Host.face host.old).level).mark
+        ≡ mark.Quiet }
+    requires hand { (u : Token) × (rest : List Token)
+        × (((shown (H.Host.held host.old)).sides (H.Host.face host.old).level).hand ≡ u ∷ rest)
+        × Fit (H.Host.tests host.old) class u }
+    ensures works { Works R.log H.Host.face H.Host.pending H.stays H.Host.held
+        (λ h. H.W.Knows.known (H.shared h)) 0 0
+        (λ l. Say l
+        (AddsFirst class
+        (map number_of
+        ((shown (H.Host.held host.old)).sides (H.Host.face host.old).level).hand)))
+        host.old host.new }
+    ensures deferred { (k : ℕ)
+        → ((shown (H.Host.held host.new)).rows k).deferred
+        ≡ ((shown (H.Host.held host.old)).rows k).deferred }
+    ensures side { (shown (H.Host.held host.new)).sides (H.Host.face host.old).level
+        ≡ record {
+          hand =
+              drop 1 ((shown (H.Host.held host.old)).sides (H.Host.face host.old).level).hand;
+          mark = mark.Quiet;
+        } }
+    ensures lasts { All (Same (H.Host.tests host.old) (H.Host.tests host.new))
+        (drop 1 ((shown (H.Host.held host.old)).sides (H.Host.face host.old).level).hand) }
+    ensures stands { Stands R.log R.counts H.Host.sound H.Host.tests H.Host.face H.Host.held
+        host.new }
 {
     add_unit(host, class);
 }
 
 /// So many units are moved to Free, from the top of Ready and then of Second; how many are left to bring.
 pub fn refill<R: Recorder, H: Desk<R>>(host: &mut H, class: Class, want: u32) -> u32
-    requires stands { Stands R.log R.counts H.Host.sound H.Host.tests H.Host.face H.Host.held host.old }
+    requires stands { Stands R.log R.counts H.Host.sound H.Host.tests H.Host.face H.Host.held
+        host.old }
     requires idle { ((shown (H.Host.held host.old)).rows class).active ≡ 0 }
     requires empty { (shown (H.Host.held host.old)).sides (H.Host.face host.old).level ≡ idle_side }
-    ensures works { Works R.log H.Host.face H.Host.pending H.stays H.Host.held (λ h. H.W.Knows.known (H.shared h)) 0 0 (λ l. FromLists l class want result) host.old host.new }
-    ensures answer { result ≡ want - (length ((shown (H.Host.held host.old)).rows class).deferred.ready + length ((shown (H.Host.held host.old)).rows class).deferred.second) }
-    ensures rest { ((shown (H.Host.held host.new)).rows class).deferred ≡ less want ((shown (H.Host.held host.old)).rows class).deferred }
-    ensures kept { (k : ℕ) → k ≢ class → ((shown (H.Host.held host.new)).rows k).deferred ≡ ((shown (H.Host.held host.old)).rows k).deferred }
+    ensures works { Works R.log H.Host.face H.Host.pending H.stays H.Host.held
+        (λ h. H.W.Knows.known (H.shared h)) 0 0 (λ l. FromLists l class want result) host.old
+        host.new }
+    ensures answer { result
+        ≡ want
+        - (length ((shown (H.Host.held host.old)).rows class).deferred.ready
+        + length ((shown (H.Host.held host.old)).rows class).deferred.second) }
+    ensures rest { ((shown (H.Host.held host.new)).rows class).deferred
+        ≡ less want ((shown (H.Host.held host.old)).rows class).deferred }
+    ensures kept { (k : ℕ) → k ≢ class
+        → ((shown (H.Host.held host.new)).rows k).deferred
+        ≡ ((shown (H.Host.held host.old)).rows k).deferred }
     ensures side { (shown (H.Host.held host.new)).sides (H.Host.face host.old).level ≡ idle_side }
-    ensures stands { Stands R.log R.counts H.Host.sound H.Host.tests H.Host.face H.Host.held host.new }
+    ensures stands { Stands R.log R.counts H.Host.sound H.Host.tests H.Host.face H.Host.held
+        host.new }
 {
     refill_from_lists(host, class, want)
 }
 
 /// Free is taken down to the middle, and then all of Extra, into the hand.
 pub fn unload_to_hand<R: Recorder, H: Desk<R>>(host: &mut H, class: Class, middle: u32)
-    requires stands { Stands R.log R.counts H.Host.sound H.Host.tests H.Host.face H.Host.held host.old }
+    requires stands { Stands R.log R.counts H.Host.sound H.Host.tests H.Host.face H.Host.held
+        host.old }
     requires idle { ((shown (H.Host.held host.old)).rows class).active ≡ 0 }
     requires empty { (shown (H.Host.held host.old)).sides (H.Host.face host.old).level ≡ idle_side }
-    ensures works { Works R.log H.Host.face H.Host.pending H.stays H.Host.held (λ h. H.W.Knows.known (H.shared h)) 0 0 (λ l. Then (Say l (Unloads class middle)) (Say l (IsTakeExtra class))) host.old host.new }
-    ensures deferred { (k : ℕ) → ((shown (H.Host.held host.new)).rows k).deferred ≡ ((shown (H.Host.held host.old)).rows k).deferred }
-    ensures side { ((shown (H.Host.held host.new)).sides (H.Host.face host.old).level).mark ≡ mark.Quiet }
-    ensures fit { All (Fit (H.Host.tests host.new) class) ((shown (H.Host.held host.new)).sides (H.Host.face host.old).level).hand }
-    ensures stands { Stands R.log R.counts H.Host.sound H.Host.tests H.Host.face H.Host.held host.new }
+    ensures works { Works R.log H.Host.face H.Host.pending H.stays H.Host.held
+        (λ h. H.W.Knows.known (H.shared h)) 0 0
+        (λ l. Then (Say l (Unloads class middle)) (Say l (IsTakeExtra class))) host.old host.new }
+    ensures deferred { (k : ℕ)
+        → ((shown (H.Host.held host.new)).rows k).deferred
+        ≡ ((shown (H.Host.held host.old)).rows k).deferred }
+    ensures side { ((shown (H.Host.held host.new)).sides (H.Host.face host.old).level).mark
+        ≡ mark.Quiet }
+    ensures fit { All (Fit (H.Host.tests host.new) class)
+        ((shown (H.Host.held host.new)).sides (H.Host.face host.old).level).hand }
+    ensures stands { Stands R.log R.counts H.Host.sound H.Host.tests H.Host.face H.Host.held
+        host.new }
 {
     drain_to_hand(host, class, middle);
 }
@@ -94,29 +145,66 @@ pub fn unload_to_hand<R: Recorder, H: Desk<R>>(host: &mut H, class: Class, middl
 /// What was freed with delay is gathered, and becomes the plain batch, if it holds a unit and none is in progress; whether it
 /// did.
 pub fn gather<R: Recorder, H: Desk<R>>(host: &mut H, class: Class) -> bool
-    requires stands { Stands R.log R.counts H.Host.sound H.Host.tests H.Host.face H.Host.held host.old }
+    requires stands { Stands R.log R.counts H.Host.sound H.Host.tests H.Host.face H.Host.held
+        host.old }
     requires idle { ((shown (H.Host.held host.old)).rows class).active ≡ 0 }
-    requires quiet { ((shown (H.Host.held host.old)).sides (H.Host.face host.old).level).mark ≡ mark.Quiet }
-    ensures works { Works R.log H.Host.face H.Host.pending H.stays H.Host.held (λ h. H.W.Knows.known (H.shared h)) 0 0 (λ l. Then (Say l (IsGathering class)) (Then (When (may_batch class) (Say l (IsBatch class))) (Say l (IsLeave class)))) host.old host.new }
-    ensures begun { result ≡ true → (units : List Token) × (((shown (H.Host.held host.new)).rows class).deferred ≡ record ((shown (H.Host.held host.old)).rows class).deferred { first = units ++ ((shown (H.Host.held host.old)).rows class).deferred.first; plain = Some 0 }) × (((shown (H.Host.held host.old)).rows class).deferred.plain ≡ None) × (0 < length units) }
-    ensures waits { result ≡ false → ((shown (H.Host.held host.new)).rows class).deferred ≡ ((shown (H.Host.held host.old)).rows class).deferred }
-    ensures kept { (k : ℕ) → k ≢ class → ((shown (H.Host.held host.new)).rows k).deferred ≡ ((shown (H.Host.held host.old)).rows k).deferred }
-    ensures side { (shown (H.Host.held host.new)).sides (H.Host.face host.old).level ≡ (shown (H.Host.held host.old)).sides (H.Host.face host.old).level }
-    ensures stands { Stands R.log R.counts H.Host.sound H.Host.tests H.Host.face H.Host.held host.new }
+    requires quiet { ((shown (H.Host.held host.old)).sides (H.Host.face host.old).level).mark
+        ≡ mark.Quiet }
+    ensures works { Works R.log H.Host.face H.Host.pending H.stays H.Host.held
+        (λ h. H.W.Knows.known (H.shared h)) 0 0
+        (λ l. Then (Say l (IsGathering class))
+        (Then (When (may_batch class) (Say l (IsBatch class))) (Say l (IsLeave class))))
+        host.old host.new }
+    ensures begun { result ≡ true
+        → (units : List Token)
+        × (((shown (H.Host.held host.new)).rows class).deferred
+        ≡ record ((shown (H.Host.held host.old)).rows class).deferred {
+          first = units ++ ((shown (H.Host.held host.old)).rows class).deferred.first;
+          plain = Some 0;
+        })
+        × (((shown (H.Host.held host.old)).rows class).deferred.plain ≡ None)
+        × (0 < length units) }
+    ensures waits { result ≡ false
+        → ((shown (H.Host.held host.new)).rows class).deferred
+        ≡ ((shown (H.Host.held host.old)).rows class).deferred }
+    ensures kept { (k : ℕ) → k ≢ class
+        → ((shown (H.Host.held host.new)).rows k).deferred
+        ≡ ((shown (H.Host.held host.old)).rows k).deferred }
+    ensures side { (shown (H.Host.held host.new)).sides (H.Host.face host.old).level
+        ≡ (shown (H.Host.held host.old)).sides (H.Host.face host.old).level }
+    ensures stands { Stands R.log R.counts H.Host.sound H.Host.tests H.Host.face H.Host.held
+        host.new }
 {
     gather_delayed(host, class)
 }
 
 /// All of Ready becomes the tracing batch, if it holds a unit and none is in progress; whether it did.
 pub fn begin_batch<R: Recorder, H: Desk<R>>(host: &mut H, class: Class) -> bool
-    requires stands { Stands R.log R.counts H.Host.sound H.Host.tests H.Host.face H.Host.held host.old }
-    ensures works { Works R.log H.Host.face H.Host.pending H.stays H.Host.held (λ h. H.W.Knows.known (H.shared h)) 0 0 (λ l. When (may_begin class) (Say l (IsSecond class))) host.old host.new }
+    requires stands { Stands R.log R.counts H.Host.sound H.Host.tests H.Host.face H.Host.held
+        host.old }
+    ensures works { Works R.log H.Host.face H.Host.pending H.stays H.Host.held
+        (λ h. H.W.Knows.known (H.shared h)) 0 0
+        (λ l. When (may_begin class) (Say l (IsSecond class))) host.old host.new }
     ensures answer { result ≡ may_begin class (seen number_of (shown (H.Host.held host.old))) }
-    ensures some { result ≡ true → (((shown (H.Host.held host.new)).rows class).deferred ≡ record ((shown (H.Host.held host.old)).rows class).deferred { ready = []; second = ((shown (H.Host.held host.old)).rows class).deferred.ready ++ ((shown (H.Host.held host.old)).rows class).deferred.second; tracing = Some 0 }) }
-    ensures none { result ≡ false → ((shown (H.Host.held host.new)).rows class).deferred ≡ ((shown (H.Host.held host.old)).rows class).deferred }
-    ensures kept { (k : ℕ) → k ≢ class → ((shown (H.Host.held host.new)).rows k).deferred ≡ ((shown (H.Host.held host.old)).rows k).deferred }
-    ensures side { (shown (H.Host.held host.new)).sides (H.Host.face host.old).level ≡ (shown (H.Host.held host.old)).sides (H.Host.face host.old).level }
-    ensures stands { Stands R.log R.counts H.Host.sound H.Host.tests H.Host.face H.Host.held host.new }
+    ensures some { result ≡ true
+        → (((shown (H.Host.held host.new)).rows class).deferred
+        ≡ record ((shown (H.Host.held host.old)).rows class).deferred {
+          ready = [];
+          second =
+              ((shown (H.Host.held host.old)).rows class).deferred.ready
+              ++ ((shown (H.Host.held host.old)).rows class).deferred.second;
+          tracing = Some 0;
+        }) }
+    ensures none { result ≡ false
+        → ((shown (H.Host.held host.new)).rows class).deferred
+        ≡ ((shown (H.Host.held host.old)).rows class).deferred }
+    ensures kept { (k : ℕ) → k ≢ class
+        → ((shown (H.Host.held host.new)).rows k).deferred
+        ≡ ((shown (H.Host.held host.old)).rows k).deferred }
+    ensures side { (shown (H.Host.held host.new)).sides (H.Host.face host.old).level
+        ≡ (shown (H.Host.held host.old)).sides (H.Host.face host.old).level }
+    ensures stands { Stands R.log R.counts H.Host.sound H.Host.tests H.Host.face H.Host.held
+        host.new }
 {
     begin_second(host, class)
 }

@@ -32,12 +32,17 @@ use std::alloc::Global;
 /// Takes the oldest parcel out of the inbox of a class; no units where the inbox is empty.
 fn get_parcel<R: Recorder, H: Desk<R>>(alloc: Global, host: &mut H, class: Class) -> Vec<Unit>
     requires stands { Stands R.log R.counts Whatever H.Host.tests H.Host.face H.Host.held host.old }
-    ensures posted { Posted H.Host.face H.Host.pending H.stays H.Host.held (λ h. H.W.Knows.known (H.shared h)) H.Host.tests [] host.old host.new }
+    ensures posted { Posted H.Host.face H.Host.pending H.stays H.Host.held
+        (λ h. H.W.Knows.known (H.shared h)) H.Host.tests [] host.old host.new }
     ensures sit { All (Sits class) result.items }
-    ensures fresh { (n : ℕ) → stands n (seen number_of (shown (H.Host.held host.new))) + times n (map number_of result.items) ≤ 1 }
+    ensures fresh { (n : ℕ)
+        → stands n (seen number_of (shown (H.Host.held host.new)))
+        + times n (map number_of result.items)
+        ≤ 1 }
     ensures reusable { All (Reusable (H.Host.tests host.new)) result.items }
     ensures stands { Stands R.log R.counts Whatever H.Host.tests H.Host.face H.Host.held host.new }
-    ensures owes { (done : List Act) → H.asked_owes done host.old → H.asked_owes (done ++ act.Receives class (map number_of result.items) ∷ []) host.new }
+    ensures owes { (done : List Act) → H.asked_owes done host.old
+        → H.asked_owes (done ++ act.Receives class (map number_of result.items) ∷ []) host.new }
 {
     match host.world().receive(class) {
         Some(units) => units,
@@ -49,15 +54,26 @@ fn get_parcel<R: Recorder, H: Desk<R>>(alloc: Global, host: &mut H, class: Class
 fn note_parcel<R: Recorder, H: Desk<R>>(host: &mut H, class: Class, units: Vec<Unit>)
     requires stands { Stands R.log R.counts Whatever H.Host.tests H.Host.face H.Host.held host.old }
     requires sit { All (Sits class) units.items }
-    requires fresh { (n : ℕ) → stands n (seen number_of (shown (H.Host.held host.old))) + times n (map number_of units.items) ≤ 1 }
+    requires fresh { (n : ℕ)
+        → stands n (seen number_of (shown (H.Host.held host.old)))
+        + times n (map number_of units.items)
+        ≤ 1 }
     requires reusable { All (Reusable (H.Host.tests host.old)) units.items }
-    ensures step { TookUnits R.log (H.Host.face host.old).level (entry.Receive class) (map number_of units.items) units.items (H.Host.held host.old) (H.Host.held host.new) }
-    ensures handled { Handled H.Host.face H.Host.pending H.stays H.shared H.Host.tests host.old host.new }
-    ensures deferred { ((shown (H.Host.held host.new)).rows class).deferred ≡ record ((shown (H.Host.held host.old)).rows class).deferred { ready = units.items ++ ((shown (H.Host.held host.old)).rows class).deferred.ready } }
-    ensures kept { (k : ℕ) → k ≢ class → ((shown (H.Host.held host.new)).rows k).deferred ≡ ((shown (H.Host.held host.old)).rows k).deferred }
-    ensures side { (shown (H.Host.held host.new)).sides (H.Host.face host.old).level ≡ (shown (H.Host.held host.old)).sides (H.Host.face host.old).level }
+    ensures step { TookUnits R.log (H.Host.face host.old).level (entry.Receive class)
+        (map number_of units.items) units.items (H.Host.held host.old) (H.Host.held host.new) }
+    ensures handled { Handled H.Host.face H.Host.pending H.stays H.shared H.Host.tests host.old
+        host.new }
+    ensures deferred { ((shown (H.Host.held host.new)).rows class).deferred
+        ≡ record ((shown (H.Host.held host.old)).rows class).deferred
+        { ready = units.items ++ ((shown (H.Host.held host.old)).rows class).deferred.ready } }
+    ensures kept { (k : ℕ) → k ≢ class
+        → ((shown (H.Host.held host.new)).rows k).deferred
+        ≡ ((shown (H.Host.held host.old)).rows k).deferred }
+    ensures side { (shown (H.Host.held host.new)).sides (H.Host.face host.old).level
+        ≡ (shown (H.Host.held host.old)).sides (H.Host.face host.old).level }
     ensures stands { Stands R.log R.counts Whatever H.Host.tests H.Host.face H.Host.held host.new }
-    ensures sound { H.asked_owes (act.Receives class (map number_of units.items) ∷ []) host.old → H.Host.sound host.new }
+    ensures sound { H.asked_owes (act.Receives class (map number_of units.items) ∷ []) host.old
+        → H.Host.sound host.new }
 {
     let level = host.level();
     host.caches().take_parcel(level, class, units);
@@ -65,12 +81,22 @@ fn note_parcel<R: Recorder, H: Desk<R>>(host: &mut H, class: Class, units: Vec<U
 
 /// A point, and the oldest parcel of a class comes on Ready; whether there was one.
 fn receive_one<R: Recorder, H: Desk<R>>(alloc: Global, host: &mut H, class: Class) -> bool
-    requires stands { Stands R.log R.counts H.Host.sound H.Host.tests H.Host.face H.Host.held host.old }
-    ensures works { Works R.log H.Host.face H.Host.pending H.stays H.Host.held (λ h. H.W.Knows.known (H.shared h)) 0 0 (λ l. Say l (GetsParcel class result)) host.old host.new }
-    ensures deferred { (units : List Token) × (((shown (H.Host.held host.new)).rows class).deferred ≡ record ((shown (H.Host.held host.old)).rows class).deferred { ready = units ++ ((shown (H.Host.held host.old)).rows class).deferred.ready }) }
-    ensures kept { (k : ℕ) → k ≢ class → ((shown (H.Host.held host.new)).rows k).deferred ≡ ((shown (H.Host.held host.old)).rows k).deferred }
-    ensures side { (shown (H.Host.held host.new)).sides (H.Host.face host.old).level ≡ (shown (H.Host.held host.old)).sides (H.Host.face host.old).level }
-    ensures stands { Stands R.log R.counts H.Host.sound H.Host.tests H.Host.face H.Host.held host.new }
+    requires stands { Stands R.log R.counts H.Host.sound H.Host.tests H.Host.face H.Host.held
+        host.old }
+    ensures works { Works R.log H.Host.face H.Host.pending H.stays H.Host.held
+        (λ h. H.W.Knows.known (H.shared h)) 0 0 (λ l. Say l (GetsParcel class result)) host.old
+        host.new }
+    ensures deferred { (units : List Token)
+        × (((shown (H.Host.held host.new)).rows class).deferred
+        ≡ record ((shown (H.Host.held host.old)).rows class).deferred
+        { ready = units ++ ((shown (H.Host.held host.old)).rows class).deferred.ready }) }
+    ensures kept { (k : ℕ) → k ≢ class
+        → ((shown (H.Host.held host.new)).rows k).deferred
+        ≡ ((shown (H.Host.held host.old)).rows k).deferred }
+    ensures side { (shown (H.Host.held host.new)).sides (H.Host.face host.old).level
+        ≡ (shown (H.Host.held host.old)).sides (H.Host.face host.old).level }
+    ensures stands { Stands R.log R.counts H.Host.sound H.Host.tests H.Host.face H.Host.held
+        host.new }
 {
     pause(host);
     let units = get_parcel(alloc, host, class);
@@ -81,12 +107,21 @@ fn receive_one<R: Recorder, H: Desk<R>>(alloc: Global, host: &mut H, class: Clas
 
 /// Receives parcels until there is none, at most so many.
 pub fn receive_up_to<R: Recorder, H: Desk<R>>(alloc: Global, host: &mut H, class: Class, left: u32)
-    requires stands { Stands R.log R.counts H.Host.sound H.Host.tests H.Host.face H.Host.held host.old }
-    ensures works { Works R.log H.Host.face H.Host.pending H.stays H.Host.held (λ h. H.W.Knows.known (H.shared h)) 0 0 (λ l. Receive l class left) host.old host.new }
-    ensures deferred { (units : List Token) × (((shown (H.Host.held host.new)).rows class).deferred ≡ record ((shown (H.Host.held host.old)).rows class).deferred { ready = units ++ ((shown (H.Host.held host.old)).rows class).deferred.ready }) }
-    ensures kept { (k : ℕ) → k ≢ class → ((shown (H.Host.held host.new)).rows k).deferred ≡ ((shown (H.Host.held host.old)).rows k).deferred }
-    ensures side { (shown (H.Host.held host.new)).sides (H.Host.face host.old).level ≡ (shown (H.Host.held host.old)).sides (H.Host.face host.old).level }
-    ensures stands { Stands R.log R.counts H.Host.sound H.Host.tests H.Host.face H.Host.held host.new }
+    requires stands { Stands R.log R.counts H.Host.sound H.Host.tests H.Host.face H.Host.held
+        host.old }
+    ensures works { Works R.log H.Host.face H.Host.pending H.stays H.Host.held
+        (λ h. H.W.Knows.known (H.shared h)) 0 0 (λ l. Receive l class left) host.old host.new }
+    ensures deferred { (units : List Token)
+        × (((shown (H.Host.held host.new)).rows class).deferred
+        ≡ record ((shown (H.Host.held host.old)).rows class).deferred
+        { ready = units ++ ((shown (H.Host.held host.old)).rows class).deferred.ready }) }
+    ensures kept { (k : ℕ) → k ≢ class
+        → ((shown (H.Host.held host.new)).rows k).deferred
+        ≡ ((shown (H.Host.held host.old)).rows k).deferred }
+    ensures side { (shown (H.Host.held host.new)).sides (H.Host.face host.old).level
+        ≡ (shown (H.Host.held host.old)).sides (H.Host.face host.old).level }
+    ensures stands { Stands R.log R.counts H.Host.sound H.Host.tests H.Host.face H.Host.held
+        host.new }
 {
     if left == 0 {
         return;

@@ -31,11 +31,15 @@ use bm_word::NoMemory;
 fn lend_second<R: Recorder, H: Desk<R>>(host: &mut H, class: Class) -> Result<Vec<Unit>, NoMemory>
     requires placed { Placed R.log R.counts (H.Host.held host.old) }
     requires asked { H.Host.asked host.old }
-    ensures units { IfOk result (λ us. us.items ≡ ((shown (H.Host.held host.old)).rows class).deferred.second) }
-    ensures lent { OnOk result (Lends R.log R.counts (with_second class [] (shown (H.Host.held host.old))) (H.Host.held host.old) (H.Host.held host.new)) }
+    ensures units { IfOk result
+        (λ us. us.items ≡ ((shown (H.Host.held host.old)).rows class).deferred.second) }
+    ensures lent { OnOk result
+        (Lends R.log R.counts (with_second class [] (shown (H.Host.held host.old)))
+        (H.Host.held host.old) (H.Host.held host.new)) }
     ensures refused { OnErr result ((H.Host.held host.new) ≡ (H.Host.held host.old)) }
     ensures known { Known (H.Host.face host.old).level (entry.Return class (Whole [])) }
-    ensures handled { Handled H.Host.face H.Host.pending H.stays H.shared H.Host.tests host.old host.new }
+    ensures handled { Handled H.Host.face H.Host.pending H.stays H.shared H.Host.tests host.old
+        host.new }
     ensures asked { H.Host.asked host.new }
 {
     let level = host.level();
@@ -47,20 +51,27 @@ fn give_back<R: Recorder, H: Desk<R>>(host: &mut H, units: Vec<Unit>)
     requires mine { Holds (H.W.Knows.rights (H.shared host.old)) units.items }
     requires fit { All (MayLeave (H.W.Knows.rights (H.shared host.old))) units.items }
     requires settled { All (IsSettled (H.W.Knows.rights (H.shared host.old))) units.items }
-    ensures posted { Posted H.Host.face H.Host.pending H.stays H.Host.held (λ h. H.W.Knows.known (H.shared h)) H.Host.tests (numbers units.items) host.old host.new }
-    ensures owes { (done : List Act) → H.asked_owes done host.old → H.asked_owes (done ++ act.GivesBack (numbers units.items) ∷ []) host.new }
+    ensures posted { Posted H.Host.face H.Host.pending H.stays H.Host.held
+        (λ h. H.W.Knows.known (H.shared h)) H.Host.tests (numbers units.items) host.old host.new }
+    ensures owes { (done : List Act) → H.asked_owes done host.old
+        → H.asked_owes (done ++ act.GivesBack (numbers units.items) ∷ []) host.new }
 {
     host.world().put_back(units);
 }
 
 /// Ends the loan of units that went back.
 fn end_return<R: Recorder, H: Desk<R>>(host: &mut H, class: Class, numbers: Vec<u16>)
-    requires lent { (s : State Token) × SecondIsLent R.log R.counts class numbers.items s (H.Host.held host.old) }
-    requires progress { IsTrue (is_some ((shown (H.Host.held host.old)).rows class).deferred.tracing) }
-    ensures step { Ended R.log (H.Host.face host.old).level (entry.Return class (Whole numbers.items)) (H.Host.held host.old) (H.Host.held host.new) }
+    requires lent { (s : State Token)
+        × SecondIsLent R.log R.counts class numbers.items s (H.Host.held host.old) }
+    requires progress { IsTrue
+        (is_some ((shown (H.Host.held host.old)).rows class).deferred.tracing) }
+    ensures step { Ended R.log (H.Host.face host.old).level
+        (entry.Return class (Whole numbers.items)) (H.Host.held host.old) (H.Host.held host.new) }
     ensures placed { Placed R.log R.counts (H.Host.held host.new) }
-    ensures handled { Handled H.Host.face H.Host.pending H.stays H.shared H.Host.tests host.old host.new }
-    ensures sound { H.asked_owes (act.GivesBack numbers.items ∷ []) host.old → H.Host.sound host.new }
+    ensures handled { Handled H.Host.face H.Host.pending H.stays H.shared H.Host.tests host.old
+        host.new }
+    ensures sound { H.asked_owes (act.GivesBack numbers.items ∷ []) host.old
+        → H.Host.sound host.new }
 {
     let level = host.level();
     host.caches().returned(level, class, numbers);
@@ -73,16 +84,32 @@ pub fn return_now<R: Recorder, H: Desk<R>>(
     class: Class,
     numbers: Vec<u16>,
 ) -> Result<(), NoMemory>
-    requires stands { Stands R.log R.counts H.Host.asked H.Host.tests H.Host.face H.Host.held host.old }
-    requires progress { IsTrue (is_some ((shown (H.Host.held host.old)).rows class).deferred.tracing) }
+    requires stands { Stands R.log R.counts H.Host.asked H.Host.tests H.Host.face H.Host.held
+        host.old }
+    requires progress { IsTrue
+        (is_some ((shown (H.Host.held host.old)).rows class).deferred.tracing) }
     requires empty { vec_len numbers ≡ 0 }
-    requires room { length ((shown (H.Host.held host.old)).rows class).deferred.second ≤ vec_capacity numbers }
-    ensures ok { OnOk result (Works R.log H.Host.face H.Host.pending H.stays H.Host.held (λ h. H.W.Knows.known (H.shared h)) 0 0 (λ l. Say l (IsReturn class)) host.old host.new) }
-    ensures err { OnErr result (Stopped R.log R.counts H.Host.face H.Host.held (λ l. Nothing) host.old host.new) }
-    ensures deferred { OnOk result (((shown (H.Host.held host.new)).rows class).deferred ≡ record ((shown (H.Host.held host.old)).rows class).deferred { second = []; tracing = None }) }
-    ensures kept { OnOk result ((k : ℕ) → k ≢ class → ((shown (H.Host.held host.new)).rows k).deferred ≡ ((shown (H.Host.held host.old)).rows k).deferred) }
-    ensures side { OnOk result ((shown (H.Host.held host.new)).sides (H.Host.face host.old).level ≡ (shown (H.Host.held host.old)).sides (H.Host.face host.old).level) }
-    ensures back { OnOk result (Stands R.log R.counts H.Host.sound H.Host.tests H.Host.face H.Host.held host.new) }
+    requires room { length ((shown (H.Host.held host.old)).rows class).deferred.second
+        ≤ vec_capacity numbers }
+    ensures ok { OnOk result
+        (Works R.log H.Host.face H.Host.pending H.stays H.Host.held
+        (λ h. H.W.Knows.known (H.shared h)) 0 0 (λ l. Say l (IsReturn class)) host.old
+        host.new) }
+    ensures err { OnErr result
+        (Stopped R.log R.counts H.Host.face H.Host.held (λ l. Nothing) host.old host.new) }
+    ensures deferred { OnOk result
+        (((shown (H.Host.held host.new)).rows class).deferred
+        ≡ record ((shown (H.Host.held host.old)).rows class).deferred
+        { second = []; tracing = None }) }
+    ensures kept { OnOk result
+        ((k : ℕ) → k ≢ class
+        → ((shown (H.Host.held host.new)).rows k).deferred
+        ≡ ((shown (H.Host.held host.old)).rows k).deferred) }
+    ensures side { OnOk result
+        ((shown (H.Host.held host.new)).sides (H.Host.face host.old).level
+        ≡ (shown (H.Host.held host.old)).sides (H.Host.face host.old).level) }
+    ensures back { OnOk result
+        (Stands R.log R.counts H.Host.sound H.Host.tests H.Host.face H.Host.held host.new) }
 {
     let mut numbers = numbers;
     let units = lend_second(host, class)?;

@@ -35,17 +35,30 @@ pub fn send_hand_now<R: Recorder, H: Desk<R>>(
     class: Class,
     numbers: Vec<u16>,
 ) -> Result<(), NoMemory>
-    requires stands { Stands R.log R.counts H.Host.asked H.Host.tests H.Host.face H.Host.held host.old }
-    requires quiet { ((shown (H.Host.held host.old)).sides (H.Host.face host.old).level).mark ≡ mark.Quiet }
-    requires fit { All (Fit (H.Host.tests host.old) class) ((shown (H.Host.held host.old)).sides (H.Host.face host.old).level).hand }
-    requires some { 0 < length ((shown (H.Host.held host.old)).sides (H.Host.face host.old).level).hand }
+    requires stands { Stands R.log R.counts H.Host.asked H.Host.tests H.Host.face H.Host.held
+        host.old }
+    requires quiet { ((shown (H.Host.held host.old)).sides (H.Host.face host.old).level).mark
+        ≡ mark.Quiet }
+    requires fit { All (Fit (H.Host.tests host.old) class)
+        ((shown (H.Host.held host.old)).sides (H.Host.face host.old).level).hand }
+    requires some { 0
+        < length ((shown (H.Host.held host.old)).sides (H.Host.face host.old).level).hand }
     requires empty { vec_len numbers ≡ 0 }
-    requires room { length ((shown (H.Host.held host.old)).sides (H.Host.face host.old).level).hand ≤ vec_capacity numbers }
-    ensures ok { OnOk result (Works R.log H.Host.face H.Host.pending H.stays H.Host.held (λ h. H.W.Knows.known (H.shared h)) 0 0 (λ l. Say l (IsSend class)) host.old host.new) }
-    ensures err { OnErr result (Stopped R.log R.counts H.Host.face H.Host.held (λ l. Nothing) host.old host.new) }
-    ensures deferred { OnOk result ((k : ℕ) → ((shown (H.Host.held host.new)).rows k).deferred ≡ ((shown (H.Host.held host.old)).rows k).deferred) }
-    ensures side { OnOk result ((shown (H.Host.held host.new)).sides (H.Host.face host.old).level ≡ idle_side) }
-    ensures back { OnOk result (Stands R.log R.counts H.Host.sound H.Host.tests H.Host.face H.Host.held host.new) }
+    requires room { length ((shown (H.Host.held host.old)).sides (H.Host.face host.old).level).hand
+        ≤ vec_capacity numbers }
+    ensures ok { OnOk result
+        (Works R.log H.Host.face H.Host.pending H.stays H.Host.held
+        (λ h. H.W.Knows.known (H.shared h)) 0 0 (λ l. Say l (IsSend class)) host.old host.new) }
+    ensures err { OnErr result
+        (Stopped R.log R.counts H.Host.face H.Host.held (λ l. Nothing) host.old host.new) }
+    ensures deferred { OnOk result
+        ((k : ℕ)
+        → ((shown (H.Host.held host.new)).rows k).deferred
+        ≡ ((shown (H.Host.held host.old)).rows k).deferred) }
+    ensures side { OnOk result
+        ((shown (H.Host.held host.new)).sides (H.Host.face host.old).level ≡ idle_side) }
+    ensures back { OnOk result
+        (Stands R.log R.counts H.Host.sound H.Host.tests H.Host.face H.Host.held host.new) }
 {
     let mut numbers = numbers;
     let units = lend_hand(host, class)?;
@@ -82,21 +95,37 @@ pub fn send_first_now<R: Recorder, H: Desk<R>>(
     numbers: Vec<u16>,
     seal: Seal,
 ) -> Result<(), NoMemory>
-    requires stands { Stands R.log R.counts H.Host.asked H.Host.tests H.Host.face H.Host.held host.old }
+    requires stands { Stands R.log R.counts H.Host.asked H.Host.tests H.Host.face H.Host.held
+        host.old }
     requires idle { (shown (H.Host.held host.old)).sides (H.Host.face host.old).level ≡ idle_side }
-    requires ripe { All (Passes (H.Host.tests host.old) (ripe_test Plain seal.stamp seal.seen)) ((shown (H.Host.held host.old)).rows class).deferred.first }
-    requires stamped { ((shown (H.Host.held host.old)).rows class).deferred.plain ≡ Some seal.stamp }
+    requires ripe { All (Passes (H.Host.tests host.old) (ripe_test Plain seal.stamp seal.seen))
+        ((shown (H.Host.held host.old)).rows class).deferred.first }
+    requires stamped { ((shown (H.Host.held host.old)).rows class).deferred.plain
+        ≡ Some seal.stamp }
     requires taken { 0 < seal.stamp }
-    requires passed { LastIs R.log (H.Host.face host.old).level (entry.Pass class Plain seal.seen) (H.Host.held host.old) }
+    requires passed { LastIs R.log (H.Host.face host.old).level (entry.Pass class Plain seal.seen)
+        (H.Host.held host.old) }
     requires some { 0 < length ((shown (H.Host.held host.old)).rows class).deferred.first }
     requires empty { vec_len numbers ≡ 0 }
-    requires room { length ((shown (H.Host.held host.old)).rows class).deferred.first ≤ vec_capacity numbers }
-    ensures ok { OnOk result (Works R.log H.Host.face H.Host.pending H.stays H.Host.held (λ h. H.W.Knows.known (H.shared h)) 0 0 (λ l. Say l (IsSend class)) host.old host.new) }
-    ensures err { OnErr result (Stopped R.log R.counts H.Host.face H.Host.held (λ l. Nothing) host.old host.new) }
-    ensures deferred { OnOk result (((shown (H.Host.held host.new)).rows class).deferred ≡ record ((shown (H.Host.held host.old)).rows class).deferred { first = []; plain = None }) }
-    ensures kept { OnOk result ((k : ℕ) → k ≢ class → ((shown (H.Host.held host.new)).rows k).deferred ≡ ((shown (H.Host.held host.old)).rows k).deferred) }
-    ensures side { OnOk result ((shown (H.Host.held host.new)).sides (H.Host.face host.old).level ≡ idle_side) }
-    ensures back { OnOk result (Stands R.log R.counts H.Host.sound H.Host.tests H.Host.face H.Host.held host.new) }
+    requires room { length ((shown (H.Host.held host.old)).rows class).deferred.first
+        ≤ vec_capacity numbers }
+    ensures ok { OnOk result
+        (Works R.log H.Host.face H.Host.pending H.stays H.Host.held
+        (λ h. H.W.Knows.known (H.shared h)) 0 0 (λ l. Say l (IsSend class)) host.old host.new) }
+    ensures err { OnErr result
+        (Stopped R.log R.counts H.Host.face H.Host.held (λ l. Nothing) host.old host.new) }
+    ensures deferred { OnOk result
+        (((shown (H.Host.held host.new)).rows class).deferred
+        ≡ record ((shown (H.Host.held host.old)).rows class).deferred
+        { first = []; plain = None }) }
+    ensures kept { OnOk result
+        ((k : ℕ) → k ≢ class
+        → ((shown (H.Host.held host.new)).rows k).deferred
+        ≡ ((shown (H.Host.held host.old)).rows k).deferred) }
+    ensures side { OnOk result
+        ((shown (H.Host.held host.new)).sides (H.Host.face host.old).level ≡ idle_side) }
+    ensures back { OnOk result
+        (Stands R.log R.counts H.Host.sound H.Host.tests H.Host.face H.Host.held host.new) }
 {
     let mut numbers = numbers;
     let mut units = lend_first(host, class)?;

@@ -28,12 +28,16 @@ use std::alloc::Global;
 
 /// The stamp of the batch of a domain; none where none is in progress.
 fn batch_stamp<R: Recorder, H: Desk<R>>(host: &mut H, class: Class, domain: Domain) -> Option<u32>
-    requires stands { Stands R.log R.counts H.Host.sound H.Host.tests H.Host.face H.Host.held host.old }
+    requires stands { Stands R.log R.counts H.Host.sound H.Host.tests H.Host.face H.Host.held
+        host.old }
     ensures stamp { result ≡ stamp_of domain ((shown (H.Host.held host.old)).rows class).deferred }
     ensures same { (H.Host.held host.new) ≡ (H.Host.held host.old) }
-    ensures handled { Handled H.Host.face H.Host.pending H.stays H.shared H.Host.tests host.old host.new }
-    ensures posted { Posted H.Host.face H.Host.pending H.stays H.Host.held (λ h. H.W.Knows.known (H.shared h)) H.Host.tests ([]) host.old host.new }
-    ensures stands { Stands R.log R.counts H.Host.sound H.Host.tests H.Host.face H.Host.held host.new }
+    ensures handled { Handled H.Host.face H.Host.pending H.stays H.shared H.Host.tests host.old
+        host.new }
+    ensures posted { Posted H.Host.face H.Host.pending H.stays H.Host.held
+        (λ h. H.W.Knows.known (H.shared h)) H.Host.tests ([]) host.old host.new }
+    ensures stands { Stands R.log R.counts H.Host.sound H.Host.tests H.Host.face H.Host.held
+        host.new }
 {
     host.caches().in_progress(class, domain)
 }
@@ -44,17 +48,31 @@ fn pass_first<R: Recorder, H: Desk<R>>(
     host: &mut H,
     class: Class,
 ) -> Result<(), NoMemory>
-    requires stands { Stands R.log R.counts H.Host.sound H.Host.tests H.Host.face H.Host.held host.old }
+    requires stands { Stands R.log R.counts H.Host.sound H.Host.tests H.Host.face H.Host.held
+        host.old }
     requires idle { (shown (H.Host.held host.old)).sides (H.Host.face host.old).level ≡ idle_side }
     requires room { 0 < (side Plain (H.W.Knows.known (H.shared host.old))).begins }
-    requires stamped { is_unstamped ((shown (H.Host.held host.old)).rows class).deferred.plain ≡ false }
-    ensures ok { OnOk result (Works R.log H.Host.face H.Host.pending H.stays H.Host.held (λ h. H.W.Knows.known (H.shared h)) 1 0 (λ l. PassFirst l class) host.old host.new) }
-    ensures err { OnErr result (Stopped R.log R.counts H.Host.face H.Host.held (λ l. FirstStop l class) host.old host.new) }
-    ensures stamped { OnOk result (is_unstamped ((shown (H.Host.held host.new)).rows class).deferred.plain ≡ false) }
-    ensures tracing { OnOk result (((shown (H.Host.held host.new)).rows class).deferred.tracing ≡ ((shown (H.Host.held host.old)).rows class).deferred.tracing) }
-    ensures kept { OnOk result ((k : ℕ) → k ≢ class → ((shown (H.Host.held host.new)).rows k).deferred ≡ ((shown (H.Host.held host.old)).rows k).deferred) }
-    ensures side { OnOk result ((shown (H.Host.held host.new)).sides (H.Host.face host.old).level ≡ idle_side) }
-    ensures back { OnOk result (Stands R.log R.counts H.Host.sound H.Host.tests H.Host.face H.Host.held host.new) }
+    requires stamped { is_unstamped ((shown (H.Host.held host.old)).rows class).deferred.plain
+        ≡ false }
+    ensures ok { OnOk result
+        (Works R.log H.Host.face H.Host.pending H.stays H.Host.held
+        (λ h. H.W.Knows.known (H.shared h)) 1 0 (λ l. PassFirst l class) host.old host.new) }
+    ensures err { OnErr result
+        (Stopped R.log R.counts H.Host.face H.Host.held (λ l. FirstStop l class) host.old
+        host.new) }
+    ensures stamped { OnOk result
+        (is_unstamped ((shown (H.Host.held host.new)).rows class).deferred.plain ≡ false) }
+    ensures tracing { OnOk result
+        (((shown (H.Host.held host.new)).rows class).deferred.tracing
+        ≡ ((shown (H.Host.held host.old)).rows class).deferred.tracing) }
+    ensures kept { OnOk result
+        ((k : ℕ) → k ≢ class
+        → ((shown (H.Host.held host.new)).rows k).deferred
+        ≡ ((shown (H.Host.held host.old)).rows k).deferred) }
+    ensures side { OnOk result
+        ((shown (H.Host.held host.new)).sides (H.Host.face host.old).level ≡ idle_side) }
+    ensures back { OnOk result
+        (Stands R.log R.counts H.Host.sound H.Host.tests H.Host.face H.Host.held host.new) }
 {
     let stamp = match batch_stamp(host, class, Domain::Plain) {
         Some(stamp) => stamp,
@@ -73,15 +91,27 @@ fn pass_second<R: Recorder, H: Desk<R>>(
     host: &mut H,
     class: Class,
 ) -> Result<(), NoMemory>
-    requires stands { Stands R.log R.counts H.Host.sound H.Host.tests H.Host.face H.Host.held host.old }
+    requires stands { Stands R.log R.counts H.Host.sound H.Host.tests H.Host.face H.Host.held
+        host.old }
     requires idle { (shown (H.Host.held host.old)).sides (H.Host.face host.old).level ≡ idle_side }
     requires room { 0 < (side Tracing (H.W.Knows.known (H.shared host.old))).begins }
-    ensures ok { OnOk result (Works R.log H.Host.face H.Host.pending H.stays H.Host.held (λ h. H.W.Knows.known (H.shared h)) 0 1 (λ l. PassSecond l class) host.old host.new) }
-    ensures err { OnErr result (Stopped R.log R.counts H.Host.face H.Host.held (λ l. SecondStop l class) host.old host.new) }
-    ensures plain { OnOk result (((shown (H.Host.held host.new)).rows class).deferred.plain ≡ ((shown (H.Host.held host.old)).rows class).deferred.plain) }
-    ensures kept { OnOk result ((k : ℕ) → k ≢ class → ((shown (H.Host.held host.new)).rows k).deferred ≡ ((shown (H.Host.held host.old)).rows k).deferred) }
-    ensures side { OnOk result ((shown (H.Host.held host.new)).sides (H.Host.face host.old).level ≡ idle_side) }
-    ensures back { OnOk result (Stands R.log R.counts H.Host.sound H.Host.tests H.Host.face H.Host.held host.new) }
+    ensures ok { OnOk result
+        (Works R.log H.Host.face H.Host.pending H.stays H.Host.held
+        (λ h. H.W.Knows.known (H.shared h)) 0 1 (λ l. PassSecond l class) host.old host.new) }
+    ensures err { OnErr result
+        (Stopped R.log R.counts H.Host.face H.Host.held (λ l. SecondStop l class) host.old
+        host.new) }
+    ensures plain { OnOk result
+        (((shown (H.Host.held host.new)).rows class).deferred.plain
+        ≡ ((shown (H.Host.held host.old)).rows class).deferred.plain) }
+    ensures kept { OnOk result
+        ((k : ℕ) → k ≢ class
+        → ((shown (H.Host.held host.new)).rows k).deferred
+        ≡ ((shown (H.Host.held host.old)).rows k).deferred) }
+    ensures side { OnOk result
+        ((shown (H.Host.held host.new)).sides (H.Host.face host.old).level ≡ idle_side) }
+    ensures back { OnOk result
+        (Stands R.log R.counts H.Host.sound H.Host.tests H.Host.face H.Host.held host.new) }
 {
     let stamp = match batch_stamp(host, class, Domain::Tracing) {
         Some(stamp) => stamp,
@@ -95,16 +125,24 @@ fn pass_second<R: Recorder, H: Desk<R>>(
 
 /// What was freed with delay becomes the plain batch, if it holds a unit and none is in progress, and takes its stamp.
 fn begin_first<R: Recorder, H: Desk<R>>(host: &mut H, class: Class)
-    requires stands { Stands R.log R.counts H.Host.sound H.Host.tests H.Host.face H.Host.held host.old }
+    requires stands { Stands R.log R.counts H.Host.sound H.Host.tests H.Host.face H.Host.held
+        host.old }
     requires idle { (shown (H.Host.held host.old)).sides (H.Host.face host.old).level ≡ idle_side }
     requires active { ((shown (H.Host.held host.old)).rows class).active ≡ 0 }
-    requires stamped { is_unstamped ((shown (H.Host.held host.old)).rows class).deferred.plain ≡ false }
-    ensures works { Works R.log H.Host.face H.Host.pending H.stays H.Host.held (λ h. H.W.Knows.known (H.shared h)) 0 0 (λ l. BeginFirst l class) host.old host.new }
-    ensures stamped { is_unstamped ((shown (H.Host.held host.new)).rows class).deferred.plain ≡ false }
-    ensures tracing { ((shown (H.Host.held host.new)).rows class).deferred.tracing ≡ ((shown (H.Host.held host.old)).rows class).deferred.tracing }
-    ensures kept { (k : ℕ) → k ≢ class → ((shown (H.Host.held host.new)).rows k).deferred ≡ ((shown (H.Host.held host.old)).rows k).deferred }
+    requires stamped { is_unstamped ((shown (H.Host.held host.old)).rows class).deferred.plain
+        ≡ false }
+    ensures works { Works R.log H.Host.face H.Host.pending H.stays H.Host.held
+        (λ h. H.W.Knows.known (H.shared h)) 0 0 (λ l. BeginFirst l class) host.old host.new }
+    ensures stamped { is_unstamped ((shown (H.Host.held host.new)).rows class).deferred.plain
+        ≡ false }
+    ensures tracing { ((shown (H.Host.held host.new)).rows class).deferred.tracing
+        ≡ ((shown (H.Host.held host.old)).rows class).deferred.tracing }
+    ensures kept { (k : ℕ) → k ≢ class
+        → ((shown (H.Host.held host.new)).rows k).deferred
+        ≡ ((shown (H.Host.held host.old)).rows k).deferred }
     ensures side { (shown (H.Host.held host.new)).sides (H.Host.face host.old).level ≡ idle_side }
-    ensures stands { Stands R.log R.counts H.Host.sound H.Host.tests H.Host.face H.Host.held host.new }
+    ensures stands { Stands R.log R.counts H.Host.sound H.Host.tests H.Host.face H.Host.held
+        host.new }
 {
     if gather(host, class) {
         stamp_batch(host, class, Domain::Plain);
@@ -113,13 +151,19 @@ fn begin_first<R: Recorder, H: Desk<R>>(host: &mut H, class: Class)
 
 /// Ready becomes the tracing batch, if it holds a unit and none is in progress, and takes its stamp.
 fn begin_second<R: Recorder, H: Desk<R>>(host: &mut H, class: Class)
-    requires stands { Stands R.log R.counts H.Host.sound H.Host.tests H.Host.face H.Host.held host.old }
+    requires stands { Stands R.log R.counts H.Host.sound H.Host.tests H.Host.face H.Host.held
+        host.old }
     requires idle { (shown (H.Host.held host.old)).sides (H.Host.face host.old).level ≡ idle_side }
-    ensures works { Works R.log H.Host.face H.Host.pending H.stays H.Host.held (λ h. H.W.Knows.known (H.shared h)) 0 0 (λ l. BeginSecond l class) host.old host.new }
-    ensures plain { ((shown (H.Host.held host.new)).rows class).deferred.plain ≡ ((shown (H.Host.held host.old)).rows class).deferred.plain }
-    ensures kept { (k : ℕ) → k ≢ class → ((shown (H.Host.held host.new)).rows k).deferred ≡ ((shown (H.Host.held host.old)).rows k).deferred }
+    ensures works { Works R.log H.Host.face H.Host.pending H.stays H.Host.held
+        (λ h. H.W.Knows.known (H.shared h)) 0 0 (λ l. BeginSecond l class) host.old host.new }
+    ensures plain { ((shown (H.Host.held host.new)).rows class).deferred.plain
+        ≡ ((shown (H.Host.held host.old)).rows class).deferred.plain }
+    ensures kept { (k : ℕ) → k ≢ class
+        → ((shown (H.Host.held host.new)).rows k).deferred
+        ≡ ((shown (H.Host.held host.old)).rows k).deferred }
     ensures side { (shown (H.Host.held host.new)).sides (H.Host.face host.old).level ≡ idle_side }
-    ensures stands { Stands R.log R.counts H.Host.sound H.Host.tests H.Host.face H.Host.held host.new }
+    ensures stands { Stands R.log R.counts H.Host.sound H.Host.tests H.Host.face H.Host.held
+        host.new }
 {
     if begin_batch(host, class) {
         stamp_batch(host, class, Domain::Tracing);
@@ -133,18 +177,32 @@ pub fn first_stage<R: Recorder, H: Desk<R>>(
     host: &mut H,
     class: Class,
 ) -> Result<(), NoMemory>
-    requires stands { Stands R.log R.counts H.Host.sound H.Host.tests H.Host.face H.Host.held host.old }
+    requires stands { Stands R.log R.counts H.Host.sound H.Host.tests H.Host.face H.Host.held
+        host.old }
     requires idle { (shown (H.Host.held host.old)).sides (H.Host.face host.old).level ≡ idle_side }
     requires active { ((shown (H.Host.held host.old)).rows class).active ≡ 0 }
     requires room { 0 < (side Plain (H.W.Knows.known (H.shared host.old))).begins }
-    requires stamped { is_unstamped ((shown (H.Host.held host.old)).rows class).deferred.plain ≡ false }
-    ensures ok { OnOk result (Works R.log H.Host.face H.Host.pending H.stays H.Host.held (λ h. H.W.Knows.known (H.shared h)) 1 0 (λ l. FirstStage l class) host.old host.new) }
-    ensures err { OnErr result (Stopped R.log R.counts H.Host.face H.Host.held (λ l. FirstStop l class) host.old host.new) }
-    ensures stamped { OnOk result (is_unstamped ((shown (H.Host.held host.new)).rows class).deferred.plain ≡ false) }
-    ensures tracing { OnOk result (((shown (H.Host.held host.new)).rows class).deferred.tracing ≡ ((shown (H.Host.held host.old)).rows class).deferred.tracing) }
-    ensures kept { OnOk result ((k : ℕ) → k ≢ class → ((shown (H.Host.held host.new)).rows k).deferred ≡ ((shown (H.Host.held host.old)).rows k).deferred) }
-    ensures side { OnOk result ((shown (H.Host.held host.new)).sides (H.Host.face host.old).level ≡ idle_side) }
-    ensures back { OnOk result (Stands R.log R.counts H.Host.sound H.Host.tests H.Host.face H.Host.held host.new) }
+    requires stamped { is_unstamped ((shown (H.Host.held host.old)).rows class).deferred.plain
+        ≡ false }
+    ensures ok { OnOk result
+        (Works R.log H.Host.face H.Host.pending H.stays H.Host.held
+        (λ h. H.W.Knows.known (H.shared h)) 1 0 (λ l. FirstStage l class) host.old host.new) }
+    ensures err { OnErr result
+        (Stopped R.log R.counts H.Host.face H.Host.held (λ l. FirstStop l class) host.old
+        host.new) }
+    ensures stamped { OnOk result
+        (is_unstamped ((shown (H.Host.held host.new)).rows class).deferred.plain ≡ false) }
+    ensures tracing { OnOk result
+        (((shown (H.Host.held host.new)).rows class).deferred.tracing
+        ≡ ((shown (H.Host.held host.old)).rows class).deferred.tracing) }
+    ensures kept { OnOk result
+        ((k : ℕ) → k ≢ class
+        → ((shown (H.Host.held host.new)).rows k).deferred
+        ≡ ((shown (H.Host.held host.old)).rows k).deferred) }
+    ensures side { OnOk result
+        ((shown (H.Host.held host.new)).sides (H.Host.face host.old).level ≡ idle_side) }
+    ensures back { OnOk result
+        (Stands R.log R.counts H.Host.sound H.Host.tests H.Host.face H.Host.held host.new) }
 {
     pass_first(alloc, host, class)?;
     begin_first(host, class);
@@ -158,15 +216,27 @@ pub fn second_stage<R: Recorder, H: Desk<R>>(
     host: &mut H,
     class: Class,
 ) -> Result<(), NoMemory>
-    requires stands { Stands R.log R.counts H.Host.sound H.Host.tests H.Host.face H.Host.held host.old }
+    requires stands { Stands R.log R.counts H.Host.sound H.Host.tests H.Host.face H.Host.held
+        host.old }
     requires idle { (shown (H.Host.held host.old)).sides (H.Host.face host.old).level ≡ idle_side }
     requires room { 0 < (side Tracing (H.W.Knows.known (H.shared host.old))).begins }
-    ensures ok { OnOk result (Works R.log H.Host.face H.Host.pending H.stays H.Host.held (λ h. H.W.Knows.known (H.shared h)) 0 1 (λ l. SecondStage l class) host.old host.new) }
-    ensures err { OnErr result (Stopped R.log R.counts H.Host.face H.Host.held (λ l. SecondStop l class) host.old host.new) }
-    ensures plain { OnOk result (((shown (H.Host.held host.new)).rows class).deferred.plain ≡ ((shown (H.Host.held host.old)).rows class).deferred.plain) }
-    ensures kept { OnOk result ((k : ℕ) → k ≢ class → ((shown (H.Host.held host.new)).rows k).deferred ≡ ((shown (H.Host.held host.old)).rows k).deferred) }
-    ensures side { OnOk result ((shown (H.Host.held host.new)).sides (H.Host.face host.old).level ≡ idle_side) }
-    ensures back { OnOk result (Stands R.log R.counts H.Host.sound H.Host.tests H.Host.face H.Host.held host.new) }
+    ensures ok { OnOk result
+        (Works R.log H.Host.face H.Host.pending H.stays H.Host.held
+        (λ h. H.W.Knows.known (H.shared h)) 0 1 (λ l. SecondStage l class) host.old host.new) }
+    ensures err { OnErr result
+        (Stopped R.log R.counts H.Host.face H.Host.held (λ l. SecondStop l class) host.old
+        host.new) }
+    ensures plain { OnOk result
+        (((shown (H.Host.held host.new)).rows class).deferred.plain
+        ≡ ((shown (H.Host.held host.old)).rows class).deferred.plain) }
+    ensures kept { OnOk result
+        ((k : ℕ) → k ≢ class
+        → ((shown (H.Host.held host.new)).rows k).deferred
+        ≡ ((shown (H.Host.held host.old)).rows k).deferred) }
+    ensures side { OnOk result
+        ((shown (H.Host.held host.new)).sides (H.Host.face host.old).level ≡ idle_side) }
+    ensures back { OnOk result
+        (Stands R.log R.counts H.Host.sound H.Host.tests H.Host.face H.Host.held host.new) }
 {
     pass_second(alloc, host, class)?;
     begin_second(host, class);

@@ -28,10 +28,14 @@ use bm_journal::{Domain, Recorder};
 pub fn take_stamp<R: Recorder, H: Desk<R>>(host: &mut H, domain: Domain) -> u32
     requires stands { Stands R.log R.counts Whatever H.Host.tests H.Host.face H.Host.held host.old }
     ensures positive { 0 < result }
-    ensures since { (u : Token) → Either (H.Host.tests host.old) u → Passes (H.Host.tests host.new) (since_test domain result) u }
-    ensures called { Called H.Host.face H.Host.pending H.stays H.Host.held (λ h. H.W.Knows.known (H.shared h)) (λ h. H.W.Knows.rights (H.shared h)) 0 0 host.old host.new }
+    ensures since { (u : Token) → Either (H.Host.tests host.old) u
+        → Passes (H.Host.tests host.new) (since_test domain result) u }
+    ensures called { Called H.Host.face H.Host.pending H.stays H.Host.held
+        (λ h. H.W.Knows.known (H.shared h)) (λ h. H.W.Knows.rights (H.shared h)) 0 0 host.old
+        host.new }
     ensures stands { Stands R.log R.counts Whatever H.Host.tests H.Host.face H.Host.held host.new }
-    ensures owes { (done : List Act) → H.asked_owes done host.old → H.asked_owes (done ++ act.Stamps domain result ∷ []) host.new }
+    ensures owes { (done : List Act) → H.asked_owes done host.old
+        → H.asked_owes (done ++ act.Stamps domain result ∷ []) host.new }
 {
     host.world().stamp(domain)
 }
@@ -39,12 +43,20 @@ pub fn take_stamp<R: Recorder, H: Desk<R>>(host: &mut H, domain: Domain) -> u32
 /// Records the stamp of a batch.
 fn note_stamp<R: Recorder, H: Desk<R>>(host: &mut H, class: Class, domain: Domain, stamp: u32)
     requires stands { Stands R.log R.counts Whatever H.Host.tests H.Host.face H.Host.held host.old }
-    requires unstamped { stamp_of domain ((shown (H.Host.held host.old)).rows class).deferred ≡ Some 0 }
-    requires since { All (Passes (H.Host.tests host.old) (since_test domain stamp)) (batch_of domain ((shown (H.Host.held host.old)).rows class).deferred) }
-    ensures works { Works R.log H.Host.face H.Host.pending H.stays H.Host.held (λ h. H.W.Knows.known (H.shared h)) 0 0 (λ l. Say l (IsOne (entry.Stamp class domain stamp))) host.old host.new }
-    ensures deferred { ((shown (H.Host.held host.new)).rows class).deferred ≡ stamped domain stamp ((shown (H.Host.held host.old)).rows class).deferred }
-    ensures kept { (k : ℕ) → k ≢ class → ((shown (H.Host.held host.new)).rows k).deferred ≡ ((shown (H.Host.held host.old)).rows k).deferred }
-    ensures side { (shown (H.Host.held host.new)).sides (H.Host.face host.old).level ≡ (shown (H.Host.held host.old)).sides (H.Host.face host.old).level }
+    requires unstamped { stamp_of domain ((shown (H.Host.held host.old)).rows class).deferred
+        ≡ Some 0 }
+    requires since { All (Passes (H.Host.tests host.old) (since_test domain stamp))
+        (batch_of domain ((shown (H.Host.held host.old)).rows class).deferred) }
+    ensures works { Works R.log H.Host.face H.Host.pending H.stays H.Host.held
+        (λ h. H.W.Knows.known (H.shared h)) 0 0
+        (λ l. Say l (IsOne (entry.Stamp class domain stamp))) host.old host.new }
+    ensures deferred { ((shown (H.Host.held host.new)).rows class).deferred
+        ≡ stamped domain stamp ((shown (H.Host.held host.old)).rows class).deferred }
+    ensures kept { (k : ℕ) → k ≢ class
+        → ((shown (H.Host.held host.new)).rows k).deferred
+        ≡ ((shown (H.Host.held host.old)).rows k).deferred }
+    ensures side { (shown (H.Host.held host.new)).sides (H.Host.face host.old).level
+        ≡ (shown (H.Host.held host.old)).sides (H.Host.face host.old).level }
     ensures stands { Stands R.log R.counts Whatever H.Host.tests H.Host.face H.Host.held host.new }
     ensures sound { H.asked_owes (act.Stamps domain stamp ∷ []) host.old → H.Host.sound host.new }
 {
@@ -55,13 +67,23 @@ fn note_stamp<R: Recorder, H: Desk<R>>(host: &mut H, class: Class, domain: Domai
 /// A point, and the batch of a domain that has none yet takes its stamp. From `call_rcu` and `call_rcu_tasks_trace`, which
 /// take it for their callbacks.
 pub fn stamp_batch<R: Recorder, H: Desk<R>>(host: &mut H, class: Class, domain: Domain)
-    requires stands { Stands R.log R.counts H.Host.sound H.Host.tests H.Host.face H.Host.held host.old }
-    requires unstamped { stamp_of domain ((shown (H.Host.held host.old)).rows class).deferred ≡ Some 0 }
-    ensures works { Works R.log H.Host.face H.Host.pending H.stays H.Host.held (λ h. H.W.Knows.known (H.shared h)) 0 0 (λ l. Say l (IsStamp class domain)) host.old host.new }
-    ensures deferred { (x : ℕ) × (0 < x) × (((shown (H.Host.held host.new)).rows class).deferred ≡ stamped domain x ((shown (H.Host.held host.old)).rows class).deferred) }
-    ensures kept { (k : ℕ) → k ≢ class → ((shown (H.Host.held host.new)).rows k).deferred ≡ ((shown (H.Host.held host.old)).rows k).deferred }
-    ensures side { (shown (H.Host.held host.new)).sides (H.Host.face host.old).level ≡ (shown (H.Host.held host.old)).sides (H.Host.face host.old).level }
-    ensures stands { Stands R.log R.counts H.Host.sound H.Host.tests H.Host.face H.Host.held host.new }
+    requires stands { Stands R.log R.counts H.Host.sound H.Host.tests H.Host.face H.Host.held
+        host.old }
+    requires unstamped { stamp_of domain ((shown (H.Host.held host.old)).rows class).deferred
+        ≡ Some 0 }
+    ensures works { Works R.log H.Host.face H.Host.pending H.stays H.Host.held
+        (λ h. H.W.Knows.known (H.shared h)) 0 0 (λ l. Say l (IsStamp class domain)) host.old
+        host.new }
+    ensures deferred { (x : ℕ) × (0 < x)
+        × (((shown (H.Host.held host.new)).rows class).deferred
+        ≡ stamped domain x ((shown (H.Host.held host.old)).rows class).deferred) }
+    ensures kept { (k : ℕ) → k ≢ class
+        → ((shown (H.Host.held host.new)).rows k).deferred
+        ≡ ((shown (H.Host.held host.old)).rows k).deferred }
+    ensures side { (shown (H.Host.held host.new)).sides (H.Host.face host.old).level
+        ≡ (shown (H.Host.held host.old)).sides (H.Host.face host.old).level }
+    ensures stands { Stands R.log R.counts H.Host.sound H.Host.tests H.Host.face H.Host.held
+        host.new }
 {
     pause(host);
     let stamp = take_stamp(host, domain);

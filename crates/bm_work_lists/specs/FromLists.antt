@@ -22,7 +22,9 @@ FromBy l c n left rest [] [] = Ends l n left
 -- A refill of n units from the lists, after which so many are left to bring.
 abbrev pub FromLists : ℕ → ℕ → ℕ → ℕ → Part
 FromLists l c zero left = λ s part. (left ≡ 0) × Nothing s part
-FromLists l c (suc n) left = λ s. FromBy l c (suc n) left (FromLists l c n left) (s.rows c).deferred.ready (s.rows c).deferred.second s
+FromLists l c (suc n) left =
+    λ s. FromBy l c (suc n) left (FromLists l c n left) (s.rows c).deferred.ready
+    (s.rows c).deferred.second s
 
 -- the fetch of those that are left, if any
 abbrev pub Fetched : ℕ → ℕ → ℕ → Part

@@ -22,14 +22,20 @@ use bm_journal::{Domain, Recorder};
 /// A point, and ExtraDelayed is moved onto Delayed, one unit after the other.
 fn move_delayed<R: Recorder, H: Host<R>>(host: &mut H, class: Class)
     requires sound { H.sound host.old }
-    requires fine { Fine R.log R.counts (H.tests host.old) (H.face host.old).processors ((H.face host.old).level + 1) (H.held host.old) }
+    requires fine { Fine R.log R.counts (H.tests host.old) (H.face host.old).processors
+        ((H.face host.old).level + 1) (H.held host.old) }
     requires one { ((shown (H.held host.old)).rows class).active ≡ 1 }
     requires waits { waiting class (shown (H.held host.old)) ≡ 0 }
-    ensures span { (units : List ℕ) × Span R.log (H.face host.old).level class 1 1 (entry.TakeDelayed class (Whole units) ∷ []) (H.tests host.old) (H.tests host.new) (H.held host.old) (H.held host.new) }
+    ensures span { (units : List ℕ)
+        × Span R.log (H.face host.old).level class 1 1 (entry.TakeDelayed class (Whole units) ∷ [])
+        (H.tests host.old) (H.tests host.new) (H.held host.old) (H.held host.new) }
     ensures waits { waiting class (shown (H.held host.new)) ≡ 0 }
-    ensures side { (shown (H.held host.new)).sides (H.face host.old).level ≡ (shown (H.held host.old)).sides (H.face host.old).level }
-    ensures lasts { All (Same (H.tests host.old) (H.tests host.new)) ((shown (H.held host.old)).sides (H.face host.old).level).hand }
-    ensures fine { Fine R.log R.counts (H.tests host.new) (H.face host.new).processors ((H.face host.new).level + 1) (H.held host.new) }
+    ensures side { (shown (H.held host.new)).sides (H.face host.old).level
+        ≡ (shown (H.held host.old)).sides (H.face host.old).level }
+    ensures lasts { All (Same (H.tests host.old) (H.tests host.new))
+        ((shown (H.held host.old)).sides (H.face host.old).level).hand }
+    ensures fine { Fine R.log R.counts (H.tests host.new) (H.face host.new).processors
+        ((H.face host.new).level + 1) (H.held host.new) }
     ensures goes { Goes H.face H.pending H.keeps host.old host.new }
     ensures alone { Unbroken H.face H.pending H.held R.log host.old host.new }
     ensures flags { RaisesNone H.pending H.held host.old host.new }
@@ -43,11 +49,13 @@ fn move_delayed<R: Recorder, H: Host<R>>(host: &mut H, class: Class)
 /// Whether Delayed holds a unit and no plain batch is in progress.
 fn wants_batch<R: Recorder, H: Host<R>>(host: &mut H, class: Class) -> bool
     requires sound { H.sound host.old }
-    requires fine { Fine R.log R.counts (H.tests host.old) (H.face host.old).processors ((H.face host.old).level + 1) (H.held host.old) }
+    requires fine { Fine R.log R.counts (H.tests host.old) (H.face host.old).processors
+        ((H.face host.old).level + 1) (H.held host.old) }
     ensures answer { result ≡ may_batch class (seen number_of (shown (H.held host.old))) }
     ensures held { H.held host.new ≡ H.held host.old }
     ensures tests { H.tests host.new ≡ H.tests host.old }
-    ensures fine { Fine R.log R.counts (H.tests host.new) (H.face host.new).processors ((H.face host.new).level + 1) (H.held host.new) }
+    ensures fine { Fine R.log R.counts (H.tests host.new) (H.face host.new).processors
+        ((H.face host.new).level + 1) (H.held host.new) }
     ensures goes { Goes H.face H.pending H.keeps host.old host.new }
     ensures alone { Unbroken H.face H.pending H.held R.log host.old host.new }
     ensures flags { RaisesNone H.pending H.held host.old host.new }
@@ -60,19 +68,33 @@ fn wants_batch<R: Recorder, H: Host<R>>(host: &mut H, class: Class) -> bool
 /// A point, and all of Delayed becomes the plain batch, which has no stamp so far.
 fn make_batch<R: Recorder, H: Host<R>>(host: &mut H, class: Class)
     requires sound { H.sound host.old }
-    requires fine { Fine R.log R.counts (H.tests host.old) (H.face host.old).processors ((H.face host.old).level + 1) (H.held host.old) }
+    requires fine { Fine R.log R.counts (H.tests host.old) (H.face host.old).processors
+        ((H.face host.old).level + 1) (H.held host.old) }
     requires one { ((shown (H.held host.old)).rows class).active ≡ 1 }
     requires waits { waiting class (shown (H.held host.old)) ≡ 0 }
     requires some { 0 < length ((shown (H.held host.old)).rows class).delayed }
     requires none { ((shown (H.held host.old)).rows class).deferred.plain ≡ None }
-    ensures span { (units : List ℕ) × Span R.log (H.face host.old).level class 1 1 (entry.Batch class (Whole units) ∷ []) (H.tests host.old) (H.tests host.new) (H.held host.old) (H.held host.new) }
-    ensures deferred { ((shown (H.held host.new)).rows class).deferred ≡ record ((shown (H.held host.old)).rows class).deferred { first = ((shown (H.held host.old)).rows class).delayed ++ ((shown (H.held host.old)).rows class).deferred.first; plain = Some 0 } }
+    ensures span { (units : List ℕ)
+        × Span R.log (H.face host.old).level class 1 1 (entry.Batch class (Whole units) ∷ [])
+        (H.tests host.old) (H.tests host.new) (H.held host.old) (H.held host.new) }
+    ensures deferred { ((shown (H.held host.new)).rows class).deferred
+        ≡ record ((shown (H.held host.old)).rows class).deferred {
+          first =
+              ((shown (H.held host.old)).rows class).delayed
+              ++ ((shown (H.held host.old)).rows class).deferred.first;
+          plain = Some 0;
+        } }
     ensures active { ((shown (H.held host.new)).rows class).active ≡ 1 }
     ensures waits { waiting class (shown (H.held host.new)) ≡ 0 }
-    ensures side { (shown (H.held host.new)).sides (H.face host.old).level ≡ (shown (H.held host.old)).sides (H.face host.old).level }
-    ensures lasts { All (Same (H.tests host.old) (H.tests host.new)) ((shown (H.held host.old)).sides (H.face host.old).level).hand }
-    ensures kept { (k : ℕ) → k ≢ class → ((shown (H.held host.new)).rows k).deferred ≡ ((shown (H.held host.old)).rows k).deferred }
-    ensures fine { Fine R.log R.counts (H.tests host.new) (H.face host.new).processors ((H.face host.new).level + 1) (H.held host.new) }
+    ensures side { (shown (H.held host.new)).sides (H.face host.old).level
+        ≡ (shown (H.held host.old)).sides (H.face host.old).level }
+    ensures lasts { All (Same (H.tests host.old) (H.tests host.new))
+        ((shown (H.held host.old)).sides (H.face host.old).level).hand }
+    ensures kept { (k : ℕ) → k ≢ class
+        → ((shown (H.held host.new)).rows k).deferred
+        ≡ ((shown (H.held host.old)).rows k).deferred }
+    ensures fine { Fine R.log R.counts (H.tests host.new) (H.face host.new).processors
+        ((H.face host.new).level + 1) (H.held host.new) }
     ensures goes { Goes H.face H.pending H.keeps host.old host.new }
     ensures alone { Unbroken H.face H.pending H.held R.log host.old host.new }
     ensures flags { RaisesNone H.pending H.held host.old host.new }
@@ -87,23 +109,46 @@ fn make_batch<R: Recorder, H: Host<R>>(host: &mut H, class: Class)
 /// empty or a plain batch is in progress.
 fn batch_if_any<R: Recorder, H: Host<R>>(host: &mut H, class: Class) -> bool
     requires sound { H.sound host.old }
-    requires fine { Fine R.log R.counts (H.tests host.old) (H.face host.old).processors ((H.face host.old).level + 1) (H.held host.old) }
+    requires fine { Fine R.log R.counts (H.tests host.old) (H.face host.old).processors
+        ((H.face host.old).level + 1) (H.held host.old) }
     requires one { ((shown (H.held host.old)).rows class).active ≡ 1 }
     requires waits { waiting class (shown (H.held host.old)) ≡ 0 }
     ensures answer { result ≡ may_batch class (seen number_of (shown (H.held host.old))) }
-    ensures phrase { GrewBy (When (may_batch class) (Say (H.face host.old).level (IsBatch class))) (seen number_of (shown (H.held host.old))) (R.log (H.held host.old).recorder) (R.log (H.held host.new).recorder) }
-    ensures some { result ≡ true → (units : List ℕ) × (((shown (H.held host.new)).rows class).deferred ≡ record ((shown (H.held host.old)).rows class).deferred { first = ((shown (H.held host.old)).rows class).delayed ++ ((shown (H.held host.old)).rows class).deferred.first; plain = Some 0 }) × Span R.log (H.face host.old).level class 1 1 (entry.Batch class (Whole units) ∷ []) (H.tests host.old) (H.tests host.new) (H.held host.old) (H.held host.new) }
-    ensures none { result ≡ false → (H.held host.new ≡ H.held host.old) × (H.tests host.new ≡ H.tests host.old) }
-    ensures lasting { Lasting (H.face host.old).level (shown (H.held host.old)) (H.tests host.old) (H.tests host.new) }
-    ensures below { (k : ℕ) → k < (H.face host.old).level → (shown (H.held host.new)).sides k ≡ (shown (H.held host.old)).sides k }
-    ensures more { (k : ℕ) → More ((shown (H.held host.old)).rows k).deferred ((shown (H.held host.new)).rows k).deferred }
+    ensures phrase { GrewBy (When (may_batch class) (Say (H.face host.old).level (IsBatch class)))
+        (seen number_of (shown (H.held host.old))) (R.log (H.held host.old).recorder)
+        (R.log (H.held host.new).recorder) }
+    ensures some { result ≡ true
+        → (units : List ℕ)
+        × (((shown (H.held host.new)).rows class).deferred
+        ≡ record ((shown (H.held host.old)).rows class).deferred {
+          first =
+              ((shown (H.held host.old)).rows class).delayed
+              ++ ((shown (H.held host.old)).rows class).deferred.first;
+          plain = Some 0;
+        })
+        × Span R.log (H.face host.old).level class 1 1 (entry.Batch class (Whole units) ∷ [])
+        (H.tests host.old) (H.tests host.new) (H.held host.old) (H.held host.new) }
+    ensures none { result ≡ false
+        → (H.held host.new ≡ H.held host.old) × (H.tests host.new ≡ H.tests host.old) }
+    ensures lasting { Lasting (H.face host.old).level (shown (H.held host.old)) (H.tests host.old)
+        (H.tests host.new) }
+    ensures below { (k : ℕ) → k < (H.face host.old).level
+        → (shown (H.held host.new)).sides k ≡ (shown (H.held host.old)).sides k }
+    ensures more { (k : ℕ)
+        → More ((shown (H.held host.old)).rows k).deferred
+        ((shown (H.held host.new)).rows k).deferred }
     ensures processor { (H.held host.new).processor ≡ (H.held host.old).processor }
     ensures active { ((shown (H.held host.new)).rows class).active ≡ 1 }
     ensures waits { waiting class (shown (H.held host.new)) ≡ 0 }
-    ensures side { (shown (H.held host.new)).sides (H.face host.old).level ≡ (shown (H.held host.old)).sides (H.face host.old).level }
-    ensures lasts { All (Same (H.tests host.old) (H.tests host.new)) ((shown (H.held host.old)).sides (H.face host.old).level).hand }
-    ensures kept { (k : ℕ) → k ≢ class → ((shown (H.held host.new)).rows k).deferred ≡ ((shown (H.held host.old)).rows k).deferred }
-    ensures fine { Fine R.log R.counts (H.tests host.new) (H.face host.new).processors ((H.face host.new).level + 1) (H.held host.new) }
+    ensures side { (shown (H.held host.new)).sides (H.face host.old).level
+        ≡ (shown (H.held host.old)).sides (H.face host.old).level }
+    ensures lasts { All (Same (H.tests host.old) (H.tests host.new))
+        ((shown (H.held host.old)).sides (H.face host.old).level).hand }
+    ensures kept { (k : ℕ) → k ≢ class
+        → ((shown (H.held host.new)).rows k).deferred
+        ≡ ((shown (H.held host.old)).rows k).deferred }
+    ensures fine { Fine R.log R.counts (H.tests host.new) (H.face host.new).processors
+        ((H.face host.new).level + 1) (H.held host.new) }
     ensures goes { Goes H.face H.pending H.keeps host.old host.new }
     ensures alone { Unbroken H.face H.pending H.held R.log host.old host.new }
     ensures flags { RaisesNone H.pending H.held host.old host.new }
@@ -122,19 +167,41 @@ fn batch_if_any<R: Recorder, H: Host<R>>(host: &mut H, class: Class) -> bool
 /// kernel/bpf/memalloc.c.
 pub fn gather_delayed<R: Recorder, H: Host<R>>(host: &mut H, class: Class) -> bool
     requires sound { H.sound host.old }
-    requires fine { Fine R.log R.counts (H.tests host.old) (H.face host.old).processors ((H.face host.old).level + 1) (H.held host.old) }
+    requires fine { Fine R.log R.counts (H.tests host.old) (H.face host.old).processors
+        ((H.face host.old).level + 1) (H.held host.old) }
     requires idle { ((shown (H.held host.old)).rows class).active ≡ 0 }
     requires quiet { ((shown (H.held host.old)).sides (H.face host.old).level).mark ≡ mark.Quiet }
-    ensures phrase { GrewBy (Then (Say (H.face host.old).level (IsGathering class)) (Then (When (may_batch class) (Say (H.face host.old).level (IsBatch class))) (Say (H.face host.old).level (IsLeave class)))) (seen number_of (shown (H.held host.old))) (R.log (H.held host.old).recorder) (R.log (H.held host.new).recorder) }
-    ensures begun { result ≡ true → (units : List Token) × (((shown (H.held host.new)).rows class).deferred ≡ record ((shown (H.held host.old)).rows class).deferred { first = units ++ ((shown (H.held host.old)).rows class).deferred.first; plain = Some 0 }) × (((shown (H.held host.old)).rows class).deferred.plain ≡ None) × (0 < length units) }
-    ensures waits { result ≡ false → ((shown (H.held host.new)).rows class).deferred ≡ ((shown (H.held host.old)).rows class).deferred }
-    ensures side { (shown (H.held host.new)).sides (H.face host.old).level ≡ (shown (H.held host.old)).sides (H.face host.old).level }
-    ensures lasts { All (Same (H.tests host.old) (H.tests host.new)) ((shown (H.held host.old)).sides (H.face host.old).level).hand }
-    ensures active { (k : ℕ) → ((shown (H.held host.new)).rows k).active ≡ ((shown (H.held host.old)).rows k).active }
+    ensures phrase { GrewBy
+        (Then (Say (H.face host.old).level (IsGathering class))
+        (Then (When (may_batch class) (Say (H.face host.old).level (IsBatch class)))
+        (Say (H.face host.old).level (IsLeave class))))
+        (seen number_of (shown (H.held host.old))) (R.log (H.held host.old).recorder)
+        (R.log (H.held host.new).recorder) }
+    ensures begun { result ≡ true
+        → (units : List Token)
+        × (((shown (H.held host.new)).rows class).deferred
+        ≡ record ((shown (H.held host.old)).rows class).deferred {
+          first = units ++ ((shown (H.held host.old)).rows class).deferred.first;
+          plain = Some 0;
+        })
+        × (((shown (H.held host.old)).rows class).deferred.plain ≡ None) × (0 < length units) }
+    ensures waits { result ≡ false
+        → ((shown (H.held host.new)).rows class).deferred
+        ≡ ((shown (H.held host.old)).rows class).deferred }
+    ensures side { (shown (H.held host.new)).sides (H.face host.old).level
+        ≡ (shown (H.held host.old)).sides (H.face host.old).level }
+    ensures lasts { All (Same (H.tests host.old) (H.tests host.new))
+        ((shown (H.held host.old)).sides (H.face host.old).level).hand }
+    ensures active { (k : ℕ)
+        → ((shown (H.held host.new)).rows k).active ≡ ((shown (H.held host.old)).rows k).active }
     ensures processor { (H.held host.new).processor ≡ (H.held host.old).processor }
-    ensures lasting { Lasting (H.face host.old).level (shown (H.held host.old)) (H.tests host.old) (H.tests host.new) }
-    ensures kept { (k : ℕ) → k ≢ class → ((shown (H.held host.new)).rows k).deferred ≡ ((shown (H.held host.old)).rows k).deferred }
-    ensures fine { Fine R.log R.counts (H.tests host.new) (H.face host.new).processors ((H.face host.new).level + 1) (H.held host.new) }
+    ensures lasting { Lasting (H.face host.old).level (shown (H.held host.old)) (H.tests host.old)
+        (H.tests host.new) }
+    ensures kept { (k : ℕ) → k ≢ class
+        → ((shown (H.held host.new)).rows k).deferred
+        ≡ ((shown (H.held host.old)).rows k).deferred }
+    ensures fine { Fine R.log R.counts (H.tests host.new) (H.face host.new).processors
+        ((H.face host.new).level + 1) (H.held host.new) }
     ensures goes { Goes H.face H.pending H.keeps host.old host.new }
     ensures alone { Unbroken H.face H.pending H.held R.log host.old host.new }
     ensures flags { RaisesNone H.pending H.held host.old host.new }

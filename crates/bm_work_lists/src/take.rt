@@ -23,14 +23,37 @@ use bm_journal::Recorder;
 /// A point, and the top of Free in hand, behind what is there. False exactly where Free is empty.
 fn pop_more<R: Recorder, H: Host<R>>(host: &mut H, class: Class) -> bool
     requires sound { H.sound host.old }
-    requires fine { Fine R.log R.counts (H.tests host.old) (H.face host.old).processors ((H.face host.old).level + 1) (H.held host.old) }
+    requires fine { Fine R.log R.counts (H.tests host.old) (H.face host.old).processors
+        ((H.face host.old).level + 1) (H.held host.old) }
     requires one { ((shown (H.held host.old)).rows class).active ≡ 1 }
     requires waits { waiting class (shown (H.held host.old)) ≡ 0 }
-    requires quiet { is_waiting ((shown (H.held host.old)).sides (H.face host.old).level).mark ≡ false }
-    ensures some { result ≡ true → (u : Token) × (rest : List Token) × (((shown (H.held host.old)).rows class).free ≡ u ∷ rest) × ((shown (H.held host.new)).sides (H.face host.old).level ≡ record { hand = ((shown (H.held host.old)).sides (H.face host.old).level).hand ++ u ∷ []; mark = mark.Took class }) × Fit (H.tests host.new) class u × (length ((shown (H.held host.old)).sides (H.face host.old).level).hand < 65536) × Span R.log (H.face host.old).level class 1 1 (entry.Pop class u.number ∷ []) (H.tests host.old) (H.tests host.new) (H.held host.old) (H.held host.new) }
-    ensures none { result ≡ false → (((shown (H.held host.old)).rows class).free ≡ []) × (((shown (H.held host.new)).sides (H.face host.old).level) ≡ ((shown (H.held host.old)).sides (H.face host.old).level)) × (waiting class (shown (H.held host.new)) ≡ 0) × Span R.log (H.face host.old).level class 1 1 (entry.PopNone class ∷ []) (H.tests host.old) (H.tests host.new) (H.held host.old) (H.held host.new) }
-    ensures lasts { All (Same (H.tests host.old) (H.tests host.new)) ((shown (H.held host.old)).sides (H.face host.old).level).hand }
-    ensures fine { Fine R.log R.counts (H.tests host.new) (H.face host.new).processors ((H.face host.new).level + 1) (H.held host.new) }
+    requires quiet { is_waiting ((shown (H.held host.old)).sides (H.face host.old).level).mark
+        ≡ false }
+    ensures some { result ≡ true
+        → (u : Token) × (rest : List Token)
+        × (((shown (H.held host.old)).rows class).free ≡ u ∷ rest)
+        × ((shown (H.held host.new)).sides (H.face host.old).level
+        ≡ record {
+          hand =
+              ((shown (H.held host.old)).sides (H.face host.old).level).hand ++ u
+              ∷ [];
+          mark = mark.Took class;
+        })
+        × Fit (H.tests host.new) class u
+        × (length ((shown (H.held host.old)).sides (H.face host.old).level).hand < 65536)
+        × Span R.log (H.face host.old).level class 1 1 (entry.Pop class u.number ∷ [])
+        (H.tests host.old) (H.tests host.new) (H.held host.old) (H.held host.new) }
+    ensures none { result ≡ false
+        → (((shown (H.held host.old)).rows class).free ≡ [])
+        × (((shown (H.held host.new)).sides (H.face host.old).level)
+        ≡ ((shown (H.held host.old)).sides (H.face host.old).level))
+        × (waiting class (shown (H.held host.new)) ≡ 0)
+        × Span R.log (H.face host.old).level class 1 1 (entry.PopNone class ∷ [])
+        (H.tests host.old) (H.tests host.new) (H.held host.old) (H.held host.new) }
+    ensures lasts { All (Same (H.tests host.old) (H.tests host.new))
+        ((shown (H.held host.old)).sides (H.face host.old).level).hand }
+    ensures fine { Fine R.log R.counts (H.tests host.new) (H.face host.new).processors
+        ((H.face host.new).level + 1) (H.held host.new) }
     ensures goes { Goes H.face H.pending H.keeps host.old host.new }
     ensures alone { Unbroken H.face H.pending H.held R.log host.old host.new }
     ensures flags { RaisesNone H.pending H.held host.old host.new }
@@ -46,16 +69,42 @@ fn pop_more<R: Recorder, H: Host<R>>(host: &mut H, class: Class) -> bool
 /// Free was empty at its pop. From one turn of the loop of `free_bulk` of kernel/bpf/memalloc.c.
 pub fn take_one<R: Recorder, H: Host<R>>(host: &mut H, class: Class) -> Option<u32>
     requires sound { H.sound host.old }
-    requires fine { Fine R.log R.counts (H.tests host.old) (H.face host.old).processors ((H.face host.old).level + 1) (H.held host.old) }
+    requires fine { Fine R.log R.counts (H.tests host.old) (H.face host.old).processors
+        ((H.face host.old).level + 1) (H.held host.old) }
     requires idle { ((shown (H.held host.old)).rows class).active ≡ 0 }
     requires quiet { ((shown (H.held host.old)).sides (H.face host.old).level).mark ≡ mark.Quiet }
-    ensures phrase { GrewBy (Say (H.face host.old).level (IsTake class result)) (seen number_of (shown (H.held host.old))) (R.log (H.held host.old).recorder) (R.log (H.held host.new).recorder) }
-    ensures some { IfSome result (λ k. (u : Token) × (a : ℕ) × ((shown (H.held host.new)).sides (H.face host.old).level ≡ record { hand = ((shown (H.held host.old)).sides (H.face host.old).level).hand ++ u ∷ []; mark = mark.Quiet }) × Fit (H.tests host.new) class u × (length ((shown (H.held host.old)).sides (H.face host.old).level).hand < 65536) × Span R.log (H.face host.old).level class 0 0 (take_of class (record { unit = u.number; count = k; active = a })) (H.tests host.old) (H.tests host.new) (H.held host.old) (H.held host.new)) }
-    ensures none { result ≡ None → (a : ℕ) × ((shown (H.held host.new)).sides (H.face host.old).level ≡ (shown (H.held host.old)).sides (H.face host.old).level) × Span R.log (H.face host.old).level class 0 0 (empty_take class a) (H.tests host.old) (H.tests host.new) (H.held host.old) (H.held host.new) }
-    ensures lasts { All (Same (H.tests host.old) (H.tests host.new)) ((shown (H.held host.old)).sides (H.face host.old).level).hand }
-    ensures active { (k : ℕ) → ((shown (H.held host.new)).rows k).active ≡ ((shown (H.held host.old)).rows k).active }
-    ensures kept { (k : ℕ) → ((shown (H.held host.new)).rows k).deferred ≡ ((shown (H.held host.old)).rows k).deferred }
-    ensures fine { Fine R.log R.counts (H.tests host.new) (H.face host.new).processors ((H.face host.new).level + 1) (H.held host.new) }
+    ensures phrase { GrewBy (Say (H.face host.old).level (IsTake class result))
+        (seen number_of (shown (H.held host.old))) (R.log (H.held host.old).recorder)
+        (R.log (H.held host.new).recorder) }
+    ensures some { IfSome result
+        (λ k. (u : Token) × (a : ℕ)
+        × ((shown (H.held host.new)).sides (H.face host.old).level
+        ≡ record {
+          hand =
+              ((shown (H.held host.old)).sides (H.face host.old).level).hand ++ u
+              ∷ [];
+          mark = mark.Quiet;
+        })
+        × Fit (H.tests host.new) class u
+        × (length ((shown (H.held host.old)).sides (H.face host.old).level).hand < 65536)
+        × Span R.log (H.face host.old).level class 0 0
+        (take_of class (record { unit = u.number; count = k; active = a }))
+        (H.tests host.old) (H.tests host.new) (H.held host.old) (H.held host.new)) }
+    ensures none { result ≡ None
+        → (a : ℕ)
+        × ((shown (H.held host.new)).sides (H.face host.old).level
+        ≡ (shown (H.held host.old)).sides (H.face host.old).level)
+        × Span R.log (H.face host.old).level class 0 0 (empty_take class a) (H.tests host.old)
+        (H.tests host.new) (H.held host.old) (H.held host.new) }
+    ensures lasts { All (Same (H.tests host.old) (H.tests host.new))
+        ((shown (H.held host.old)).sides (H.face host.old).level).hand }
+    ensures active { (k : ℕ)
+        → ((shown (H.held host.new)).rows k).active ≡ ((shown (H.held host.old)).rows k).active }
+    ensures kept { (k : ℕ)
+        → ((shown (H.held host.new)).rows k).deferred
+        ≡ ((shown (H.held host.old)).rows k).deferred }
+    ensures fine { Fine R.log R.counts (H.tests host.new) (H.face host.new).processors
+        ((H.face host.new).level + 1) (H.held host.new) }
     ensures goes { Goes H.face H.pending H.keeps host.old host.new }
     ensures alone { Unbroken H.face H.pending H.held R.log host.old host.new }
     ensures flags { RaisesNone H.pending H.held host.old host.new }

@@ -18,4 +18,5 @@ slot_at place slots = slice_index_or slots place (record { name = []; slot = emp
 
 -- it holds something else
 abbrev pub put_at : ℕ → Slot → List Named → List Named
-put_at place slot slots = slice_set slots place (record { name = (slot_at place slots).name; slot = slot })
+put_at place slot slots =
+    slice_set slots place (record { name = (slot_at place slots).name; slot = slot })

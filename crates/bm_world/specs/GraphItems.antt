@@ -21,7 +21,9 @@ history_told g = (g.name, g.history)
 module _ {T : Type 0} where
   -- a call was made on a list, whatever its name is, and on a tree
   abbrev pub ListGrows : (old new : contents.Contents T) (position : ℕ) → PastCall → Tag → Type 0
-  ListGrows old new position call tag = (name : List ℕ) → Grows (list_named name old) (list_named name new) position call tag
+  ListGrows old new position call tag =
+      (name : List ℕ) → Grows (list_named name old) (list_named name new) position call tag
 
   abbrev pub TreeGrows : (old new : contents.Contents T) (position : ℕ) → PastCall → Tag → Type 0
-  TreeGrows old new position call tag = (name : List ℕ) → Grows (tree_named name old) (tree_named name new) position call tag
+  TreeGrows old new position call tag =
+      (name : List ℕ) → Grows (tree_named name old) (tree_named name new) position call tag

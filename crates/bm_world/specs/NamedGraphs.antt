@@ -15,10 +15,12 @@ module _ {T : Type 0} where
   list_nodes items = map (λ (i : Item T). node_of i.id 0) items
 
   abbrev pub list_named : (name : List ℕ) → contents.Contents T → NamedGraph
-  list_named name c = record { name = name; is_tree = false; history = c.history; nodes = list_nodes c.items }
+  list_named name c =
+      record { name = name; is_tree = false; history = c.history; nodes = list_nodes c.items }
 
   abbrev pub tree_named : (name : List ℕ) → contents.Contents T → NamedGraph
-  tree_named name c = record { name = name; is_tree = true; history = c.history; nodes = nodes c.items }
+  tree_named name c =
+      record { name = name; is_tree = true; history = c.history; nodes = nodes c.items }
 
   abbrev pub graph_named : (name : List ℕ) → Graph T → NamedGraph
   graph_named name (graph.List c) = list_named name c

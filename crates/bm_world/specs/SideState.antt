@@ -25,6 +25,8 @@ known_of world = record (known_in world.grace) { parcels = Some (told_in world.p
 abbrev pub SideAtRest : SideState → Domain → ℕ → Type 0
 SideAtRest world = IsAtRest world.grace
 
-pub idle-of : (world : SideState) (d : Domain) (n : ℕ) → SideAtRest world d n → n % 2 ≡ 0 → (side d (known_of world)).number ≡ 0
+pub idle-of :
+    (world : SideState) (d : Domain) (n : ℕ) → SideAtRest world d n → n % 2 ≡ 0
+    → (side d (known_of world)).number ≡ 0
 idle-of world Plain n rest even = idle-at-rest world.grace Plain n rest even
 idle-of world Tracing n rest even = idle-at-rest world.grace Tracing n rest even

@@ -32,7 +32,8 @@ values_of (Some object) = object.values
 
 -- an object that was made just now has one reference, and is in no list or tree
 abbrev pub new_object : (type : ℕ) → (values : List ℕ) → UnitState → Object
-new_object type values unit = record { unit = unit; type_number = type; count = 1; values = values; within = None }
+new_object type values unit =
+    record { unit = unit; type_number = type; count = 1; values = values; within = None }
 
 -- the same object with another number of references
 abbrev pub with_count : (count : ℕ) → Option Object → Option Object

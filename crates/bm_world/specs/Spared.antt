@@ -21,7 +21,8 @@ abbrev pub AllSpare : ℕ → List Act → Type 0
 AllSpare n [] = Unit {0}
 AllSpare n (a ∷ more) = Spares n a × AllSpare n more
 
-pub spare-append : (n : ℕ) (es fs : List Act) → AllSpare n es → AllSpare n fs → AllSpare n (es ++ fs)
+pub spare-append :
+    (n : ℕ) (es fs : List Act) → AllSpare n es → AllSpare n fs → AllSpare n (es ++ fs)
 spare-append n [] fs s t = t
 spare-append n (e ∷ es) fs s t = (s.0, spare-append n es fs s.1 t)
 

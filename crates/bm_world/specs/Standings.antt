@@ -69,7 +69,9 @@ IsTimed plain tracing (Waits wait) = (wait.plain ≤ next plain) × (wait.tracin
 IsTimed plain tracing (Sealed seal) = seal.stamp ≤ seal.seen
 
 -- What standings keep true: there is one for each number, each of them is timed, and a unit that lives waits for nothing.
-pub record AreStanding (plain tracing : ℕ) (slots : List (Option Object)) (standings : List Standing) : Type 0 where
+pub record AreStanding (plain tracing : ℕ) (slots : List (Option Object))
+    (standings : List Standing) : Type 0 where
   pub size : length standings ≡ 2 ^ 16
   pub timed : (n : ℕ) → IsTimed plain tracing (standing_at standings n)
-  pub living : (n : ℕ) (unit : UnitState) → unit_at slots n ≡ Some unit → standing_at standings n ≡ Nothing
+  pub living :
+      (n : ℕ) (unit : UnitState) → unit_at slots n ≡ Some unit → standing_at standings n ≡ Nothing

@@ -30,8 +30,10 @@ abbrev pub told : Lives → SideState → Shared
 told lives world = record {
   processors = world.grace.processors;
   words = record { plain = world.grace.plain.words; tracing = world.grace.tracing.words };
-  numbers = record { plain = told_course world.grace.plain; tracing = told_course world.grace.tracing };
-  looks = record { plain = told_looked world.grace.plain; tracing = told_looked world.grace.tracing };
+  numbers =
+      record { plain = told_course world.grace.plain; tracing = told_course world.grace.tracing };
+  looks =
+      record { plain = told_looked world.grace.plain; tracing = told_looked world.grace.tracing };
   lives = lives;
   pool = bare_pool world.post.pool;
   boxes = told_boxes world.post;
@@ -50,7 +52,9 @@ pub record IsSideOf (p : ℕ) (world : SideState) : Type 0 where
 
 -- of other processors than p, each may begin as many periods as before
 abbrev pub OthersBegin : ℕ → SideState → SideState → Type 0
-OthersBegin p before now = (d : Domain) (q : ℕ) → q ≢ p → slice_index (domain_in d now.grace).begins q ≡ slice_index (domain_in d before.grace).begins q
+OthersBegin p before now =
+    (d : Domain) (q : ℕ) → q ≢ p
+    → slice_index (domain_in d now.grace).begins q ≡ slice_index (domain_in d before.grace).begins q
 
 -- what is told goes from one to the other by these acts, and it stays the side of the same processor
 pub record SideDid (p : ℕ) (acts : List Act) (before now : SideState) : Type 0 where
@@ -62,12 +66,28 @@ pub record SideDoes (acts : List Act) (before now : SideState) : Type 0 where
   pub did : (p : ℕ) → IsSideOf p before → SideDid p acts before now
 
 pub does-same : (a : SideState) → SideDoes [] a a
-does-same a = record { did = λ p s. record { leads = λ lives. acts-same p (told lives a); stays = s; others = λ d q ne. refl } }
+does-same a =
+    record {
+      did =
+          λ p s. record {
+            leads = λ lives. acts-same p (told lives a);
+            stays = s;
+            others = λ d q ne. refl;
+          };
+    }
 
-pub does-join : (es fs : List Act) (a b c : SideState) → SideDoes es a b → SideDoes fs b c → SideDoes (es ++ fs) a c
+pub does-join :
+    (es fs : List Act) (a b c : SideState) → SideDoes es a b → SideDoes fs b c
+    → SideDoes (es ++ fs) a c
 does-join es fs a b c x y = record {
   did = λ p s.
       let u = x.did p s in
       let v = y.did p u.stays in
-      record { leads = λ lives. acts-join p es fs (told lives a) (told lives b) (told lives c) (u.leads lives) (v.leads lives); stays = v.stays; others = λ d q ne. v.others d q ne ∙ u.others d q ne };
+      record {
+        leads =
+            λ lives. acts-join p es fs (told lives a) (told lives b) (told lives c)
+            (u.leads lives) (v.leads lives);
+        stays = v.stays;
+        others = λ d q ne. v.others d q ne ∙ u.others d q ne;
+      };
 }

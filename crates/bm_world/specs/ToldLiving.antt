@@ -29,7 +29,12 @@ life_of (Some object) = Some (record { maker = object.unit.home; count = object.
 
 -- between two calls no drop is under way
 abbrev pub lives_told : LivingState → Lives
-lives_told world = record { begun = begun_at world.begun; holds = λ n. life_of (object_at world.slots n); dropping = λ p l. None }
+lives_told world =
+    record {
+      begun = begun_at world.begun;
+      holds = λ n. life_of (object_at world.slots n);
+      dropping = λ p l. None;
+    }
 
 abbrev pub told_living : LivingState → Shared
 told_living world = told (lives_told world) world.side
@@ -49,28 +54,57 @@ pub record LivingDoes (acts : List Act) (before now : LivingState) : Type 0 wher
   pub waits : WaitLeads acts (waits_told before.standings) (waits_told now.standings)
   pub made : MadeLead acts (fields_told before) (fields_told now)
   pub exchanged : SlotsLead acts (named_in before.contents) (named_in now.contents)
-  pub called : GraphsLead (graph_names_in before.graphs) acts (shelf_of before.graphs) (shelf_of now.graphs)
+  pub called :
+      GraphsLead (graph_names_in before.graphs) acts (shelf_of before.graphs) (shelf_of now.graphs)
   pub named : graph_names_in now.graphs ≡ graph_names_in before.graphs
   pub asked : before.asked ≤ now.asked
-  pub keeps : (n : ℕ) → AllSpare n acts → standing_at now.standings n ≡ standing_at before.standings n
+  pub keeps :
+      (n : ℕ) → AllSpare n acts → standing_at now.standings n ≡ standing_at before.standings n
   pub did : (p : ℕ) → IsSideOf p before.side → LivingDid p acts before now
 
 pub living-same : (a : LivingState) → LivingDoes [] a a
-living-same a = record { waits = go-same (waits_told a.standings); made = made-same (fields_told a); exchanged = slots-same (named_in a.contents); called = graphs-same (graph_names_in a.graphs) (shelf_of a.graphs); named = refl; asked = omega arith; keeps = λ n s. refl; did = λ p s. record { leads = acts-same p (told_living a); stays = s; others = λ d q ne. refl } }
+living-same a =
+    record {
+      waits = go-same (waits_told a.standings);
+      made = made-same (fields_told a);
+      exchanged = slots-same (named_in a.contents);
+      called = graphs-same (graph_names_in a.graphs) (shelf_of a.graphs);
+      named = refl;
+      asked = omega arith;
+      keeps = λ n s. refl;
+      did =
+          λ p s. record
+          { leads = acts-same p (told_living a); stays = s; others = λ d q ne. refl };
+    }
 
-pub living-join : (es fs : List Act) (a b c : LivingState) → LivingDoes es a b → LivingDoes fs b c → LivingDoes (es ++ fs) a c
+pub living-join :
+    (es fs : List Act) (a b c : LivingState) → LivingDoes es a b → LivingDoes fs b c
+    → LivingDoes (es ++ fs) a c
 living-join es fs a b c x y = record {
-  waits = go-join es fs (waits_told a.standings) (waits_told b.standings) (waits_told c.standings) x.waits y.waits;
+  waits =
+      go-join es fs (waits_told a.standings) (waits_told b.standings) (waits_told c.standings)
+      x.waits y.waits;
   made = made-join es fs (fields_told a) (fields_told b) (fields_told c) x.made y.made;
-  exchanged = slots-join es fs (named_in a.contents) (named_in b.contents) (named_in c.contents) x.exchanged y.exchanged;
-  called = graphs-join (graph_names_in a.graphs) es fs (shelf_of a.graphs) (shelf_of b.graphs) (shelf_of c.graphs) x.called (subst (λ names. GraphsLead names fs (shelf_of b.graphs) (shelf_of c.graphs)) x.named y.called);
+  exchanged =
+      slots-join es fs (named_in a.contents) (named_in b.contents) (named_in c.contents) x.exchanged
+      y.exchanged;
+  called =
+      graphs-join (graph_names_in a.graphs) es fs (shelf_of a.graphs) (shelf_of b.graphs)
+      (shelf_of c.graphs) x.called
+      (subst (λ names. GraphsLead names fs (shelf_of b.graphs) (shelf_of c.graphs)) x.named
+      y.called);
   named = y.named ∙ x.named;
   asked = (let p = x.asked in let q = y.asked in omega (arith, p, q));
   keeps = λ n s. y.keeps n (spare-rest n es fs s) ∙ x.keeps n (spare-front n es fs s);
   did = λ p s.
       let u = x.did p s in
       let v = y.did p u.stays in
-      record { leads = acts-join p es fs (told_living a) (told_living b) (told_living c) u.leads v.leads; stays = v.stays; others = λ d q ne. v.others d q ne ∙ u.others d q ne };
+      record {
+        leads =
+            acts-join p es fs (told_living a) (told_living b) (told_living c) u.leads v.leads;
+        stays = v.stays;
+        others = λ d q ne. v.others d q ne ∙ u.others d q ne;
+      };
 }
 
 -- all that this world tells

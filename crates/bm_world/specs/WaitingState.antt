@@ -60,7 +60,9 @@ rights_with post plain tracing waits = record {
 }
 
 abbrev pub rights_now : WaitingState → Rights
-rights_now state = rights_with state.side.post state.side.grace.plain.number state.side.grace.tracing.number state.waits
+rights_now state =
+    rights_with state.side.post state.side.grace.plain.number state.side.grace.tracing.number
+    state.waits
 
 -- All is at rest where it is on the side.
 abbrev pub WaitingAtRest : WaitingState → Domain → ℕ → Type 0
@@ -84,15 +86,22 @@ cleared [] waits = waits
 cleared (n ∷ ns) waits = cleared ns (slice_set waits n None)
 
 -- what the two parts keep true: a unit that waits is mine, and it began to wait no later than now
-pub record AreKept (post : PostState) (plain tracing : ℕ) (waits : List (Option Wait)) : Type 0 where
+pub record AreKept (post : PostState) (plain tracing : ℕ) (waits : List (Option Wait)) :
+    Type 0 where
   pub size : length waits ≡ 65536
   pub mine : (n : ℕ) (wait : Wait) → wait_of waits n ≡ Some wait → is_mine post n ≡ true
   pub began_plain : (n : ℕ) (wait : Wait) → wait_of waits n ≡ Some wait → wait.plain ≤ next plain
-  pub began_tracing : (n : ℕ) (wait : Wait) → wait_of waits n ≡ Some wait → wait.tracing ≤ next tracing
+  pub began_tracing :
+      (n : ℕ) (wait : Wait) → wait_of waits n ≡ Some wait → wait.tracing ≤ next tracing
 
 -- what may be used again has room
-pub room-now : (p : WaitingState) (n life : ℕ) (seal : Option Seal) → (rights_now p).settled n life seal ≡ true → (n < 2 ^ 16) × (life + 1 < 2 ^ 32)
-room-now p n life seal h = room-of n life seal (and_parts (has_room n life) (not (is_waiting (wait_of p.waits n))) h).0
+pub room-now :
+    (p : WaitingState) (n life : ℕ) (seal : Option Seal) → (rights_now p).settled n life seal ≡ true
+    → (n < 2 ^ 16) × (life + 1 < 2 ^ 32)
+room-now p n life seal h =
+    room-of n life seal (and_parts (has_room n life) (not (is_waiting (wait_of p.waits n))) h).0
 
-pub idle-now : (world : WaitingState) (d : Domain) (n : ℕ) → WaitingAtRest world d n → n % 2 ≡ 0 → (side d (known_of world.side)).number ≡ 0
+pub idle-now :
+    (world : WaitingState) (d : Domain) (n : ℕ) → WaitingAtRest world d n → n % 2 ≡ 0
+    → (side d (known_of world.side)).number ≡ 0
 idle-now world = idle-of world.side

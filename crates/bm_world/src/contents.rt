@@ -41,7 +41,8 @@ impl Model for Contents {
 
     ghost view = { λ contents. map named_of contents.slots.items };
 
-    ghost invariant = { λ contents. are_apart (names_in (map named_of contents.slots.items)) ≡ true };
+    ghost invariant = { λ contents. are_apart (names_in (map named_of contents.slots.items))
+        ≡ true };
 }
 
 impl Contents {
@@ -59,8 +60,11 @@ impl Contents {
         ensures held { result.held ≡ (slot_at place self.old).slot.held }
         ensures by { result.by ≡ (slot_at place self.old).slot.by }
         ensures slots { self.new ≡ put_at place (record { held = put; by = Some tag }) self.old }
-        ensures named { named_in self.old (slot_at place self.old).name ≡ (slot_at place self.old).slot }
-        ensures told { named_in self.new ≡ with_slot (slot_at place self.old).name (record { held = put; by = Some tag }) (named_in self.old) }
+        ensures named { named_in self.old (slot_at place self.old).name
+            ≡ (slot_at place self.old).slot }
+        ensures told { named_in self.new
+            ≡ with_slot (slot_at place self.old).name (record { held = put; by = Some tag })
+            (named_in self.old) }
     {
         let slot = &mut self.slots[place];
         let found = Displaced {

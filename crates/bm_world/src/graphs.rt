@@ -31,7 +31,8 @@ pub struct MapGraph {
 impl MapGraph {
     /// An empty list, or an empty tree, of this name, with an empty history. It takes no memory.
     pub fn new(alloc: Global, name: Name, is_tree: bool) -> MapGraph
-        ensures { named_graph result ≡ record { name = name; is_tree = is_tree; history = []; nodes = [] } }
+        ensures { named_graph result
+            ≡ record { name = name; is_tree = is_tree; history = []; nodes = [] } }
     {
         let graph = if is_tree {
             Graph::Tree(Tree::new(alloc))
@@ -67,8 +68,10 @@ fn id_in(popped: Option<Item<()>>) -> Option<ObjId>
 // An object is put at the front of a list.
 fn push_front(list: &mut List<()>, id: ObjId, tag: Tag) -> Result<u32, NoMemory>
     requires absent { life_among id.unit (list_nodes list.old.items) ≡ None }
-    ensures grows { IfOk result (λ position. ListGrows list.old list.new position (past.PushFront id) tag) }
-    ensures more { OnOk result (HasMore id (list_nodes list.old.items) (list_nodes list.new.items)) }
+    ensures grows { IfOk result
+        (λ position. ListGrows list.old list.new position (past.PushFront id) tag) }
+    ensures more { OnOk result
+        (HasMore id (list_nodes list.old.items) (list_nodes list.new.items)) }
     ensures err { OnErr result (list.new ≡ list.old) }
 {
     match list.push_front(tag, item(id, 0)) {
@@ -84,8 +87,10 @@ fn push_front(list: &mut List<()>, id: ObjId, tag: Tag) -> Result<u32, NoMemory>
 // An object is put at the back of a list.
 fn push_back(list: &mut List<()>, id: ObjId, tag: Tag) -> Result<u32, NoMemory>
     requires absent { life_among id.unit (list_nodes list.old.items) ≡ None }
-    ensures grows { IfOk result (λ position. ListGrows list.old list.new position (past.PushBack id) tag) }
-    ensures more { OnOk result (HasMore id (list_nodes list.old.items) (list_nodes list.new.items)) }
+    ensures grows { IfOk result
+        (λ position. ListGrows list.old list.new position (past.PushBack id) tag) }
+    ensures more { OnOk result
+        (HasMore id (list_nodes list.old.items) (list_nodes list.new.items)) }
     ensures err { OnErr result (list.new ≡ list.old) }
 {
     match list.push_back(tag, item(id, 0)) {
@@ -101,7 +106,8 @@ fn push_back(list: &mut List<()>, id: ObjId, tag: Tag) -> Result<u32, NoMemory>
 // An object is added to a tree.
 fn add(tree: &mut Tree<()>, id: ObjId, key: u32, tag: Tag) -> Result<u32, NoMemory>
     requires absent { life_among id.unit (nodes tree.old.items) ≡ None }
-    ensures grows { IfOk result (λ position. TreeGrows tree.old tree.new position (past.Add id key) tag) }
+    ensures grows { IfOk result
+        (λ position. TreeGrows tree.old tree.new position (past.Add id key) tag) }
     ensures more { OnOk result (HasMore id (nodes tree.old.items) (nodes tree.new.items)) }
     ensures err { OnErr result (tree.new ≡ tree.old) }
 {
@@ -119,7 +125,8 @@ fn add(tree: &mut Tree<()>, id: ObjId, key: u32, tag: Tag) -> Result<u32, NoMemo
 // How a refused push is named.
 fn call_of(way: Way, key: u32) -> GraphCall
     ensures kind { is_addition result ≡ is_for_tree way }
-    ensures named { (id : ObjIdValue) (owner : ℕ) → refused_call result id owner ≡ refused_push way id key owner }
+    ensures named { (id : ObjIdValue) (owner : ℕ)
+        → refused_call result id owner ≡ refused_push way id key owner }
 {
     match way {
         Way::Front => GraphCall::PushFront,
@@ -137,7 +144,8 @@ fn refuse_push(
     tag: Tag,
 ) -> Result<u32, NoMemory>
     requires list { is_addition call ≡ false }
-    ensures grows { IfOk result (λ position. ListGrows list.old list.new position (refused_call call id owner) tag) }
+    ensures grows { IfOk result
+        (λ position. ListGrows list.old list.new position (refused_call call id owner) tag) }
     ensures err { OnErr result (list.new ≡ list.old) }
 {
     let position = list.already(tag, call, id, owner)?;
@@ -155,7 +163,8 @@ fn refuse_add(
     tag: Tag,
 ) -> Result<u32, NoMemory>
     requires tree { is_addition call ≡ true }
-    ensures grows { IfOk result (λ position. TreeGrows tree.old tree.new position (refused_call call id owner) tag) }
+    ensures grows { IfOk result
+        (λ position. TreeGrows tree.old tree.new position (refused_call call id owner) tag) }
     ensures err { OnErr result (tree.new ≡ tree.old) }
 {
     let position = tree.already(tag, call, id, owner)?;
@@ -166,9 +175,12 @@ fn refuse_add(
 
 // The first object of a list is taken.
 fn pop_front(list: &mut List<()>, tag: Tag) -> Result<(u32, Option<ObjId>), NoMemory>
-    ensures grows { IfOk result (λ answer. ListGrows list.old list.new answer.0 (pop_call end_.Front answer.1) tag) }
+    ensures grows { IfOk result
+        (λ answer. ListGrows list.old list.new answer.0 (pop_call end_.Front answer.1) tag) }
     ensures item { IfOk result (λ answer. answer.1 ≡ first_node (list_nodes list.old.items)) }
-    ensures less { IfOk result (λ answer. IfSome answer.1 (λ id. HasMore id (list_nodes list.new.items) (list_nodes list.old.items))) }
+    ensures less { IfOk result
+        (λ answer. IfSome answer.1
+        (λ id. HasMore id (list_nodes list.new.items) (list_nodes list.old.items))) }
     ensures err { OnErr result (list.new ≡ list.old) }
 {
     let (position, popped) = list.pop_front(tag)?;
@@ -179,9 +191,12 @@ fn pop_front(list: &mut List<()>, tag: Tag) -> Result<(u32, Option<ObjId>), NoMe
 
 // The last object of a list is taken.
 fn pop_back(list: &mut List<()>, tag: Tag) -> Result<(u32, Option<ObjId>), NoMemory>
-    ensures grows { IfOk result (λ answer. ListGrows list.old list.new answer.0 (pop_call end_.Back answer.1) tag) }
+    ensures grows { IfOk result
+        (λ answer. ListGrows list.old list.new answer.0 (pop_call end_.Back answer.1) tag) }
     ensures item { IfOk result (λ answer. answer.1 ≡ last_node (list_nodes list.old.items)) }
-    ensures less { IfOk result (λ answer. IfSome answer.1 (λ id. HasMore id (list_nodes list.new.items) (list_nodes list.old.items))) }
+    ensures less { IfOk result
+        (λ answer. IfSome answer.1
+        (λ id. HasMore id (list_nodes list.new.items) (list_nodes list.old.items))) }
     ensures err { OnErr result (list.new ≡ list.old) }
 {
     let (position, popped) = list.pop_back(tag)?;
@@ -192,7 +207,8 @@ fn pop_back(list: &mut List<()>, tag: Tag) -> Result<(u32, Option<ObjId>), NoMem
 
 // The first object of a tree is named.
 fn look_first(tree: &mut Tree<()>, tag: Tag) -> Result<(u32, Option<ObjId>), NoMemory>
-    ensures grows { IfOk result (λ answer. TreeGrows tree.old tree.new answer.0 (first_call answer.1) tag) }
+    ensures grows { IfOk result
+        (λ answer. TreeGrows tree.old tree.new answer.0 (first_call answer.1) tag) }
     ensures item { IfOk result (λ answer. answer.1 ≡ first_node (nodes tree.old.items)) }
     ensures err { OnErr result (tree.new ≡ tree.old) }
 {
@@ -205,7 +221,8 @@ fn look_first(tree: &mut Tree<()>, tag: Tag) -> Result<(u32, Option<ObjId>), NoM
 // An object is taken out of a tree.
 fn take_out(tree: &mut Tree<()>, id: ObjId, tag: Tag) -> Result<u32, NoMemory>
     requires there { life_among id.unit (nodes tree.old.items) ≡ Some id.life }
-    ensures grows { IfOk result (λ position. TreeGrows tree.old tree.new position (past.Remove id) tag) }
+    ensures grows { IfOk result
+        (λ position. TreeGrows tree.old tree.new position (past.Remove id) tag) }
     ensures less { OnOk result (HasMore id (nodes tree.new.items) (nodes tree.old.items)) }
     ensures err { OnErr result (tree.new ≡ tree.old) }
 {
@@ -222,7 +239,8 @@ fn put_in(graph: &mut MapGraph, way: Way, id: ObjId, key: u32, tag: Tag) -> Resu
     requires absent { life_among id.unit (named_graph graph.old).nodes ≡ None }
     ensures grows { IfOk result (λ position.
         Grows (named_graph graph.old) (named_graph graph.new) position (push_call way id key) tag) }
-    ensures more { OnOk result (HasMore id (named_graph graph.old).nodes (named_graph graph.new).nodes) }
+    ensures more { OnOk result
+        (HasMore id (named_graph graph.old).nodes (named_graph graph.new).nodes) }
     ensures err { OnErr result (graph.new ≡ graph.old) }
 {
     match &mut graph.graph {
@@ -250,7 +268,8 @@ fn refuse_in(
 ) -> Result<u32, NoMemory>
     requires kind { (named_graph graph.old).is_tree ≡ is_for_tree way }
     ensures grows { IfOk result (λ position.
-        Grows (named_graph graph.old) (named_graph graph.new) position (refused_push way id key owner) tag) }
+        Grows (named_graph graph.old) (named_graph graph.new) position
+        (refused_push way id key owner) tag) }
     ensures err { OnErr result (graph.new ≡ graph.old) }
 {
     let call = call_of(way, key);
@@ -266,7 +285,9 @@ fn pop_from(graph: &mut MapGraph, end: End, tag: Tag) -> Result<(u32, Option<Obj
     ensures grows { IfOk result (λ answer.
         Grows (named_graph graph.old) (named_graph graph.new) answer.0 (pop_call end answer.1) tag) }
     ensures item { IfOk result (λ answer. answer.1 ≡ end_node end (named_graph graph.old).nodes) }
-    ensures less { IfOk result (λ answer. IfSome answer.1 (λ id. HasMore id (named_graph graph.new).nodes (named_graph graph.old).nodes)) }
+    ensures less { IfOk result
+        (λ answer. IfSome answer.1
+        (λ id. HasMore id (named_graph graph.new).nodes (named_graph graph.old).nodes)) }
     ensures err { OnErr result (graph.new ≡ graph.old) }
 {
     match &mut graph.graph {
@@ -298,7 +319,8 @@ fn remove_from(graph: &mut MapGraph, id: ObjId, tag: Tag) -> Result<u32, NoMemor
     requires there { life_among id.unit (named_graph graph.old).nodes ≡ Some id.life }
     ensures grows { IfOk result (λ position.
         Grows (named_graph graph.old) (named_graph graph.new) position (past.Remove id) tag) }
-    ensures less { OnOk result (HasMore id (named_graph graph.new).nodes (named_graph graph.old).nodes) }
+    ensures less { OnOk result
+        (HasMore id (named_graph graph.new).nodes (named_graph graph.old).nodes) }
     ensures err { OnErr result (graph.new ≡ graph.old) }
 {
     match &mut graph.graph {
@@ -374,10 +396,14 @@ impl Graphs {
         requires absent { standing_from 0 self.old id.unit ≡ None }
         ensures small { place < 256 }
         ensures at { IfOk result (λ position. position ≡ length (graph_at place self.old).history) }
-        ensures graphs { OnOk result (self.new ≡ graphs_after place (push_call way id key) tag self.old) }
+        ensures graphs { OnOk result
+            (self.new ≡ graphs_after place (push_call way id key) tag self.old) }
         ensures called { IfOk result (λ position.
-            Calls (graph_names_in self.old) (graph_at place self.old).name position (push_call way id key) tag (shelf_of self.old) (shelf_of self.new)) }
-        ensures moves { OnOk result (standing_from 0 self.new ≡ moved place (effect_of (push_call way id key)) (standing_from 0 self.old)) }
+            Calls (graph_names_in self.old) (graph_at place self.old).name position
+            (push_call way id key) tag (shelf_of self.old) (shelf_of self.new)) }
+        ensures moves { OnOk result
+            (standing_from 0 self.new
+            ≡ moved place (effect_of (push_call way id key)) (standing_from 0 self.old)) }
         ensures err { OnErr result (self.new ≡ self.old) }
     {
         let graph = &mut self.graphs[place];
@@ -397,12 +423,18 @@ impl Graphs {
     ) -> Result<u32, NoMemory>
         requires there { place < length self.old }
         requires kind { (graph_at place self.old).is_tree ≡ is_for_tree way }
-        requires stands { standing_from 0 self.old id.unit ≡ Some (record { life = id.life; place = owner }) }
+        requires stands { standing_from 0 self.old id.unit
+            ≡ Some (record { life = id.life; place = owner }) }
         ensures at { IfOk result (λ position. position ≡ length (graph_at place self.old).history) }
-        ensures graphs { OnOk result (self.new ≡ graphs_after place (refused_push way id key owner) tag self.old) }
+        ensures graphs { OnOk result
+            (self.new ≡ graphs_after place (refused_push way id key owner) tag self.old) }
         ensures called { IfOk result (λ position.
-            Calls (graph_names_in self.old) (graph_at place self.old).name position (refused_push way id key owner) tag (shelf_of self.old) (shelf_of self.new)) }
-        ensures moves { OnOk result (standing_from 0 self.new ≡ moved place (effect_of (refused_push way id key owner)) (standing_from 0 self.old)) }
+            Calls (graph_names_in self.old) (graph_at place self.old).name position
+            (refused_push way id key owner) tag (shelf_of self.old) (shelf_of self.new)) }
+        ensures moves { OnOk result
+            (standing_from 0 self.new
+            ≡ moved place (effect_of (refused_push way id key owner))
+            (standing_from 0 self.old)) }
         ensures err { OnErr result (self.new ≡ self.old) }
     {
         let graph = &mut self.graphs[place];
@@ -420,13 +452,18 @@ impl Graphs {
         requires there { place < length self.old }
         requires kind { (graph_at place self.old).is_tree ≡ false }
         ensures at { IfOk result (λ answer. answer.0 ≡ length (graph_at place self.old).history) }
-        ensures item { IfOk result (λ answer. answer.1 ≡ end_node end (graph_at place self.old).nodes) }
+        ensures item { IfOk result
+            (λ answer. answer.1 ≡ end_node end (graph_at place self.old).nodes) }
         ensures stood { IfOk result (λ answer. IfSome answer.1 (λ id.
             standing_from 0 self.old id.unit ≡ Some (record { life = id.life; place = place }))) }
-        ensures graphs { IfOk result (λ answer. self.new ≡ graphs_after place (pop_call end answer.1) tag self.old) }
+        ensures graphs { IfOk result
+            (λ answer. self.new ≡ graphs_after place (pop_call end answer.1) tag self.old) }
         ensures called { IfOk result (λ answer.
-            Calls (graph_names_in self.old) (graph_at place self.old).name answer.0 (pop_call end answer.1) tag (shelf_of self.old) (shelf_of self.new)) }
-        ensures moves { IfOk result (λ answer. standing_from 0 self.new ≡ moved place (effect_of (pop_call end answer.1)) (standing_from 0 self.old)) }
+            Calls (graph_names_in self.old) (graph_at place self.old).name answer.0
+            (pop_call end answer.1) tag (shelf_of self.old) (shelf_of self.new)) }
+        ensures moves { IfOk result
+            (λ answer. standing_from 0 self.new
+            ≡ moved place (effect_of (pop_call end answer.1)) (standing_from 0 self.old)) }
         ensures err { OnErr result (self.new ≡ self.old) }
     {
         let graph = &mut self.graphs[place];
@@ -439,13 +476,18 @@ impl Graphs {
         requires there { place < length self.old }
         requires kind { (graph_at place self.old).is_tree ≡ true }
         ensures at { IfOk result (λ answer. answer.0 ≡ length (graph_at place self.old).history) }
-        ensures item { IfOk result (λ answer. answer.1 ≡ first_node (graph_at place self.old).nodes) }
+        ensures item { IfOk result
+            (λ answer. answer.1 ≡ first_node (graph_at place self.old).nodes) }
         ensures stood { IfOk result (λ answer. IfSome answer.1 (λ id.
             standing_from 0 self.old id.unit ≡ Some (record { life = id.life; place = place }))) }
-        ensures graphs { IfOk result (λ answer. self.new ≡ graphs_after place (first_call answer.1) tag self.old) }
+        ensures graphs { IfOk result
+            (λ answer. self.new ≡ graphs_after place (first_call answer.1) tag self.old) }
         ensures called { IfOk result (λ answer.
-            Calls (graph_names_in self.old) (graph_at place self.old).name answer.0 (first_call answer.1) tag (shelf_of self.old) (shelf_of self.new)) }
-        ensures moves { IfOk result (λ answer. standing_from 0 self.new ≡ moved place (effect_of (first_call answer.1)) (standing_from 0 self.old)) }
+            Calls (graph_names_in self.old) (graph_at place self.old).name answer.0
+            (first_call answer.1) tag (shelf_of self.old) (shelf_of self.new)) }
+        ensures moves { IfOk result
+            (λ answer. standing_from 0 self.new
+            ≡ moved place (effect_of (first_call answer.1)) (standing_from 0 self.old)) }
         ensures err { OnErr result (self.new ≡ self.old) }
     {
         let graph = &mut self.graphs[place];
@@ -457,12 +499,16 @@ impl Graphs {
     pub fn remove(&mut self, place: usize, id: ObjId, tag: Tag) -> Result<u32, NoMemory>
         requires there { place < length self.old }
         requires kind { (graph_at place self.old).is_tree ≡ true }
-        requires stands { standing_from 0 self.old id.unit ≡ Some (record { life = id.life; place = place }) }
+        requires stands { standing_from 0 self.old id.unit
+            ≡ Some (record { life = id.life; place = place }) }
         ensures at { IfOk result (λ position. position ≡ length (graph_at place self.old).history) }
         ensures graphs { OnOk result (self.new ≡ graphs_after place (past.Remove id) tag self.old) }
         ensures called { IfOk result (λ position.
-            Calls (graph_names_in self.old) (graph_at place self.old).name position (past.Remove id) tag (shelf_of self.old) (shelf_of self.new)) }
-        ensures moves { OnOk result (standing_from 0 self.new ≡ moved place (effect_of (past.Remove id)) (standing_from 0 self.old)) }
+            Calls (graph_names_in self.old) (graph_at place self.old).name position (past.Remove id)
+            tag (shelf_of self.old) (shelf_of self.new)) }
+        ensures moves { OnOk result
+            (standing_from 0 self.new
+            ≡ moved place (effect_of (past.Remove id)) (standing_from 0 self.old)) }
         ensures err { OnErr result (self.new ≡ self.old) }
     {
         let graph = &mut self.graphs[place];

@@ -9,6 +9,8 @@ ghost use Rattle.bm_post.specs.Rights.{Holds, MayLeave};
 /// Over calls on grace periods, units that are mine stay mine, and those that may be sent or put back may be so still.
 pub fn aged_law()
     ensures join { (a b c : Rights) → Ages a b → Ages b c → Ages a c }
-    ensures holds { (units : List UnitState) (before now : Rights) → Ages before now → Holds before units → Holds now units }
-    ensures may_leave { (units : List UnitState) (before now : Rights) → Ages before now → All (MayLeave before) units → All (MayLeave now) units }
+    ensures holds { (units : List UnitState) (before now : Rights) → Ages before now
+        → Holds before units → Holds now units }
+    ensures may_leave { (units : List UnitState) (before now : Rights) → Ages before now
+        → All (MayLeave before) units → All (MayLeave now) units }
 {}

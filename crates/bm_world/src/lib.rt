@@ -1,6 +1,6 @@
 //! The world: one processor's side of all that processors share, which are the pool, the inboxes, and the grace periods.
 //!
-//! - `World` is a `Post` and a `Grace` in one value, so that a grace period that has passed can make the post's units ripe.
+//! - `World`, of `bm_post`, is a `Post` and a `Grace` in one value, so that a grace period that has passed can make the post's units ripe.
 //! - `OneSide` is the world on one thread for any number of processors, of which one has its turn.
 //! - `Lives` is a `World` in which units live: `begin_life`, `acquire`, `read`, `exchange`,
 //!   `push`, `pop`, `first`, `remove`, `release_other`, `end_life`, `ask`.
@@ -37,8 +37,8 @@ mod standing;
 mod wait;
 mod waiting;
 mod waiting_law;
-mod world;
 
+pub use bm_post::World;
 pub use contents::{Contents, Displaced, MapSlot};
 pub use graphs::{Graphs, MapGraph};
 pub use law::aged_law;
@@ -52,4 +52,3 @@ pub use standing::{Standing, Standings};
 pub use wait::Wait;
 pub use waiting::WaitingSide;
 pub use waiting_law::{ripe_only_when_passed, waits_without_a_seal};
-pub use world::World;

@@ -45,13 +45,13 @@ use crate::pushed::Pushed;
 use crate::slots::Slots;
 use crate::standing::{Standing, Standings};
 use crate::wait::Wait;
-use crate::{Lives, OneSide, World};
+use crate::{Lives, OneSide};
 use bm_class::Class;
 use bm_grace::{Began, Done, Grace, Knows, Look};
 use bm_graph::{End, Way};
 use bm_journal::{Domain, History, ObjId, Period, Tag, Values};
 use bm_page::Unit;
-use bm_post::Post;
+use bm_post::{Post, World};
 use bm_word::NoMemory;
 use std::alloc::Global;
 use std::marker::Model;
@@ -96,7 +96,11 @@ impl Model for LivingSide {
       graphs = world.graphs;
     } };
 
-    ghost invariant = { λ world. AreLiving world.side.post world.side.grace.plain.number world.side.grace.tracing.number world.slots.slots.items world.begun.counts.items world.standings.standings.items world.asked × (length world.standings.before.items ≡ 2 ^ 16) × AreShelved world.slots.slots.items world.graphs };
+    ghost invariant = { λ world. AreLiving world.side.post world.side.grace.plain.number
+        world.side.grace.tracing.number world.slots.slots.items world.begun.counts.items
+        world.standings.standings.items world.asked
+        × (length world.standings.before.items ≡ 2 ^ 16)
+        × AreShelved world.slots.slots.items world.graphs };
 }
 
 impl LivingSide {
@@ -113,7 +117,8 @@ impl LivingSide {
         ensures side { IfOk result (λ world. world.side ≡ side) }
         ensures slots { IfOk result (λ world. AllEmpty world.slots) }
         ensures begun { IfOk result (λ world. (n : ℕ) → begun_at world.begun n ≡ 0) }
-        ensures standings { IfOk result (λ world. (n : ℕ) → standing_at world.standings n ≡ WaitsForNothing) }
+        ensures standings { IfOk result
+            (λ world. (n : ℕ) → standing_at world.standings n ≡ WaitsForNothing) }
         ensures asked { IfOk result (λ world. world.asked ≡ 0) }
         ensures contents { IfOk result (λ world. world.contents ≡ contents) }
         ensures graphs { IfOk result (λ world. world.graphs ≡ graphs) }
@@ -228,8 +233,11 @@ impl LivingSide {
     pub fn one_at_rest(&self)
         requires one { self.now.side.grace.processors ≡ 1 }
         requires outside { (d : DomainValue) → (side d (known_living self.now)).word % 2 ≡ 0 }
-        ensures rest { (d : DomainValue) → LivingAtRest self.now d (domain_in d self.now.side.grace).number }
-        ensures sole { (d : DomainValue) → IsSole (side d (known_living self.now)).number (domain_in d self.now.side.grace).number }
+        ensures rest { (d : DomainValue)
+            → LivingAtRest self.now d (domain_in d self.now.side.grace).number }
+        ensures sole { (d : DomainValue)
+            → IsSole (side d (known_living self.now)).number
+            (domain_in d self.now.side.grace).number }
     {
         self.side.one_at_rest();
     }
@@ -240,7 +248,8 @@ fn end_standing(side: &mut OneSide, standings: &mut Standings, number: u16, dela
     requires size { length standings.old.standings.items ≡ 2 ^ 16 }
     ensures side { side.new ≡ side.old }
     ensures before { standings.new.before.items ≡ standings.old.before.items }
-    ensures standings { standings.new.standings.items ≡ standings_after delayed number side.old.grace standings.old.standings.items }
+    ensures standings { standings.new.standings.items
+        ≡ standings_after delayed number side.old.grace standings.old.standings.items }
 {
     if delayed {
         let plain = side.stamp(Domain::Plain);
@@ -277,7 +286,10 @@ impl Grace for LivingSide {
         ensures contents { self.new.contents ≡ self.old.contents }
         ensures graphs { self.new.graphs ≡ self.old.graphs }
         ensures grace { self.new.side.grace
-            ≡ with_domain domain (word_moved self.old.side.grace.processor (domain_in domain self.old.side.grace)) self.old.side.grace }
+            ≡ with_domain domain
+            (word_moved self.old.side.grace.processor
+            (domain_in domain self.old.side.grace))
+            self.old.side.grace }
         ensures word { result ≡ (side domain (known_living self.old)).word + 1 }
         ensures known { known_living self.new ≡ entered false domain (known_living self.old) }
         ensures rights { Ages (rights_living self.old) (rights_living self.new) }
@@ -297,7 +309,10 @@ impl Grace for LivingSide {
         ensures contents { self.new.contents ≡ self.old.contents }
         ensures graphs { self.new.graphs ≡ self.old.graphs }
         ensures grace { self.new.side.grace
-            ≡ with_domain domain (word_moved self.old.side.grace.processor (domain_in domain self.old.side.grace)) self.old.side.grace }
+            ≡ with_domain domain
+            (word_moved self.old.side.grace.processor
+            (domain_in domain self.old.side.grace))
+            self.old.side.grace }
         ensures word { result ≡ (side domain (known_living self.old)).word + 1 }
         ensures known { known_living self.new ≡ left false domain (known_living self.old) }
         ensures rights { Ages (rights_living self.old) (rights_living self.new) }
@@ -310,7 +325,8 @@ impl Grace for LivingSide {
     fn stamp(&mut self, domain: Domain) -> u32
         ensures stamp { result ≡ next (domain_in domain self.old.side.grace).number }
         ensures state { self.new ≡ self.old }
-        ensures known { Stamped false domain result (known_living self.old) (known_living self.new) }
+        ensures known { Stamped false domain result (known_living self.old)
+            (known_living self.new) }
         ensures rights { Ages (rights_living self.old) (rights_living self.new) }
         ensures since { MineSince domain result (rights_living self.old) (rights_living self.new) }
         ensures rest { StaysAtRest LivingAtRest self.old self.new }
@@ -325,12 +341,15 @@ impl Grace for LivingSide {
         ensures state { self.new ≡ self.old }
         ensures answer { Answers result stamp }
         ensures seen { (side domain (known_living self.old)).seen ≤ number_in result }
-        ensures known { known_living self.new ≡ read false domain (number_in result) (known_living self.old) }
+        ensures known { known_living self.new
+            ≡ read false domain (number_in result) (known_living self.old) }
         ensures rights { Ages (rights_living self.old) (rights_living self.new) }
-        ensures ripe { Ripens domain stamp result (rights_living self.old) (rights_living self.new) }
+        ensures ripe { Ripens domain stamp result (rights_living self.old)
+            (rights_living self.new) }
         ensures rest { StaysAtRest LivingAtRest self.old self.new }
         ensures at_rest { (n : ℕ) → LivingAtRest self.old domain n → number_in result ≡ n }
-        ensures does { LivingDoes (act.Reads domain stamp (number_in result) ∷ []) self.old self.new }
+        ensures does { LivingDoes (act.Reads domain stamp (number_in result) ∷ []) self.old
+            self.new }
     {
         self.side.done(domain, stamp)
     }
@@ -348,10 +367,14 @@ impl Grace for LivingSide {
         ensures contents { self.new.contents ≡ self.old.contents }
         ensures graphs { self.new.graphs ≡ self.old.graphs }
         ensures grace { self.new.side.grace
-            ≡ with_domain domain (period_begun self.old.side.grace.processor result (domain_in domain self.old.side.grace)) self.old.side.grace }
+            ≡ with_domain domain
+            (period_begun self.old.side.grace.processor result
+            (domain_in domain self.old.side.grace))
+            self.old.side.grace }
         ensures answer { BeganAt result even }
         ensures seen { (side domain (known_living self.old)).seen ≤ found_at even result }
-        ensures known { known_living self.new ≡ began false domain result even (known_living self.old) }
+        ensures known { known_living self.new
+            ≡ began false domain result even (known_living self.old) }
         ensures rights { Ages (rights_living self.old) (rights_living self.new) }
         ensures rest { MovesNumber LivingAtRest domain even (even + 1) self.old self.new }
         ensures at_rest { LivingAtRest self.old domain even → result ≡ Won }
@@ -370,15 +393,24 @@ impl Grace for LivingSide {
         ensures contents { self.new.contents ≡ self.old.contents }
         ensures graphs { self.new.graphs ≡ self.old.graphs }
         ensures grace { self.new.side.grace
-            ≡ with_domain domain (period_looked (words_in domain self.old.side.grace) (domain_in domain self.old.side.grace)) self.old.side.grace }
-        ensures first { length (side domain (known_living self.new)).first ≡ looks domain self.old.side.grace.processors }
-        ensures later { length (side domain (known_living self.new)).later ≡ looks domain self.old.side.grace.processors }
-        ensures answer { let s = side domain (known_living self.new) in Verdict result domain s.first s.later }
-        ensures known { known_living self.new ≡ looked false domain (side domain (known_living self.new)).later (known_living self.old) }
+            ≡ with_domain domain
+            (period_looked (words_in domain self.old.side.grace)
+            (domain_in domain self.old.side.grace))
+            self.old.side.grace }
+        ensures first { length (side domain (known_living self.new)).first
+            ≡ looks domain self.old.side.grace.processors }
+        ensures later { length (side domain (known_living self.new)).later
+            ≡ looks domain self.old.side.grace.processors }
+        ensures answer { let s = side domain (known_living self.new) in
+            Verdict result domain s.first s.later }
+        ensures known { known_living self.new
+            ≡ looked false domain (side domain (known_living self.new)).later
+            (known_living self.old) }
         ensures rights { Ages (rights_living self.old) (rights_living self.new) }
         ensures rest { StaysAtRest LivingAtRest self.old self.new }
         ensures at_rest { (n : ℕ) → LivingAtRest self.old domain n → result ≡ AllPass }
-        ensures does { LivingDoes (act.Looks domain (side domain (known_living self.new)).later ∷ []) self.old self.new }
+        ensures does { LivingDoes
+            (act.Looks domain (side domain (known_living self.new)).later ∷ []) self.old self.new }
     {
         self.side.look(domain)
     }
@@ -392,7 +424,9 @@ impl Grace for LivingSide {
         ensures asked { self.new.asked ≡ self.old.asked }
         ensures contents { self.new.contents ≡ self.old.contents }
         ensures graphs { self.new.graphs ≡ self.old.graphs }
-        ensures grace { self.new.side.grace ≡ with_domain domain (period_ended (domain_in domain self.old.side.grace)) self.old.side.grace }
+        ensures grace { self.new.side.grace
+            ≡ with_domain domain (period_ended (domain_in domain self.old.side.grace))
+            self.old.side.grace }
         ensures period { result ≡ ended domain (side domain (known_living self.old)) }
         ensures known { known_living self.new ≡ finished false domain (known_living self.old) }
         ensures rights { Ages (rights_living self.old) (rights_living self.new) }
@@ -403,7 +437,9 @@ impl Grace for LivingSide {
     }
 
     fn driving(&self, domain: Domain) -> bool
-        ensures is { result ≡ is_processor self.now.side.grace.processor (domain_in domain self.now.side.grace).driver }
+        ensures is { result
+            ≡ is_processor self.now.side.grace.processor
+            (domain_in domain self.now.side.grace).driver }
         ensures none { result ≡ false → (side domain (known_living self.now)).number ≡ 0 }
         ensures odd { result ≡ true → (side domain (known_living self.now)).number % 2 ≡ 1 }
     {
@@ -417,9 +453,15 @@ impl Post for LivingSide {
     ghost calls = { λ _. None };
 
     fn fetch(&mut self, class: Class, want: usize, out: &mut Vec<Unit>) -> Result<usize, NoMemory>
-        ensures count { IfOk result (λ n. n ≡ length (stock_fetched class want self.old.side.post.pool).units) }
-        ensures units { OnOk result (out.new.items ≡ out.old.items ++ (stock_fetched class want self.old.side.post.pool).units) }
-        ensures state { OnOk result (self.new.side.post ≡ record self.old.side.post { pool = (stock_fetched class want self.old.side.post.pool).pool }) }
+        ensures count { IfOk result
+            (λ n. n ≡ length (stock_fetched class want self.old.side.post.pool).units) }
+        ensures units { OnOk result
+            (out.new.items
+            ≡ out.old.items ++ (stock_fetched class want self.old.side.post.pool).units) }
+        ensures state { OnOk result
+            (self.new.side.post
+            ≡ record self.old.side.post
+            { pool = (stock_fetched class want self.old.side.post.pool).pool }) }
         ensures err_state { OnErr result (self.new.side.post ≡ self.old.side.post) }
         ensures grace { self.new.side.grace ≡ self.old.side.grace }
         ensures slots { self.new.slots ≡ self.old.slots }
@@ -428,13 +470,18 @@ impl Post for LivingSide {
         ensures asked { self.new.asked ≡ self.old.asked }
         ensures contents { self.new.contents ≡ self.old.contents }
         ensures graphs { self.new.graphs ≡ self.old.graphs }
-        ensures ok { IfOk result (λ n. Fetches class want n out.old.items out.new.items (rights_living self.old) (rights_living self.new)) }
+        ensures ok { IfOk result
+            (λ n. Fetches class want n out.old.items out.new.items (rights_living self.old)
+            (rights_living self.new)) }
         ensures err { OnErr result (out.new.items ≡ out.old.items) }
         ensures same { OnErr result (AreSame (rights_living self.old) (rights_living self.new)) }
         ensures lasts { Lasting [] (rights_living self.old) (rights_living self.new) }
         ensures known { Posts false (known_living self.old) (known_living self.new) }
         ensures rest { StaysAtRest LivingAtRest self.old self.new }
-        ensures does { OnOk result (LivingDoes (act.Fetches class want (numbers (drop (length out.old.items) out.new.items)) ∷ []) self.old self.new) }
+        ensures does { OnOk result
+            (LivingDoes
+            (act.Fetches class want (numbers (drop (length out.old.items) out.new.items)) ∷ [])
+            self.old self.new) }
         ensures idle { OnErr result (LivingDoes [] self.old self.new) }
     {
         self.side.fetch(class, want, out)
@@ -443,7 +490,9 @@ impl Post for LivingSide {
     fn put_back(&mut self, units: Vec<Unit>)
         requires mine { Holds (rights_living self.old) units.items }
         requires fit { All (MayLeave (rights_living self.old)) units.items }
-        ensures state { self.new.side.post ≡ record self.old.side.post { pool = all_returned (reverse units.items) self.old.side.post.pool } }
+        ensures state { self.new.side.post
+            ≡ record self.old.side.post
+            { pool = all_returned (reverse units.items) self.old.side.post.pool } }
         ensures grace { self.new.side.grace ≡ self.old.side.grace }
         ensures slots { self.new.slots ≡ self.old.slots }
         ensures begun { self.new.begun ≡ self.old.begun }
@@ -451,12 +500,15 @@ impl Post for LivingSide {
         ensures asked { self.new.asked ≡ self.old.asked }
         ensures contents { self.new.contents ≡ self.old.contents }
         ensures graphs { self.new.graphs ≡ self.old.graphs }
-        ensures back { GivesBack (numbers units.items) (rights_living self.old) (rights_living self.new) }
-        ensures lasts { Lasting (numbers units.items) (rights_living self.old) (rights_living self.new) }
+        ensures back { GivesBack (numbers units.items) (rights_living self.old)
+            (rights_living self.new) }
+        ensures lasts { Lasting (numbers units.items) (rights_living self.old)
+            (rights_living self.new) }
         ensures known { Posts false (known_living self.old) (known_living self.new) }
         ensures rest { StaysAtRest LivingAtRest self.old self.new }
         ensures does { LivingDoes (act.Returns (sealed units.items) ∷ []) self.old self.new }
-        ensures gives { All (IsSettled (rights_living self.old)) units.items → LivingDoes (act.GivesBack (numbers units.items) ∷ []) self.old self.new }
+        ensures gives { All (IsSettled (rights_living self.old)) units.items
+            → LivingDoes (act.GivesBack (numbers units.items) ∷ []) self.old self.new }
     {
         self.standings.leave(&units);
         self.side.put_back(units);
@@ -468,30 +520,38 @@ impl Post for LivingSide {
         requires class { All (IsOf class) units.items }
         requires mine { Holds (rights_living self.old) units.items }
         requires fit { All (MayLeave (rights_living self.old)) units.items }
-        ensures state { OnOk result (self.new.side.post ≡ sent_to to class units.items self.old.side.post) }
+        ensures state { OnOk result
+            (self.new.side.post ≡ sent_to to class units.items self.old.side.post) }
         ensures err_state { OnErr result (self.new.side.post ≡ self.old.side.post) }
         ensures grace { self.new.side.grace ≡ self.old.side.grace }
         ensures slots { self.new.slots ≡ self.old.slots }
         ensures begun { self.new.begun ≡ self.old.begun }
-        ensures standings { OnOk result (self.new.standings ≡ left_by units.items self.old.standings) }
+        ensures standings { OnOk result
+            (self.new.standings ≡ left_by units.items self.old.standings) }
         ensures err_standings { OnErr result (self.new.standings ≡ self.old.standings) }
         ensures asked { self.new.asked ≡ self.old.asked }
         ensures contents { self.new.contents ≡ self.old.contents }
         ensures graphs { self.new.graphs ≡ self.old.graphs }
-        ensures sent { OnOk result (GivesBack (numbers units.items) (rights_living self.old) (rights_living self.new)) }
+        ensures sent { OnOk result
+            (GivesBack (numbers units.items) (rights_living self.old) (rights_living self.new)) }
         ensures refused { IfErr result (λ back. back.items ≡ units.items) }
         ensures same { OnErr result (AreSame (rights_living self.old) (rights_living self.new)) }
-        ensures lasts { Lasting (numbers units.items) (rights_living self.old) (rights_living self.new) }
+        ensures lasts { Lasting (numbers units.items) (rights_living self.old)
+            (rights_living self.new) }
         ensures may { OnErr result (All (MayLeave (rights_living self.new)) units.items) }
         ensures mails { OnOk result
-            (Mails false (parcel_sent to self.old.side.grace.processor class (numbers units.items)) (known_living self.old) (known_living self.new)) }
+            (Mails false (parcel_sent to self.old.side.grace.processor class (numbers units.items))
+            (known_living self.old) (known_living self.new)) }
         ensures known { OnErr result (Posts false (known_living self.old) (known_living self.new)) }
         ensures rest { StaysAtRest LivingAtRest self.old self.new }
-        ensures does { OnOk result (LivingDoes (act.Sends class to (sealed units.items) ∷ []) self.old self.new) }
+        ensures does { OnOk result
+            (LivingDoes (act.Sends class to (sealed units.items) ∷ []) self.old self.new) }
         ensures drains { OnOk result (All (IsSettled (rights_living self.old)) units.items
             → LivingDoes (act.Drains class to (numbers units.items) ∷ []) self.old self.new) }
-        ensures releases { OnOk result ((seal : SealValue) → All (WaitedBy (rights_living self.old) seal) units.items
-            → LivingDoes (act.Releases class to (numbers units.items) seal.stamp seal.seen ∷ []) self.old self.new) }
+        ensures releases { OnOk result ((seal : SealValue)
+            → All (WaitedBy (rights_living self.old) seal) units.items
+            → LivingDoes (act.Releases class to (numbers units.items) seal.stamp seal.seen ∷ [])
+            self.old self.new) }
         ensures idle { OnErr result (LivingDoes [] self.old self.new) }
     {
         self.standings.leave(&units);
@@ -506,9 +566,13 @@ impl Post for LivingSide {
 
     fn receive(&mut self, class: Class) -> Option<Vec<Unit>>
         ensures oldest { IfSome result (λ units.
-            inbox self.old.side.post.processor class self.old.side.post ≡ units.items ∷ inbox self.old.side.post.processor class self.new.side.post) }
-        ensures none_waits { IfNone result (inbox self.old.side.post.processor class self.old.side.post ≡ []) }
-        ensures state { IfSome result (λ _. self.new.side.post ≡ taken_by self.old.side.post.processor class self.old.side.post) }
+            inbox self.old.side.post.processor class self.old.side.post
+            ≡ units.items ∷ inbox self.old.side.post.processor class self.new.side.post) }
+        ensures none_waits { IfNone result
+            (inbox self.old.side.post.processor class self.old.side.post ≡ []) }
+        ensures state { IfSome result
+            (λ _. self.new.side.post
+            ≡ taken_by self.old.side.post.processor class self.old.side.post) }
         ensures none_state { IfNone result (self.new.side.post ≡ self.old.side.post) }
         ensures grace { self.new.side.grace ≡ self.old.side.grace }
         ensures slots { self.new.slots ≡ self.old.slots }
@@ -517,14 +581,20 @@ impl Post for LivingSide {
         ensures asked { self.new.asked ≡ self.old.asked }
         ensures contents { self.new.contents ≡ self.old.contents }
         ensures graphs { self.new.graphs ≡ self.old.graphs }
-        ensures some { IfSome result (λ units. Receives class units.items (rights_living self.old) (rights_living self.new)) }
+        ensures some { IfSome result
+            (λ units. Receives class units.items (rights_living self.old)
+            (rights_living self.new)) }
         ensures none { IfNone result (AreSame (rights_living self.old) (rights_living self.new)) }
         ensures lasts { Lasting [] (rights_living self.old) (rights_living self.new) }
-        ensures mails { Mails false (parcel_taken class) (known_living self.old) (known_living self.new) }
-        ensures oldest_told { oldest (told_in self.old.side.post class) ≡ option_map_or (λ units. numbers units.items) result [] }
+        ensures mails { Mails false (parcel_taken class) (known_living self.old)
+            (known_living self.new) }
+        ensures oldest_told { oldest (told_in self.old.side.post class)
+            ≡ option_map_or (λ units. numbers units.items) result [] }
         ensures none_told { IfNone result (told_in self.old.side.post class ≡ []) }
         ensures rest { StaysAtRest LivingAtRest self.old self.new }
-        ensures does { LivingDoes (act.Receives class (option_map_or (λ units. numbers units.items) result []) ∷ []) self.old self.new }
+        ensures does { LivingDoes
+            (act.Receives class (option_map_or (λ units. numbers units.items) result []) ∷ [])
+            self.old self.new }
     {
         self.side.receive(class)
     }
@@ -556,12 +626,15 @@ impl Lives for LivingSide {
         ensures none { lives_of self.old.slots unit.number ≡ None }
         ensures alone { standing_from 0 self.old.graphs unit.number ≡ None }
         ensures state { self.new ≡ with_begun type_number values unit self.old }
-        ensures known { known_living self.new ≡ life_begun type_number values unit (known_living self.old) }
+        ensures known { known_living self.new
+            ≡ life_begun type_number values unit (known_living self.old) }
         ensures gone { Loses (unit.number ∷ []) (rights_living self.old) (rights_living self.new) }
-        ensures others { OthersAsBefore unit.number (rights_living self.old) (rights_living self.new) }
+        ensures others { OthersAsBefore unit.number (rights_living self.old)
+            (rights_living self.new) }
         ensures rest { StaysAtRest LivingAtRest self.old self.new }
         ensures does { unit.home ≡ self.old.side.grace.processor
-            → LivingDoes (act.Makes unit.number (unit.life + 1) type_number values unit.seal ∷ []) self.old self.new }
+            → LivingDoes (act.Makes unit.number (unit.life + 1) type_number values unit.seal ∷ [])
+            self.old self.new }
     {
         self.side.processors_agree();
         let mut unit = unit;
@@ -587,14 +660,16 @@ impl Lives for LivingSide {
 
     fn acquire(&mut self, object: ObjId) -> u32
         requires room { self.old.asked + 1 < 2 ^ 31 }
-        requires lives { (l : Living) × HasLife (lives_of self.old.slots) object.unit object.life l }
+        requires lives { (l : Living)
+            × HasLife (lives_of self.old.slots) object.unit object.life l }
         ensures state { self.new ≡ with_acquired object.unit self.old }
         ensures seen { result ≡ count_in (lives_of self.old.slots object.unit) }
         ensures some { 0 < result }
         ensures known { known_living self.new ≡ life_acquired object.unit (known_living self.old) }
         ensures same { AsBefore (rights_living self.old) (rights_living self.new) }
         ensures rest { StaysAtRest LivingAtRest self.old self.new }
-        ensures does { LivingDoes (act.Acquires object.unit object.life result ∷ []) self.old self.new }
+        ensures does { LivingDoes (act.Acquires object.unit object.life result ∷ []) self.old
+            self.new }
     {
         let count = self.slots.references(object.unit);
         self.slots.count(object.unit, count + 1);
@@ -603,10 +678,14 @@ impl Lives for LivingSide {
     }
 
     fn read(&self, object: ObjId, place: u8) -> u32
-        requires lives { (l : Living) × HasLife (lives_of self.now.slots) object.unit object.life l }
-        requires there { is_some (slice_get (values_in (lives_of self.now.slots object.unit)) place) ≡ true }
-        ensures value { slice_get (values_in (lives_of self.now.slots object.unit)) place ≡ Some result }
-        ensures does { LivingDoes (act.Finds object.unit object.life place result ∷ []) self.now self.now }
+        requires lives { (l : Living)
+            × HasLife (lives_of self.now.slots) object.unit object.life l }
+        requires there { is_some (slice_get (values_in (lives_of self.now.slots object.unit)) place)
+            ≡ true }
+        ensures value { slice_get (values_in (lives_of self.now.slots object.unit)) place
+            ≡ Some result }
+        ensures does { LivingDoes (act.Finds object.unit object.life place result ∷ []) self.now
+            self.now }
     {
         self.slots.value(object.unit, place)
     }
@@ -617,7 +696,8 @@ impl Lives for LivingSide {
         ensures held { result.held ≡ (slot_at place self.old.contents).slot.held }
         ensures by { result.by ≡ (slot_at place self.old.contents).slot.by }
         ensures state { self.new ≡ with_exchanged place put tag self.old }
-        ensures known { known_living self.new ≡ slot_exchanged place put tag (known_living self.old) }
+        ensures known { known_living self.new
+            ≡ slot_exchanged place put tag (known_living self.old) }
         ensures same { AsBefore (rights_living self.old) (rights_living self.new) }
         ensures rest { StaysAtRest LivingAtRest self.old self.new }
         ensures does { let name = (slot_at place self.old.contents).name in
@@ -629,18 +709,33 @@ impl Lives for LivingSide {
     fn push(&mut self, place: usize, way: Way, object: ObjId, tag: Tag) -> Result<Pushed, NoMemory>
         requires there { place < length self.old.graphs }
         requires kind { (graph_at place self.old.graphs).is_tree ≡ is_for_tree way }
-        requires lives { (l : Living) × HasLife (lives_of self.old.slots) object.unit object.life l }
-        requires keyed { way ≡ Ordered → 0 < length (values_in (lives_of self.old.slots object.unit)) }
-        ensures at { IfOk result (λ pushed. pushed_at pushed ≡ length (graph_at place self.old.graphs).history) }
-        ensures stood { IfOk result (λ pushed. standing_from 0 self.old.graphs object.unit ≡ stood object.life pushed) }
-        ensures moves { IfOk result (λ pushed. let key = key_of (values_in (lives_of self.old.slots object.unit)) in
-            standing_from 0 self.new.graphs ≡ moved place (effect_of (pushed_call way object key pushed)) (standing_from 0 self.old.graphs)) }
-        ensures known { IfOk result (λ pushed. let key = key_of (values_in (lives_of self.old.slots object.unit)) in
-            known_living self.new ≡ graph_called place (pushed_call way object key pushed) tag (known_living self.old)) }
+        requires lives { (l : Living)
+            × HasLife (lives_of self.old.slots) object.unit object.life l }
+        requires keyed { way ≡ Ordered
+            → 0 < length (values_in (lives_of self.old.slots object.unit)) }
+        ensures at { IfOk result
+            (λ pushed. pushed_at pushed ≡ length (graph_at place self.old.graphs).history) }
+        ensures stood { IfOk result
+            (λ pushed. standing_from 0 self.old.graphs object.unit ≡ stood object.life pushed) }
+        ensures moves { IfOk result
+            (λ pushed. let key = key_of (values_in (lives_of self.old.slots object.unit)) in
+            standing_from 0 self.new.graphs
+            ≡ moved place (effect_of (pushed_call way object key pushed))
+            (standing_from 0 self.old.graphs)) }
+        ensures known { IfOk result
+            (λ pushed. let key = key_of (values_in (lives_of self.old.slots object.unit)) in
+            known_living self.new
+            ≡ graph_called place (pushed_call way object key pushed) tag
+            (known_living self.old)) }
         ensures same { AsBefore (rights_living self.old) (rights_living self.new) }
         ensures rest { StaysAtRest LivingAtRest self.old self.new }
-        ensures does { IfOk result (λ pushed. let key = key_of (values_in (lives_of self.old.slots object.unit)) in
-            LivingDoes (act.Calls (graph_at place self.old.graphs).name (pushed_at pushed) (pushed_call way object key pushed) tag ∷ []) self.old self.new) }
+        ensures does { IfOk result
+            (λ pushed. let key = key_of (values_in (lives_of self.old.slots object.unit)) in
+            LivingDoes
+            (act.Calls (graph_at place self.old.graphs).name (pushed_at pushed)
+            (pushed_call way object key pushed) tag
+            ∷ [])
+            self.old self.new) }
         ensures err { OnErr result (self.new ≡ self.old) }
     {
         let key = self.slots.key(object.unit);
@@ -660,17 +755,31 @@ impl Lives for LivingSide {
     fn pop(&mut self, place: usize, end: End, tag: Tag) -> Result<(u32, Option<ObjId>), NoMemory>
         requires there { place < length self.old.graphs }
         requires kind { (graph_at place self.old.graphs).is_tree ≡ false }
-        ensures at { IfOk result (λ answer. answer.0 ≡ length (graph_at place self.old.graphs).history) }
-        ensures item { IfOk result (λ answer. answer.1 ≡ end_node end (graph_at place self.old.graphs).nodes) }
+        ensures at { IfOk result
+            (λ answer. answer.0 ≡ length (graph_at place self.old.graphs).history) }
+        ensures item { IfOk result
+            (λ answer. answer.1 ≡ end_node end (graph_at place self.old.graphs).nodes) }
         ensures stood { IfOk result (λ answer. IfSome answer.1 (λ id.
-            standing_from 0 self.old.graphs id.unit ≡ Some (record { life = id.life; place = place }))) }
-        ensures lives { IfOk result (λ answer. IfSome answer.1 (λ id. (l : Living) × HasLife (lives_of self.old.slots) id.unit id.life l)) }
-        ensures moves { IfOk result (λ answer. standing_from 0 self.new.graphs ≡ moved place (effect_of (pop_call end answer.1)) (standing_from 0 self.old.graphs)) }
-        ensures known { IfOk result (λ answer. known_living self.new ≡ graph_called place (pop_call end answer.1) tag (known_living self.old)) }
+            standing_from 0 self.old.graphs id.unit
+            ≡ Some (record { life = id.life; place = place }))) }
+        ensures lives { IfOk result
+            (λ answer. IfSome answer.1
+            (λ id. (l : Living) × HasLife (lives_of self.old.slots) id.unit id.life l)) }
+        ensures moves { IfOk result
+            (λ answer. standing_from 0 self.new.graphs
+            ≡ moved place (effect_of (pop_call end answer.1))
+            (standing_from 0 self.old.graphs)) }
+        ensures known { IfOk result
+            (λ answer. known_living self.new
+            ≡ graph_called place (pop_call end answer.1) tag (known_living self.old)) }
         ensures same { AsBefore (rights_living self.old) (rights_living self.new) }
         ensures rest { StaysAtRest LivingAtRest self.old self.new }
         ensures does { IfOk result (λ answer.
-            LivingDoes (act.Calls (graph_at place self.old.graphs).name answer.0 (pop_call end answer.1) tag ∷ []) self.old self.new) }
+            LivingDoes
+            (act.Calls (graph_at place self.old.graphs).name answer.0
+            (pop_call end answer.1) tag
+            ∷ [])
+            self.old self.new) }
         ensures err { OnErr result (self.new ≡ self.old) }
     {
         let (position, popped) = self.graphs.pop(place, end, tag)?;
@@ -683,17 +792,30 @@ impl Lives for LivingSide {
     fn first(&mut self, place: usize, tag: Tag) -> Result<(u32, Option<ObjId>), NoMemory>
         requires there { place < length self.old.graphs }
         requires kind { (graph_at place self.old.graphs).is_tree ≡ true }
-        ensures at { IfOk result (λ answer. answer.0 ≡ length (graph_at place self.old.graphs).history) }
-        ensures item { IfOk result (λ answer. answer.1 ≡ first_node (graph_at place self.old.graphs).nodes) }
+        ensures at { IfOk result
+            (λ answer. answer.0 ≡ length (graph_at place self.old.graphs).history) }
+        ensures item { IfOk result
+            (λ answer. answer.1 ≡ first_node (graph_at place self.old.graphs).nodes) }
         ensures stood { IfOk result (λ answer. IfSome answer.1 (λ id.
-            standing_from 0 self.old.graphs id.unit ≡ Some (record { life = id.life; place = place }))) }
-        ensures lives { IfOk result (λ answer. IfSome answer.1 (λ id. (l : Living) × HasLife (lives_of self.old.slots) id.unit id.life l)) }
-        ensures moves { IfOk result (λ answer. standing_from 0 self.new.graphs ≡ moved place (effect_of (first_call answer.1)) (standing_from 0 self.old.graphs)) }
-        ensures known { IfOk result (λ answer. known_living self.new ≡ graph_called place (first_call answer.1) tag (known_living self.old)) }
+            standing_from 0 self.old.graphs id.unit
+            ≡ Some (record { life = id.life; place = place }))) }
+        ensures lives { IfOk result
+            (λ answer. IfSome answer.1
+            (λ id. (l : Living) × HasLife (lives_of self.old.slots) id.unit id.life l)) }
+        ensures moves { IfOk result
+            (λ answer. standing_from 0 self.new.graphs
+            ≡ moved place (effect_of (first_call answer.1)) (standing_from 0 self.old.graphs)) }
+        ensures known { IfOk result
+            (λ answer. known_living self.new
+            ≡ graph_called place (first_call answer.1) tag (known_living self.old)) }
         ensures same { AsBefore (rights_living self.old) (rights_living self.new) }
         ensures rest { StaysAtRest LivingAtRest self.old self.new }
         ensures does { IfOk result (λ answer.
-            LivingDoes (act.Calls (graph_at place self.old.graphs).name answer.0 (first_call answer.1) tag ∷ []) self.old self.new) }
+            LivingDoes
+            (act.Calls (graph_at place self.old.graphs).name answer.0 (first_call answer.1)
+            tag
+            ∷ [])
+            self.old self.new) }
         ensures err { OnErr result (self.new ≡ self.old) }
     {
         self.graphs.first(place, tag)
@@ -702,15 +824,25 @@ impl Lives for LivingSide {
     fn remove(&mut self, place: usize, object: ObjId, tag: Tag) -> Result<u32, NoMemory>
         requires there { place < length self.old.graphs }
         requires kind { (graph_at place self.old.graphs).is_tree ≡ true }
-        requires stands { standing_from 0 self.old.graphs object.unit ≡ Some (record { life = object.life; place = place }) }
-        ensures at { IfOk result (λ position. position ≡ length (graph_at place self.old.graphs).history) }
+        requires stands { standing_from 0 self.old.graphs object.unit
+            ≡ Some (record { life = object.life; place = place }) }
+        ensures at { IfOk result
+            (λ position. position ≡ length (graph_at place self.old.graphs).history) }
         ensures lives { (l : Living) × HasLife (lives_of self.old.slots) object.unit object.life l }
-        ensures moves { OnOk result (standing_from 0 self.new.graphs ≡ moved place (effect_of (past.Remove object)) (standing_from 0 self.old.graphs)) }
-        ensures known { OnOk result (known_living self.new ≡ graph_called place (past.Remove object) tag (known_living self.old)) }
+        ensures moves { OnOk result
+            (standing_from 0 self.new.graphs
+            ≡ moved place (effect_of (past.Remove object)) (standing_from 0 self.old.graphs)) }
+        ensures known { OnOk result
+            (known_living self.new
+            ≡ graph_called place (past.Remove object) tag (known_living self.old)) }
         ensures same { AsBefore (rights_living self.old) (rights_living self.new) }
         ensures rest { StaysAtRest LivingAtRest self.old self.new }
         ensures does { IfOk result (λ position.
-            LivingDoes (act.Calls (graph_at place self.old.graphs).name position (past.Remove object) tag ∷ []) self.old self.new) }
+            LivingDoes
+            (act.Calls (graph_at place self.old.graphs).name position (past.Remove object)
+            tag
+            ∷ [])
+            self.old self.new) }
         ensures err { OnErr result (self.new ≡ self.old) }
     {
         let position = self.graphs.remove(place, object, tag)?;
@@ -719,14 +851,16 @@ impl Lives for LivingSide {
     }
 
     fn release_other(&mut self, object: ObjId) -> u32
-        requires lives { (l : Living) × HasLife (lives_of self.old.slots) object.unit object.life l }
+        requires lives { (l : Living)
+            × HasLife (lives_of self.old.slots) object.unit object.life l }
         requires others { 1 < count_in (lives_of self.old.slots object.unit) }
         ensures state { self.new ≡ with_given_up object.unit self.old }
         ensures seen { result ≡ count_in (lives_of self.old.slots object.unit) }
         ensures known { known_living self.new ≡ life_given_up object.unit (known_living self.old) }
         ensures same { AsBefore (rights_living self.old) (rights_living self.new) }
         ensures rest { StaysAtRest LivingAtRest self.old self.new }
-        ensures does { LivingDoes (act.GivesUp object.unit object.life result ∷ []) self.old self.new }
+        ensures does { LivingDoes (act.GivesUp object.unit object.life result ∷ []) self.old
+            self.new }
     {
         let count = self.slots.references(object.unit);
         self.slots.count(object.unit, count - 1);
@@ -749,12 +883,15 @@ impl Lives for LivingSide {
         ensures unsealed { result.seal ≡ None }
         ensures room { result.life + 1 < 2 ^ 32 }
         ensures settled { delayed ≡ false → IsSettled (rights_living self.new) result }
-        ensures undue { delayed ≡ false → (life : ℕ) (seal : Option SealValue) → (rights_living self.new).due number life seal ≡ false }
+        ensures undue { delayed ≡ false → (life : ℕ) (seal : Option SealValue)
+            → (rights_living self.new).due number life seal ≡ false }
         ensures due { delayed ≡ true → (rights_living self.new).due number result.life None ≡ true }
-        ensures unsettled { delayed ≡ true → (life : ℕ) (seal : Option SealValue) → (rights_living self.new).settled number life seal ≡ false }
+        ensures unsettled { delayed ≡ true → (life : ℕ) (seal : Option SealValue)
+            → (rights_living self.new).settled number life seal ≡ false }
         ensures home { result.home < self.old.side.grace.processors }
         ensures rest { StaysAtRest LivingAtRest self.old self.new }
-        ensures does { LivingDoes (act.Ends number result.life result.home delayed ∷ []) self.old self.new }
+        ensures does { LivingDoes (act.Ends number result.life result.home delayed ∷ []) self.old
+            self.new }
     {
         self.side.processors_agree();
         end_standing(&mut self.side, &mut self.standings, number, delayed);

@@ -27,12 +27,11 @@ ghost use Rattle.bm_grace.specs.Begins.{begin_act};
 ghost use Rattle.bm_page.specs.declared.units.Seal.{Seal as SealValue};
 ghost use Rattle.bm_post.specs.Rights.{AreSame, Holds, IsSettled, Lasting, MayLeave, WaitedBy, numbers};
 
-use crate::World;
 use bm_class::Class;
 use bm_grace::{Began, Done, Grace, Knows, Look, PlainGrace};
 use bm_journal::{Domain, Period};
 use bm_page::Unit;
-use bm_post::{PlainPost, Post};
+use bm_post::{PlainPost, Post, World};
 use bm_word::NoMemory;
 use std::marker::Model;
 
@@ -100,8 +99,10 @@ impl OneSide {
     pub fn one_at_rest(&self)
         requires one { self.now.grace.processors ≡ 1 }
         requires outside { (d : DomainValue) → (side d (known_of self.now)).word % 2 ≡ 0 }
-        ensures rest { (d : DomainValue) → SideAtRest self.now d (domain_in d self.now.grace).number }
-        ensures sole { (d : DomainValue) → IsSole (side d (known_of self.now)).number (domain_in d self.now.grace).number }
+        ensures rest { (d : DomainValue)
+            → SideAtRest self.now d (domain_in d self.now.grace).number }
+        ensures sole { (d : DomainValue)
+            → IsSole (side d (known_of self.now)).number (domain_in d self.now.grace).number }
     {
         self.grace.one_at_rest();
     }
@@ -141,7 +142,9 @@ impl Grace for OneSide {
         requires room { (side domain (known_of self.old)).word < 2 ^ 28 }
         ensures post { self.new.post ≡ self.old.post }
         ensures grace { self.new.grace
-            ≡ with_domain domain (word_moved self.old.grace.processor (domain_in domain self.old.grace)) self.old.grace }
+            ≡ with_domain domain
+            (word_moved self.old.grace.processor (domain_in domain self.old.grace))
+            self.old.grace }
         ensures word { result ≡ (side domain (known_of self.old)).word + 1 }
         ensures known { known_of self.new ≡ entered false domain (known_of self.old) }
         ensures rights { Ages (rights_in self.old.post) (rights_in self.new.post) }
@@ -155,7 +158,9 @@ impl Grace for OneSide {
         requires inside { (side domain (known_of self.old)).word % 2 ≡ 1 }
         ensures post { self.new.post ≡ self.old.post }
         ensures grace { self.new.grace
-            ≡ with_domain domain (word_moved self.old.grace.processor (domain_in domain self.old.grace)) self.old.grace }
+            ≡ with_domain domain
+            (word_moved self.old.grace.processor (domain_in domain self.old.grace))
+            self.old.grace }
         ensures word { result ≡ (side domain (known_of self.old)).word + 1 }
         ensures known { known_of self.new ≡ left false domain (known_of self.old) }
         ensures rights { Ages (rights_in self.old.post) (rights_in self.new.post) }
@@ -170,7 +175,8 @@ impl Grace for OneSide {
         ensures state { self.new ≡ self.old }
         ensures known { Stamped false domain result (known_of self.old) (known_of self.new) }
         ensures rights { Ages (rights_in self.old.post) (rights_in self.new.post) }
-        ensures since { MineSince domain result (rights_in self.old.post) (rights_in self.new.post) }
+        ensures since { MineSince domain result (rights_in self.old.post)
+            (rights_in self.new.post) }
         ensures rest { StaysAtRest SideAtRest self.old self.new }
         ensures at_rest { (n : ℕ) → SideAtRest self.old domain n → result ≡ next n }
         ensures does { SideDoes (act.Stamps domain result ∷ []) self.old self.new }
@@ -183,9 +189,11 @@ impl Grace for OneSide {
         ensures state { self.new ≡ self.old }
         ensures answer { Answers result stamp }
         ensures seen { (side domain (known_of self.old)).seen ≤ number_in result }
-        ensures known { known_of self.new ≡ read false domain (number_in result) (known_of self.old) }
+        ensures known { known_of self.new
+            ≡ read false domain (number_in result) (known_of self.old) }
         ensures rights { Ages (rights_in self.old.post) (rights_in self.new.post) }
-        ensures ripe { Ripens domain stamp result (rights_in self.old.post) (rights_in self.new.post) }
+        ensures ripe { Ripens domain stamp result (rights_in self.old.post)
+            (rights_in self.new.post) }
         ensures rest { StaysAtRest SideAtRest self.old self.new }
         ensures at_rest { (n : ℕ) → SideAtRest self.old domain n → number_in result ≡ n }
         ensures does { SideDoes (act.Reads domain stamp (number_in result) ∷ []) self.old self.new }
@@ -200,7 +208,9 @@ impl Grace for OneSide {
         ensures found { found_at even result ≡ (domain_in domain self.old.grace).number }
         ensures post { self.new.post ≡ self.old.post }
         ensures grace { self.new.grace
-            ≡ with_domain domain (period_begun self.old.grace.processor result (domain_in domain self.old.grace)) self.old.grace }
+            ≡ with_domain domain
+            (period_begun self.old.grace.processor result (domain_in domain self.old.grace))
+            self.old.grace }
         ensures answer { BeganAt result even }
         ensures seen { (side domain (known_of self.old)).seen ≤ found_at even result }
         ensures known { known_of self.new ≡ began false domain result even (known_of self.old) }
@@ -216,15 +226,23 @@ impl Grace for OneSide {
         requires driving { (side domain (known_of self.old)).number % 2 ≡ 1 }
         ensures post { self.new.post ≡ self.old.post }
         ensures grace { self.new.grace
-            ≡ with_domain domain (period_looked (words_in domain self.old.grace) (domain_in domain self.old.grace)) self.old.grace }
-        ensures first { length (side domain (known_of self.new)).first ≡ looks domain self.old.grace.processors }
-        ensures later { length (side domain (known_of self.new)).later ≡ looks domain self.old.grace.processors }
-        ensures answer { let s = side domain (known_of self.new) in Verdict result domain s.first s.later }
-        ensures known { known_of self.new ≡ looked false domain (side domain (known_of self.new)).later (known_of self.old) }
+            ≡ with_domain domain
+            (period_looked (words_in domain self.old.grace)
+            (domain_in domain self.old.grace))
+            self.old.grace }
+        ensures first { length (side domain (known_of self.new)).first
+            ≡ looks domain self.old.grace.processors }
+        ensures later { length (side domain (known_of self.new)).later
+            ≡ looks domain self.old.grace.processors }
+        ensures answer { let s = side domain (known_of self.new) in
+            Verdict result domain s.first s.later }
+        ensures known { known_of self.new
+            ≡ looked false domain (side domain (known_of self.new)).later (known_of self.old) }
         ensures rights { Ages (rights_in self.old.post) (rights_in self.new.post) }
         ensures rest { StaysAtRest SideAtRest self.old self.new }
         ensures at_rest { (n : ℕ) → SideAtRest self.old domain n → result ≡ AllPass }
-        ensures does { SideDoes (act.Looks domain (side domain (known_of self.new)).later ∷ []) self.old self.new }
+        ensures does { SideDoes (act.Looks domain (side domain (known_of self.new)).later ∷ [])
+            self.old self.new }
     {
         self.grace.look(domain)
     }
@@ -232,7 +250,8 @@ impl Grace for OneSide {
     fn finish(&mut self, domain: Domain) -> Period
         requires { CanFinish domain (known_of self.old) }
         ensures post { self.new.post ≡ self.old.post }
-        ensures grace { self.new.grace ≡ with_domain domain (period_ended (domain_in domain self.old.grace)) self.old.grace }
+        ensures grace { self.new.grace
+            ≡ with_domain domain (period_ended (domain_in domain self.old.grace)) self.old.grace }
         ensures period { result ≡ ended domain (side domain (known_of self.old)) }
         ensures known { known_of self.new ≡ finished false domain (known_of self.old) }
         ensures rights { Ages (rights_in self.old.post) (rights_in self.new.post) }
@@ -243,7 +262,8 @@ impl Grace for OneSide {
     }
 
     fn driving(&self, domain: Domain) -> bool
-        ensures is { result ≡ is_processor self.now.grace.processor (domain_in domain self.now.grace).driver }
+        ensures is { result
+            ≡ is_processor self.now.grace.processor (domain_in domain self.now.grace).driver }
         ensures none { result ≡ false → (side domain (known_of self.now)).number ≡ 0 }
         ensures odd { result ≡ true → (side domain (known_of self.now)).number % 2 ≡ 1 }
     {
@@ -257,19 +277,31 @@ impl Post for OneSide {
     ghost calls = { λ _. None };
 
     fn fetch(&mut self, class: Class, want: usize, out: &mut Vec<Unit>) -> Result<usize, NoMemory>
-        ensures count { IfOk result (λ n. n ≡ length (stock_fetched class want self.old.post.pool).units) }
-        ensures units { OnOk result (out.new.items ≡ out.old.items ++ (stock_fetched class want self.old.post.pool).units) }
-        ensures state { OnOk result (self.new.post ≡ record self.old.post { pool = (stock_fetched class want self.old.post.pool).pool }) }
-        ensures each { OnOk result (All (IsFromStock class self.old.post.pool) (stock_fetched class want self.old.post.pool).units) }
+        ensures count { IfOk result
+            (λ n. n ≡ length (stock_fetched class want self.old.post.pool).units) }
+        ensures units { OnOk result
+            (out.new.items ≡ out.old.items ++ (stock_fetched class want self.old.post.pool).units) }
+        ensures state { OnOk result
+            (self.new.post
+            ≡ record self.old.post
+            { pool = (stock_fetched class want self.old.post.pool).pool }) }
+        ensures each { OnOk result
+            (All (IsFromStock class self.old.post.pool)
+            (stock_fetched class want self.old.post.pool).units) }
         ensures err_state { OnErr result (self.new.post ≡ self.old.post) }
         ensures grace { self.new.grace ≡ self.old.grace }
-        ensures ok { IfOk result (λ n. Fetches class want n out.old.items out.new.items (rights_in self.old.post) (rights_in self.new.post)) }
+        ensures ok { IfOk result
+            (λ n. Fetches class want n out.old.items out.new.items (rights_in self.old.post)
+            (rights_in self.new.post)) }
         ensures err { OnErr result (out.new.items ≡ out.old.items) }
         ensures same { OnErr result (AreSame (rights_in self.old.post) (rights_in self.new.post)) }
         ensures lasts { Lasting [] (rights_in self.old.post) (rights_in self.new.post) }
         ensures known { Posts false (known_of self.old) (known_of self.new) }
         ensures rest { StaysAtRest SideAtRest self.old self.new }
-        ensures does { OnOk result (SideDoes (act.Fetches class want (numbers (drop (length out.old.items) out.new.items)) ∷ []) self.old self.new) }
+        ensures does { OnOk result
+            (SideDoes
+            (act.Fetches class want (numbers (drop (length out.old.items) out.new.items)) ∷ [])
+            self.old self.new) }
         ensures idle { OnErr result (SideDoes [] self.old self.new) }
     {
         self.post.fetch(class, want, out)
@@ -278,14 +310,19 @@ impl Post for OneSide {
     fn put_back(&mut self, units: Vec<Unit>)
         requires mine { Holds (rights_in self.old.post) units.items }
         requires fit { All (MayLeave (rights_in self.old.post)) units.items }
-        ensures state { self.new.post ≡ record self.old.post { pool = all_returned (reverse units.items) self.old.post.pool } }
+        ensures state { self.new.post
+            ≡ record self.old.post
+            { pool = all_returned (reverse units.items) self.old.post.pool } }
         ensures grace { self.new.grace ≡ self.old.grace }
-        ensures back { GivesBack (numbers units.items) (rights_in self.old.post) (rights_in self.new.post) }
-        ensures lasts { Lasting (numbers units.items) (rights_in self.old.post) (rights_in self.new.post) }
+        ensures back { GivesBack (numbers units.items) (rights_in self.old.post)
+            (rights_in self.new.post) }
+        ensures lasts { Lasting (numbers units.items) (rights_in self.old.post)
+            (rights_in self.new.post) }
         ensures known { Posts false (known_of self.old) (known_of self.new) }
         ensures rest { StaysAtRest SideAtRest self.old self.new }
         ensures does { SideDoes (act.Returns (sealed units.items) ∷ []) self.old self.new }
-        ensures gives { All (IsSettled (rights_in self.old.post)) units.items → SideDoes (act.GivesBack (numbers units.items) ∷ []) self.old self.new }
+        ensures gives { All (IsSettled (rights_in self.old.post)) units.items
+            → SideDoes (act.GivesBack (numbers units.items) ∷ []) self.old self.new }
     {
         self.post.put_back(units);
     }
@@ -299,20 +336,26 @@ impl Post for OneSide {
         ensures state { OnOk result (self.new.post ≡ sent_to to class units.items self.old.post) }
         ensures err_state { OnErr result (self.new.post ≡ self.old.post) }
         ensures grace { self.new.grace ≡ self.old.grace }
-        ensures sent { OnOk result (GivesBack (numbers units.items) (rights_in self.old.post) (rights_in self.new.post)) }
+        ensures sent { OnOk result
+            (GivesBack (numbers units.items) (rights_in self.old.post) (rights_in self.new.post)) }
         ensures refused { IfErr result (λ back. back.items ≡ units.items) }
         ensures same { OnErr result (AreSame (rights_in self.old.post) (rights_in self.new.post)) }
-        ensures lasts { Lasting (numbers units.items) (rights_in self.old.post) (rights_in self.new.post) }
+        ensures lasts { Lasting (numbers units.items) (rights_in self.old.post)
+            (rights_in self.new.post) }
         ensures may { OnErr result (All (MayLeave (rights_in self.new.post)) units.items) }
         ensures mails { OnOk result
-            (Mails false (parcel_sent to self.old.grace.processor class (numbers units.items)) (known_of self.old) (known_of self.new)) }
+            (Mails false (parcel_sent to self.old.grace.processor class (numbers units.items))
+            (known_of self.old) (known_of self.new)) }
         ensures known { OnErr result (Posts false (known_of self.old) (known_of self.new)) }
         ensures rest { StaysAtRest SideAtRest self.old self.new }
-        ensures does { OnOk result (SideDoes (act.Sends class to (sealed units.items) ∷ []) self.old self.new) }
+        ensures does { OnOk result
+            (SideDoes (act.Sends class to (sealed units.items) ∷ []) self.old self.new) }
         ensures drains { OnOk result (All (IsSettled (rights_in self.old.post)) units.items
             → SideDoes (act.Drains class to (numbers units.items) ∷ []) self.old self.new) }
-        ensures releases { OnOk result ((seal : SealValue) → All (WaitedBy (rights_in self.old.post) seal) units.items
-            → SideDoes (act.Releases class to (numbers units.items) seal.stamp seal.seen ∷ []) self.old self.new) }
+        ensures releases { OnOk result ((seal : SealValue)
+            → All (WaitedBy (rights_in self.old.post) seal) units.items
+            → SideDoes (act.Releases class to (numbers units.items) seal.stamp seal.seen ∷ [])
+            self.old self.new) }
         ensures idle { OnErr result (SideDoes [] self.old self.new) }
     {
         let _ = class.index();
@@ -321,19 +364,27 @@ impl Post for OneSide {
 
     fn receive(&mut self, class: Class) -> Option<Vec<Unit>>
         ensures oldest { IfSome result (λ units.
-            inbox self.old.post.processor class self.old.post ≡ units.items ∷ inbox self.old.post.processor class self.new.post) }
-        ensures none_waits { IfNone result (inbox self.old.post.processor class self.old.post ≡ []) }
-        ensures state { IfSome result (λ _. self.new.post ≡ taken_by self.old.post.processor class self.old.post) }
+            inbox self.old.post.processor class self.old.post
+            ≡ units.items ∷ inbox self.old.post.processor class self.new.post) }
+        ensures none_waits { IfNone result
+            (inbox self.old.post.processor class self.old.post ≡ []) }
+        ensures state { IfSome result
+            (λ _. self.new.post ≡ taken_by self.old.post.processor class self.old.post) }
         ensures none_state { IfNone result (self.new.post ≡ self.old.post) }
         ensures grace { self.new.grace ≡ self.old.grace }
-        ensures some { IfSome result (λ units. Receives class units.items (rights_in self.old.post) (rights_in self.new.post)) }
+        ensures some { IfSome result
+            (λ units. Receives class units.items (rights_in self.old.post)
+            (rights_in self.new.post)) }
         ensures none { IfNone result (AreSame (rights_in self.old.post) (rights_in self.new.post)) }
         ensures lasts { Lasting [] (rights_in self.old.post) (rights_in self.new.post) }
         ensures mails { Mails false (parcel_taken class) (known_of self.old) (known_of self.new) }
-        ensures oldest_told { oldest (told_in self.old.post class) ≡ option_map_or (λ units. numbers units.items) result [] }
+        ensures oldest_told { oldest (told_in self.old.post class)
+            ≡ option_map_or (λ units. numbers units.items) result [] }
         ensures none_told { IfNone result (told_in self.old.post class ≡ []) }
         ensures rest { StaysAtRest SideAtRest self.old self.new }
-        ensures does { SideDoes (act.Receives class (option_map_or (λ units. numbers units.items) result []) ∷ []) self.old self.new }
+        ensures does { SideDoes
+            (act.Receives class (option_map_or (λ units. numbers units.items) result []) ∷ [])
+            self.old self.new }
     {
         self.post.receive(class)
     }

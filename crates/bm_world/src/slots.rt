@@ -116,8 +116,11 @@ impl Slots {
     /// The value of a field of the object that a unit is, by its place.
     pub fn value(&self, number: u16, place: u8) -> u32
         requires size { length self.now.slots.items ≡ 2 ^ 16 }
-        requires there { is_some (slice_get (values_of (object_at self.now.slots.items number)) place) ≡ true }
-        ensures { slice_get (values_of (object_at self.now.slots.items number)) place ≡ Some result }
+        requires there { is_some
+            (slice_get (values_of (object_at self.now.slots.items number)) place)
+            ≡ true }
+        ensures { slice_get (values_of (object_at self.now.slots.items number)) place
+            ≡ Some result }
     {
         match &self.slots[number as usize] {
             Some(object) => match object.values.as_slice().get(place as usize) {

@@ -75,7 +75,8 @@ impl Standings {
     pub fn new(alloc: Global) -> Result<Standings, NoMemory>
         ensures size { IfOk result (λ s. length s.standings.items ≡ 2 ^ 16) }
         ensures room { IfOk result (λ s. length s.before.items ≡ 2 ^ 16) }
-        ensures none { IfOk result (λ s. (n : ℕ) → standing_at s.standings.items n ≡ WaitsForNothing) }
+        ensures none { IfOk result
+            (λ s. (n : ℕ) → standing_at s.standings.items n ≡ WaitsForNothing) }
     {
         let standings = nothing(alloc)?;
         let before = nothing(alloc)?;
@@ -85,7 +86,8 @@ impl Standings {
     /// Says what a unit waits for.
     pub fn set(&mut self, number: u16, standing: Standing)
         requires size { length self.old.standings.items ≡ 2 ^ 16 }
-        ensures standings { self.new.standings.items ≡ slice_set self.old.standings.items number standing }
+        ensures standings { self.new.standings.items
+            ≡ slice_set self.old.standings.items number standing }
         ensures before { self.new.before.items ≡ self.old.before.items }
     {
         self.standings[number as usize] = standing;
@@ -95,8 +97,10 @@ impl Standings {
     pub fn leave(&mut self, units: &Vec<Unit>)
         requires size { length self.old.standings.items ≡ 2 ^ 16 }
         requires room { length self.old.before.items ≡ 2 ^ 16 }
-        ensures standings { self.new.standings.items ≡ left_by units.now.items self.old.standings.items }
-        ensures before { self.new.before.items ≡ copied units.now.items self.old.standings.items self.old.before.items }
+        ensures standings { self.new.standings.items
+            ≡ left_by units.now.items self.old.standings.items }
+        ensures before { self.new.before.items
+            ≡ copied units.now.items self.old.standings.items self.old.before.items }
     {
         copy_standings(&mut self.before, &self.standings, units);
         let mut place = 0;
@@ -111,7 +115,8 @@ impl Standings {
     pub fn come_back(&mut self, units: &Vec<Unit>)
         requires size { length self.old.standings.items ≡ 2 ^ 16 }
         requires room { length self.old.before.items ≡ 2 ^ 16 }
-        ensures standings { self.new.standings.items ≡ copied units.now.items self.old.before.items self.old.standings.items }
+        ensures standings { self.new.standings.items
+            ≡ copied units.now.items self.old.before.items self.old.standings.items }
         ensures before { self.new.before.items ≡ self.old.before.items }
     {
         copy_standings(&mut self.standings, &self.before, units);

@@ -22,13 +22,13 @@ ghost use Rattle.bm_world.specs.SideState.{known_of};
 ghost use Rattle.bm_world.specs.WaitingState.{WaitingAtRest, cleared, idle-now, no_waits, rights_now, room-now, wait_of, with_wait};
 ghost use Rattle.bm_world.specs.declared.wait.Wait.{Wait};
 
+use crate::OneSide;
 use crate::wait::Wait;
-use crate::{OneSide, World};
 use bm_class::Class;
 use bm_grace::{Began, Done, Grace, Knows, Look};
 use bm_journal::{Domain, Period};
 use bm_page::Unit;
-use bm_post::Post;
+use bm_post::{Post, World};
 use bm_word::NoMemory;
 use std::alloc::Global;
 use std::marker::Model;
@@ -52,7 +52,8 @@ impl Model for WaitingSide {
 
     ghost view = { λ world. record { side = world.side; waits = world.waits.items } };
 
-    ghost invariant = { λ world. AreKept world.side.post world.side.grace.plain.number world.side.grace.tracing.number world.waits.items };
+    ghost invariant = { λ world. AreKept world.side.post world.side.grace.plain.number
+        world.side.grace.tracing.number world.waits.items };
 }
 
 /// How many numbers units have.
@@ -124,9 +125,12 @@ impl WaitingSide {
     pub fn wait_for(&mut self, number: u16)
         requires mine { is_mine self.old.side.post number ≡ true }
         ensures state { self.new ≡ with_wait number self.old }
-        ensures waits { (life : ℕ) (seal : Option Seal) → (rights_now self.new).settled number life seal ≡ false }
-        ensures due { (life : ℕ) (seal : Option Seal) → (rights_now self.new).due number life seal ≡ has_room number life }
-        ensures others { (n : ℕ) → n ≢ number → wait_of self.new.waits n ≡ wait_of self.old.waits n }
+        ensures waits { (life : ℕ) (seal : Option Seal)
+            → (rights_now self.new).settled number life seal ≡ false }
+        ensures due { (life : ℕ) (seal : Option Seal)
+            → (rights_now self.new).due number life seal ≡ has_room number life }
+        ensures others { (n : ℕ) → n ≢ number
+            → wait_of self.new.waits n ≡ wait_of self.old.waits n }
     {
         let plain = self.side.stamp(Domain::Plain);
         let tracing = self.side.stamp(Domain::Tracing);
@@ -157,7 +161,10 @@ impl Grace for WaitingSide {
         ensures post { self.new.side.post ≡ self.old.side.post }
         ensures waits { self.new.waits ≡ self.old.waits }
         ensures grace { self.new.side.grace
-            ≡ with_domain domain (word_moved self.old.side.grace.processor (domain_in domain self.old.side.grace)) self.old.side.grace }
+            ≡ with_domain domain
+            (word_moved self.old.side.grace.processor
+            (domain_in domain self.old.side.grace))
+            self.old.side.grace }
         ensures word { result ≡ (side domain (known_of self.old.side)).word + 1 }
         ensures known { known_of self.new.side ≡ entered false domain (known_of self.old.side) }
         ensures rights { Ages (rights_now self.old) (rights_now self.new) }
@@ -171,7 +178,10 @@ impl Grace for WaitingSide {
         ensures post { self.new.side.post ≡ self.old.side.post }
         ensures waits { self.new.waits ≡ self.old.waits }
         ensures grace { self.new.side.grace
-            ≡ with_domain domain (word_moved self.old.side.grace.processor (domain_in domain self.old.side.grace)) self.old.side.grace }
+            ≡ with_domain domain
+            (word_moved self.old.side.grace.processor
+            (domain_in domain self.old.side.grace))
+            self.old.side.grace }
         ensures word { result ≡ (side domain (known_of self.old.side)).word + 1 }
         ensures known { known_of self.new.side ≡ left false domain (known_of self.old.side) }
         ensures rights { Ages (rights_now self.old) (rights_now self.new) }
@@ -183,7 +193,8 @@ impl Grace for WaitingSide {
     fn stamp(&mut self, domain: Domain) -> u32
         ensures stamp { result ≡ next (domain_in domain self.old.side.grace).number }
         ensures state { self.new ≡ self.old }
-        ensures known { Stamped false domain result (known_of self.old.side) (known_of self.new.side) }
+        ensures known { Stamped false domain result (known_of self.old.side)
+            (known_of self.new.side) }
         ensures rights { Ages (rights_now self.old) (rights_now self.new) }
         ensures since { MineSince domain result (rights_now self.old) (rights_now self.new) }
         ensures rest { StaysAtRest WaitingAtRest self.old self.new }
@@ -197,7 +208,8 @@ impl Grace for WaitingSide {
         ensures state { self.new ≡ self.old }
         ensures answer { Answers result stamp }
         ensures seen { (side domain (known_of self.old.side)).seen ≤ number_in result }
-        ensures known { known_of self.new.side ≡ read false domain (number_in result) (known_of self.old.side) }
+        ensures known { known_of self.new.side
+            ≡ read false domain (number_in result) (known_of self.old.side) }
         ensures rights { Ages (rights_now self.old) (rights_now self.new) }
         ensures ripe { Ripens domain stamp result (rights_now self.old) (rights_now self.new) }
         ensures rest { StaysAtRest WaitingAtRest self.old self.new }
@@ -214,10 +226,14 @@ impl Grace for WaitingSide {
         ensures post { self.new.side.post ≡ self.old.side.post }
         ensures waits { self.new.waits ≡ self.old.waits }
         ensures grace { self.new.side.grace
-            ≡ with_domain domain (period_begun self.old.side.grace.processor result (domain_in domain self.old.side.grace)) self.old.side.grace }
+            ≡ with_domain domain
+            (period_begun self.old.side.grace.processor result
+            (domain_in domain self.old.side.grace))
+            self.old.side.grace }
         ensures answer { BeganAt result even }
         ensures seen { (side domain (known_of self.old.side)).seen ≤ found_at even result }
-        ensures known { known_of self.new.side ≡ began false domain result even (known_of self.old.side) }
+        ensures known { known_of self.new.side
+            ≡ began false domain result even (known_of self.old.side) }
         ensures rights { Ages (rights_now self.old) (rights_now self.new) }
         ensures rest { MovesNumber WaitingAtRest domain even (even + 1) self.old self.new }
         ensures at_rest { WaitingAtRest self.old domain even → result ≡ Won }
@@ -230,11 +246,19 @@ impl Grace for WaitingSide {
         ensures post { self.new.side.post ≡ self.old.side.post }
         ensures waits { self.new.waits ≡ self.old.waits }
         ensures grace { self.new.side.grace
-            ≡ with_domain domain (period_looked (words_in domain self.old.side.grace) (domain_in domain self.old.side.grace)) self.old.side.grace }
-        ensures first { length (side domain (known_of self.new.side)).first ≡ looks domain self.old.side.grace.processors }
-        ensures later { length (side domain (known_of self.new.side)).later ≡ looks domain self.old.side.grace.processors }
-        ensures answer { let s = side domain (known_of self.new.side) in Verdict result domain s.first s.later }
-        ensures known { known_of self.new.side ≡ looked false domain (side domain (known_of self.new.side)).later (known_of self.old.side) }
+            ≡ with_domain domain
+            (period_looked (words_in domain self.old.side.grace)
+            (domain_in domain self.old.side.grace))
+            self.old.side.grace }
+        ensures first { length (side domain (known_of self.new.side)).first
+            ≡ looks domain self.old.side.grace.processors }
+        ensures later { length (side domain (known_of self.new.side)).later
+            ≡ looks domain self.old.side.grace.processors }
+        ensures answer { let s = side domain (known_of self.new.side) in
+            Verdict result domain s.first s.later }
+        ensures known { known_of self.new.side
+            ≡ looked false domain (side domain (known_of self.new.side)).later
+            (known_of self.old.side) }
         ensures rights { Ages (rights_now self.old) (rights_now self.new) }
         ensures rest { StaysAtRest WaitingAtRest self.old self.new }
         ensures at_rest { (n : ℕ) → WaitingAtRest self.old domain n → result ≡ AllPass }
@@ -246,7 +270,9 @@ impl Grace for WaitingSide {
         requires { CanFinish domain (known_of self.old.side) }
         ensures post { self.new.side.post ≡ self.old.side.post }
         ensures waits { self.new.waits ≡ self.old.waits }
-        ensures grace { self.new.side.grace ≡ with_domain domain (period_ended (domain_in domain self.old.side.grace)) self.old.side.grace }
+        ensures grace { self.new.side.grace
+            ≡ with_domain domain (period_ended (domain_in domain self.old.side.grace))
+            self.old.side.grace }
         ensures period { result ≡ ended domain (side domain (known_of self.old.side)) }
         ensures known { known_of self.new.side ≡ finished false domain (known_of self.old.side) }
         ensures rights { Ages (rights_now self.old) (rights_now self.new) }
@@ -256,7 +282,9 @@ impl Grace for WaitingSide {
     }
 
     fn driving(&self, domain: Domain) -> bool
-        ensures is { result ≡ is_processor self.now.side.grace.processor (domain_in domain self.now.side.grace).driver }
+        ensures is { result
+            ≡ is_processor self.now.side.grace.processor
+            (domain_in domain self.now.side.grace).driver }
         ensures none { result ≡ false → (side domain (known_of self.now.side)).number ≡ 0 }
         ensures odd { result ≡ true → (side domain (known_of self.now.side)).number % 2 ≡ 1 }
     {
@@ -270,13 +298,21 @@ impl Post for WaitingSide {
     ghost calls = { λ _. None };
 
     fn fetch(&mut self, class: Class, want: usize, out: &mut Vec<Unit>) -> Result<usize, NoMemory>
-        ensures count { IfOk result (λ n. n ≡ length (stock_fetched class want self.old.side.post.pool).units) }
-        ensures units { OnOk result (out.new.items ≡ out.old.items ++ (stock_fetched class want self.old.side.post.pool).units) }
-        ensures state { OnOk result (self.new.side.post ≡ record self.old.side.post { pool = (stock_fetched class want self.old.side.post.pool).pool }) }
+        ensures count { IfOk result
+            (λ n. n ≡ length (stock_fetched class want self.old.side.post.pool).units) }
+        ensures units { OnOk result
+            (out.new.items
+            ≡ out.old.items ++ (stock_fetched class want self.old.side.post.pool).units) }
+        ensures state { OnOk result
+            (self.new.side.post
+            ≡ record self.old.side.post
+            { pool = (stock_fetched class want self.old.side.post.pool).pool }) }
         ensures err_state { OnErr result (self.new.side.post ≡ self.old.side.post) }
         ensures grace { self.new.side.grace ≡ self.old.side.grace }
         ensures waits { self.new.waits ≡ self.old.waits }
-        ensures ok { IfOk result (λ n. Fetches class want n out.old.items out.new.items (rights_now self.old) (rights_now self.new)) }
+        ensures ok { IfOk result
+            (λ n. Fetches class want n out.old.items out.new.items (rights_now self.old)
+            (rights_now self.new)) }
         ensures err { OnErr result (out.new.items ≡ out.old.items) }
         ensures same { OnErr result (AreSame (rights_now self.old) (rights_now self.new)) }
         ensures lasts { Lasting [] (rights_now self.old) (rights_now self.new) }
@@ -289,7 +325,9 @@ impl Post for WaitingSide {
     fn put_back(&mut self, units: Vec<Unit>)
         requires mine { Holds (rights_now self.old) units.items }
         requires fit { All (MayLeave (rights_now self.old)) units.items }
-        ensures state { self.new.side.post ≡ record self.old.side.post { pool = all_returned (reverse units.items) self.old.side.post.pool } }
+        ensures state { self.new.side.post
+            ≡ record self.old.side.post
+            { pool = all_returned (reverse units.items) self.old.side.post.pool } }
         ensures grace { self.new.side.grace ≡ self.old.side.grace }
         ensures waits { self.new.waits ≡ cleared (numbers units.items) self.old.waits }
         ensures back { GivesBack (numbers units.items) (rights_now self.old) (rights_now self.new) }
@@ -307,18 +345,22 @@ impl Post for WaitingSide {
         requires class { All (IsOf class) units.items }
         requires mine { Holds (rights_now self.old) units.items }
         requires fit { All (MayLeave (rights_now self.old)) units.items }
-        ensures state { OnOk result (self.new.side.post ≡ sent_to to class units.items self.old.side.post) }
+        ensures state { OnOk result
+            (self.new.side.post ≡ sent_to to class units.items self.old.side.post) }
         ensures err_state { OnErr result (self.new.side.post ≡ self.old.side.post) }
         ensures grace { self.new.side.grace ≡ self.old.side.grace }
         ensures waits { self.new.waits ≡ cleared (numbers units.items) self.old.waits }
-        ensures sent { OnOk result (GivesBack (numbers units.items) (rights_now self.old) (rights_now self.new)) }
+        ensures sent { OnOk result
+            (GivesBack (numbers units.items) (rights_now self.old) (rights_now self.new)) }
         ensures refused { IfErr result (λ back. back.items ≡ units.items) }
         ensures same { OnErr result (AreSame (rights_now self.old) (rights_now self.new)) }
         ensures lasts { Lasting (numbers units.items) (rights_now self.old) (rights_now self.new) }
         ensures may { OnErr result (All (MayLeave (rights_now self.new)) units.items) }
         ensures mails { OnOk result
-            (Mails false (parcel_sent to self.old.side.grace.processor class (numbers units.items)) (known_of self.old.side) (known_of self.new.side)) }
-        ensures known { OnErr result (Posts false (known_of self.old.side) (known_of self.new.side)) }
+            (Mails false (parcel_sent to self.old.side.grace.processor class (numbers units.items))
+            (known_of self.old.side) (known_of self.new.side)) }
+        ensures known { OnErr result
+            (Posts false (known_of self.old.side) (known_of self.new.side)) }
         ensures rest { StaysAtRest WaitingAtRest self.old self.new }
     {
         clear(&mut self.waits, &units);
@@ -327,17 +369,24 @@ impl Post for WaitingSide {
 
     fn receive(&mut self, class: Class) -> Option<Vec<Unit>>
         ensures oldest { IfSome result (λ units.
-            inbox self.old.side.post.processor class self.old.side.post ≡ units.items ∷ inbox self.old.side.post.processor class self.new.side.post) }
-        ensures none_waits { IfNone result (inbox self.old.side.post.processor class self.old.side.post ≡ []) }
-        ensures state { IfSome result (λ _. self.new.side.post ≡ taken_by self.old.side.post.processor class self.old.side.post) }
+            inbox self.old.side.post.processor class self.old.side.post
+            ≡ units.items ∷ inbox self.old.side.post.processor class self.new.side.post) }
+        ensures none_waits { IfNone result
+            (inbox self.old.side.post.processor class self.old.side.post ≡ []) }
+        ensures state { IfSome result
+            (λ _. self.new.side.post
+            ≡ taken_by self.old.side.post.processor class self.old.side.post) }
         ensures none_state { IfNone result (self.new.side.post ≡ self.old.side.post) }
         ensures grace { self.new.side.grace ≡ self.old.side.grace }
         ensures waits { self.new.waits ≡ self.old.waits }
-        ensures some { IfSome result (λ units. Receives class units.items (rights_now self.old) (rights_now self.new)) }
+        ensures some { IfSome result
+            (λ units. Receives class units.items (rights_now self.old) (rights_now self.new)) }
         ensures none { IfNone result (AreSame (rights_now self.old) (rights_now self.new)) }
         ensures lasts { Lasting [] (rights_now self.old) (rights_now self.new) }
-        ensures mails { Mails false (parcel_taken class) (known_of self.old.side) (known_of self.new.side) }
-        ensures oldest_told { oldest (told_in self.old.side.post class) ≡ option_map_or (λ units. numbers units.items) result [] }
+        ensures mails { Mails false (parcel_taken class) (known_of self.old.side)
+            (known_of self.new.side) }
+        ensures oldest_told { oldest (told_in self.old.side.post class)
+            ≡ option_map_or (λ units. numbers units.items) result [] }
         ensures none_told { IfNone result (told_in self.old.side.post class ≡ []) }
         ensures rest { StaysAtRest WaitingAtRest self.old self.new }
     {

@@ -26,7 +26,7 @@ use Rattle.bm_law_order.specs.Whole.{whole}
 use Rattle.bm_law_journal.specs.Lawful.{history_of, named_turns}
 use Rattle.bm_law_scenario.specs.Lawful.{LawfulLog}
 use Rattle.bm_law_scenario.specs.Opened.{opened}
-use Rattle.bm_law_scenario.specs.Short.{JournalShort}
+use Rattle.bm_law_lives.specs.Short.{JournalShort}
 use Rattle.bm_law_lives.specs.GraceLaw.{WholeGrace}
 use Rattle.bm_law_lives.specs.Lives.{WholeLives}
 use Rattle.bm_law_graphs.specs.GraphLaws.{GraphLaws}
@@ -42,7 +42,7 @@ use Rattle.bm_law_objects.specs.SlotChain.{SlotChain}
 use Rattle.bm_law_order.specs.Polls.{IsPolled}
 use Rattle.bm_law_order.specs.Seals.{IsSealed}
 use Rattle.bm_law_places.specs.Placed.{IsPlaced}
-use Rattle.bm_law_scenario.specs.SectionWords.{SectionWords}
+use Rattle.bm_law_lives.specs.SectionWords.{SectionWords}
 use Rattle.bm_run.proofs.FinalLaws.{owned-is, batched-is, each-log, found-is, idle-is, inbox-is, inboxes-are, laid-is, log-of-each, none-alive, none-dropping, order-is, parcels-are, placed-is, polled-is, sealed-is, shelved-is, histories-are, none-within}
 use Rattle.bm_run.proofs.FinalLog.{final-lawful}
 use Rattle.bm_run.proofs.FineRuns.{maps_apart}

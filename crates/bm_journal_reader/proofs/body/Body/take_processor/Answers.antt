@@ -8,4 +8,4 @@ returns c = λ maps.
     let here : c.args.processor ≡ c.in-Some.begun = omega arith in
     let k = c.in_ok-close.ensures in
     taken maps (line_as.Processor c.args.processor) _ _
-    (log-step maps c.args.processor c.in-Some.begun _ _ _ _ _ _ _ _ _ _ (sym c.begun_logs.ensures ∙ c.in-Some.is) here c.requires (ap (λ log. log ∷ []) c.new.ensures.items) (ap (λ v. v.items) k.classes) k.logs k.graphs (ap (λ v. v.items) k.totals))
+    (log-step maps c.args.processor c.in-Some.begun _ _ _ _ _ _ _ _ _ _ (sym c.begun_logs.ensures ∙ c.in-Some.is) here c.requires (ap (λ log. log ∷ []) c.new.ensures) (ap (λ v. v.items) k.classes) k.logs k.graphs (ap (λ v. v.items) k.totals))

@@ -2,7 +2,7 @@ use Rattle.std.proofs.Common.{◌==◌, rules}
 use Rattle.std.proofs.lemmas.Bool.Decides.{nat_tests}
 use Rattle.std.proofs.lemmas.Iterator.Consumers.{map_from_collect}
 use Rattle.std.proofs.lemmas.Iterator.Splits.{YieldsList-from_slice_split}
-use Rattle.bm_journal_reader.proofs.reader.words_of.Goals as goal
+use Rattle.bm_journal_reader.proofs.pieces.words_of.Goals as goal
 
 pub returns : goal.returns
 returns c =

@@ -3,7 +3,7 @@ use Rattle.std.specs.Prelude.{◌%◌}
 use Rattle.std.proofs.Common.{◌≡◌, ℕ, zero, suc, Bool, true, false, not, [], ◌∷◌, ◌++◌, refl, ◌∙◌, arith}
 use Rattle.bm_journal.specs.declared.ids.Domain.{Domain}
 use Rattle.bm_law.specs.Lists.{Log}
-use Rattle.bm_law_scenario.specs.SectionWords.{is_outside, word_next, word_over}
+use Rattle.bm_law_lives.specs.SectionWords.{is_outside, word_next, word_over}
 
 -- a part and then another one
 pub word-append : (d : Domain) (w : ℕ) (one two : Log) → word_over d w (one ++ two) ≡ word_over d (word_over d w one) two
